@@ -1,0 +1,31 @@
+-- Texts as a Subunit stream spells them: the number of bytes, and then the bytes.
+use Rattle.std.specs.Prelude.{◌≡◌, ◌≢◌, ℕ, ◌≤◌, ◌<◌, ◌^◌, List, ◌++◌, length, take, slice_range, All, IsUtf8}
+use Rattle.sub_number.specs.Numbers.{SpellsNumber}
+
+-- UTF-8 without NUL
+pub record IsText (bytes : List ℕ) : Type 0 where
+  pub utf8 : IsUtf8 bytes
+  pub no_nul : All (λ byte. byte ≢ 0) bytes
+
+-- a text that is short enough for its length to be spelled
+pub record IsShortText (bytes : List ℕ) : Type 0 where
+  pub text : IsText bytes
+  pub short : length bytes < 2 ^ 30
+
+-- a spelling of the text's length, of any width, and then the text
+pub record SpellsText (bytes text : List ℕ) : Type 0 where
+  pub number : List ℕ
+  pub parts : bytes ≡ number ++ text
+  pub length_spelled : SpellsNumber number (length text)
+  pub is_text : IsText text
+
+-- the first `size` of the bytes spell the text that stands from `start` to `end`
+pub record BeginsWithText (bytes : List ℕ) (start end size : ℕ) : Type 0 where
+  pub in_range : size ≤ length bytes
+  pub ordered : start ≤ end
+  pub inside : end ≤ size
+  pub spells : SpellsText (take size bytes) (slice_range bytes start end)
+
+-- no prefix of the bytes spells a text
+abbrev pub BeginsWithNoText : List ℕ → Type 0
+BeginsWithNoText bytes = (text : List ℕ) (size : ℕ) → size ≤ length bytes → SpellsText (take size bytes) text → ⊥

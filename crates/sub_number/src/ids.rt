@@ -1,0 +1,46 @@
+//! Ids of tests, and their times.
+
+ghost use Rattle.std.specs.Prelude.{◌≡◌, [], ◌∷◌, ◌++◌, IfErr, OnOk, OnErr};
+
+use crate::text::Text;
+use std::alloc::Global;
+use std::marker::Model;
+
+/// A list of ids, in the order in which they came.
+#[derive(Drop)]
+pub struct IdList {
+    ids: Vec<Text>,
+}
+
+impl Model for IdList {
+    ghost use Rattle.std.specs.Prelude.{List, ℕ};
+
+    ghost Value = { List (List ℕ) };
+
+    ghost view = { λ l. l.ids.items };
+}
+
+impl IdList {
+    pub fn new(alloc: Global) -> Self
+        ensures { result ≡ [] }
+    {
+        IdList {
+            ids: Vec::new(alloc),
+        }
+    }
+
+    /// Adds the id at the end, or hands it back for want of memory.
+    pub fn push(&mut self, id: Text) -> Result<(), Text>
+        ensures ok { OnOk result (self.new ≡ self.old ++ id ∷ []) }
+        ensures err { OnErr result (self.new ≡ self.old) }
+        ensures returned { IfErr result (λ back. back ≡ id) }
+    {
+        self.ids.push(id).map_err(|failed| failed.value)
+    }
+
+    pub fn list(&self) -> &[Text]
+        ensures { result.now ≡ self.now }
+    {
+        &self.ids
+    }
+}

@@ -1,0 +1,167 @@
+//! Texts: UTF-8 without NUL, spelled as their length and their bytes.
+
+ghost use Rattle.std.specs.Prelude.{◌≡◌, ◌↔◌, IfSome, IfNone, IfOk, IsTrue};
+ghost use Rattle.sub_number.specs.Texts.{IsText, IsShortText, BeginsWithText, BeginsWithNoText};
+
+use crate::NoMemory;
+use crate::number::{Width, read_number};
+use std::alloc::{AllocError, Global};
+use std::cmp::Ordering;
+use std::marker::Model;
+use std::str;
+
+/// Where some bytes stand.
+#[derive(Clone, Copy, PartialEq, Eq, Debug)]
+pub struct Span {
+    pub start: usize,
+    pub end: usize,
+}
+
+/// Whether the bytes are UTF-8 without NUL.
+pub fn is_text(bytes: &[u8]) -> bool
+    ensures { IsTrue result ↔ IsText bytes.now }
+{
+    !bytes.contains(&0) && str::from_utf8(bytes).is_ok()
+}
+
+/// Where the text stands that the bytes begin with, and how many bytes spell it.
+pub fn read_text(bytes: &[u8]) -> Option<(Span, usize)>
+    ensures text { IfSome result (λ r. BeginsWithText bytes.now r.0.start r.0.end r.1) }
+    ensures none { IfNone result (BeginsWithNoText bytes.now) }
+{
+    let (len, start) = read_number(bytes, Width::Four)?;
+    let len = len as usize;
+    if bytes.len() - start < len {
+        return None;
+    }
+    let end = start + len;
+    if !is_text(&bytes[start..end]) {
+        return None;
+    }
+    Some((Span { start, end }, end))
+}
+
+/// Why some bytes are no text.
+#[derive(Clone, Copy, PartialEq, Eq, Debug)]
+pub enum TextFault {
+    NotText,
+    NoMemory,
+}
+
+impl From<AllocError> for TextFault {
+    ghost use Rattle.std.specs.Prelude.{◌≡◌};
+    ghost use Rattle.sub_number.specs.declared.text.TextFault.TheVariants.{NoMemory};
+
+    ghost from_gives = { λ _ fault. fault ≡ NoMemory };
+
+    fn from(_: AllocError) -> Self {
+        TextFault::NoMemory
+    }
+}
+
+/// A text of fewer than 2^30 bytes: UTF-8 without NUL.
+#[derive(Drop)]
+pub struct Text {
+    text: String,
+}
+
+impl Model for Text {
+    ghost use Rattle.std.specs.Prelude.{List, ℕ};
+    ghost use Rattle.std.specs.String.{string_bytes};
+    ghost use Rattle.sub_number.specs.Texts.{IsShortText};
+
+    ghost Value = { List ℕ };
+
+    ghost view = { λ t. string_bytes t.text };
+
+    ghost invariant = { λ t. IsShortText (string_bytes t.text) };
+}
+
+impl Text {
+    pub fn new(alloc: Global, bytes: &[u8]) -> Result<Self, TextFault>
+        ensures ok { IfOk result (λ text. (text ≡ bytes.now) × IsShortText bytes.now) }
+        ensures not_text { result ≡ Err TextFault.NotText → ¬ (IsShortText bytes.now) }
+        ensures no_memory { result ≡ Err TextFault.NoMemory → IsShortText bytes.now }
+    {
+        if bytes.len() >= 1 << 30 || bytes.contains(&0) {
+            return Err(TextFault::NotText);
+        }
+        match str::from_utf8(bytes) {
+            Ok(text) => Ok(Text {
+                text: String::from_str(alloc, text)?,
+            }),
+            Err(_) => Err(TextFault::NotText),
+        }
+    }
+
+    pub fn bytes(&self) -> &[u8]
+        ensures bytes { result.now ≡ self.now }
+        ensures text { IsShortText self.now }
+    {
+        self.text.as_bytes()
+    }
+}
+
+impl Text {
+    /// Another one of this text, over the same allocator.
+    pub fn copy(&self) -> Result<Self, NoMemory>
+        ensures { IfOk result (λ text. text ≡ self.now) }
+    {
+        Ok(Text {
+            text: self.text.clone()?,
+        })
+    }
+}
+
+impl PartialEq for Text {
+    ghost use Rattle.std.specs.Cmp.Lexicographic.{pointwise, nat_list_eq_equiv};
+    ghost use Rattle.std.specs.Cmp.{partial_equiv_from_equiv};
+    ghost use Rattle.std.specs.Prelude.{nat_eq};
+
+    ghost eq = { pointwise nat_eq };
+
+    ghost laws = { partial_equiv_from_equiv nat_list_eq_equiv };
+
+    fn eq(&self, other: &Self) -> bool {
+        self.text.as_str() == other.text.as_str()
+    }
+}
+
+impl Eq for Text {
+    ghost use Rattle.std.specs.Cmp.Lexicographic.{nat_list_eq_equiv};
+
+    ghost laws = { nat_list_eq_equiv };
+}
+
+impl PartialOrd for Text {
+    ghost use Rattle.std.specs.Cmp.Lexicographic.{slice_cmp, texts_po};
+    ghost use Rattle.std.specs.Prelude.{Some};
+    ghost use Rattle.std.specs.Ordering.{nat_cmp};
+
+    ghost partial_cmp = { λ x y. Some (slice_cmp nat_cmp x y) };
+
+    ghost laws = { texts_po };
+
+    fn partial_cmp(&self, other: &Self) -> Option<Ordering> {
+        Some(self.cmp(other))
+    }
+}
+
+/// In the order of their bytes.
+impl Ord for Text {
+    ghost use Rattle.std.specs.Cmp.Lexicographic.{slice_cmp, nat_list_cmp_total, texts_ties};
+    ghost use Rattle.std.specs.Prelude.{refl};
+    ghost use Rattle.std.specs.Ordering.{nat_cmp};
+
+    ghost cmp = { slice_cmp nat_cmp };
+
+    ghost total = { nat_list_cmp_total };
+
+    ghost matches_partial_cmp = { λ x y. refl };
+
+    ghost matches_eq = { texts_ties };
+
+    fn cmp(&self, other: &Self) -> Ordering {
+        self.text.as_str().cmp(other.text.as_str())
+    }
+}

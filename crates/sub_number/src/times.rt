@@ -1,0 +1,66 @@
+//! Ids and their times.
+
+ghost use Rattle.std.specs.Prelude.{◌≡◌, ℕ, IfOk, OnOk, OnErr};
+ghost use Rattle.std.specs.FinMap as map;
+ghost use Rattle.std.specs.Ordering.{nat_cmp};
+ghost use Rattle.std.specs.Cmp.Lexicographic.{slice_cmp};
+ghost use Rattle.std.specs.Coded.{coded_ℕ, coded_list};
+
+use crate::NoMemory;
+use crate::ids::IdList;
+use crate::text::Text;
+use std::alloc::Global;
+use std::collections::BTreeMap;
+use std::marker::Model;
+
+/// The times of some ids, in nanoseconds.
+#[derive(Drop)]
+pub struct TimeMap {
+    times: BTreeMap<Text, u64>,
+}
+
+impl Model for TimeMap {
+    ghost Value = { map.FinMap (slice_cmp nat_cmp) ℕ };
+
+    ghost coded = { map.code (coded_list coded_ℕ) coded_ℕ };
+
+    ghost view = { λ m. map.from_entries m.times.entries };
+}
+
+impl TimeMap {
+    pub fn new(alloc: Global) -> Self
+        ensures { result ≡ map.empty }
+    {
+        TimeMap {
+            times: BTreeMap::new(alloc),
+        }
+    }
+
+    pub fn get(&self, id: &Text) -> Option<u64>
+        ensures { result ≡ map.get self.now id.now }
+    {
+        self.times.get(id).copied()
+    }
+}
+
+impl TimeMap {
+    /// Gives the id this time in place of any earlier one.
+    pub fn put(&mut self, id: &Text, nanos: u64) -> Result<(), NoMemory>
+        ensures ok { OnOk result (self.new ≡ map.insert self.old id.now nanos) }
+        ensures err { OnErr result (self.new ≡ self.old) }
+    {
+        self.times.insert(id.copy()?, nanos)?;
+        Ok(())
+    }
+
+    /// The ids that have a time, in the order of their bytes.
+    pub fn ids(&self, alloc: Global) -> Result<IdList, NoMemory>
+        ensures { IfOk result (λ ids. ids ≡ map.keys self.now) }
+    {
+        let mut ids = IdList::new(alloc);
+        for id in self.times.keys() {
+            ids.push(id.copy()?).map_err(|_| NoMemory)?;
+        }
+        Ok(ids)
+    }
+}
