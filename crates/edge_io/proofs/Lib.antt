@@ -1,0 +1,5 @@
+pub mod CausesLemmas
+pub mod BytesLemmas
+pub mod Going
+pub mod Passing
+pub mod KeptLemmas

@@ -1,0 +1,41 @@
+use Rattle.std.proofs.Common.{◌∙◌, sym, ap, ◌≤◌, length, take, arith, refl}
+use Rattle.std.proofs.lemmas.List.{length-take-le}
+use Rattle.std.proofs.lemmas.List.Elements.{All-nil, All-same}
+use Rattle.edge_io.specs.Kept.{IsWithin, lookup}
+use Rattle.edge_io.proofs.KeptLemmas.{few, image_counts, rests}
+use Rattle.edge_io.proofs.mem_shelf.MemShelf.image.Goals as goal
+
+pub slice_bounds-copied-end : goal.slice_bounds-copied-end
+slice_bounds-copied-end c =
+    let s = c.args.self.now in
+    let first = few s.files.items s.past.items s.current c.args.moment s.settled_first s.one_pending s.all_published s.past_within _ c.deref.ensures.value _ c.mark_at-mark.ensures c.args.choice _ c.count_at-count.ensures in
+    let same = ap length c.deref-2.ensures.value in
+    let all : c.count_at-count.result ≤ length c.deref-2.result.now = omega (arith, first, same) in
+    sym (length-take-le _ _ all)
+
+pub invariant_of-result : goal.invariant_of-result
+invariant_of-result c =
+    let s = c.args.self.now in
+    let first = few s.files.items s.past.items s.current c.args.moment s.settled_first s.one_pending s.all_published s.past_within _ c.deref.ensures.value _ c.mark_at-mark.ensures c.args.choice _ c.count_at-count.ensures in
+    let same = ap length c.deref-2.ensures.value in
+    let all : c.count_at-count.result ≤ length c.deref-2.result.now = omega (arith, first, same) in
+    record {
+      settled_first = omega arith;
+      one_pending = omega arith;
+      all_published = sym (c.in_ok-files.ensures.length ∙ length-take-le _ _ all);
+      past_within = All-same (IsWithin (length c.in_ok-files.files.items)) _ _ c.new.ensures.items (All-nil _);
+    }
+
+pub returns : goal.returns
+returns c =
+    let s = c.args.self.now in
+    let first = few s.files.items s.past.items s.current c.args.moment s.settled_first s.one_pending s.all_published s.past_within _ c.deref.ensures.value _ c.mark_at-mark.ensures c.args.choice _ c.count_at-count.ensures in
+    let length_same = ap length c.deref-2.ensures.value in
+    let all : c.count_at-count.result ≤ length c.deref-2.result.now = omega (arith, first, length_same) in
+    let size = sym (c.in_ok-files.ensures.length ∙ length-take-le _ _ all) in
+    let same = c.in_ok-files.ensures.same ∙ ap (λ l. lookup (take c.count_at-count.result l)) c.deref-2.ensures.value in
+    record {
+      rest = rests c.in_ok-files.files.items c.count_at-count.result 0 size;
+      draft = refl;
+      counts = image_counts s.files.items s.past.items s.current c.args.moment s.settled_first s.one_pending s.all_published s.past_within _ c.deref.ensures.value _ c.mark_at-mark.ensures c.args.choice _ c.count_at-count.ensures c.in_ok-files.files.items same size 0;
+    }

@@ -1,0 +1,9 @@
+pub mod Bytes
+pub mod Causes
+pub mod Plans
+pub mod Lists
+pub mod Disk
+pub mod Moments
+pub mod Steps
+pub mod Kept
+pub mod MemState

@@ -1,0 +1,76 @@
+-- What the calls of a shelf do to its folder.
+use Rattle.std.specs.Prelude.{◌≡◌, ◌⊎◌, ℕ, ◌≤◌, ⊤, Option, Some, None, IfSome, IsSome, List, [], ◌∷◌, ◌++◌, length, take, ◌==◌}
+use Rattle.std.specs.Option.{option_map}
+use Rattle.edge_io.specs.Causes.{one_more}
+use Rattle.edge_io.specs.Disk.{put, Disk, Draft, Folder, at_rest}
+
+-- a known state takes this step, and an unknown one stays unknown
+abbrev pub Goes : {S : Type 0} → Option S → Option S → (S → S → Type 0) → Type 0
+Goes None None step = ⊤
+Goes None (Some t) step = ⊥
+Goes (Some s) None step = ⊥
+Goes (Some s) (Some t) step = step s t
+
+abbrev pub Stays : {S : Type 0} → S → S → Type 0
+Stays s t = t ≡ s
+
+-- one call more, up to the last value of a counter
+abbrev pub Ticks : ℕ → ℕ → Type 0
+Ticks before now = now ≡ one_more before
+
+abbrev pub HasDraft : Option Folder → Type 0
+HasDraft state = IfSome state (λ s. IsSome s.draft)
+
+-- there is a draft, and nothing is pending
+pub record CanPublish (s : Folder) : Type 0 where
+  pub draft : IsSome s.draft
+  pub settled : s.disk.pending ≡ None
+
+abbrev pub IsReady : Option Folder → Type 0
+IsReady state = IfSome state CanPublish
+
+abbrev pub FindsLength : Option Folder → List ℕ → Option ℕ → Type 0
+FindsLength state name found = IfSome state (λ s. found ≡ option_map length (s.disk.published name))
+
+abbrev pub Opened : Folder → Folder → Type 0
+Opened s t = t ≡ record s { draft = Some (record { bytes = []; synced = 0 }) }
+
+abbrev pub Dropped : Folder → Folder → Type 0
+Dropped s t = t ≡ record s { draft = None }
+
+abbrev pub grown : List ℕ → Draft → Draft
+grown piece draft = record { bytes = draft.bytes ++ piece; synced = draft.synced }
+
+abbrev pub Grown : List ℕ → Folder → Folder → Type 0
+Grown piece s t = t ≡ record s { draft = option_map (grown piece) s.draft }
+
+abbrev pub GrownInPart : List ℕ → Folder → Folder → Type 0
+GrownInPart piece s t = (n : ℕ) × (n ≤ length piece) × Grown (take n piece) s t
+
+abbrev pub synced : Draft → Draft
+synced draft = record { bytes = draft.bytes; synced = length draft.bytes }
+
+abbrev pub Synced : Folder → Folder → Type 0
+Synced s t = t ≡ record s { draft = option_map synced s.draft }
+
+-- the disk after this draft was published
+abbrev pub placed : List ℕ → Disk → Option Draft → Disk
+placed name disk None = disk
+placed name disk (Some draft) = record {
+  published = put disk.published name draft.bytes;
+  stable = disk.stable;
+  pending = Some (record { name = name; whole = draft.synced == length draft.bytes });
+}
+
+-- the disk becomes this one
+abbrev pub moved : Folder → Disk → Option Draft → Folder
+moved s disk draft = record { disk = disk; draft = draft; past = s.past ++ s.disk ∷ [] }
+
+abbrev pub Placed : List ℕ → Folder → Folder → Type 0
+Placed name s t = t ≡ moved s (placed name s.disk s.draft) None
+
+abbrev pub PlacedOrNot : List ℕ → Folder → Folder → Type 0
+PlacedOrNot name s t = Placed name s t ⊎ Dropped s t
+
+abbrev pub Settled : Folder → Folder → Type 0
+Settled s t = t ≡ moved s (at_rest s.disk.published) s.draft
