@@ -1,0 +1,14 @@
+//! When an event happened.
+
+ghost use Rattle.std.specs.Prelude.{◌<◌, ◌^◌};
+
+/// A time since 1970 in UTC: `seconds`, and `nanos` nanoseconds after them.
+///
+/// The nanoseconds are those of the packet, below 2^30. They may be a second or more, and then carry into the
+/// instant, which is `seconds * 1,000,000,000 + nanos` nanoseconds.
+#[derive(Clone, Copy, Debug, PartialEq, Eq)]
+pub struct Stamp {
+    pub seconds: u32,
+    pub nanos: u32,
+    pub ghost nanos_fit: { nanos < 2 ^ 30 },
+}
