@@ -1,4 +1,4 @@
--- zlib's CRC-32, bit by bit.
+-- zlib's CRC-32, bit by bit: the polynomial EDB88320, the lowest bit first.
 use Rattle.std.specs.Prelude.{ℕ, zero, suc, ◌-◌, ◌/◌, ◌%◌, ◌^◌, ◌==◌, List, fold, bit_xor, if◌then◌else◌}
 
 -- the value is shifted right by one, and a 1 that is shifted out mixes the polynomial in

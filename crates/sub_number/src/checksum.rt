@@ -1,4 +1,4 @@
-//! zlib's CRC-32.
+//! zlib's CRC-32: a register of 32 bits, into which each byte goes by eight shifts.
 
 ghost use Rattle.std.specs.Prelude.{◌≡◌, ◌<◌, ◌+◌, ◌++◌, [], List, ℕ, fold};
 ghost use Rattle.sub_number.specs.Checksum.{shifted_times, crc_step, crc32, crc_register, inverted};
@@ -40,6 +40,7 @@ fn after_eight(register: u32, bytes: &[u8; 8]) -> u32
         ^ shifted_byte(0, u32::from(bytes[7]))
 }
 
+// The register behind the bytes.
 fn register_after(mut register: u32, bytes: &[u8]) -> u32
     ensures { result ≡ fold crc_step register bytes.now }
 {
@@ -51,14 +52,15 @@ fn register_after(mut register: u32, bytes: &[u8]) -> u32
     after_each(register, left)
 }
 
-/// The checksum of the bytes.
+/// The checksum of the bytes, by zlib's CRC-32.
 pub fn crc_of(bytes: &[u8]) -> u32
     ensures { result ≡ crc32 bytes.now }
 {
     !register_after(u32::MAX, bytes)
 }
 
-/// A checksum over bytes that come in pieces.
+/// A checksum, by zlib's CRC-32, of bytes that come in pieces. Contracts see it as the register behind the bytes that
+/// were added.
 #[derive(Clone, Copy, Debug)]
 pub struct Crc {
     register: u32,
@@ -73,18 +75,21 @@ impl Model for Crc {
 }
 
 impl Crc {
+    /// The checksum of no bytes yet.
     pub fn new() -> Self
         ensures { result ≡ crc_register [] }
     {
         Crc { register: u32::MAX }
     }
 
+    /// Adds the bytes behind those that were added before.
     pub fn add(&mut self, bytes: &[u8])
         ensures { (added : List ℕ) → self.old ≡ crc_register added → self.new ≡ crc_register (added ++ bytes.now) }
     {
         self.register = register_after(self.register, bytes);
     }
 
+    /// The checksum of all the bytes that were added, in order. More may be added after it.
     pub fn value(&self) -> u32
         ensures { (added : List ℕ) → self.now ≡ crc_register added → result ≡ crc32 added }
     {
