@@ -1,4 +1,3 @@
-use Rattle.std.proofs.Common.{arith}
 use Rattle.sub_number.proofs.ChecksumLemmas.{shifted_in_table}
 use Rattle.sub_number.proofs.checksum.shifted_byte.Goals as goal
 
