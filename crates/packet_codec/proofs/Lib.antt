@@ -1,0 +1,5 @@
+pub mod LeastLemmas
+pub mod RoutingLemmas
+pub mod ShortestLemmas
+pub mod SpellingLemmas
+pub mod WritingLemmas
