@@ -1,3 +1,4 @@
+pub mod LaneLemmas
 pub mod LeastLemmas
 pub mod RoutingLemmas
 pub mod ShortestLemmas

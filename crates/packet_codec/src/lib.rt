@@ -20,3 +20,6 @@ pub use sizes::{fits, routed_size, size};
 pub use stamp::Stamp;
 pub use status::Status;
 pub use tags::Tags;
+
+#[cfg(test)]
+mod tests_writing;
