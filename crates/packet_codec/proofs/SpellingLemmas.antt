@@ -77,7 +77,7 @@ fields_spelled e is small = record {
   id_spelled = optional_spelled SpellsText canonical_text IsShortText (λ text short _. text_spelled text short) e.id is.id (omega (arith, length_canonical_fields e));
   tags_spelled = optional_spelled SpellsTags canonical_tags (All IsShortText) tags_spelled e.tags is.tags (omega (arith, length_canonical_fields e));
   mime_spelled = optional_spelled SpellsText canonical_text IsShortText (λ text short _. text_spelled text short) e.mime is.mime (omega (arith, length_canonical_fields e));
-  file_spelled = optional_spelled SpellsFile canonical_file (λ file. IsShortText file.name) file_spelled e.file is.file (omega (arith, length_canonical_fields e));
+  file_spelled = optional_spelled SpellsFile canonical_file (λ file. IsShortText file.name × All (λ byte. byte < 256) file.bytes) (λ file parts. file_spelled file parts.0) e.file is.file (omega (arith, length_canonical_fields e));
   route_spelled = optional_spelled SpellsText canonical_text IsShortText (λ text short _. text_spelled text short) e.route is.route (omega (arith, length_canonical_fields e));
 }
 

@@ -1,11 +1,12 @@
 //! How many bytes the shortest spelling of an event takes.
 
-ghost use Rattle.std.specs.Prelude.{◌≡◌, ◌↔◌, ◌+◌, ◌*◌, ◌<◌, ◌≤◌, ◌^◌, length, IsTrue};
+ghost use Rattle.std.specs.Prelude.{◌≡◌, ◌↔◌, ◌+◌, ◌*◌, ◌<◌, ◌≤◌, ◌^◌, length, IfSome, IsTrue};
 ghost use Rattle.std.specs.List.{flat_map};
 ghost use Rattle.std.specs.Fmt.{decimal};
 ghost use Rattle.sub_number.specs.Numbers.{shortest_number};
+ghost use Rattle.sub_number.specs.Texts.{IsShortText};
 ghost use Rattle.packet_codec.specs.Routing.{under, route_under};
-ghost use Rattle.packet_codec.specs.Canonical.{canonical_optional, canonical_text, canonical_stamp, canonical_tags, canonical_file, canonical_fields, canonical_size, packet_size, Fits};
+ghost use Rattle.packet_codec.specs.Canonical.{canonical_optional, canonical_text, canonical_stamp, canonical_tags, canonical_file, canonical_fields, canonical_size, packet_size, largest_packet, Fits};
 
 use crate::event::{Event, FilePart};
 use crate::stamp::Stamp;
@@ -30,11 +31,14 @@ pub fn fits(event: &Event) -> bool
     size(event) <= 4_194_303
 }
 
-/// The size in bytes that the event would have under the route of a lane, by `reroute`.
+/// The size in bytes that the event would have under the route of a lane, by `reroute`. Where that is no more than a
+/// packet may have, 4,194,303 bytes, the new route is a text.
 pub fn routed_size(event: &Event, lane: u32) -> u128
     requires { lane < 64 }
-    ensures { result ≡ canonical_size (under lane event.now) }
+    ensures size { result ≡ canonical_size (under lane event.now) }
+    ensures text { result ≤ largest_packet → IsShortText (route_under lane event.now.route) }
 {
+    known_text(&event.route);
     whole_size(front_size(event) + route_size(&event.route, lane))
 }
 
@@ -139,6 +143,15 @@ fn file_size(file: &Option<FilePart>) -> u128
             text_size(&file.name) + count_size(count) + count as u128
         }
         None => 0,
+    }
+}
+
+// A route that is there is a text.
+fn known_text(text: &Option<Text>)
+    ensures { IfSome text.now IsShortText }
+{
+    if let Some(text) = text {
+        let _bytes = text.bytes();
     }
 }
 

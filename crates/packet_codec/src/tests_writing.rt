@@ -1,19 +1,19 @@
 //! Packets against bytes made by hand with zlib's CRC-32, sizes where the length takes one byte more, and routes.
 
+ghost use Rattle.std.specs.Prelude.{◌≡◌, ◌<◌, None};
 
-ghost use Rattle.std.specs.Prelude.{◌<◌, IsNone};
 use crate::{Event, FilePart, Stamp, Status, Tags, encode, fits, reroute, routed_size, size};
 use std::alloc::Global;
 use std::test::Fail;
-use sub_number::{Bytes, NoMemory, Text};
+use sub_number::{Bytes, Text};
 
-// A runnable event of these parts.
-fn event(id: Option<Text>, status: Status) -> Event
-    ensures { IsNone result.route }
+// A runnable event of this status, and no more.
+fn plain(status: Status) -> Event
+    ensures { result.route ≡ None }
 {
     Event {
         stamp: None,
-        id,
+        id: None,
         tags: None,
         runnable: true,
         status,
@@ -24,127 +24,133 @@ fn event(id: Option<Text>, status: Status) -> Event
     }
 }
 
-// An event with nothing but a file of this many bytes, whose name is empty.
-fn event_of_size(alloc: Global, name: Text, bytes: &[u8]) -> Result<Event, NoMemory> {
-    let mut event = event(None, Status::Unset);
-    event.file = Some(FilePart {
-        name,
-        bytes: Bytes::new(alloc, bytes)?,
-    });
-    Ok(event)
+fn text(alloc: Global, bytes: &[u8]) -> Option<Text> {
+    Text::new(alloc, bytes).ok()
+}
+
+fn of_foo(alloc: Global, status: Status) -> Event {
+    let mut event = plain(status);
+    event.id = text(alloc, b"foo");
+    event
+}
+
+// A file of so many bytes.
+fn file(alloc: Global, name: &[u8], count: usize) -> Option<FilePart> {
+    let name = text(alloc, name)?;
+    let bytes = vec![in alloc; b'a'; count].ok()?;
+    let bytes = Bytes::new(alloc, &bytes).ok()?;
+    Some(FilePart { name, bytes })
+}
+
+fn tags(alloc: Global) -> Option<Tags> {
+    let mut tags = Tags::new(alloc);
+    tags.push(text(alloc, b"x")?).ok()?;
+    tags.push(text(alloc, b"yy")?).ok()?;
+    Some(tags)
 }
 
 // An event of every field.
-fn full_event(alloc: Global) -> Result<Event, Fail> {
-    let mut tags = Tags::new(alloc);
-    if tags.push(Text::new(alloc, b"x")?).is_err() || tags.push(Text::new(alloc, b"yy")?).is_err() {
-        return Err(NoMemory.into());
-    }
-    Ok(Event {
+fn full(alloc: Global) -> Event {
+    Event {
         stamp: Some(Stamp {
             seconds: 1_000_000_000,
             nanos: 1000,
         }),
-        id: Some(Text::new(alloc, b"a/b")?),
-        tags: Some(tags),
+        id: text(alloc, b"a/b"),
+        tags: tags(alloc),
         runnable: true,
         status: Status::Skip,
-        mime: Some(Text::new(alloc, b"text/plain")?),
-        file: Some(FilePart {
-            name: Text::new(alloc, b"log")?,
-            bytes: Bytes::new(alloc, b"hi\n")?,
-        }),
+        mime: text(alloc, b"text/plain"),
+        file: file(alloc, b"log", 3),
         eof: true,
-        route: Some(Text::new(alloc, b"1/a")?),
-    })
+        route: text(alloc, b"1/a"),
+    }
+}
+
+// Whether the event is written as the packet, behind what was there.
+fn writes(alloc: Global, event: &Event, packet: &[u8]) -> bool {
+    let mut out = Vec::new(alloc);
+    if !fits(event) || out.push(7).is_err() || encode(event, &mut out).is_err() {
+        return false;
+    }
+    out[0] == 7 && &out[1..] == packet && size(event) == packet.len() as u128
 }
 
 #[test]
 fn packets_are_those_of_the_table(rt: HostRuntime) -> Result<(), Fail> {
     let alloc = rt.alloc();
-    let foo = b"foo".as_slice();
-    let mut ended = event(None, Status::Unset);
+    assert!(rt; writes(alloc, &of_foo(alloc, Status::Exists), b"\xb3\x29\x01\x0c\x03foo\x08\x55\x5f\x1b"));
+    assert!(rt; writes(alloc, &of_foo(alloc, Status::Success), b"\xb3\x29\x03\x0c\x03foo\x45\x9d\xfe\x10"));
+    assert!(rt; writes(alloc, &of_foo(alloc, Status::Fail), b"\xb3\x29\x06\x0c\x03foo\x15\x50\x6f\xa3"));
+    let mut ended = plain(Status::Unset);
     ended.eof = true;
-    let mut routed = event(Some(Text::new(alloc, foo)?), Status::Success);
-    routed.route = Some(Text::new(alloc, b"0")?);
-    let table = vec![in alloc;
-        (event(Some(Text::new(alloc, foo)?), Status::Exists), b"\xb3\x29\x01\x0c\x03foo\x08\x55\x5f\x1b".as_slice()),
-        (event(Some(Text::new(alloc, foo)?), Status::Success), b"\xb3\x29\x03\x0c\x03foo\x45\x9d\xfe\x10".as_slice()),
-        (event(Some(Text::new(alloc, foo)?), Status::Fail), b"\xb3\x29\x06\x0c\x03foo\x15\x50\x6f\xa3".as_slice()),
-        (ended, b"\xb3\x21\x10\x08\x53\x15\x88\xdc".as_slice()),
-        (routed, b"\xb3\x2d\x03\x0e\x03foo\x010\xa4\xaf\xdb\xe0".as_slice()),
-        (full_event(alloc)?, b"\xb3\x2f\xf5\x2f\x3b\x9a\xca\x00\x43\xe8\x03a/b\x02\x01x\x02yy\x0atext/plain\x03log\x03hi\n\x031/a\x9b\x4f\x41\x46".as_slice()),
-    ]?;
-    let mut out = Vec::new(alloc);
-    for (event, packet) in &table {
-        let start = out.len();
-        assert!(rt; fits(event));
-        assert!(rt; encode(event, &mut out).is_ok());
-        assert!(rt; start <= out.len());
-        assert_eq!(rt; &out[start..], *packet);
-        assert_eq!(rt; size(event), packet.len() as u128);
-    }
-    assert_eq!(rt; out.len(), 12 + 12 + 12 + 8 + 14 + 47);
+    assert!(rt; writes(alloc, &ended, b"\xb3\x21\x10\x08\x53\x15\x88\xdc"));
+    let mut routed = of_foo(alloc, Status::Success);
+    routed.route = text(alloc, b"0");
+    assert!(rt; writes(alloc, &routed, b"\xb3\x2d\x03\x0e\x03foo\x010\xa4\xaf\xdb\xe0"));
     Ok(())
+}
+
+#[test]
+fn every_field_is_written(rt: HostRuntime) -> Result<(), Fail> {
+    let alloc = rt.alloc();
+    assert!(rt; writes(alloc, &full(alloc), b"\xb3/\xf5/;\x9a\xca\x00C\xe8\x03a/b\x02\x01x\x02yy\x0atext/plain\x03log\x03aaa\x031/a\x0cf\xc0\xa4"));
+    Ok(())
+}
+
+// The size of an event with nothing but a file of so many bytes; none where it is not written in that size.
+fn written_size(alloc: Global, count: usize) -> Option<u128> {
+    let mut event = plain(Status::Unset);
+    event.file = file(alloc, b"", count);
+    let whole = size(&event);
+    if fits(&event) {
+        let mut out = Vec::new(alloc);
+        encode(&event, &mut out).ok()?;
+        if out.len() as u128 != whole {
+            return None;
+        }
+    }
+    Some(whole)
 }
 
 #[test]
 fn lengths_take_the_fewest_bytes(rt: HostRuntime) -> Result<(), Fail> {
     let alloc = rt.alloc();
-    let table = vec![in alloc;
-        (53usize, 63u128, true),
-        (54, 65, true),
-        (16_371, 16_383, true),
-        (16_372, 16_385, true),
-        (4_194_289, 4_194_303, true),
-        (4_194_290, 4_194_304, false),
-    ]?;
-    for &(count, whole, fitting) in &table {
-        let bytes = vec![in alloc; 7u8; count]?;
-        let event = event_of_size(alloc, Text::new(alloc, b"")?, &bytes)?;
-        assert_eq!(rt; size(&event), whole);
-        assert_eq!(rt; fits(&event), fitting);
-        if fits(&event) {
-            let mut out = Vec::new(alloc);
-            assert!(rt; encode(&event, &mut out).is_ok());
-            assert_eq!(rt; out.len() as u128, whole);
-        }
+    let table = [
+        (53usize, 63u128),
+        (54, 65),
+        (16_371, 16_383),
+        (16_372, 16_385),
+        (4_194_289, 4_194_303),
+        (4_194_290, 4_194_304),
+    ];
+    for &(count, whole) in &table {
+        assert_eq!(rt; written_size(alloc, count), Some(whole));
     }
+    let mut large = plain(Status::Unset);
+    large.file = file(alloc, b"", 4_194_289);
+    assert!(rt; fits(&large));
+    large.file = file(alloc, b"", 4_194_290);
+    assert!(rt; !fits(&large));
     Ok(())
 }
 
-// Puts the event under the lane where it fits there, and tells its new route and size.
-fn routed(alloc: Global, mut event: Event, lane: u32) -> Result<(Option<Text>, u128), Fail>
+// Whether the event is written as the packet under the lane, in the size that was told before.
+fn writes_under(alloc: Global, mut event: Event, lane: u32, packet: &[u8]) -> bool
     requires { lane < 64 }
 {
-    if routed_size(&event, lane) > 4_194_303 {
-        return Ok((None, 0));
-    }
-    reroute(alloc, &mut event, lane)?;
-    let whole = size(&event);
-    Ok((event.route, whole))
+    let whole = routed_size(&event, lane);
+    whole <= 4_194_303
+        && reroute(alloc, &mut event, lane).is_ok()
+        && size(&event) == whole
+        && writes(alloc, &event, packet)
 }
 
 #[test]
-#[tactic(auto, using(crate::proofs::RoutingLemmas::route_under_none))]
 fn routes_go_under_a_lane(rt: HostRuntime) -> Result<(), Fail> {
     let alloc = rt.alloc();
-    let mut first = event(None, Status::Unset);
-    assert!(rt; reroute(alloc, &mut first, 0).is_ok());
-    let table = vec![in alloc;
-        (first, 9u32, 12u128, b"9/0".as_slice()),
-        (full_event(alloc)?, 7, 49, b"7/1/a"),
-        (full_event(alloc)?, 63, 50, b"63/1/a"),
-    ]?;
-    for (event, lane, whole, route) in table {
-        assert!(rt; lane < 64);
-        assert_eq!(rt; routed_size(&event, lane), whole);
-        let (found, size) = routed(alloc, event, lane)?;
-        assert_eq!(rt; size, whole);
-        assert!(rt; found.is_some());
-        if let Some(found) = &found {
-            assert_eq!(rt; found.bytes(), route);
-        }
-    }
+    assert!(rt; writes_under(alloc, plain(Status::Unset), 0, b"\xb3\x25\x00\x0a\x01\x30\x16\xe8\xe4\x37"));
+    assert!(rt; writes_under(alloc, full(alloc), 7, b"\xb3/\xf51;\x9a\xca\x00C\xe8\x03a/b\x02\x01x\x02yy\x0atext/plain\x03log\x03aaa\x057/1/ag\x00\xbfU"));
+    assert!(rt; writes_under(alloc, full(alloc), 63, b"\xb3/\xf52;\x9a\xca\x00C\xe8\x03a/b\x02\x01x\x02yy\x0atext/plain\x03log\x03aaa\x0663/1/a\xad\xc5\x7fl"));
     Ok(())
 }
