@@ -14,7 +14,7 @@ use Rattle.packet_codec.specs.declared.event.Event.{Event}
 use Rattle.packet_codec.specs.Flags.{first_flags, second_flags}
 use Rattle.packet_codec.specs.Fields.{SpellsOptional, SpellsStamp, SpellsTexts, SpellsTags, SpellsFile, SpellsFields}
 use Rattle.packet_codec.specs.Packet.{signature, SpellsEvent}
-use Rattle.packet_codec.specs.Canonical.{canonical_optional, canonical_text, canonical_stamp, canonical_tags, canonical_file, canonical_fields, packet_size, canonical_size}
+use Rattle.packet_codec.specs.Canonical.{canonical_optional, canonical_text, canonical_stamp, canonical_tags, canonical_file, canonical_fields, packet_size, canonical_size, largest_packet, Fits}
 use Rattle.packet_codec.proofs.ShortestLemmas.{number_least}
 use Rattle.packet_codec.proofs.WritingLemmas.{length_canonical_fields}
 
@@ -68,3 +68,17 @@ size_least bytes e s =
     let size : length bytes ≡ 3 + length s.size + length s.fields + 4 = length_spelling bytes e s in
     let room : 3 + length s.size + length s.fields + 4 < 2 ^ (8 * length s.size - 2) = rw (← size) s.size_spelled.fits in
     rw size (packet_size_least (length s.size) (length (canonical_fields e)) (length s.fields) s.size_spelled.some s.size_short (fields_least s.fields e s.fields_spelled) room)
+
+-- three bytes have no room for more than the largest packet
+small_of_width : (width value : ℕ) → width ≤ 3 → value < 2 ^ (8 * width - 2) → value ≤ largest_packet
+small_of_width zero value few room = omega arith
+small_of_width (suc zero) value few room = omega arith
+small_of_width (suc (suc zero)) value few room = omega arith
+small_of_width (suc (suc (suc zero))) value few room = omega arith
+small_of_width (suc (suc (suc (suc width)))) value few room = absurd (omega arith)
+
+-- so an event that some bytes spell fits
+pub spelled_fits : (bytes : List ℕ) (e : Event) → SpellsEvent bytes e → Fits e
+spelled_fits bytes e s =
+    let small : length bytes ≤ largest_packet = small_of_width (length s.size) (length bytes) s.size_short s.size_spelled.fits in
+    record { size = omega (arith, size_least bytes e s, small) }

@@ -1,7 +1,9 @@
 -- Writing behind what stands there, and how large the parts are.
-use Rattle.std.proofs.Common.{◌≡◌, ℕ, ◌+◌, ◌<◌, ◌≤◌, List, [], ◌∷◌, ◌++◌, length, take, refl, sym, ◌∙◌, ap, arith}
+use Rattle.std.proofs.Common.{◌≡◌, ℕ, ◌+◌, ◌<◌, ◌≤◌, List, [], ◌∷◌, ◌++◌, length, take, get_or, Fits, w8, refl, sym, ◌∙◌, ap, arith}
+use Rattle.std.specs.Prelude.{All}
 use Rattle.std.specs.List.{flat_map}
 use Rattle.std.proofs.lemmas.List.{length-append, take-take, take-append-le, take_at}
+use Rattle.std.proofs.lemmas.List.Elements.{All-from_get_or}
 use Rattle.sub_number.specs.Numbers.{shortest_number}
 use Rattle.packet_codec.specs.declared.event.Event.{Event}
 use Rattle.packet_codec.specs.Routing.{under, route_under}
@@ -30,3 +32,7 @@ length_canonical_fields e = simp length-append (omega arith)
 -- under a lane only the route's part is another
 pub length_fields_under : (lane : ℕ) (e : Event) → length (canonical_fields (under lane e)) + length (canonical_optional canonical_text e.route) ≡ length (canonical_fields e) + length (canonical_text (route_under lane e.route))
 length_fields_under lane e = omega (arith, length_canonical_fields e, length_canonical_fields (under lane e))
+
+-- bytes that each fit eight bits
+pub all_bytes : (bytes : List ℕ) → ((i : ℕ) → Fits w8 (get_or bytes i 0)) → All (λ byte. byte < 256) bytes
+all_bytes bytes are = All-from_get_or (λ byte. byte < 256) bytes 0 (λ i below. omega (arith, are i))

@@ -1,12 +1,12 @@
 //! How many bytes the shortest spelling of an event takes.
 
-ghost use Rattle.std.specs.Prelude.{◌≡◌, ◌↔◌, ◌+◌, ◌*◌, ◌<◌, ◌≤◌, ◌^◌, length, IfSome, IsTrue};
+ghost use Rattle.std.specs.Prelude.{◌≡◌, ◌↔◌, ◌+◌, ◌*◌, ◌<◌, ◌≤◌, ◌^◌, length, All, IfSome, IsTrue};
 ghost use Rattle.std.specs.List.{flat_map};
 ghost use Rattle.std.specs.Fmt.{decimal};
 ghost use Rattle.sub_number.specs.Numbers.{shortest_number};
 ghost use Rattle.sub_number.specs.Texts.{IsShortText};
 ghost use Rattle.packet_codec.specs.Routing.{under, route_under};
-ghost use Rattle.packet_codec.specs.Canonical.{canonical_optional, canonical_text, canonical_stamp, canonical_tags, canonical_file, canonical_fields, canonical_size, packet_size, largest_packet, Fits};
+ghost use Rattle.packet_codec.specs.Canonical.{canonical_optional, canonical_text, canonical_stamp, canonical_tags, canonical_file, canonical_fields, canonical_size, packet_size, largest_packet, Fits, IsEvent};
 
 use crate::event::{Event, FilePart};
 use crate::stamp::Stamp;
@@ -18,15 +18,20 @@ use sub_number::{Text, number_size};
 ///
 /// It is told for each event, also for one that is too large for a packet: the length then counts as three bytes, and a
 /// count of 2^30 or more as four.
+///
+/// Whoever asks learns too that the event's parts are what their types keep.
 pub fn size(event: &Event) -> u128
-    ensures { result ≡ canonical_size event.now }
+    ensures size { result ≡ canonical_size event.now }
+    ensures event { IsEvent event.now }
 {
     whole_size(front_size(event) + optional_text_size(&event.route))
 }
 
-/// Whether the event has a spelling, which is where its size is at most 4,194,303 bytes.
+/// Whether the event has a spelling, which is where its size is at most 4,194,303 bytes. What `size` tells of its parts
+/// is told here too.
 pub fn fits(event: &Event) -> bool
-    ensures { IsTrue result ↔ Fits event.now }
+    ensures fits { IsTrue result ↔ Fits event.now }
+    ensures event { IsEvent event.now }
 {
     size(event) <= 4_194_303
 }
@@ -37,8 +42,8 @@ pub fn routed_size(event: &Event, lane: u32) -> u128
     requires { lane < 64 }
     ensures size { result ≡ canonical_size (under lane event.now) }
     ensures text { result ≤ largest_packet → IsShortText (route_under lane event.now.route) }
+    ensures event { IsEvent event.now }
 {
-    known_text(&event.route);
     whole_size(front_size(event) + route_size(&event.route, lane))
 }
 
@@ -61,6 +66,7 @@ fn whole_size(fields: u128) -> u128
 fn front_size(event: &Event) -> u128
     ensures size { result + length (canonical_optional canonical_text event.now.route) ≡ length (canonical_fields event.now) }
     ensures small { result < 2 ^ 97 }
+    ensures event { IfSome event.now.route IsShortText → IsEvent event.now }
 {
     stamp_size(&event.stamp)
         + optional_text_size(&event.id)
@@ -84,14 +90,24 @@ fn count_size(count: usize) -> u128
 fn text_size(text: &Text) -> u128
     ensures size { result ≡ length (canonical_text text.now) }
     ensures small { result < 2 ^ 31 }
+    ensures text { IsShortText text.now }
 {
-    let count = text.bytes().len();
-    count_size(count) + count as u128
+    bytes_size(text.bytes())
+}
+
+// Their count, and the bytes.
+fn bytes_size(bytes: &[u8]) -> u128
+    ensures size { result ≡ length (canonical_text bytes.now) }
+    ensures small { result ≤ length bytes.now + 4 }
+    ensures bytes { All (λ byte. byte < 256) bytes.now }
+{
+    count_size(bytes.len()) + bytes.len() as u128
 }
 
 fn optional_text_size(text: &Option<Text>) -> u128
     ensures size { result ≡ length (canonical_optional canonical_text text.now) }
     ensures small { result < 2 ^ 31 }
+    ensures text { IfSome text.now IsShortText }
 {
     match text {
         Some(text) => text_size(text),
@@ -102,9 +118,14 @@ fn optional_text_size(text: &Option<Text>) -> u128
 fn stamp_size(stamp: &Option<Stamp>) -> u128
     ensures size { result ≡ length (canonical_optional canonical_stamp stamp.now) }
     ensures small { result ≤ 8 }
+    ensures seconds { IfSome stamp.now (λ stamp. stamp.seconds < 2 ^ 32) }
 {
     match stamp {
-        Some(stamp) => 4 + number_size(stamp.nanos) as u128,
+        Some(stamp) => {
+            // Read, so that their range is known.
+            let _seconds = stamp.seconds;
+            4 + number_size(stamp.nanos) as u128
+        }
         None => 0,
     }
 }
@@ -112,6 +133,7 @@ fn stamp_size(stamp: &Option<Stamp>) -> u128
 fn tags_size(tags: &Option<Tags>) -> u128
     ensures size { result ≡ length (canonical_optional canonical_tags tags.now) }
     ensures small { result < 2 ^ 96 }
+    ensures texts { IfSome tags.now (All IsShortText) }
 {
     match tags {
         Some(tags) => {
@@ -125,6 +147,7 @@ fn tags_size(tags: &Option<Tags>) -> u128
 fn texts_size(texts: &[Text]) -> u128
     ensures size { result ≡ length (flat_map canonical_text texts.now) }
     ensures small { result ≤ length texts.now * 2 ^ 31 }
+    ensures texts { All IsShortText texts.now }
 {
     let mut sum = 0u128;
     for text in texts {
@@ -136,22 +159,11 @@ fn texts_size(texts: &[Text]) -> u128
 fn file_size(file: &Option<FilePart>) -> u128
     ensures size { result ≡ length (canonical_optional canonical_file file.now) }
     ensures small { result < 2 ^ 65 }
+    ensures parts { IfSome file.now (λ file. IsShortText file.name × All (λ byte. byte < 256) file.bytes) }
 {
     match file {
-        Some(file) => {
-            let count = file.bytes.bytes().len();
-            text_size(&file.name) + count_size(count) + count as u128
-        }
+        Some(file) => text_size(&file.name) + bytes_size(file.bytes.bytes()),
         None => 0,
-    }
-}
-
-// A route that is there is a text.
-fn known_text(text: &Option<Text>)
-    ensures { IfSome text.now IsShortText }
-{
-    if let Some(text) = text {
-        let _bytes = text.bytes();
     }
 }
 
@@ -160,6 +172,7 @@ fn route_size(route: &Option<Text>, lane: u32) -> u128
     requires { lane < 64 }
     ensures size { result ≡ length (canonical_text (route_under lane route.now)) }
     ensures small { result < 2 ^ 32 }
+    ensures text { IfSome route.now IsShortText }
 {
     let digits = lane_digits(lane);
     let count = match route {

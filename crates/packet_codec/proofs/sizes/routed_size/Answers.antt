@@ -14,4 +14,4 @@ pub returns-clause-text : goal.returns-clause-text
 returns-clause-text c small =
     let fields : c.front_size.result + c.route_size.result ≡ length (canonical_fields (under c.args.lane c.args.event.now)) = omega (arith, length_fields_under c.args.lane c.args.event.now) in
     let size : c.whole_size.result ≡ canonical_size (under c.args.lane c.args.event.now) = c.whole_size.ensures ∙ ap packet_size fields in
-    route_under_fits c.args.lane c.args.event.now (omega arith) c.known_text.ensures (record { size = rw (← size) small })
+    route_under_fits c.args.lane c.args.event.now (omega arith) c.route_size.ensures.text (record { size = rw (← size) small })
