@@ -1,12 +1,12 @@
 -- Events under a lane: what fits there has a text for its route.
-use Rattle.std.proofs.Common.{◌≡◌, ℕ, ◌+◌, ◌<◌, ◌≤◌, ◌^◌, List, ◌++◌, length, arith}
+use Rattle.std.proofs.Common.{ℕ, ◌<◌, ◌^◌, List, length, arith}
 use Rattle.std.specs.Prelude.{Option, Some, None, IfSome}
 use Rattle.std.proofs.lemmas.List.{length-append}
 use Rattle.sub_number.specs.Numbers.{shortest_number}
 use Rattle.sub_number.specs.Texts.{IsShortText}
 use Rattle.packet_codec.specs.declared.event.Event.{Event}
 use Rattle.packet_codec.specs.Routing.{route_under, under}
-use Rattle.packet_codec.specs.Canonical.{canonical_text, canonical_fields, Fits, IsEvent}
+use Rattle.packet_codec.specs.Canonical.{canonical_fields, Fits, IsEvent}
 use Rattle.packet_codec.proofs.RoutingLemmas.{route_under_none, route_under_some}
 use Rattle.packet_codec.proofs.WritingLemmas.{length_canonical_fields}
 use Rattle.packet_codec.proofs.SpellingLemmas.{packet_size_room}

@@ -1,19 +1,18 @@
 -- No spelling of an event, or of a part of it, is shorter than the one with shortest numbers.
-use Rattle.std.proofs.Common.{◌≡◌, ℕ, zero, suc, ◌+◌, ◌-◌, ◌*◌, ◌<◌, ◌≤◌, ◌^◌, List, [], ◌∷◌, ◌++◌, length, refl, ◌∙◌, ap, arith}
-use Rattle.std.specs.Prelude.{Option, Some, None, nat_lt}
+use Rattle.std.proofs.Common.{◌≡◌, ℕ, zero, suc, ◌+◌, ◌-◌, ◌*◌, ◌<◌, ◌≤◌, ◌^◌, List, [], ◌∷◌, ◌++◌, length, ap, arith}
+use Rattle.std.specs.Prelude.{Option, Some, None}
 use Rattle.std.specs.List.{flat_map}
 use Rattle.std.specs.Int.{w32, to_be_bytes}
 use Rattle.std.proofs.lemmas.List.{length-append}
 use Rattle.std.proofs.lemmas.Bool.Decides.{nat_tests}
-use Rattle.sub_number.specs.Numbers.{shortest_size, shortest_number}
+use Rattle.sub_number.specs.Numbers.{shortest_number}
 use Rattle.sub_number.specs.Texts.{SpellsText}
 use Rattle.sub_number.specs.Checksum.{crc32}
 use Rattle.packet_codec.specs.declared.stamp.Stamp.{Stamp}
 use Rattle.packet_codec.specs.declared.event.FilePart.{FilePart}
 use Rattle.packet_codec.specs.declared.event.Event.{Event}
-use Rattle.packet_codec.specs.Flags.{first_flags, second_flags}
 use Rattle.packet_codec.specs.Fields.{SpellsOptional, SpellsStamp, SpellsTexts, SpellsTags, SpellsFile, SpellsFields}
-use Rattle.packet_codec.specs.Packet.{signature, SpellsEvent}
+use Rattle.packet_codec.specs.Packet.{SpellsEvent}
 use Rattle.packet_codec.specs.Canonical.{canonical_optional, canonical_text, canonical_stamp, canonical_tags, canonical_file, canonical_fields, packet_size, canonical_size, largest_packet, Fits}
 use Rattle.packet_codec.proofs.ShortestLemmas.{number_least}
 use Rattle.packet_codec.proofs.WritingLemmas.{length_canonical_fields}
@@ -40,15 +39,17 @@ optional_least Spells spelling least bytes None s = omega arith
 optional_least Spells spelling least bytes (Some value) s = least bytes value s
 
 pub fields_least : (bytes : List ℕ) (e : Event) → SpellsFields bytes e → length (canonical_fields e) ≤ length bytes
-fields_least bytes e s = omega (arith,
-    simp length-append at (ap length s.parts),
-    length_canonical_fields e,
-    optional_least SpellsStamp canonical_stamp stamp_least s.stamp e.stamp s.stamp_spelled,
-    optional_least SpellsText canonical_text text_least s.id e.id s.id_spelled,
-    optional_least SpellsTags canonical_tags tags_least s.tags e.tags s.tags_spelled,
-    optional_least SpellsText canonical_text text_least s.mime e.mime s.mime_spelled,
-    optional_least SpellsFile canonical_file file_least s.file e.file s.file_spelled,
-    optional_least SpellsText canonical_text text_least s.route e.route s.route_spelled)
+fields_least bytes e s = omega (
+  arith,
+  simp length-append at (ap length s.parts),
+  length_canonical_fields e,
+  optional_least SpellsStamp canonical_stamp stamp_least s.stamp e.stamp s.stamp_spelled,
+  optional_least SpellsText canonical_text text_least s.id e.id s.id_spelled,
+  optional_least SpellsTags canonical_tags tags_least s.tags e.tags s.tags_spelled,
+  optional_least SpellsText canonical_text text_least s.mime e.mime s.mime_spelled,
+  optional_least SpellsFile canonical_file file_least s.file e.file s.file_spelled,
+  optional_least SpellsText canonical_text text_least s.route e.route s.route_spelled,
+)
 
 -- a packet that has room for its length is no smaller than the least
 pub packet_size_least : (width n m : ℕ) → 1 ≤ width → width ≤ 3 → n ≤ m → 3 + width + m + 4 < 2 ^ (8 * width - 2) → packet_size n ≤ 3 + width + m + 4

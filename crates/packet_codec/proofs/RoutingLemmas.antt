@@ -1,8 +1,7 @@
 -- The route of an event under a lane.
-use Rattle.std.proofs.Common.{◌≡◌, ◌≢◌, ℕ, ◌+◌, ◌*◌, ◌/◌, ◌%◌, ◌<◌, ◌≤◌, ◌^◌, List, [], ◌∷◌, ◌++◌, length, inl, inr, ◌∙◌, ap, arith}
-use Rattle.std.specs.Prelude.{Option, Some, None, All, codes}
+use Rattle.std.proofs.Common.{◌≡◌, ◌≢◌, ℕ, ◌+◌, ◌/◌, ◌%◌, ◌<◌, ◌≤◌, ◌^◌, List, [], ◌∷◌, ◌++◌, length, inl, inr, ◌∙◌, ap, arith}
+use Rattle.std.specs.Prelude.{Some, None, All, codes}
 use Rattle.std.specs.Fmt.{decimal}
-use Rattle.std.specs.Str.{IsAscii}
 use Rattle.std.proofs.lemmas.Fmt.{decimal_digit, decimal_step}
 use Rattle.std.proofs.lemmas.Bool.{cases_lt}
 use Rattle.std.proofs.lemmas.List.{length-append}
@@ -50,11 +49,11 @@ pub decimal_is_text : (lane : ℕ) → lane < 64 → IsShortText (decimal lane)
 decimal_is_text lane small = elim (cases_lt lane 10) [
   | inl one ↦ rw (decimal_digit lane one) (record { text = plain_text _ (one_plain (48 + lane) (omega arith) (omega arith)); short = omega arith })
   | inr two ↦
-    let digits : decimal lane ≡ (48 + lane / 10) ∷ (48 + lane % 10) ∷ [] = decimal_two lane two (omega arith) in
-    rw digits (record {
-      text = plain_text _ (All-cons IsPlain (48 + lane / 10) ((48 + lane % 10) ∷ []) (record { some = omega arith; ascii = omega arith }) (one_plain (48 + lane % 10) (omega arith) (omega arith)));
-      short = omega arith;
-    })
+      let digits : decimal lane ≡ (48 + lane / 10) ∷ (48 + lane % 10) ∷ [] = decimal_two lane two (omega arith) in
+      rw digits (record {
+        text = plain_text _ (All-cons IsPlain (48 + lane / 10) ((48 + lane % 10) ∷ []) (record { some = omega arith; ascii = omega arith }) (one_plain (48 + lane % 10) (omega arith) (omega arith)));
+        short = omega arith;
+      })
 ]
 
 -- the route that an event without one has under a lane

@@ -1,11 +1,10 @@
 -- The shortest spelling of a number.
-use Rattle.std.proofs.Common.{◌≡◌, ℕ, zero, suc, ◌+◌, ◌-◌, ◌*◌, ◌<◌, ◌≤◌, ◌^◌, List, [], ◌∷◌, ◌++◌, length, refl, inl, inr, arith}
+use Rattle.std.proofs.Common.{◌≡◌, ℕ, zero, suc, ◌+◌, ◌-◌, ◌*◌, ◌<◌, ◌≤◌, ◌^◌, List, length, inl, inr, arith}
 use Rattle.std.proofs.lemmas.Bool.{cases_lt}
 use Rattle.std.proofs.lemmas.Bool.Decides.{nat_tests}
 use Rattle.std.proofs.lemmas.List.{length-drop}
-use Rattle.std.specs.Prelude.{nat_lt, drop}
+use Rattle.std.specs.Prelude.{drop}
 use Rattle.std.specs.Int.{w32, to_be_bytes}
-use Rattle.std.specs.Int.Digits.{number_from_digits}
 use Rattle.sub_number.specs.Numbers.{SpellsNumber, IsShortest, shortest_size, shortest_number}
 
 pub shortest_size_range : (value : ℕ) → (1 ≤ shortest_size value) × (shortest_size value ≤ 4)

@@ -1,20 +1,19 @@
 -- The spelling with shortest numbers spells the event.
-use Rattle.std.proofs.Common.{◌≡◌, ℕ, ◌+◌, ◌<◌, ◌≤◌, ◌^◌, List, [], ◌∷◌, ◌++◌, length, refl, sym, arith}
-use Rattle.std.specs.Prelude.{Option, Some, None, IfSome, All, nat_lt}
+use Rattle.std.proofs.Common.{◌≡◌, ℕ, ◌+◌, ◌<◌, ◌≤◌, ◌^◌, List, [], ◌∷◌, length, refl, arith}
+use Rattle.std.specs.Prelude.{Option, Some, None, IfSome, All}
 use Rattle.std.specs.List.{flat_map}
 use Rattle.std.specs.Int.{w32, to_be_bytes}
 use Rattle.std.proofs.lemmas.List.{length-append}
 use Rattle.std.proofs.lemmas.List.Elements.{All-head, All-tail}
 use Rattle.std.proofs.lemmas.Bool.Decides.{nat_tests}
-use Rattle.sub_number.specs.Numbers.{SpellsNumber, shortest_size, shortest_number}
+use Rattle.sub_number.specs.Numbers.{shortest_size, shortest_number}
 use Rattle.sub_number.specs.Texts.{SpellsText, IsShortText}
 use Rattle.sub_number.specs.Checksum.{crc32}
 use Rattle.packet_codec.specs.declared.stamp.Stamp.{Stamp}
 use Rattle.packet_codec.specs.declared.event.FilePart.{FilePart}
 use Rattle.packet_codec.specs.declared.event.Event.{Event}
-use Rattle.packet_codec.specs.Flags.{first_flags, second_flags}
 use Rattle.packet_codec.specs.Fields.{SpellsOptional, SpellsStamp, SpellsTexts, SpellsTags, SpellsFile, SpellsFields}
-use Rattle.packet_codec.specs.Packet.{signature, SpellsEvent}
+use Rattle.packet_codec.specs.Packet.{SpellsEvent}
 use Rattle.packet_codec.specs.Canonical.{canonical_optional, canonical_text, canonical_stamp, canonical_tags, canonical_file, canonical_fields, canonical_body, canonical, packet_size, canonical_size, Fits, IsEvent, IsShortestSpelling}
 use Rattle.packet_codec.proofs.ShortestLemmas.{length_shortest_number, shortest_spells}
 use Rattle.packet_codec.proofs.WritingLemmas.{tags_count, length_canonical_fields}

@@ -2,7 +2,7 @@
 use Rattle.std.proofs.Common.{◌≡◌, ℕ, ◌+◌, ◌<◌, ◌≤◌, List, [], ◌∷◌, ◌++◌, length, take, get_or, Fits, w8, refl, sym, ◌∙◌, ap, arith}
 use Rattle.std.specs.Prelude.{All}
 use Rattle.std.specs.List.{flat_map}
-use Rattle.std.proofs.lemmas.List.{length-append, take-take, take-append-le, take_at}
+use Rattle.std.proofs.lemmas.List.{length-append, take-take, take_at}
 use Rattle.std.proofs.lemmas.List.Elements.{All-from_get_or}
 use Rattle.sub_number.specs.Numbers.{shortest_number}
 use Rattle.packet_codec.specs.declared.event.Event.{Event}

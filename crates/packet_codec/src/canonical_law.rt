@@ -6,5 +6,4 @@ ghost use Rattle.packet_codec.specs.Canonical.{IsEvent, Fits, IsShortestSpelling
 /// What `encode` appends spells the event, and no other spelling of it is shorter.
 pub fn canonical_is_shortest()
     ensures { (e : Event) → IsEvent e → Fits e → IsShortestSpelling (canonical e) e }
-{
-}
+{}

@@ -79,22 +79,52 @@ fn writes(alloc: Global, event: &Event, packet: &[u8]) -> bool {
 #[test]
 fn packets_are_those_of_the_table(rt: HostRuntime) -> Result<(), Fail> {
     let alloc = rt.alloc();
-    assert!(rt; writes(alloc, &of_foo(alloc, Status::Exists), b"\xb3\x29\x01\x0c\x03foo\x08\x55\x5f\x1b"));
-    assert!(rt; writes(alloc, &of_foo(alloc, Status::Success), b"\xb3\x29\x03\x0c\x03foo\x45\x9d\xfe\x10"));
-    assert!(rt; writes(alloc, &of_foo(alloc, Status::Fail), b"\xb3\x29\x06\x0c\x03foo\x15\x50\x6f\xa3"));
+    assert!(rt;
+        writes(
+            alloc,
+            &of_foo(alloc, Status::Exists),
+            b"\xb3\x29\x01\x0c\x03foo\x08\x55\x5f\x1b"
+        )
+    );
+    assert!(rt;
+        writes(
+            alloc,
+            &of_foo(alloc, Status::Success),
+            b"\xb3\x29\x03\x0c\x03foo\x45\x9d\xfe\x10"
+        )
+    );
+    assert!(rt;
+        writes(
+            alloc,
+            &of_foo(alloc, Status::Fail),
+            b"\xb3\x29\x06\x0c\x03foo\x15\x50\x6f\xa3"
+        )
+    );
     let mut ended = plain(Status::Unset);
     ended.eof = true;
     assert!(rt; writes(alloc, &ended, b"\xb3\x21\x10\x08\x53\x15\x88\xdc"));
     let mut routed = of_foo(alloc, Status::Success);
     routed.route = text(alloc, b"0");
-    assert!(rt; writes(alloc, &routed, b"\xb3\x2d\x03\x0e\x03foo\x010\xa4\xaf\xdb\xe0"));
+    assert!(rt;
+        writes(
+            alloc,
+            &routed,
+            b"\xb3\x2d\x03\x0e\x03foo\x010\xa4\xaf\xdb\xe0"
+        )
+    );
     Ok(())
 }
 
 #[test]
 fn every_field_is_written(rt: HostRuntime) -> Result<(), Fail> {
     let alloc = rt.alloc();
-    assert!(rt; writes(alloc, &full(alloc), b"\xb3/\xf5/;\x9a\xca\x00C\xe8\x03a/b\x02\x01x\x02yy\x0atext/plain\x03log\x03aaa\x031/a\x0cf\xc0\xa4"));
+    assert!(rt;
+        writes(
+            alloc,
+            &full(alloc),
+            b"\xb3/\xf5/;\x9a\xca\x00C\xe8\x03a/b\x02\x01x\x02yy\x0atext/plain\x03log\x03aaa\x031/a\x0cf\xc0\xa4"
+        )
+    );
     Ok(())
 }
 
@@ -149,8 +179,29 @@ fn writes_under(alloc: Global, mut event: Event, lane: u32, packet: &[u8]) -> bo
 #[test]
 fn routes_go_under_a_lane(rt: HostRuntime) -> Result<(), Fail> {
     let alloc = rt.alloc();
-    assert!(rt; writes_under(alloc, plain(Status::Unset), 0, b"\xb3\x25\x00\x0a\x01\x30\x16\xe8\xe4\x37"));
-    assert!(rt; writes_under(alloc, full(alloc), 7, b"\xb3/\xf51;\x9a\xca\x00C\xe8\x03a/b\x02\x01x\x02yy\x0atext/plain\x03log\x03aaa\x057/1/ag\x00\xbfU"));
-    assert!(rt; writes_under(alloc, full(alloc), 63, b"\xb3/\xf52;\x9a\xca\x00C\xe8\x03a/b\x02\x01x\x02yy\x0atext/plain\x03log\x03aaa\x0663/1/a\xad\xc5\x7fl"));
+    assert!(rt;
+        writes_under(
+            alloc,
+            plain(Status::Unset),
+            0,
+            b"\xb3\x25\x00\x0a\x01\x30\x16\xe8\xe4\x37"
+        )
+    );
+    assert!(rt;
+        writes_under(
+            alloc,
+            full(alloc),
+            7,
+            b"\xb3/\xf51;\x9a\xca\x00C\xe8\x03a/b\x02\x01x\x02yy\x0atext/plain\x03log\x03aaa\x057/1/ag\x00\xbfU"
+        )
+    );
+    assert!(rt;
+        writes_under(
+            alloc,
+            full(alloc),
+            63,
+            b"\xb3/\xf52;\x9a\xca\x00C\xe8\x03a/b\x02\x01x\x02yy\x0atext/plain\x03log\x03aaa\x0663/1/a\xad\xc5\x7fl"
+        )
+    );
     Ok(())
 }
