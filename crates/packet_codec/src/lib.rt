@@ -3,6 +3,7 @@
 
 mod event;
 mod front;
+mod parts;
 mod stamp;
 mod status;
 mod tags;
