@@ -151,3 +151,9 @@ found_absent Spells bytes = record { front = []; parts = refl; spelled = refl }
 pub not_flagged : {A : Type 0} (Spells : List ℕ → A → Type 0) (bytes : List ℕ) → NotFound Spells bytes → NotFound {A = Option A} (Flagged true Spells) bytes
 not_flagged Spells bytes never (Some a) rest s = never a rest (record { front = s.front; parts = s.parts; spelled = s.spelled })
 not_flagged Spells bytes never None rest s = s.spelled
+
+pub not_flagged_as : {A : Type 0} (Spells : List ℕ → A → Type 0) (set : Bool) (bytes : List ℕ) → set ≡ true → NotFound Spells bytes → NotFound {A = Option A} (Flagged set Spells) bytes
+not_flagged_as Spells set bytes is never = rw is (not_flagged Spells bytes never)
+
+pub found_flagged_as : {A : Type 0} (Spells : List ℕ → A → Type 0) (set : Bool) (bytes rest : List ℕ) (a : A) → set ≡ true → Found Spells bytes a rest → Found {A = Option A} (Flagged set Spells) bytes (Some a) rest
+found_flagged_as Spells set bytes rest a is s = rw is (found_flagged Spells bytes rest a s)

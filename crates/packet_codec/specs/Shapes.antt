@@ -1,8 +1,12 @@
 -- The fields of a packet as their lengths tell, whatever the bytes of a text are.
-use Rattle.std.specs.Prelude.{◌≡◌, Some, None, ℕ, ◌/◌, ◌%◌, ◌==◌, Bool, Option, List, [], ◌∷◌, ◌++◌, length}
+use Rattle.std.specs.Prelude.{◌≡◌, All, IfSome, option_map, Some, None, ℕ, ◌/◌, ◌%◌, ◌==◌, Bool, Option, List, [], ◌∷◌, ◌++◌, length}
+use Rattle.std.specs.Borrow.{Bor}
 use Rattle.packet_codec.specs.Grammar.{Found, Pair, Counted, Flagged}
 use Rattle.packet_codec.specs.Fields.{SpellsStamp}
 use Rattle.packet_codec.specs.declared.parts.RunList.{RunList}
+use Rattle.packet_codec.specs.declared.parts.FileBytes.{FileBytes}
+use Rattle.packet_codec.specs.declared.parts.Parts.{Parts}
+use Rattle.sub_number.specs.Texts.{IsText}
 use Rattle.packet_codec.specs.declared.stamp.Stamp.{Stamp}
 use Rattle.packet_codec.specs.declared.event.FilePart.{FilePart}
 use Rattle.packet_codec.specs.declared.event.Event.{Event}
@@ -32,14 +36,41 @@ bit flags weight = flags / weight % 2 == 1
 abbrev pub Contents : Type 0
 Contents = Option Stamp × (Option (List ℕ) × (Option (List (List ℕ)) × (Option (List ℕ) × (Option (List ℕ × List ℕ) × Option (List ℕ)))))
 
--- the fields that the flags tell of
+-- each field, there where its flag is set
+abbrev pub StampShape : ℕ → List ℕ → Option Stamp → Type 0
+StampShape first = Flagged (bit first 2) SpellsStamp
+
+abbrev pub IdShape : ℕ → List ℕ → Option (List ℕ) → Type 0
+IdShape first = Flagged (bit first 8) Run
+
+abbrev pub TagsShape : ℕ → List ℕ → Option (List (List ℕ)) → Type 0
+TagsShape second = Flagged (bit second 128) CountedRuns
+
+abbrev pub MimeShape : ℕ → List ℕ → Option (List ℕ) → Type 0
+MimeShape second = Flagged (bit second 32) Run
+
+abbrev pub FileShape : ℕ → List ℕ → Option (List ℕ × List ℕ) → Type 0
+FileShape second = Flagged (bit second 64) NamedRun
+
+abbrev pub RouteShape : ℕ → List ℕ → Option (List ℕ) → Type 0
+RouteShape first = Flagged (bit first 4) Run
+
+-- the fields from one on, in the order of a packet
+abbrev pub FromFile : ℕ → ℕ → List ℕ → (Option (List ℕ × List ℕ) × Option (List ℕ)) → Type 0
+FromFile first second = Pair (FileShape second) (RouteShape first)
+
+abbrev pub FromMime : ℕ → ℕ → List ℕ → (Option (List ℕ) × (Option (List ℕ × List ℕ) × Option (List ℕ))) → Type 0
+FromMime first second = Pair (MimeShape second) (FromFile first second)
+
+abbrev pub FromTags : ℕ → ℕ → List ℕ → (Option (List (List ℕ)) × (Option (List ℕ) × (Option (List ℕ × List ℕ) × Option (List ℕ)))) → Type 0
+FromTags first second = Pair (TagsShape second) (FromMime first second)
+
+abbrev pub FromId : ℕ → ℕ → List ℕ → (Option (List ℕ) × (Option (List (List ℕ)) × (Option (List ℕ) × (Option (List ℕ × List ℕ) × Option (List ℕ))))) → Type 0
+FromId first second = Pair (IdShape first) (FromTags first second)
+
+-- all fields that the flags tell of
 abbrev pub FieldShapes : ℕ → ℕ → List ℕ → Contents → Type 0
-FieldShapes first second = Pair (Flagged (bit first 2) SpellsStamp)
-    (Pair (Flagged (bit first 8) Run)
-    (Pair (Flagged (bit second 128) CountedRuns)
-    (Pair (Flagged (bit second 32) Run)
-    (Pair (Flagged (bit second 64) NamedRun)
-    (Flagged (bit first 4) Run)))))
+FieldShapes first second = Pair (StampShape first) (FromId first second)
 
 -- the bytes begin with so many runs
 pub record BeginsWithRuns (bytes : List ℕ) (count : ℕ) (runs : List (List ℕ)) (rest : List ℕ) : Type 0 where
@@ -55,3 +86,27 @@ ShowsTags None None = Unit {0}
 ShowsTags None (Some tags) = ⊥
 ShowsTags (Some list) None = ⊥
 ShowsTags (Some list) (Some tags) = ShowsRuns list tags
+
+-- the bytes of a run that is there
+abbrev pub bytes_of : Option (Bor (List ℕ)) → Option (List ℕ)
+bytes_of run = option_map (λ bytes. bytes.now) run
+
+abbrev pub file_of : Option FileBytes → Option (List ℕ × List ℕ)
+file_of file = option_map (λ part. (part.name.now, part.bytes.now)) file
+
+-- where the values of the fields stand
+pub record ShowsParts (parts : Parts) (contents : Contents) : Type 0 where
+  pub stamp : parts.stamp ≡ contents.0
+  pub id : bytes_of parts.id ≡ contents.1.0
+  pub tags : ShowsTags parts.tags contents.1.1.0
+  pub mime : bytes_of parts.mime ≡ contents.1.1.1.0
+  pub file : file_of parts.file ≡ contents.1.1.1.1.0
+  pub route : bytes_of parts.route ≡ contents.1.1.1.1.1
+
+-- the texts among them are texts
+pub record AreTexts (contents : Contents) : Type 0 where
+  pub id : IfSome contents.1.0 IsText
+  pub tags : IfSome contents.1.1.0 (All IsText)
+  pub mime : IfSome contents.1.1.1.0 IsText
+  pub file : IfSome contents.1.1.1.1.0 (λ file. IsText file.0)
+  pub route : IfSome contents.1.1.1.1.1 IsText

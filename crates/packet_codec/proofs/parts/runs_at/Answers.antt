@@ -13,4 +13,4 @@ returns-in_err-rest-clause-none c = rw c.from_residual-in_err-rest.ensures (no_c
 pub returns-clause-found : goal.returns-clause-found
 returns-clause-found c =
     let runs = c.in_ok-rest.ensures.found in
-    (runs.0, counted_runs_found _ _ _ _ _ c.in_ok-count.ensures.found runs.1, _, runs.1)
+    (runs.0, counted_runs_found _ _ _ _ _ c.in_ok-count.ensures.found runs.1, (_, runs.1))
