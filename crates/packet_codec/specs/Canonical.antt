@@ -56,17 +56,17 @@ pub record Fits (e : Event) : Type 0 where
 unfoldable pub canonical_body : Event → List ℕ
 canonical_body e = signature ∷ first_flags e ∷ second_flags e ∷ shortest_number (canonical_size e) ++ canonical_fields e
 
--- the spelling with shortest numbers
+-- the spelling with shortest numbers, which is a packet where the event fits
 abbrev pub canonical : Event → List ℕ
 canonical e = canonical_body e ++ to_be_bytes w32 (crc32 (canonical_body e))
 
--- What the types of an event's parts keep: its texts are texts, and its seconds have four bytes.
+-- What the types of an event's parts keep: its texts are texts, its seconds have four bytes, and its file has bytes.
 pub record IsEvent (e : Event) : Type 0 where
   pub seconds : IfSome e.stamp (λ stamp. stamp.seconds < 2 ^ 32)
   pub id : IfSome e.id IsShortText
   pub tags : IfSome e.tags (All IsShortText)
   pub mime : IfSome e.mime IsShortText
-  pub file : IfSome e.file (λ file. IsShortText file.name)
+  pub file : IfSome e.file (λ file. IsShortText file.name × All (λ byte. byte < 256) file.bytes)
   pub route : IfSome e.route IsShortText
 
 -- the bytes spell the event, and no other spelling of it is shorter

@@ -19,11 +19,11 @@ pub record SpellsText (bytes text : List ℕ) : Type 0 where
   pub length_spelled : SpellsNumber number (length text)
   pub is_text : IsText text
 
--- the first `size` of the bytes spell the text that stands from `start` to `end`
+-- the first `size` of the bytes spell the text that stands at their end, from `start` to `end`
 pub record BeginsWithText (bytes : List ℕ) (start end size : ℕ) : Type 0 where
   pub in_range : size ≤ length bytes
   pub ordered : start ≤ end
-  pub inside : end ≤ size
+  pub at_end : end ≡ size
   pub spells : SpellsText (take size bytes) (slice_range bytes start end)
 
 -- no prefix of the bytes spells a text
