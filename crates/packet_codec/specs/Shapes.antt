@@ -1,8 +1,13 @@
 -- The fields of a packet as their lengths tell, whatever the bytes of a text are.
-use Rattle.std.specs.Prelude.{◌≡◌, All, IfSome, option_map, Some, None, ℕ, ◌/◌, ◌%◌, ◌==◌, Bool, Option, List, [], ◌∷◌, ◌++◌, length}
+use Rattle.std.specs.Prelude.{◌≡◌, ◌≤◌, ◌+◌, take, slice_index_or, All, IfSome, option_map, Some, None, ℕ, ◌/◌, ◌%◌, ◌==◌, Bool, Option, List, [], ◌∷◌, ◌++◌, length}
 use Rattle.std.specs.Borrow.{Bor}
 use Rattle.packet_codec.specs.Grammar.{Found, Pair, Counted, Flagged}
 use Rattle.packet_codec.specs.Fields.{SpellsStamp}
+use Rattle.sub_number.specs.Numbers.{SpellsNumber}
+use Rattle.packet_codec.specs.Packet.{signature}
+use Rattle.packet_codec.specs.declared.header.Header.{Header}
+use Rattle.packet_codec.specs.declared.status.Status.{Status}
+use Rattle.packet_codec.specs.declared.status.Status.TheVariants.{Unset, Exists, InProgress, Success, UxSuccess, Skip, Fail, XFail}
 use Rattle.packet_codec.specs.declared.parts.RunList.{RunList}
 use Rattle.packet_codec.specs.declared.parts.FileBytes.{FileBytes}
 use Rattle.packet_codec.specs.declared.parts.Parts.{Parts}
@@ -110,3 +115,44 @@ pub record AreTexts (contents : Contents) : Type 0 where
   pub mime : IfSome contents.1.1.1.0 IsText
   pub file : IfSome contents.1.1.1.1.0 (λ file. IsText file.0)
   pub route : IfSome contents.1.1.1.1.1 IsText
+
+-- The front of a packet as it is, whatever follows: its flag bytes, and the size that it tells.
+pub record HeaderShape (bytes : List ℕ) (value : ℕ × (ℕ × ℕ)) : Type 0 where
+  pub number : List ℕ
+  pub parts : bytes ≡ signature ∷ value.0 ∷ value.1.0 ∷ number
+  pub version : value.0 / 16 ≡ 2
+  pub zero_bit : value.1.0 / 8 % 2 ≡ 0
+  pub size_spelled : SpellsNumber number value.1.1
+  pub size_short : length number ≤ 3
+  pub room : length bytes + 4 ≤ value.1.1
+
+-- the header that the bytes begin with
+pub record HeaderStands (bytes : List ℕ) (header : Header) : Type 0 where
+  pub in_range : header.start ≤ length bytes
+  pub spelled : HeaderShape (take header.start bytes) (header.first, (header.second, header.size))
+
+-- the status of this number
+abbrev pub status_from : ℕ → Status
+status_from n = slice_index_or (Unset ∷ Exists ∷ InProgress ∷ Success ∷ UxSuccess ∷ Skip ∷ Fail ∷ []) n XFail
+
+-- a file of this name and these bytes
+abbrev pub file_from : List ℕ × List ℕ → FilePart
+file_from file = record { name = file.0; bytes = file.1 }
+
+-- the event with these flags and fields
+abbrev pub event_from : ℕ → ℕ → Contents → Event
+event_from first second contents = record {
+  stamp = contents.0;
+  id = contents.1.0;
+  tags = contents.1.1.0;
+  runnable = bit first 1;
+  status = status_from (second % 8);
+  mime = contents.1.1.1.0;
+  file = option_map file_from contents.1.1.1.1.0;
+  eof = bit second 16;
+  route = contents.1.1.1.1.1;
+}
+
+-- the fields of an event
+abbrev pub contents_of : Event → Contents
+contents_of e = (e.stamp, (e.id, (e.tags, (e.mime, (option_map (λ file. (file.name, file.bytes)) e.file, e.route)))))

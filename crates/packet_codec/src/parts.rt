@@ -44,7 +44,7 @@ fn number_at(bytes: &[u8]) -> Option<(u32, &[u8])>
 }
 
 /// The run of bytes behind its length, and the bytes behind it.
-fn run_at(bytes: &[u8]) -> Option<(&[u8], &[u8])>
+pub fn run_at(bytes: &[u8]) -> Option<(&[u8], &[u8])>
     ensures found { IfSome result (λ r. Found Run bytes.now r.0.now r.1.now) }
     ensures none { IfNone result (NotFound Run bytes.now) }
 {
