@@ -54,7 +54,7 @@ file_shape : (bytes : List ℕ) (file : FilePart) → SpellsFile bytes file → 
 file_shape bytes file s = record {
   first = s.name;
   second = s.count ++ file.bytes;
-  parts = s.parts;
+  parts = s.parts ∙ append_assoc s.name s.count file.bytes;
   first_spelled = run_from_text s.name file.name s.name_spelled;
   second_spelled = record { number = s.count; content = file.bytes; parts = refl; number_spelled = s.count_spelled; content_spelled = refl };
 }
@@ -63,7 +63,7 @@ file_from_shape : (bytes : List ℕ) (file : List ℕ × List ℕ) → NamedRun 
 file_from_shape bytes file s is = record {
   name = s.first;
   count = s.second_spelled.number;
-  parts = s.parts ∙ ap (λ (l : List ℕ). s.first ++ l) (s.second_spelled.parts ∙ ap (λ (l : List ℕ). s.second_spelled.number ++ l) s.second_spelled.content_spelled);
+  parts = s.parts ∙ ap (λ (l : List ℕ). s.first ++ l) (s.second_spelled.parts ∙ ap (λ (l : List ℕ). s.second_spelled.number ++ l) s.second_spelled.content_spelled) ∙ sym (append_assoc s.first s.second_spelled.number file.1);
   name_spelled = text_from_run s.first file.0 s.first_spelled is;
   count_spelled = s.second_spelled.number_spelled;
 }
@@ -126,18 +126,21 @@ first_of e = first_bits (is_some e.id) (is_some e.route) (is_some e.stamp) e.run
 second_of : (e : Event) → SecondBits (is_some e.tags) (is_some e.file) (is_some e.mime) e.eof e.status (second_flags e)
 second_of e = second_bits (is_some e.tags) (is_some e.file) (is_some e.mime) e.eof e.status (second_flags e) refl
 
+regroup_all : (a b c d e f : List ℕ) → a ++ b ++ c ++ d ++ e ++ f ≡ a ++ (b ++ (c ++ (d ++ (e ++ f))))
+regroup_all a b c d e f = simp append_assoc
+
 fields_shape : (bytes : List ℕ) (e : Event) → SpellsFields bytes e → FieldShapes (first_flags e) (second_flags e) bytes (contents_of e)
 fields_shape bytes e s =
     let first = first_of e in
     let second = second_of e in
     record {
-      first = s.stamp; second = s.id ++ s.tags ++ s.mime ++ s.file ++ s.route; parts = s.parts;
+      first = s.stamp; second = s.id ++ (s.tags ++ (s.mime ++ (s.file ++ s.route))); parts = s.parts ∙ regroup_all s.stamp s.id s.tags s.mime s.file s.route;
       first_spelled = optional_shape SpellsStamp SpellsStamp (λ bytes a h. h) _ s.stamp e.stamp first.stamp_bit s.stamp_spelled;
       second_spelled = record {
-        first = s.id; second = s.tags ++ s.mime ++ s.file ++ s.route; parts = refl;
+        first = s.id; second = s.tags ++ (s.mime ++ (s.file ++ s.route)); parts = refl;
         first_spelled = optional_shape SpellsText Run run_from_text _ s.id e.id first.id_bit s.id_spelled;
         second_spelled = record {
-          first = s.tags; second = s.mime ++ s.file ++ s.route; parts = refl;
+          first = s.tags; second = s.mime ++ (s.file ++ s.route); parts = refl;
           first_spelled = optional_shape SpellsTags CountedRuns tags_shape _ s.tags e.tags second.tags_bit s.tags_spelled;
           second_spelled = record {
             first = s.mime; second = s.file ++ s.route; parts = refl;
@@ -172,7 +175,7 @@ fields_from_shape first second bytes c s good =
     let from_file = from_mime.second_spelled in
     record {
       stamp = s.first; id = from_id.first; tags = from_tags.first; mime = from_mime.first; file = from_file.first; route = from_file.second;
-      parts = s.parts ∙ ap (λ (l : List ℕ). s.first ++ l) (from_id.parts ∙ ap (λ (l : List ℕ). from_id.first ++ l) (from_tags.parts ∙ ap (λ (l : List ℕ). from_tags.first ++ l) (from_mime.parts ∙ ap (λ (l : List ℕ). from_mime.first ++ l) from_file.parts)));
+      parts = s.parts ∙ ap (λ (l : List ℕ). s.first ++ l) (from_id.parts ∙ ap (λ (l : List ℕ). from_id.first ++ l) (from_tags.parts ∙ ap (λ (l : List ℕ). from_tags.first ++ l) (from_mime.parts ∙ ap (λ (l : List ℕ). from_mime.first ++ l) from_file.parts))) ∙ sym (regroup_all s.first from_id.first from_tags.first from_mime.first from_file.first from_file.second);
       stamp_spelled = optional_from_shape SpellsStamp SpellsStamp (λ _. Unit {0}) (λ bytes a h _. h) _ s.first c.0 s.first_spelled (if_some_any c.0);
       id_spelled = optional_from_shape SpellsText Run IsText text_from_run _ from_id.first c.1.0 from_id.first_spelled good.id;
       tags_spelled = optional_from_shape SpellsTags CountedRuns (All IsText) tags_from_shape _ from_tags.first c.1.1.0 from_tags.first_spelled good.tags;
@@ -211,9 +214,6 @@ event_again e =
     rw (runnable, eof, status, file) refl
 
 -- ---- a whole packet
-
-checksum_of : List ℕ → List ℕ
-checksum_of body = to_be_bytes w32 (crc32 body)
 
 spelled_header : (p : List ℕ) (e : Event) → (s : SpellsEvent p e) → Found HeaderShape p (first_flags e, (second_flags e, length p)) (s.fields ++ to_be_bytes w32 (crc32 s.body))
 spelled_header p e s =
@@ -259,4 +259,4 @@ one_event p d e are s t =
     let shape : FieldShapes (first_flags e) (second_flags e) t.fields (contents_of d) = rw (← first, ← second, ← fields.0) (fields_shape s.fields d s.fields_spelled) in
     let are_fields : AreBytes t.fields = are_front t.fields _ (are_rest k.front _ (rw (k.parts) at are)) in
     let contents = (fields_free (first_flags e) (second_flags e) t.fields [] t.fields [] (contents_of d) (contents_of e) are_fields are_fields refl shape (fields_shape t.fields e t.fields_spelled)).value in
-    sym (event_again d) ∙ rw (first, second, contents) refl ∙ event_again e
+    sym (event_again d) ∙ ap (λ (n : ℕ). event_from n (second_flags d) (contents_of d)) first ∙ ap (λ (n : ℕ). event_from (first_flags e) n (contents_of d)) second ∙ ap (event_from (first_flags e) (second_flags e)) contents ∙ event_again e

@@ -1,7 +1,7 @@
 -- A list of runs read one after another: what is still to be read.
 use Rattle.std.proofs.Common.{◌≡◌, ℕ, suc, ◌+◌, ◌-◌, ◌<◌, ◌≤◌, ◌↔◌, List, [], ◌∷◌, ◌++◌, length, All, refl, sym, ap, ◌∙◌, append_assoc, arith}
 use Rattle.std.proofs.lemmas.List.{append-nil, nil_from_length}
-use Rattle.std.proofs.lemmas.List.Elements.{All-nil, All-cons}
+use Rattle.std.proofs.lemmas.List.Elements.{All-nil, All-cons, All-head, All-tail}
 use Rattle.sub_number.specs.Texts.{IsText}
 use Rattle.sub_number.proofs.NumberLemmas.{AreBytes}
 use Rattle.packet_codec.specs.declared.parts.RunList.{RunList}
@@ -51,3 +51,21 @@ left_next bytes after run count i P Q are less l found weaker =
 
 pub left_end : (bytes : List ℕ) (count i : ℕ) (P : List (List ℕ) → Type 0) → count ≤ i → Left bytes count i P → P []
 left_end bytes count i P all l = rw (nil_from_length l.runs (omega (arith, l.size))) at l.holds
+
+-- ---- the texts among them
+
+abbrev pub SameTexts : List (List ℕ) → List (List ℕ) → Type 0
+SameTexts all left = All IsText left ↔ All IsText all
+
+pub same_texts_start : (all : List (List ℕ)) → SameTexts all all
+same_texts_start all = (λ h. h, λ h. h)
+
+pub same_texts_next : (all left : List (List ℕ)) (run : List ℕ) → IsText run → SameTexts all (run ∷ left) → SameTexts all left
+same_texts_next all left run is same = (λ h. same.0 (All-cons IsText run left is h), λ h. All-tail IsText run left (same.1 h))
+
+pub no_texts : (bytes after run : List ℕ) (count i : ℕ) (all : List (List ℕ)) → AreBytes bytes → i < count → Left bytes count i (SameTexts all) → Found Run bytes run after → (IsText run → ⊥) → All IsText all → ⊥
+no_texts bytes after run count i all are less l found other texts =
+    let next = next_found bytes count i (SameTexts all) less l in
+    let same = found_same Run run_free bytes next.2 after next.0 run are next.4 found in
+    let left : All IsText (next.0 ∷ next.1) = rw (next.3) at (l.holds.1 texts) in
+    other (rw (same.value) at (All-head IsText next.0 next.1 left))
