@@ -1,8 +1,8 @@
 -- A packet in its parts, and the one event that they tell of.
 use Rattle.std.proofs.Common.{◌≡◌, ℕ, suc, ◌+◌, ◌-◌, ◌/◌, ◌%◌, ◌≤◌, ◌<◌, Bool, true, false, Option, Some, None, List, [], ◌∷◌, ◌++◌, length, get_or, take, drop, All, refl, sym, ap, subst, ◌∙◌, append_assoc, arith}
-use Rattle.std.specs.Prelude.{is_some, option_map, IfSome}
+use Rattle.std.specs.Prelude.{is_some, option_map, IfSome, IsSome, IsNone, IsTrue, ◌↔◌}
 use Rattle.std.specs.Int.{w32, to_be_bytes}
-use Rattle.std.proofs.lemmas.List.{take_at, drop_at, take-append-drop, length-append, length-take-le, append-nil}
+use Rattle.std.proofs.lemmas.List.{take_at, drop_at, take-append-drop, take-take, length-append, length-take-le, append-nil}
 use Rattle.std.proofs.lemmas.List.Elements.{All-nil, All-cons, All-head, All-tail}
 use Rattle.sub_number.specs.Numbers.{SpellsNumber}
 use Rattle.sub_number.specs.Texts.{IsText, SpellsText}
@@ -17,7 +17,8 @@ use Rattle.packet_codec.specs.Fields.{SpellsOptional, SpellsStamp, SpellsTexts, 
 use Rattle.packet_codec.specs.Packet.{signature, SpellsEvent, IsPacket}
 use Rattle.packet_codec.specs.Grammar as grammar
 use Rattle.packet_codec.specs.Grammar.{Found, NotFound, Pair, Counted, Flagged}
-use Rattle.packet_codec.specs.Shapes.{Run, Runs, CountedRuns, NamedRun, bit, Contents, FieldShapes, HeaderShape, HeaderStands, AreTexts, status_from, file_from, event_from, contents_of}
+use Rattle.packet_codec.specs.Shapes.{Run, Runs, CountedRuns, NamedRun, bit, Contents, FieldShapes, HeaderShape, HeaderStands, AreTexts, status_from, file_from, event_from, contents_of, fields_at}
+use Rattle.packet_codec.specs.Simple.{IsSimple, BeginsWithSimple, BeginsWithNoSimple}
 use Rattle.packet_codec.proofs.GrammarLemmas.{are_front, are_rest, fits_from_are, found_same, same_front}
 use Rattle.packet_codec.proofs.FlagLemmas.{FirstBits, SecondBits, first_bits, second_bits, first_from_bits, second_from_bits, status_from_number, number_of_status}
 use Rattle.packet_codec.proofs.PartsLemmas.{fields_free}
@@ -260,3 +261,129 @@ one_event p d e are s t =
     let are_fields : AreBytes t.fields = are_front t.fields _ (are_rest k.front _ (rw (k.parts) at are)) in
     let contents = (fields_free (first_flags e) (second_flags e) t.fields [] t.fields [] (contents_of d) (contents_of e) are_fields are_fields refl shape (fields_shape t.fields e t.fields_spelled)).value in
     sym (event_again d) ∙ ap (λ (n : ℕ). event_from n (second_flags d) (contents_of d)) first ∙ ap (λ (n : ℕ). event_from (first_flags e) n (contents_of d)) second ∙ ap (event_from (first_flags e) (second_flags e)) contents ∙ event_again e
+
+-- ---- a packet behind its header
+
+-- the bytes in front of the checksum, and the fields in them
+pub record Split (p body checksum fields : List ℕ) (header : Header) : Type 0 where
+  pub stands : HeaderStands p header
+  pub body_is : body ≡ take (length p - 4) p
+  pub checksum_is : checksum ≡ drop (length p - 4) p
+  pub fields_is : fields ≡ drop header.start body
+
+-- what an event that is spelled says of them
+pub record Told (p body checksum fields : List ℕ) (header : Header) (e : Event) : Type 0 where
+  pub first : header.first ≡ first_flags e
+  pub second : header.second ≡ second_flags e
+  pub size : header.size ≡ length p
+  pub room : header.start + 4 ≤ length p
+  pub shape : FieldShapes header.first header.second fields (contents_of e)
+  pub are_fields : AreBytes fields
+  pub sum : checksum ≡ to_be_bytes w32 (crc32 body)
+
+pub room_of : (p : List ℕ) (header : Header) → HeaderStands p header → header.start + 4 ≤ header.size
+room_of p header stands = omega (arith, stands.spelled.room, length-take-le header.start p stands.in_range)
+
+pub told : (p body checksum fields : List ℕ) (header : Header) (e : Event) → AreBytes p → Split p body checksum fields header → SpellsEvent p e → Told p body checksum fields header e
+unfolding header_found spelled_header
+told p body checksum fields header e are split s =
+    let crc : List ℕ = to_be_bytes w32 (crc32 s.body) in
+    let h = spelled_header p e s in
+    let same = found_same HeaderShape header_free p _ _ _ _ are (header_found p header split.stands) h in
+    let start : header.start ≡ length h.front = sym (length-take-le header.start p split.stands.in_range) ∙ ap length same.front in
+    let len : length p ≡ length s.body + 4 = ap length s.parts ∙ length-append s.body crc in
+    let body-is : body ≡ s.body = split.body_is ∙ ap (take (length p - 4)) s.parts ∙ take_at s.body crc (length p - 4) (omega arith) in
+    let checksum-is : checksum ≡ crc = split.checksum_is ∙ ap (drop (length p - 4)) s.parts ∙ drop_at s.body crc (length p - 4) (omega arith) in
+    let fields-is : fields ≡ s.fields = split.fields_is ∙ ap (drop header.start) (body-is ∙ s.body_is) ∙ drop_at h.front s.fields header.start (sym start) in
+    let first : header.first ≡ first_flags e = ap (λ (v : ℕ × (ℕ × ℕ)). v.0) same.value in
+    let second : header.second ≡ second_flags e = ap (λ (v : ℕ × (ℕ × ℕ)). v.1.0) same.value in
+    let size : header.size ≡ length p = ap (λ (v : ℕ × (ℕ × ℕ)). v.1.1) same.value in
+    record {
+      first = first;
+      second = second;
+      size = size;
+      room = omega (arith, room_of p header split.stands);
+      shape = rw (first, second, fields-is) (fields_shape s.fields e s.fields_spelled);
+      are_fields = rw fields-is (are_front s.fields crc (are_rest h.front (s.fields ++ crc) (rw (h.parts) at are)));
+      sum = checksum-is ∙ ap (λ (l : List ℕ). to_be_bytes w32 (crc32 l)) (sym body-is);
+    }
+
+-- the fields that were read are those of the event
+pub told_contents : (p body checksum fields : List ℕ) (header : Header) (e : Event) (c : Contents) → Told p body checksum fields header e → FieldShapes header.first header.second fields c → c ≡ contents_of e
+told_contents p body checksum fields header e c t shape =
+    (fields_free header.first header.second fields [] fields [] c (contents_of e) t.are_fields t.are_fields refl shape t.shape).value
+
+-- their texts are texts
+pub told_texts : (p body checksum fields : List ℕ) (header : Header) (e : Event) (c : Contents) → Told p body checksum fields header e → SpellsEvent p e → FieldShapes header.first header.second fields c → AreTexts c
+told_texts p body checksum fields header e c t s shape =
+    rw (told_contents p body checksum fields header e c t shape) (fields_texts s.fields e s.fields_spelled)
+
+-- and the event is the one that they make
+pub told_event : (p body checksum fields : List ℕ) (header : Header) (e : Event) (c : Contents) → Told p body checksum fields header e → FieldShapes header.first header.second fields c → event_from header.first header.second c ≡ e
+told_event p body checksum fields header e c t shape =
+    ap (event_from header.first header.second) (told_contents p body checksum fields header e c t shape) ∙ ap (λ (n : ℕ). event_from n header.second (contents_of e)) t.first ∙ ap (λ (n : ℕ). event_from (first_flags e) n (contents_of e)) t.second ∙ event_again e
+
+-- what was read and tested is spelled
+pub spelled : (p body checksum fields : List ℕ) (header : Header) (c : Contents) → AreBytes p → Split p body checksum fields header → length p ≡ header.size → FieldShapes header.first header.second fields c → AreTexts c → checksum ≡ to_be_bytes w32 (crc32 body)
+    → SpellsEvent p (event_from header.first header.second c)
+spelled p body checksum fields header c are split len shape texts sum =
+    let room = room_of p header split.stands in
+    let shown = split.stands.spelled in
+    let front : take header.start body ≡ signature ∷ header.first ∷ header.second ∷ shown.number = ap (take header.start) split.body_is ∙ take-take header.start (length p - 4) p (omega arith) ∙ shown.parts in
+    let whole : body ≡ signature ∷ header.first ∷ header.second ∷ (shown.number ++ fields) = sym (take-append-drop header.start body) ∙ ap (λ (l : List ℕ). l ++ drop header.start body) front ∙ ap (λ (l : List ℕ). signature ∷ header.first ∷ header.second ∷ (shown.number ++ l)) (sym split.fields_is) in
+    let second-is : get_or p 2 0 ≡ header.second = ap (λ (l : List ℕ). get_or l 2 0) (sym (take-append-drop header.start p) ∙ ap (λ (l : List ℕ). l ++ drop header.start p) shown.parts) in
+    let byte : header.second < 256 = omega (arith, second-is, are 2) in
+    record {
+      size = shown.number;
+      fields = fields;
+      body = body;
+      body_is = rw (first_again header.first header.second fields c shown.version shape, second_again header.first header.second fields c byte shown.zero_bit shape) whole;
+      parts = sym (take-append-drop (length p - 4) p) ∙ ap (λ (l : List ℕ). l ++ drop (length p - 4) p) (sym split.body_is) ∙ ap (λ (l : List ℕ). body ++ l) (sym split.checksum_is ∙ sum);
+      size_spelled = rw len shown.size_spelled;
+      size_short = shown.size_short;
+      fields_spelled = fields_from_shape header.first header.second fields c shape texts;
+    }
+
+-- ---- what a test of the parts says
+
+pub split_at : (p : List ℕ) (header : Header) → HeaderStands p header → Split p (take (length p - 4) p) (drop (length p - 4) p) (fields_at header p) header
+split_at p header stands = record { stands = stands; body_is = refl; checksum_is = refl; fields_is = refl }
+
+pub told_at : (p : List ℕ) (header : Header) (e : Event) → AreBytes p → HeaderStands p header → SpellsEvent p e → Told p (take (length p - 4) p) (drop (length p - 4) p) (fields_at header p) header e
+told_at p header e are stands s = told p _ _ _ header e are (split_at p header stands) s
+
+pub no_parts : (p : List ℕ) (header : Header) → AreBytes p → HeaderStands p header → ((c : Contents) → FieldShapes header.first header.second (fields_at header p) c → ⊥) → IsPacket p → ⊥
+no_parts p header are stands never (e, s) = never (contents_of e) (told_at p header e are stands s).shape
+
+pub other_texts : (p : List ℕ) (header : Header) (c : Contents) (answer : Bool) → AreBytes p → HeaderStands p header → FieldShapes header.first header.second (fields_at header p) c → answer ≡ false → (IsTrue answer ↔ AreTexts c) → IsTrue answer ↔ IsPacket p
+other_texts p header c answer are stands shape no tests =
+    (λ t. absurd (let e : false ≡ true = sym no ∙ t in cc), λ packet. tests.1 (told_texts p _ _ _ header packet.0 c (told_at p header packet.0 are stands packet.1) packet.1 shape))
+
+pub by_checksum : (p body checksum : List ℕ) (header : Header) (c : Contents) (answer : Bool) → AreBytes p → HeaderStands p header → length p ≡ header.size → FieldShapes header.first header.second (fields_at header p) c → AreTexts c
+    → body ≡ take (length p - 4) p → checksum ≡ drop (length p - 4) p → (IsTrue answer ↔ checksum ≡ to_be_bytes w32 (crc32 body)) → IsTrue answer ↔ IsPacket p
+by_checksum p body checksum header c answer are stands len shape texts body-is checksum-is tests =
+    let split : Split p body checksum (fields_at header p) header = record { stands = stands; body_is = body-is; checksum_is = checksum-is; fields_is = ap (drop header.start) (sym body-is) } in
+    (λ t. (event_from header.first header.second c, spelled p body checksum (fields_at header p) header c are split len shape texts (tests.0 t)), λ packet. tests.1 (told p body checksum (fields_at header p) header packet.0 are split packet.1).sum)
+
+pub header_never : (p : List ℕ) (e : Event) → SpellsEvent p e → NotFound HeaderShape p → ⊥
+header_never p e s never = never _ _ (spelled_header p e s)
+
+-- ---- simple events
+
+some_is : {A : Type 0} (o : Option A) → IsSome o → is_some o ≡ true
+some_is o there = there
+
+none_is : {A : Type 0} (o : Option A) → IsNone o → is_some o ≡ false
+none_is (Some a) there = absurd cc
+none_is None there = refl
+
+-- the flags that a simple event has, besides that it is runnable
+pub record HasSimpleFlags (e : Event) : Type 0 where
+  pub first : first_flags e / 2 ≡ 20
+  pub second : second_flags e ≡ 3
+
+pub simple_flags : (e : Event) → IsSimple e → HasSimpleFlags e
+simple_flags e simple = ?
+
+pub simple_by_flags : (e : Event) → HasSimpleFlags e → IsSimple e
+simple_by_flags e flags = ?

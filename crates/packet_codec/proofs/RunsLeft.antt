@@ -1,12 +1,13 @@
 -- A list of runs read one after another: what is still to be read.
-use Rattle.std.proofs.Common.{◌≡◌, ℕ, suc, ◌+◌, ◌-◌, ◌<◌, ◌≤◌, ◌↔◌, List, [], ◌∷◌, ◌++◌, length, All, refl, sym, ap, ◌∙◌, append_assoc, arith}
+use Rattle.std.proofs.Common.{◌≡◌, ℕ, suc, ◌+◌, ◌-◌, ◌<◌, ◌≤◌, ◌↔◌, Bool, true, false, Option, Some, None, List, [], ◌∷◌, ◌++◌, length, All, refl, sym, ap, ◌∙◌, append_assoc, arith}
 use Rattle.std.proofs.lemmas.List.{append-nil, nil_from_length}
 use Rattle.std.proofs.lemmas.List.Elements.{All-nil, All-cons, All-head, All-tail}
+use Rattle.std.specs.Prelude.{IfNone, IsSome, IsTrue}
 use Rattle.sub_number.specs.Texts.{IsText}
 use Rattle.sub_number.proofs.NumberLemmas.{AreBytes}
-use Rattle.packet_codec.specs.declared.parts.RunList.{RunList}
 use Rattle.packet_codec.specs.Grammar.{Found, NotFound}
-use Rattle.packet_codec.specs.Shapes.{Run, Runs, BeginsWithRuns, ShowsRuns}
+use Rattle.packet_codec.specs.Shapes.{Run, Runs, BeginsWithRuns, ShowsRuns, ShowsTags}
+use Rattle.packet_codec.specs.declared.parts.RunList.{RunList}
 use Rattle.packet_codec.proofs.GrammarLemmas.{found_same, found_are}
 use Rattle.packet_codec.proofs.ShapeLemmas.{run_free}
 
@@ -18,8 +19,8 @@ pub record Left (bytes : List ℕ) (count i : ℕ) (P : List (List ℕ) → Type
   pub found : Found Runs bytes runs rest
   pub holds : P runs
 
-pub left_start : (list : RunList) (runs : List (List ℕ)) (P : List (List ℕ) → Type 0) → ShowsRuns list runs → P runs → Left list.bytes.now list.count 0 P
-left_start list runs P shown holds = record { runs = runs; rest = shown.0; size = omega (arith, shown.1.size); found = shown.1.found; holds = holds }
+pub left_start : (bytes : List ℕ) (count : ℕ) (runs : List (List ℕ)) (P : List (List ℕ) → Type 0) → ShowsRuns count bytes runs → P runs → Left bytes count 0 P
+left_start bytes count runs P shown holds = record { runs = runs; rest = shown.0; size = omega (arith, shown.1.size); found = shown.1.found; holds = holds }
 
 -- the next one is a run
 next_found : (bytes : List ℕ) (count i : ℕ) (P : List (List ℕ) → Type 0) → i < count → (l : Left bytes count i P) → (run : List ℕ) × (others : List (List ℕ)) × (after : List ℕ) × (l.runs ≡ run ∷ others) × Found Run bytes run after × Found Runs after others l.rest
@@ -69,3 +70,28 @@ no_texts bytes after run count i all are less l found other texts =
     let same = found_same Run run_free bytes next.2 after next.0 run are next.4 found in
     let left : All IsText (next.0 ∷ next.1) = rw (next.3) at (l.holds.1 texts) in
     other (rw (same.value) at (All-head IsText next.0 next.1 left))
+
+-- ---- the tags that were copied of them
+
+pub copied_next : (before after others all : List (List ℕ)) (run text : List ℕ) → after ≡ before ++ text ∷ [] → text ≡ run → before ++ (run ∷ others) ≡ all → after ++ others ≡ all
+copied_next before after others all run text pushed same whole = ap (λ (l : List (List ℕ)). l ++ others) pushed ∙ append_assoc before (text ∷ []) others ∙ ap (λ (t : List ℕ). before ++ (t ∷ others)) same ∙ whole
+
+-- ---- a value that is there
+
+pub some_of : {A P : Type 0} (o : Option A) → IfNone o P → (P → ⊥) → IsSome o
+some_of (Some a) none never = refl
+some_of None none never = absurd (never none)
+
+-- ---- the two answers of a test
+
+pub answers_no : {P : Type 0} → (P → ⊥) → IsTrue false ↔ P
+answers_no never = (λ t. absurd cc, λ p. absurd (never p))
+
+pub answers_yes : {P : Type 0} → P → IsTrue true ↔ P
+answers_yes p = (λ _. p, λ _. refl)
+
+-- ---- tags that are there
+
+pub tags_shown : (list : RunList) (runs : Option (List (List ℕ))) (Q : Option (List (List ℕ)) → Type 0) → ((some : List (List ℕ)) → ShowsRuns list.count list.bytes.now some → Q (Some some)) → ShowsTags (Some list) runs → Q runs
+tags_shown list (Some runs) Q each shown = each runs shown
+tags_shown list None Q each shown = absurd shown

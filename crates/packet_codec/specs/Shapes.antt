@@ -1,5 +1,5 @@
 -- The fields of a packet as their lengths tell, whatever the bytes of a text are.
-use Rattle.std.specs.Prelude.{◌≡◌, ◌≤◌, ◌+◌, take, slice_index_or, All, IfSome, option_map, Some, None, ℕ, ◌/◌, ◌%◌, ◌==◌, Bool, Option, List, [], ◌∷◌, ◌++◌, length}
+use Rattle.std.specs.Prelude.{◌≡◌, ◌≤◌, ◌+◌, take, drop, ◌-◌, slice_index_or, All, IfSome, option_map, Some, None, ℕ, ◌/◌, ◌%◌, ◌==◌, Bool, Option, List, [], ◌∷◌, ◌++◌, length}
 use Rattle.std.specs.Borrow.{Bor}
 use Rattle.packet_codec.specs.Grammar.{Found, Pair, Counted, Flagged}
 use Rattle.packet_codec.specs.Fields.{SpellsStamp}
@@ -83,14 +83,14 @@ pub record BeginsWithRuns (bytes : List ℕ) (count : ℕ) (runs : List (List �
   pub found : Found Runs bytes runs rest
 
 -- the runs that stand there
-abbrev pub ShowsRuns : RunList → List (List ℕ) → Type 0
-ShowsRuns list runs = (rest : List ℕ) × BeginsWithRuns list.bytes.now list.count runs rest
+abbrev pub ShowsRuns : ℕ → List ℕ → List (List ℕ) → Type 0
+ShowsRuns count bytes runs = (rest : List ℕ) × BeginsWithRuns bytes count runs rest
 
 abbrev pub ShowsTags : Option RunList → Option (List (List ℕ)) → Type 0
 ShowsTags None None = Unit {0}
 ShowsTags None (Some tags) = ⊥
 ShowsTags (Some list) None = ⊥
-ShowsTags (Some list) (Some tags) = ShowsRuns list tags
+ShowsTags (Some list) (Some tags) = ShowsRuns list.count list.bytes.now tags
 
 -- the bytes of a run that is there
 abbrev pub bytes_of : Option (Bor (List ℕ)) → Option (List ℕ)
@@ -130,6 +130,10 @@ pub record HeaderShape (bytes : List ℕ) (value : ℕ × (ℕ × ℕ)) : Type 0
 pub record HeaderStands (bytes : List ℕ) (header : Header) : Type 0 where
   pub in_range : header.start ≤ length bytes
   pub spelled : HeaderShape (take header.start bytes) (header.first, (header.second, header.size))
+
+-- the fields of a packet, between its header and its checksum
+abbrev pub fields_at : Header → List ℕ → List ℕ
+fields_at header bytes = drop header.start (take (length bytes - 4) bytes)
 
 -- the status of this number
 abbrev pub status_from : ℕ → Status

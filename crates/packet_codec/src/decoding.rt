@@ -6,8 +6,9 @@ ghost use Rattle.packet_codec.specs.Shapes.{Contents, ShowsRuns, ShowsTags, Show
 ghost use Rattle.packet_codec.specs.declared.event.Event.{Event};
 
 use crate::event::{Event, FilePart};
-use crate::header::{CHECKSUM, header_at};
-use crate::parts::{FileBytes, Parts, RunList, parts_of, run_at};
+use crate::header::header_at;
+use crate::packet::packet_parts;
+use crate::parts::{FileBytes, Parts, RunList, run_at};
 use crate::status::Status;
 use crate::tags::Tags;
 use std::alloc::Global;
@@ -28,13 +29,13 @@ fn optional_text(alloc: Global, run: Option<&[u8]>) -> Result<Option<Text>, NoMe
     }
 }
 
-fn tags_of(alloc: Global, list: RunList<'_>) -> Result<Tags, NoMemory>
-    requires { (runs : List (List ℕ)) × ShowsRuns list runs }
-    ensures { (runs : List (List ℕ)) → ShowsRuns list.entry runs → IfOk result (λ tags. tags ≡ runs) }
+fn tags_of(alloc: Global, count: u32, bytes: &[u8]) -> Result<Tags, NoMemory>
+    requires { (runs : List (List ℕ)) × ShowsRuns count bytes.now runs }
+    ensures { (runs : List (List ℕ)) → ShowsRuns count bytes.now runs → IfOk result (λ tags. tags ≡ runs) }
 {
     let mut tags = Tags::new(alloc);
-    let mut rest = list.bytes;
-    for _ in 0..list.count {
+    let mut rest = bytes;
+    for _ in 0..count {
         let (run, after) = run_at(rest).unwrap();
         tags.push(text_of(alloc, run)?).map_err(|_| NoMemory)?;
         rest = after;
@@ -48,7 +49,7 @@ fn optional_tags(alloc: Global, tags: Option<RunList<'_>>) -> Result<Option<Tags
 {
     match tags {
         None => Ok(None),
-        Some(list) => Ok(Some(tags_of(alloc, list)?)),
+        Some(list) => Ok(Some(tags_of(alloc, list.count, list.bytes)?)),
     }
 }
 
@@ -112,7 +113,6 @@ pub fn decode(alloc: Global, bytes: &[u8]) -> Result<Event, NoMemory>
     ensures only { (e : Event) → SpellsEvent bytes.now e → IfOk result (λ event. event ≡ e) }
 {
     let header = header_at(bytes).unwrap();
-    let fields = &bytes[header.start..bytes.len() - CHECKSUM];
-    let parts = parts_of(header.first, header.second, fields).unwrap();
+    let parts = packet_parts(header, bytes).unwrap();
     event_of(alloc, header.first, header.second, &parts)
 }

@@ -1,9 +1,9 @@
 //! Whether some bytes are a packet.
 
-ghost use Rattle.std.specs.Prelude.{◌≡◌, ◌↔◌, Option, List, ℕ, length, All, IsTrue, IfSome};
+ghost use Rattle.std.specs.Prelude.{◌≡◌, ◌↔◌, Option, List, ℕ, length, All, IsTrue, IfSome, IfNone};
 ghost use Rattle.sub_number.specs.Texts.{IsText};
 ghost use Rattle.packet_codec.specs.Packet.{IsPacket};
-ghost use Rattle.packet_codec.specs.Shapes.{HeaderStands, Contents, ShowsRuns, ShowsTags, ShowsParts, AreTexts, bytes_of, file_of};
+ghost use Rattle.packet_codec.specs.Shapes.{HeaderStands, FieldShapes, fields_at, Contents, ShowsRuns, ShowsTags, ShowsParts, AreTexts, bytes_of, file_of};
 
 use crate::header::{CHECKSUM, Header};
 use crate::parts::{FileBytes, Parts, RunList, parts_of, run_at};
@@ -19,12 +19,12 @@ fn may_be_text(run: Option<&[u8]>) -> bool
     }
 }
 
-/// Whether each run of the list is a text.
-fn are_texts(list: RunList<'_>) -> bool
-    ensures { (runs : List (List ℕ)) → ShowsRuns list.entry runs → IsTrue result ↔ All IsText runs }
+/// Whether each of so many runs is a text.
+fn are_texts(count: u32, bytes: &[u8]) -> bool
+    ensures { (runs : List (List ℕ)) → ShowsRuns count bytes.now runs → IsTrue result ↔ All IsText runs }
 {
-    let mut rest = list.bytes;
-    for _ in 0..list.count {
+    let mut rest = bytes;
+    for _ in 0..count {
         let Some((run, after)) = run_at(rest) else {
             return false;
         };
@@ -42,7 +42,7 @@ fn may_be_tags(tags: Option<RunList<'_>>) -> bool
 {
     match tags {
         None => true,
-        Some(list) => are_texts(list),
+        Some(list) => are_texts(list.count, list.bytes),
     }
 }
 
@@ -67,6 +67,17 @@ fn have_texts(parts: &Parts<'_>) -> bool
         && may_be_text(parts.route)
 }
 
+/// The fields of the bytes, which have this header and its size.
+pub fn packet_parts(header: Header, bytes: &[u8]) -> Option<Parts<'_>>
+    requires stands { HeaderStands bytes.now header }
+    requires size { length bytes.now ≡ header.size }
+    ensures found { IfSome result (λ parts. (contents : Contents) × FieldShapes header.first header.second (fields_at header bytes.now) contents × ShowsParts parts contents) }
+    ensures none { IfNone result ((contents : Contents) → FieldShapes header.first header.second (fields_at header bytes.now) contents → ⊥) }
+{
+    let body = &bytes[..bytes.len() - CHECKSUM];
+    parts_of(header.first, header.second, &body[header.start..])
+}
+
 /// Whether the bytes, which have this header and its size, are a packet. The lengths are tested first, then the
 /// texts, and the checksum last.
 pub fn is_packet(header: Header, bytes: &[u8]) -> bool
@@ -74,9 +85,9 @@ pub fn is_packet(header: Header, bytes: &[u8]) -> bool
     requires size { length bytes.now ≡ header.size }
     ensures { IsTrue result ↔ IsPacket bytes.now }
 {
-    let (body, checksum) = bytes.split_at(bytes.len() - CHECKSUM);
-    let Some(parts) = parts_of(header.first, header.second, &body[header.start..]) else {
+    let Some(parts) = packet_parts(header, bytes) else {
         return false;
     };
+    let (body, checksum) = bytes.split_at(bytes.len() - CHECKSUM);
     have_texts(&parts) && checksum == crc_of(body).to_be_bytes().as_slice()
 }

@@ -95,7 +95,7 @@ fn after_runs(count: u32, bytes: &[u8]) -> Option<&[u8]>
 
 /// The list of runs behind its count, and the bytes behind it.
 fn runs_at(bytes: &[u8]) -> Option<(RunList<'_>, &[u8])>
-    ensures found { IfSome result (λ r. (runs : List (List ℕ)) × Found CountedRuns bytes.now runs r.1.now × ShowsRuns r.0 runs) }
+    ensures found { IfSome result (λ r. (runs : List (List ℕ)) × Found CountedRuns bytes.now runs r.1.now × ShowsRuns r.0.count r.0.bytes.now runs) }
     ensures none { IfNone result (NotFound CountedRuns bytes.now) }
 {
     let (count, bytes) = number_at(bytes)?;
