@@ -1,6 +1,13 @@
+pub mod FlagLemmas
+pub mod GrammarLemmas
+pub mod HeaderLemmas
 pub mod LaneLemmas
 pub mod LeastLemmas
+pub mod PacketLemmas
+pub mod PartsLemmas
 pub mod RoutingLemmas
+pub mod RunsLeft
+pub mod ShapeLemmas
 pub mod ShortestLemmas
 pub mod SpellingLemmas
 pub mod WritingLemmas

@@ -5,3 +5,5 @@ pub mod Canonical
 pub mod Routing
 pub mod Simple
 pub mod Header
+pub mod Grammar
+pub mod Shapes

@@ -1,0 +1,162 @@
+-- The fields of a packet as their lengths tell, whatever the bytes of a text are.
+use Rattle.std.specs.Prelude.{◌≡◌, ◌≤◌, ◌+◌, take, drop, ◌-◌, slice_index_or, All, IfSome, option_map, Some, None, ℕ, ◌/◌, ◌%◌, ◌==◌, Bool, Option, List, [], ◌∷◌, ◌++◌, length}
+use Rattle.std.specs.Borrow.{Bor}
+use Rattle.packet_codec.specs.Grammar.{Found, Pair, Counted, Flagged}
+use Rattle.packet_codec.specs.Fields.{SpellsStamp}
+use Rattle.sub_number.specs.Numbers.{SpellsNumber}
+use Rattle.packet_codec.specs.Packet.{signature}
+use Rattle.packet_codec.specs.declared.header.Header.{Header}
+use Rattle.packet_codec.specs.declared.status.Status.{Status}
+use Rattle.packet_codec.specs.declared.status.Status.TheVariants.{Unset, Exists, InProgress, Success, UxSuccess, Skip, Fail, XFail}
+use Rattle.packet_codec.specs.declared.parts.RunList.{RunList}
+use Rattle.packet_codec.specs.declared.parts.FileBytes.{FileBytes}
+use Rattle.packet_codec.specs.declared.parts.Parts.{Parts}
+use Rattle.sub_number.specs.Texts.{IsText}
+use Rattle.packet_codec.specs.declared.stamp.Stamp.{Stamp}
+use Rattle.packet_codec.specs.declared.event.FilePart.{FilePart}
+use Rattle.packet_codec.specs.declared.event.Event.{Event}
+
+-- so many bytes
+abbrev pub Run : List ℕ → List ℕ → Type 0
+Run = Counted length (λ bytes run. bytes ≡ run)
+
+-- the runs, one after another
+abbrev pub Runs : List ℕ → List (List ℕ) → Type 0
+Runs bytes [] = bytes ≡ []
+Runs bytes (run ∷ runs) = (front : List ℕ) × (rest : List ℕ) × (bytes ≡ front ++ rest) × Run front run × Runs rest runs
+
+-- so many runs
+abbrev pub CountedRuns : List ℕ → List (List ℕ) → Type 0
+CountedRuns = Counted length Runs
+
+-- a name and some bytes
+abbrev pub NamedRun : List ℕ → (List ℕ × List ℕ) → Type 0
+NamedRun = Pair Run Run
+
+-- whether the flag of this weight is set
+abbrev pub bit : ℕ → ℕ → Bool
+bit flags weight = flags / weight % 2 == 1
+
+-- the values of all fields, in the order of a packet
+abbrev pub Contents : Type 0
+Contents = Option Stamp × (Option (List ℕ) × (Option (List (List ℕ)) × (Option (List ℕ) × (Option (List ℕ × List ℕ) × Option (List ℕ)))))
+
+-- each field, there where its flag is set
+abbrev pub StampShape : ℕ → List ℕ → Option Stamp → Type 0
+StampShape first = Flagged (bit first 2) SpellsStamp
+
+abbrev pub IdShape : ℕ → List ℕ → Option (List ℕ) → Type 0
+IdShape first = Flagged (bit first 8) Run
+
+abbrev pub TagsShape : ℕ → List ℕ → Option (List (List ℕ)) → Type 0
+TagsShape second = Flagged (bit second 128) CountedRuns
+
+abbrev pub MimeShape : ℕ → List ℕ → Option (List ℕ) → Type 0
+MimeShape second = Flagged (bit second 32) Run
+
+abbrev pub FileShape : ℕ → List ℕ → Option (List ℕ × List ℕ) → Type 0
+FileShape second = Flagged (bit second 64) NamedRun
+
+abbrev pub RouteShape : ℕ → List ℕ → Option (List ℕ) → Type 0
+RouteShape first = Flagged (bit first 4) Run
+
+-- the fields from one on, in the order of a packet
+abbrev pub FromFile : ℕ → ℕ → List ℕ → (Option (List ℕ × List ℕ) × Option (List ℕ)) → Type 0
+FromFile first second = Pair (FileShape second) (RouteShape first)
+
+abbrev pub FromMime : ℕ → ℕ → List ℕ → (Option (List ℕ) × (Option (List ℕ × List ℕ) × Option (List ℕ))) → Type 0
+FromMime first second = Pair (MimeShape second) (FromFile first second)
+
+abbrev pub FromTags : ℕ → ℕ → List ℕ → (Option (List (List ℕ)) × (Option (List ℕ) × (Option (List ℕ × List ℕ) × Option (List ℕ)))) → Type 0
+FromTags first second = Pair (TagsShape second) (FromMime first second)
+
+abbrev pub FromId : ℕ → ℕ → List ℕ → (Option (List ℕ) × (Option (List (List ℕ)) × (Option (List ℕ) × (Option (List ℕ × List ℕ) × Option (List ℕ))))) → Type 0
+FromId first second = Pair (IdShape first) (FromTags first second)
+
+-- all fields that the flags tell of
+abbrev pub FieldShapes : ℕ → ℕ → List ℕ → Contents → Type 0
+FieldShapes first second = Pair (StampShape first) (FromId first second)
+
+-- the bytes begin with so many runs
+pub record BeginsWithRuns (bytes : List ℕ) (count : ℕ) (runs : List (List ℕ)) (rest : List ℕ) : Type 0 where
+  pub size : length runs ≡ count
+  pub found : Found Runs bytes runs rest
+
+-- the runs that stand there
+abbrev pub ShowsRuns : ℕ → List ℕ → List (List ℕ) → Type 0
+ShowsRuns count bytes runs = (rest : List ℕ) × BeginsWithRuns bytes count runs rest
+
+abbrev pub ShowsTags : Option RunList → Option (List (List ℕ)) → Type 0
+ShowsTags None None = Unit {0}
+ShowsTags None (Some tags) = ⊥
+ShowsTags (Some list) None = ⊥
+ShowsTags (Some list) (Some tags) = ShowsRuns list.count list.bytes.now tags
+
+-- the bytes of a run that is there
+abbrev pub bytes_of : Option (Bor (List ℕ)) → Option (List ℕ)
+bytes_of run = option_map (λ bytes. bytes.now) run
+
+abbrev pub file_of : Option FileBytes → Option (List ℕ × List ℕ)
+file_of file = option_map (λ part. (part.name.now, part.bytes.now)) file
+
+-- where the values of the fields stand
+pub record ShowsParts (parts : Parts) (contents : Contents) : Type 0 where
+  pub stamp : parts.stamp ≡ contents.0
+  pub id : bytes_of parts.id ≡ contents.1.0
+  pub tags : ShowsTags parts.tags contents.1.1.0
+  pub mime : bytes_of parts.mime ≡ contents.1.1.1.0
+  pub file : file_of parts.file ≡ contents.1.1.1.1.0
+  pub route : bytes_of parts.route ≡ contents.1.1.1.1.1
+
+-- the texts among them are texts
+pub record AreTexts (contents : Contents) : Type 0 where
+  pub id : IfSome contents.1.0 IsText
+  pub tags : IfSome contents.1.1.0 (All IsText)
+  pub mime : IfSome contents.1.1.1.0 IsText
+  pub file : IfSome contents.1.1.1.1.0 (λ file. IsText file.0)
+  pub route : IfSome contents.1.1.1.1.1 IsText
+
+-- The front of a packet as it is, whatever follows: its flag bytes, and the size that it tells.
+pub record HeaderShape (bytes : List ℕ) (value : ℕ × (ℕ × ℕ)) : Type 0 where
+  pub number : List ℕ
+  pub parts : bytes ≡ signature ∷ value.0 ∷ value.1.0 ∷ number
+  pub version : value.0 / 16 ≡ 2
+  pub zero_bit : value.1.0 / 8 % 2 ≡ 0
+  pub size_spelled : SpellsNumber number value.1.1
+  pub size_short : length number ≤ 3
+  pub room : length bytes + 4 ≤ value.1.1
+
+-- the header that the bytes begin with
+pub record HeaderStands (bytes : List ℕ) (header : Header) : Type 0 where
+  pub in_range : header.start ≤ length bytes
+  pub spelled : HeaderShape (take header.start bytes) (header.first, (header.second, header.size))
+
+-- the fields of a packet, between its header and its checksum
+abbrev pub fields_at : Header → List ℕ → List ℕ
+fields_at header bytes = drop header.start (take (length bytes - 4) bytes)
+
+-- the status of this number
+abbrev pub status_from : ℕ → Status
+status_from n = slice_index_or (Unset ∷ Exists ∷ InProgress ∷ Success ∷ UxSuccess ∷ Skip ∷ Fail ∷ []) n XFail
+
+-- a file of this name and these bytes
+abbrev pub file_from : List ℕ × List ℕ → FilePart
+file_from file = record { name = file.0; bytes = file.1 }
+
+-- the event with these flags and fields
+abbrev pub event_from : ℕ → ℕ → Contents → Event
+event_from first second contents = record {
+  stamp = contents.0;
+  id = contents.1.0;
+  tags = contents.1.1.0;
+  runnable = bit first 1;
+  status = status_from (second % 8);
+  mime = contents.1.1.1.0;
+  file = option_map file_from contents.1.1.1.1.0;
+  eof = bit second 16;
+  route = contents.1.1.1.1.1;
+}
+
+-- the fields of an event
+abbrev pub contents_of : Event → Contents
+contents_of e = (e.stamp, (e.id, (e.tags, (e.mime, (option_map (λ file. (file.name, file.bytes)) e.file, e.route)))))

@@ -1,0 +1,118 @@
+//! The event that a packet spells.
+
+ghost use Rattle.std.specs.Prelude.{◌≡◌, ◌%◌, Option, List, ℕ, option_map, IfOk};
+ghost use Rattle.packet_codec.specs.Packet.{SpellsEvent, IsPacket};
+ghost use Rattle.packet_codec.specs.Shapes.{Contents, ShowsRuns, ShowsTags, ShowsParts, bytes_of, file_of, file_from, status_from, event_from};
+ghost use Rattle.packet_codec.specs.declared.event.Event.{Event};
+
+use crate::event::{Event, FilePart};
+use crate::header::header_at;
+use crate::packet::packet_parts;
+use crate::parts::{FileBytes, Parts, RunList, run_at};
+use crate::status::Status;
+use crate::tags::Tags;
+use std::alloc::Global;
+use sub_number::{Bytes, NoMemory, Text};
+
+fn text_of(alloc: Global, bytes: &[u8]) -> Result<Text, NoMemory>
+    ensures { IfOk result (λ text. text ≡ bytes.now) }
+{
+    Text::new(alloc, bytes).map_err(|_| NoMemory)
+}
+
+fn optional_text(alloc: Global, run: Option<&[u8]>) -> Result<Option<Text>, NoMemory>
+    ensures { IfOk result (λ text. text ≡ bytes_of run.entry) }
+{
+    match run {
+        None => Ok(None),
+        Some(bytes) => Ok(Some(text_of(alloc, bytes)?)),
+    }
+}
+
+fn tags_of(alloc: Global, count: u32, bytes: &[u8]) -> Result<Tags, NoMemory>
+    requires { (runs : List (List ℕ)) × ShowsRuns count bytes.now runs }
+    ensures { (runs : List (List ℕ)) → ShowsRuns count bytes.now runs → IfOk result (λ tags. tags ≡ runs) }
+{
+    let mut tags = Tags::new(alloc);
+    let mut rest = bytes;
+    for _ in 0..count {
+        let (run, after) = run_at(rest).unwrap();
+        tags.push(text_of(alloc, run)?).map_err(|_| NoMemory)?;
+        rest = after;
+    }
+    Ok(tags)
+}
+
+fn optional_tags(alloc: Global, tags: Option<RunList<'_>>) -> Result<Option<Tags>, NoMemory>
+    requires { (runs : Option (List (List ℕ))) × ShowsTags tags runs }
+    ensures { (runs : Option (List (List ℕ))) → ShowsTags tags.entry runs → IfOk result (λ tags. tags ≡ runs) }
+{
+    match tags {
+        None => Ok(None),
+        Some(list) => Ok(Some(tags_of(alloc, list.count, list.bytes)?)),
+    }
+}
+
+fn optional_file(
+    alloc: Global,
+    file: Option<FileBytes<'_>>,
+) -> Result<Option<FilePart>, NoMemory>
+    ensures { IfOk result (λ part. part ≡ option_map file_from (file_of file.entry)) }
+{
+    let Some(FileBytes { name, bytes }) = file else {
+        return Ok(None);
+    };
+    let name = text_of(alloc, name)?;
+    let bytes = Bytes::new(alloc, bytes)?;
+    Ok(Some(FilePart { name, bytes }))
+}
+
+/// The status of the lowest three bits.
+fn status_of(second: u8) -> Status
+    ensures { result ≡ status_from (second % 8) }
+{
+    match second % 8 {
+        0 => Status::Unset,
+        1 => Status::Exists,
+        2 => Status::InProgress,
+        3 => Status::Success,
+        4 => Status::UxSuccess,
+        5 => Status::Skip,
+        6 => Status::Fail,
+        _ => Status::XFail,
+    }
+}
+
+/// The event with these flag bytes and fields, each field copied once.
+fn event_of(
+    alloc: Global,
+    first: u8,
+    second: u8,
+    parts: &Parts<'_>,
+) -> Result<Event, NoMemory>
+    requires { (contents : Contents) × ShowsParts parts.now contents }
+    ensures { (contents : Contents) → ShowsParts parts.now contents → IfOk result (λ event. event ≡ event_from first second contents) }
+{
+    Ok(Event {
+        stamp: parts.stamp,
+        id: optional_text(alloc, parts.id)?,
+        tags: optional_tags(alloc, parts.tags)?,
+        runnable: first % 2 == 1,
+        status: status_of(second),
+        mime: optional_text(alloc, parts.mime)?,
+        file: optional_file(alloc, parts.file)?,
+        eof: second / 16 % 2 == 1,
+        route: optional_text(alloc, parts.route)?,
+    })
+}
+
+/// The event that a packet spells: all of the bytes are one packet. The error comes for want of memory.
+pub fn decode(alloc: Global, bytes: &[u8]) -> Result<Event, NoMemory>
+    requires { IsPacket bytes.now }
+    ensures spelled { IfOk result (SpellsEvent bytes.now) }
+    ensures only { (e : Event) → SpellsEvent bytes.now e → IfOk result (λ event. event ≡ e) }
+{
+    let header = header_at(bytes).unwrap();
+    let parts = packet_parts(header, bytes).unwrap();
+    event_of(alloc, header.first, header.second, &parts)
+}

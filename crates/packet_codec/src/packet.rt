@@ -1,0 +1,93 @@
+//! Whether some bytes are a packet.
+
+ghost use Rattle.std.specs.Prelude.{◌≡◌, ◌↔◌, Option, List, ℕ, length, All, IsTrue, IfSome, IfNone};
+ghost use Rattle.sub_number.specs.Texts.{IsText};
+ghost use Rattle.packet_codec.specs.Packet.{IsPacket};
+ghost use Rattle.packet_codec.specs.Shapes.{HeaderStands, FieldShapes, fields_at, Contents, ShowsRuns, ShowsTags, ShowsParts, AreTexts, bytes_of, file_of};
+
+use crate::header::{CHECKSUM, Header};
+use crate::parts::{FileBytes, Parts, RunList, parts_of, run_at};
+use sub_number::{crc_of, is_text};
+
+/// Whether a run is a text, where it is there.
+fn may_be_text(run: Option<&[u8]>) -> bool
+    ensures { IsTrue result ↔ IfSome (bytes_of run.entry) IsText }
+{
+    match run {
+        None => true,
+        Some(bytes) => is_text(bytes),
+    }
+}
+
+/// Whether each of so many runs is a text.
+fn are_texts(count: u32, bytes: &[u8]) -> bool
+    ensures { (runs : List (List ℕ)) → ShowsRuns count bytes.now runs → IsTrue result ↔ All IsText runs }
+{
+    let mut rest = bytes;
+    for _ in 0..count {
+        let Some((run, after)) = run_at(rest) else {
+            return false;
+        };
+        if !is_text(run) {
+            return false;
+        }
+        rest = after;
+    }
+    true
+}
+
+/// Whether each tag is a text, where there are tags.
+fn may_be_tags(tags: Option<RunList<'_>>) -> bool
+    ensures { (runs : Option (List (List ℕ))) → ShowsTags tags.entry runs → IsTrue result ↔ IfSome runs (All IsText) }
+{
+    match tags {
+        None => true,
+        Some(list) => are_texts(list.count, list.bytes),
+    }
+}
+
+/// Whether a file's name is a text, where there is a file.
+fn may_be_file(file: Option<FileBytes<'_>>) -> bool
+    ensures { IsTrue result ↔ IfSome (file_of file.entry) (λ part. IsText part.0) }
+{
+    match file {
+        None => true,
+        Some(part) => is_text(part.name),
+    }
+}
+
+/// Whether the texts among the fields are texts.
+fn have_texts(parts: &Parts<'_>) -> bool
+    ensures { (contents : Contents) → ShowsParts parts.now contents → IsTrue result ↔ AreTexts contents }
+{
+    may_be_text(parts.id)
+        && may_be_tags(parts.tags)
+        && may_be_text(parts.mime)
+        && may_be_file(parts.file)
+        && may_be_text(parts.route)
+}
+
+/// The fields of the bytes, which have this header and its size.
+pub fn packet_parts(header: Header, bytes: &[u8]) -> Option<Parts<'_>>
+    requires stands { HeaderStands bytes.now header }
+    requires size { length bytes.now ≡ header.size }
+    ensures found { IfSome result (λ parts. (contents : Contents) × FieldShapes header.first header.second (fields_at header bytes.now) contents × ShowsParts parts contents) }
+    ensures none { IfNone result ((contents : Contents) → FieldShapes header.first header.second (fields_at header bytes.now) contents → ⊥) }
+{
+    let body = &bytes[..bytes.len() - CHECKSUM];
+    parts_of(header.first, header.second, &body[header.start..])
+}
+
+/// Whether the bytes, which have this header and its size, are a packet. The lengths are tested first, then the
+/// texts, and the checksum last.
+pub fn is_packet(header: Header, bytes: &[u8]) -> bool
+    requires stands { HeaderStands bytes.now header }
+    requires size { length bytes.now ≡ header.size }
+    ensures { IsTrue result ↔ IsPacket bytes.now }
+{
+    let Some(parts) = packet_parts(header, bytes) else {
+        return false;
+    };
+    let (body, checksum) = bytes.split_at(bytes.len() - CHECKSUM);
+    have_texts(&parts) && checksum == crc_of(body).to_be_bytes().as_slice()
+}
