@@ -15,7 +15,6 @@ pub use failed::Failed;
 pub use list_sink::ListSink;
 pub use list_source::ListSource;
 pub use mem_shelf::MemShelf;
-pub use plan::FaultPlan;
 pub use shelf::Shelf;
 pub use sink::{Sink, write_whole};
 pub use source::Source;

@@ -103,6 +103,15 @@ impl Text {
 }
 
 impl Text {
+    ghost use Rattle.std.specs.String.{string_bytes};
+
+    /// The text, moved out.
+    pub fn into_string(self) -> String
+        ensures { string_bytes result ≡ self }
+    {
+        self.text
+    }
+
     /// Another one of this text, over the same allocator.
     pub fn copy(&self) -> Result<Self, NoMemory>
         ensures { IfOk result (λ text. text ≡ self.now) }
