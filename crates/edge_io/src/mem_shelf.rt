@@ -212,12 +212,7 @@ impl MemShelf {
             bytes: bytes.into_vec(),
         };
         let published = self.current.settled + 1;
-        keep(
-            &mut self.files,
-            &mut self.past,
-            self.current,
-            file,
-        )?;
+        keep(&mut self.files, &mut self.past, self.current, file)?;
         self.current = Mark {
             settled: published,
             published,
