@@ -8,7 +8,7 @@ use Rattle.std.proofs.lemmas.List.{take-append-le, take_more, take_all, map-appe
 use Rattle.std.proofs.lemmas.List.Elements.{All-head, All-tail, All-push, All-same, All-weaker}
 use Rattle.edge_io.specs.declared.kept.File.{File}
 use Rattle.edge_io.specs.declared.kept.Mark.{Mark}
-use Rattle.edge_io.specs.Disk.{Files, put, Disk, Draft, Folder, IsImage, at_rest}
+use Rattle.edge_io.specs.Disk.{Files, put, Draft, Folder, IsImage, at_rest}
 use Rattle.edge_io.specs.Steps.{CanPublish, placed, moved}
 use Rattle.edge_io.specs.MemState.{begins_with, image_of}
 use Rattle.edge_io.specs.Kept.{or_else, latest, mark_in_force, first_mark, disk_counts, lookup, nth, disk_with, pending_file, disk_at, IsWithin}

@@ -1,4 +1,4 @@
-use Rattle.std.proofs.Common.{◌∙◌, sym, ap, ◌≤◌, length, take, arith, refl}
+use Rattle.std.proofs.Common.{◌∙◌, sym, ap, ◌≤◌, length, take, arith}
 use Rattle.std.proofs.lemmas.List.{length-take-le}
 use Rattle.std.proofs.lemmas.List.Elements.{All-nil, All-same}
 use Rattle.edge_io.specs.Kept.{IsWithin, lookup}

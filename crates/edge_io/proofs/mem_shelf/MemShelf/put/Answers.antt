@@ -1,4 +1,4 @@
-use Rattle.std.proofs.Common.{◌∙◌, ap, arith, List, ℕ, length}
+use Rattle.std.proofs.Common.{◌∙◌, arith}
 use Rattle.edge_io.specs.declared.kept.File.{File}
 use Rattle.edge_io.specs.Disk.{put, at_rest}
 use Rattle.edge_io.specs.Steps.{moved}
