@@ -68,11 +68,11 @@ module _ (files : List File) (i : ℕ) (file : File) (here : file ≡ get_or fil
       ap (λ (l : List File). lookup l q) (take_more files i file within ∙ (λ j. take i files ++ sym here j ∷ []))
       ∙ lookup_push_at (take i files) file q
 
-  pub found_here : bytes_eq q (string_bytes file.name) ≡ true → Some (length file.bytes.items) ≡ option_map length (lookup (take (i + 1) files) q)
-  found_here hit = sym (ap (option_map length) (lookup_more ∙ cond-true _ _ _ hit))
+  pub found_here : bytes_eq q (string_bytes file.name) ≡ true → Some file.bytes.items ≡ lookup (take (i + 1) files) q
+  found_here hit = sym (lookup_more ∙ cond-true _ _ _ hit)
 
-  pub found_before : (found : Option ℕ) → found ≡ option_map length (lookup (take i files) q) → bytes_eq q (string_bytes file.name) ≡ false → found ≡ option_map length (lookup (take (i + 1) files) q)
-  found_before found is miss = is ∙ sym (ap (option_map length) (lookup_more ∙ cond-false _ _ _ miss))
+  pub found_before : bytes_eq q (string_bytes file.name) ≡ false → lookup (take i files) q ≡ lookup (take (i + 1) files) q
+  found_before miss = sym (lookup_more ∙ cond-false _ _ _ miss)
 
 some_is : (a b : File) → Some a ≡ Some b → a ≡ b
 some_is a b e = cc

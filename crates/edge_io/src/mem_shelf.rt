@@ -29,8 +29,10 @@ pub struct MemShelf {
 }
 
 impl Shelf for MemShelf {
+    ghost use Rattle.std.specs.Prelude.{◌<◌};
+    ghost use Rattle.std.specs.Io.{ReadsAtMost};
     ghost use Rattle.edge_io.specs.Causes.{HasCause};
-    ghost use Rattle.edge_io.specs.Steps.{Goes, Stays, Ticks, HasDraft, IsReady, FindsLength, Opened, Dropped, Grown, GrownInPart, Synced, Placed, PlacedOrNot, Settled};
+    ghost use Rattle.edge_io.specs.Steps.{Goes, Stays, Ticks, HasDraft, HasFile, IsReady, FindsLength, ReadsPart, Opened, Dropped, Grown, GrownInPart, Synced, Placed, PlacedOrNot, Settled};
     ghost use Rattle.edge_io.specs.Plans.{FailsAsListed};
     ghost use Rattle.edge_io.specs.MemState.{folder_of, folder_counts, shelf_course, shelf_calls, shelf_faults, Remembers};
 
@@ -51,7 +53,28 @@ impl Shelf for MemShelf {
         ensures moments { Remembers self.old self.new }
     {
         self.plan.turn()?;
-        Ok(length_of(&self.files, name))
+        match bytes_of(&self.files, name) {
+            Some(bytes) => Ok(Some(bytes.len() as u64)),
+            None => Ok(None),
+        }
+    }
+
+    fn read_at(&mut self, name: &str, place: u64, buf: &mut [u8]) -> Result<usize, Failed>
+        requires published { HasFile (Some (folder_of self.old)) name.now }
+        requires room { 0 < length buf.old }
+        ensures bound { ReadsAtMost result buf.new }
+        ensures part { IfOk result (ReadsPart (Some (folder_of self.old)) name.now place buf.new) }
+        ensures same { Goes (Some (folder_of self.old)) (Some (folder_of self.new)) Stays }
+        ensures time { Ticks (shelf_calls self.old) (shelf_calls self.new) }
+        ensures cause { HasCause (shelf_faults self.old) (shelf_faults self.new) result }
+        ensures listed { FailsAsListed (shelf_course self.old) (shelf_course self.new) result }
+        ensures moments { Remembers self.old self.new }
+    {
+        self.plan.turn()?;
+        match bytes_of(&self.files, name) {
+            Some(bytes) => Ok(copy_part(bytes, place, buf)),
+            None => Ok(0),
+        }
     }
 
     fn start_draft(&mut self) -> Result<(), Failed>
@@ -251,16 +274,27 @@ impl MemShelf {
 
 ghost use Rattle.std.specs.Option.{option_map};
 ghost use Rattle.edge_io.specs.Kept.{lookup};
+ghost use Rattle.edge_io.specs.Steps.{IsPart};
 
-// How long the last file of this name is.
-fn length_of(files: &[File], name: &str) -> Option<u64>
-    ensures { result ≡ option_map length (lookup files.now name.now) }
+// The bytes of the last file of this name.
+fn bytes_of<'a>(files: &'a [File], name: &str) -> Option<&'a [u8]>
+    ensures { option_map (λ bytes. bytes.now) result ≡ lookup files.now name.now }
 {
-    let mut found = None;
+    let mut found: Option<&'a [u8]> = None;
     for file in files {
         if name == file.name.as_str() {
-            found = Some(file.bytes.len() as u64);
+            found = Some(&file.bytes);
         }
     }
     found
+}
+
+// Moves what fits of the bytes, from a place on.
+fn copy_part(bytes: &[u8], place: u64, buf: &mut [u8]) -> usize
+    ensures { IsPart bytes.now place buf.new result }
+{
+    let start = place.min(bytes.len() as u64) as usize;
+    let count = (bytes.len() - start).min(buf.len());
+    buf[..count].copy_from_slice(&bytes[start..start + count]);
+    count
 }

@@ -1,8 +1,9 @@
 // A folder as the program sees it: what reads give, and what a stop may leave.
-ghost use Rattle.std.specs.Prelude.{Option, IfSome, List, ℕ, IfOk, OnOk, OnErr};
+ghost use Rattle.std.specs.Prelude.{Option, IfSome, List, ℕ, ◌<◌, length, IfOk, OnOk, OnErr};
+ghost use Rattle.std.specs.Io.{ReadsAtMost};
 ghost use Rattle.edge_io.specs.Causes.{HasCause};
 ghost use Rattle.edge_io.specs.Disk.{Folder, IsImage};
-ghost use Rattle.edge_io.specs.Steps.{Goes, Stays, Ticks, HasDraft, IsReady, FindsLength, Opened, Dropped, Grown, GrownInPart, Synced, Placed, PlacedOrNot, Settled};
+ghost use Rattle.edge_io.specs.Steps.{Goes, Stays, Ticks, HasDraft, HasFile, IsReady, FindsLength, ReadsPart, Opened, Dropped, Grown, GrownInPart, Synced, Placed, PlacedOrNot, Settled};
 
 use crate::Failed;
 
@@ -22,6 +23,18 @@ pub trait Shelf {
     /// How many bytes the published file of this name has; none exactly where there is no such file. Nothing changes.
     fn length(&mut self, name: &str) -> Result<Option<u64>, Failed>
         ensures found { IfOk result (FindsLength (state self.old) name.now) }
+        ensures same { Goes (state self.old) (state self.new) Stays }
+        ensures time { Ticks (clock self.old) (clock self.new) }
+        ensures cause { HasCause (faults self.old) (faults self.new) result };
+
+    /// Moves bytes of the published file of this name, which there must be, into the front of `buf`, which must not be
+    /// empty: from the byte number `place` on as many as are there and fit, and so none at or past the end. It answers how
+    /// many. Nothing else changes.
+    fn read_at(&mut self, name: &str, place: u64, buf: &mut [u8]) -> Result<usize, Failed>
+        requires published { HasFile (state self.old) name.now }
+        requires room { 0 < length buf.old }
+        ensures bound { ReadsAtMost result buf.new }
+        ensures part { IfOk result (ReadsPart (state self.old) name.now place buf.new) }
         ensures same { Goes (state self.old) (state self.new) Stays }
         ensures time { Ticks (clock self.old) (clock self.new) }
         ensures cause { HasCause (faults self.old) (faults self.new) result };
