@@ -40,4 +40,11 @@ impl Bytes {
     {
         &self.bytes
     }
+
+    /// The bytes, moved out.
+    pub fn into_vec(self) -> Vec<u8>
+        ensures { result.items ≡ self }
+    {
+        self.bytes
+    }
 }

@@ -123,6 +123,15 @@ impl Text {
 }
 
 impl Text {
+    ghost use Rattle.std.specs.String.{string_bytes};
+
+    /// The text, moved out.
+    pub fn into_string(self) -> String
+        ensures { string_bytes result ≡ self }
+    {
+        self.text
+    }
+
     /// Another text of the same bytes, over the same allocator.
     ///
     /// `NoMemory` comes only for want of memory.
