@@ -81,12 +81,15 @@ reports (Some s) printed new number tests found appends = λ runs shows. subst (
 
 told_of : (before after : Outside) (left : Option (List ℕ)) → before.left ≡ left → Loads before after → IfSome left (λ bytes. (events : List Event) × AddsRun before after bytes events)
 told_of before after None is loads = tt
-told_of before after (Some told) is loads = (loads.events, record {
-  cut = subst (λ (l : List ℕ). IsCut l loads.events []) (sym (read_is_all before.left after.left loads.bytes told is loads.all.read loads.all.at_end)) loads.cut;
-  at_end = loads.all.at_end;
-  stored = goes_from before.folder after.folder (λ s. IsFirstFree s.disk.published loads.number) (Records (full_name loads.number) (run_bytes loads.events)) _ loads.found loads.kept (adds loads.number loads.events);
-  printed = reports before.folder before.printed after.printed loads.number (length loads.events) loads.found loads.printed;
-})
+told_of before after (Some told) is loads = (
+  loads.events,
+  record {
+    cut = subst (λ (l : List ℕ). IsCut l loads.events []) (sym (read_is_all before.left after.left loads.bytes told is loads.all.read loads.all.at_end)) loads.cut;
+    at_end = loads.all.at_end;
+    stored = goes_from before.folder after.folder (λ s. IsFirstFree s.disk.published loads.number) (Records (full_name loads.number) (run_bytes loads.events)) _ loads.found loads.kept (adds loads.number loads.events);
+    printed = reports before.folder before.printed after.printed loads.number (length loads.events) loads.found loads.printed;
+  },
+)
 
 -- no place stops a stream that is good packets to its end
 no_stop : (before after : Outside) (place : ℕ) (left : Option (List ℕ)) → before.left ≡ left → IsSomeAnd left (λ bytes. (length bytes ≤ MOST_BYTES) × (events : List Event) × IsCut bytes events []) → (bytes : List ℕ) → ReadsAll before after bytes → StopsAt bytes place → ⊥

@@ -74,7 +74,7 @@ written_more stream place bytes new tests size w adds =
       events = w.events ++ adds.event ∷ [];
       in_range = omega (arith, w.in_range, adds.in_range, length-drop place stream);
       packets = goods_more stream w.events (drop place stream) (take size (drop place stream)) (drop (place + size) stream) adds.event w.packets
-        (sym (ap (λ l. take size (drop place stream) ++ l) (sym (drop-drop size place stream)) ∙ take-append-drop size (drop place stream))) adds.good;
+          (sym (ap (λ l. take size (drop place stream) ++ l) (sym (drop-drop size place stream)) ∙ take-append-drop size (drop place stream))) adds.good;
       bytes_are = adds.grown ∙ ap (λ l. l ++ canonical (under 0 adds.event)) w.bytes_are ∙ sym (run_bytes_more w.events adds.event);
       tests_are = omega (arith, w.tests_are, length-append w.events (adds.event ∷ []));
       few = omega (arith, w.few, adds.some);

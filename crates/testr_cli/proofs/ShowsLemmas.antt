@@ -24,8 +24,8 @@ last-append (x ∷ y ∷ xs) a = last-append (y ∷ xs) a
 last_digit : (n : ℕ) → n < 2 ^ 64 → last (decimal n) ≡ 48 + n % 10
 last_digit n fits = elim (cases_lt n 10) [
   | inl one ↦
-    let small : n % 10 ≡ n = omega arith in
-    ap last (decimal_digit n one) ∙ last-append [] (48 + n) ∙ ap (λ k. 48 + k) (sym small)
+      let small : n % 10 ≡ n = omega arith in
+      ap last (decimal_digit n one) ∙ last-append [] (48 + n) ∙ ap (λ k. 48 + k) (sym small)
   | inr more ↦ ap last (decimal_step n more fits) ∙ last-append (decimal (n / 10)) (48 + n % 10)
 ]
 
@@ -84,7 +84,6 @@ full_is_most files runs shows full = elim (cases_lt (length runs) most_runs) [
   | inl less ↦ absurd (none_is_not_some (run_at files (length runs)) (shows.each (length runs) less ∙ past_runs runs (length runs) (omega arith)) (full (length runs) less))
   | inr most ↦ omega (arith, shows.few)
 ]
-
 
 module _ (files : Files) (runs : List Run) (number : ℕ) (bytes : List ℕ) (shows : Shows files runs) (free : IsFirstFree files number) where
   new_files : Files

@@ -25,5 +25,5 @@ mod words;
 pub use answer::{Passed, Refusal};
 pub use top::{program, testr};
 
-
-
+#[cfg(test)]
+mod tests;

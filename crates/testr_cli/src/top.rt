@@ -48,8 +48,8 @@ pub fn program<H: Shelf, I: Source, O: Sink, E: Sink>(
     ensures complete { IsLoad (texts words.now)
         → HasNoCause (outside (H.state shelf.old) (H.faults shelf.old) (I.left input.old) (I.faults input.old) (O.taken out.old) (O.faults out.old))
         → HasNoFault
-            (outside (H.state shelf.old) (H.faults shelf.old) (I.left input.old) (I.faults input.old) (O.taken out.old) (O.faults out.old))
-            (outside (H.state shelf.new) (H.faults shelf.new) (I.left input.new) (I.faults input.new) (O.taken out.new) (O.faults out.new))
+        (outside (H.state shelf.old) (H.faults shelf.old) (I.left input.old) (I.faults input.old) (O.taken out.old) (O.faults out.old))
+        (outside (H.state shelf.new) (H.faults shelf.new) (I.left input.new) (I.faults input.new) (O.taken out.new) (O.faults out.new))
         → (result ≡ 0) ⊎ (result ≡ 5) }
 {
     dispatch(alloc, words, shelf, input, out, err)
@@ -87,8 +87,8 @@ pub fn testr<H: Shelf, I: Source, O: Sink, E: Sink>(
     ensures complete { IsLoad (testr_word ∷ texts words.now)
         → HasNoCause (outside (H.state shelf.old) (H.faults shelf.old) (I.left input.old) (I.faults input.old) (O.taken out.old) (O.faults out.old))
         → HasNoFault
-            (outside (H.state shelf.old) (H.faults shelf.old) (I.left input.old) (I.faults input.old) (O.taken out.old) (O.faults out.old))
-            (outside (H.state shelf.new) (H.faults shelf.new) (I.left input.new) (I.faults input.new) (O.taken out.new) (O.faults out.new))
+        (outside (H.state shelf.old) (H.faults shelf.old) (I.left input.old) (I.faults input.old) (O.taken out.old) (O.faults out.old))
+        (outside (H.state shelf.new) (H.faults shelf.new) (I.left input.new) (I.faults input.new) (O.taken out.new) (O.faults out.new))
         → (result ≡ 0) ⊎ (result ≡ 5) }
 {
     answer(alloc, words, shelf, input, out, err)
