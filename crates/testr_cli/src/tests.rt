@@ -1,6 +1,6 @@
 //! What only a run can refuse: the program over the forms in memory, with ample memory.
 
-ghost use Rattle.std.specs.Prelude.{◌≤◌};
+ghost use Rattle.std.specs.Prelude.{◌≤◌, ◌-◌, ◌^◌, None};
 
 use crate::{program, testr};
 use edge_io::{Failed, ListSink, ListSource, MemShelf, Shelf};
