@@ -7,6 +7,8 @@ mod folder_shelf;
 mod stream_sink;
 mod stream_source;
 mod stub;
+#[cfg(test)]
+mod tests;
 
 use edge_io::write_whole;
 use folder_shelf::FolderShelf;
