@@ -1,10 +1,9 @@
 // The calls of the system behind the repository's folder. What each one gives is counted above.
 
 use std::alloc::Global;
-use std::fs;
 use std::fs::{File, Files, OpenFile};
-use std::io;
 use std::io::{BufWriter, ErrorKind, Write};
+use std::{fs, io};
 
 // The folder that holds the published files, in the current folder.
 const FOLDER: &str = ".testrepository";

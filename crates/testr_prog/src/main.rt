@@ -21,6 +21,9 @@ use stream_sink::StreamSink;
 use stream_source::StreamSource;
 use stub::program;
 
+// The exit status for want of memory.
+const NO_MEMORY: u8 = 5;
+
 fn main(rt: HostRuntime) -> ExitCode {
     let alloc = rt.alloc();
     let mut shelf = FolderShelf::new(alloc, &rt);
@@ -29,10 +32,11 @@ fn main(rt: HostRuntime) -> ExitCode {
     let mut err = StreamSink::new(rt.stderr());
     let status = match words(&rt) {
         Ok(words) => program(alloc, &words, &mut shelf, &mut input, &mut out, &mut err),
+        // Words that are not text are no command, as no words are.
         Err(NoWords::NotText) => program(alloc, &[], &mut shelf, &mut input, &mut out, &mut err),
         Err(NoWords::NoMemory) => {
             let _ = write_whole(&mut err, b"testr: out of memory\n");
-            5
+            NO_MEMORY
         }
     };
     ExitCode::from(status)
