@@ -1,0 +1,52 @@
+// A writer of the system as a sink.
+ghost use Rattle.std.specs.Prelude.{◌<◌, length, IfOk};
+ghost use Rattle.std.specs.Io.{WritesAtMost};
+ghost use Rattle.std.specs.Io.KnownBytes.{WriteAppends};
+
+use crate::counting::counted;
+use edge_io::{Failed, Sink};
+use std::io;
+use std::io::{ErrorKind, Write};
+
+/// Writes to `stream`, and counts the writes that fail.
+#[derive(Drop)]
+pub struct StreamSink<W> {
+    stream: W,
+    faults: u64,
+}
+
+impl<W: Write> StreamSink<W> {
+    /// A sink over this writer, which has not failed yet.
+    pub fn new(stream: W) -> Self {
+        StreamSink { stream, faults: 0 }
+    }
+}
+
+impl<W: Write> Sink for StreamSink<W> {
+    ghost taken = { λ s. W.contents s.stream };
+
+    ghost faults = { λ s. s.faults };
+
+    /// One write of the whole piece, of which the writer may take a part.
+    fn write(&mut self, piece: &[u8]) -> Result<usize, Failed> {
+        let result = write_retried(&mut self.stream, piece);
+        counted(&mut self.faults, result)
+    }
+}
+
+// One write, begun again as often as a signal interrupts it. A writer that takes nothing of a piece that is not empty
+// has failed.
+fn write_retried<W: Write>(stream: &mut W, piece: &[u8]) -> io::Result<usize>
+    ensures bound { WritesAtMost result piece.now }
+    ensures some { IfOk result (λ count. 0 < length piece.now → 0 < count) }
+    ensures bytes { WriteAppends (W.contents stream.old) (W.contents stream.new) result piece.now }
+{
+    for _ in 0..u64::MAX {
+        match stream.write(piece) {
+            Err(error) if error.kind() == ErrorKind::Interrupted => {}
+            Ok(0) if !piece.is_empty() => return Err(io::Error::from(ErrorKind::WriteZero)),
+            result => return result,
+        }
+    }
+    Err(io::Error::from(ErrorKind::Interrupted))
+}
