@@ -1,13 +1,13 @@
 -- What an answer says, from its one outcome.
-use Rattle.std.proofs.Common.{◌≡◌, ◌⊎◌, inl, inr, ℕ, ◌<◌, ◌≤◌, Option, None, Some, IfSome, IsSomeAnd, IsSome, false, List, [], ◌∷◌, ◌++◌, length, Result, Ok, Err, MatchResult, refl, sym, ap, subst, ◌∙◌, append-nil, arith}
+use Rattle.std.proofs.Common.{◌≡◌, ◌⊎◌, inl, inr, ℕ, ◌<◌, ◌≤◌, Option, None, Some, IfSome, IsSomeAnd, false, List, [], ◌++◌, length, Result, Ok, Err, MatchResult, refl, sym, ap, subst, ◌∙◌, append-nil, arith}
 use Rattle.std.specs.Io.KnownBytes.{Consumes, Appends, IsAtEnd}
 use Rattle.edge_io.specs.Bytes.{AppendsPrefix}
 use Rattle.edge_io.specs.Causes.{Rose}
 use Rattle.std.proofs.KnownBytes.{Keeps-refl}
 use Rattle.std.proofs.lemmas.Bool.{cond-false}
-use Rattle.edge_io.specs.Disk.{Folder, Files, put, Disk}
+use Rattle.edge_io.specs.Disk.{Folder, Files, Disk}
 use Rattle.edge_io.specs.Steps.{Goes}
-use Rattle.edge_io.proofs.Going.{goes_from}
+use Rattle.edge_io.proofs.Going.{goes_from, goes_weaker}
 use Rattle.packet_codec.specs.declared.event.Event.{Event}
 use Rattle.testr_cli.specs.Words.{IsLoad, names_testr}
 use Rattle.testr_cli.proofs.WordsLemmas.{names_no_load}
@@ -17,8 +17,8 @@ use Rattle.testr_cli.specs.Repository.{Run, Shows, IsFirstFree, IsFull, full_nam
 use Rattle.testr_cli.specs.Recording.{Records, KeepsFiles}
 use Rattle.testr_cli.specs.Cut.{IsCut, run_bytes}
 use Rattle.testr_cli.specs.Report.{report_of}
-use Rattle.testr_cli.specs.Load.{Loads, ReadsAll, StopsAt, FindsNumber}
-use Rattle.testr_cli.specs.Program.{Performs, HasRefusalCause, Answers, AddsRun, LoadsTold, HasNoCause, HasNoFault, with_run}
+use Rattle.testr_cli.specs.Load.{Loads, ReadsAll, StopsAt}
+use Rattle.testr_cli.specs.Program.{Performs, HasRefusalCause, Answers, AddsRun, LoadsTold, HasNoCause, HasNoFault, KeepsRuns, with_run}
 use Rattle.testr_cli.specs.declared.reading.TheConstants.{MOST_BYTES}
 use Rattle.testr_cli.specs.declared.answer.Passed.{Passed}
 use Rattle.testr_cli.specs.declared.answer.Refusal.{Refusal}
@@ -68,6 +68,21 @@ loads_of words before after (Err ShelfFault) answer cause code zero = absurd (om
 loads_of words before after (Err InputFault) answer cause code zero = absurd (omega arith)
 loads_of words before after (Err SinkFault) answer cause code zero = absurd (omega arith)
 loads_of words before after (Err NoMemory) answer cause code zero = absurd (omega arith)
+
+kept_of : (words : List (List ℕ)) (before after : Outside) (outcome : Result Passed Refusal) (answer : ℕ) → MatchResult outcome (Performs words before after) (HasRefusalCause words before after) → answer ≡ code_of outcome → 2 ≤ answer → answer ≤ 3 → Goes before.folder after.folder KeepsFiles
+kept_of words before after (Ok passed) answer cause code least most = absurd (omega arith)
+kept_of words before after (Err Usage) answer cause code least most = cause.2.kept
+kept_of words before after (Err Full) answer cause code least most = cause.1.2.kept
+kept_of words before after (Err (NotYet place)) answer cause code least most = cause.1.1.kept
+kept_of words before after (Err TooLong) answer cause code least most = cause.1.2.kept
+kept_of words before after (Err ShelfFault) answer cause code least most = absurd (omega arith)
+kept_of words before after (Err InputFault) answer cause code least most = absurd (omega arith)
+kept_of words before after (Err SinkFault) answer cause code least most = absurd (omega arith)
+kept_of words before after (Err NoMemory) answer cause code least most = absurd (omega arith)
+
+-- the same files show the same runs
+keeps_runs : (s t : Folder) → KeepsFiles s t → (runs : List Run) → Shows s.disk.published runs → Shows t.disk.published runs
+keeps_runs s t same runs shows = subst (λ (files : Files). Shows files runs) (sym same) shows
 
 -- the run is one more
 adds : (number : ℕ) (events : List Event) (s t : Folder) → IsFirstFree s.disk.published number → Records (full_name number) (run_bytes events) s t → (runs : List Run) → Shows s.disk.published runs → Shows t.disk.published (with_run runs events)
@@ -128,6 +143,9 @@ module _ (words : List (List ℕ)) (before after : Outside) (errors told : Optio
 
   pub fault_cause : answer ≡ 4 → Rose before.folder_faults after.folder_faults ⊎ (Rose before.input_faults after.input_faults ⊎ Rose before.out_faults after.out_faults)
   fault_cause = fault_of words before after answers.outcome answer answers.cause answers.code
+
+  pub runs_kept : 2 ≤ answer → answer ≤ 3 → KeepsRuns before.folder after.folder
+  runs_kept least most = goes_weaker before.folder after.folder KeepsFiles _ (kept_of words before after answers.outcome answer answers.cause answers.code least most) keeps_runs
 
   pub loads_told : answer ≡ 0 → LoadsTold before after
   loads_told zero = told_of before after before.left refl (loads_of words before after answers.outcome answer answers.cause answers.code zero)

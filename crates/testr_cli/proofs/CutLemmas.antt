@@ -1,12 +1,12 @@
 -- A stream is cut in one way.
-use Rattle.std.proofs.Common.{◌≡◌, ℕ, ◌+◌, ◌<◌, arith, List, [], ◌∷◌, ◌++◌, length, refl, sym, ap, subst, ◌∙◌}
+use Rattle.std.proofs.Common.{◌≡◌, ℕ, List, [], ◌∷◌, ◌++◌, sym, ap, subst, ◌∙◌}
 use Rattle.packet_codec.specs.declared.event.Event.{Event}
 use Rattle.packet_codec.specs.Packet.{SpellsEvent}
 use Rattle.sub_number.proofs.NumberLemmas.{AreBytes}
 use Rattle.packet_codec.proofs.GrammarLemmas.{are_front, are_rest}
 use Rattle.packet_codec.proofs.PacketLemmas.{no_front}
 use Rattle.std.proofs.lemmas.List.{append_cancel_left}
-use Rattle.testr_cli.specs.Cut.{IsGood, BeginsWithGood, BeginsWithNoGood, IsCut}
+use Rattle.testr_cli.specs.Cut.{BeginsWithGood, BeginsWithNoGood}
 
 -- of two packets at the front of the same bytes, both are the same
 pub one_front : (bytes a x b y : List ℕ) (d e : Event) → AreBytes bytes → bytes ≡ a ++ x → bytes ≡ b ++ y → SpellsEvent a d → SpellsEvent b e → a ≡ b

@@ -1,6 +1,5 @@
 -- Good packets at the front of a stream, and what a run keeps of them.
 use Rattle.std.proofs.Common.{◌≡◌, ℕ, ◌+◌, ◌-◌, ◌<◌, ◌≤◌, List, [], ◌∷◌, ◌++◌, length, take, drop, Option, Some, None, IsNone, refl, sym, subst, ap, ◌∙◌, append_assoc, append-nil, arith, length-append, length-drop}
-use Rattle.std.specs.List.{flat_map}
 use Rattle.std.proofs.Math.Seq.{take-append_seam}
 use Rattle.std.proofs.lemmas.List.{take-append-drop, length-take-le, drop-drop, take_rest}
 use Rattle.packet_codec.specs.declared.event.Event.{Event}
@@ -11,7 +10,7 @@ use Rattle.packet_codec.specs.Routing.{under, route_under}
 use Rattle.packet_codec.proofs.RoutingLemmas.{route_under_none}
 use Rattle.sub_number.specs.Texts.{IsShortText}
 use Rattle.testr_cli.specs.Cut.{IsGood, BeginsWithGood, BeginsWithNoGood, IsCut, run_bytes}
-use Rattle.testr_cli.specs.Scribing.{IsRunOf, AddsGood}
+use Rattle.testr_cli.specs.Scribing.{AddsGood}
 use Rattle.testr_cli.specs.Load.{StopsAt}
 
 -- one more good packet

@@ -1,9 +1,9 @@
 -- The folder through a load whose recording failed.
-use Rattle.std.proofs.Common.{◌≡◌, ℕ, List, Option, None, Some, inl, inr, sym, ap, subst, ◌∙◌}
+use Rattle.std.proofs.Common.{◌≡◌, ℕ, List, Option, inl, inr, ap, subst, ◌∙◌}
 use Rattle.edge_io.specs.Disk.{Folder, put}
 use Rattle.edge_io.specs.Steps.{Goes, Settled, Stays}
 use Rattle.edge_io.proofs.Going.{goes_then}
-use Rattle.testr_cli.specs.Recording.{RecordsOrNot, KeepsFiles}
+use Rattle.testr_cli.specs.Recording.{RecordsOrNot}
 
 -- a barrier and reads change no file
 abbrev Settles : Folder → Folder → Type 0

@@ -1,5 +1,5 @@
 -- What a call of the program answers.
-use Rattle.std.specs.Prelude.{◌≡◌, ◌⊎◌, ℕ, ◌≤◌, Option, IsSomeAnd, IfSome, Some, None, false, List, [], ◌∷◌, ◌++◌, length, Result, Ok, Err, MatchResult}
+use Rattle.std.specs.Prelude.{◌≡◌, ◌⊎◌, ℕ, ◌≤◌, Option, IsSomeAnd, IfSome, false, List, [], ◌∷◌, ◌++◌, length, Result, Ok, Err, MatchResult}
 use Rattle.std.specs.Io.KnownBytes.{Appends, Keeps, IsAtEnd}
 use Rattle.edge_io.specs.Bytes.{AppendsPrefix}
 use Rattle.edge_io.specs.Causes.{Rose}
@@ -16,7 +16,7 @@ use Rattle.testr_cli.specs.Load.{Loads, HasLoadCause, ChangesNothing}
 use Rattle.testr_cli.specs.declared.reading.TheConstants.{MOST_BYTES}
 use Rattle.testr_cli.specs.declared.answer.Passed.{Passed}
 use Rattle.testr_cli.specs.declared.answer.Refusal.{Refusal}
-use Rattle.testr_cli.specs.declared.answer.Refusal.TheVariants.{Usage, Full, NotYet, TooLong, ShelfFault, InputFault, SinkFault, NoMemory}
+use Rattle.testr_cli.specs.declared.answer.Refusal.TheVariants.{Usage}
 
 -- a command was done
 abbrev pub Performs : List (List ℕ) → Outside → Outside → Passed → Type 0

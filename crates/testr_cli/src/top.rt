@@ -1,6 +1,6 @@
 //! The top call.
 
-ghost use Rattle.std.specs.Prelude.{◌≡◌, ◌⊎◌, ◌↔◌, ◌∷◌, OnOk, IfErr};
+ghost use Rattle.std.specs.Prelude.{◌≡◌, ◌≤◌, ◌⊎◌, ◌↔◌, ◌∷◌, OnOk, IfErr};
 ghost use Rattle.std.specs.Io.KnownBytes.{Appends};
 ghost use Rattle.edge_io.specs.Bytes.{AppendsPrefix};
 ghost use Rattle.edge_io.specs.Causes.{Rose};
@@ -8,7 +8,7 @@ ghost use Rattle.testr_cli.specs.Answer.{usage_line};
 ghost use Rattle.testr_cli.specs.Words.{texts, IsLoad, testr_word};
 ghost use Rattle.testr_cli.specs.Outside.{outside};
 ghost use Rattle.testr_cli.specs.Load.{Loads};
-ghost use Rattle.testr_cli.specs.Program.{HasRefusalCause, Answers, LoadsTold, HasNoCause, HasNoFault};
+ghost use Rattle.testr_cli.specs.Program.{HasRefusalCause, Answers, LoadsTold, KeepsRuns, HasNoCause, HasNoFault};
 
 use crate::load::load;
 use crate::telling::tell;
@@ -38,6 +38,9 @@ pub fn program<H: Shelf, I: Source, O: Sink, E: Sink>(
 
     ensures usage { (result ≡ 2) ↔ (IsLoad (texts words.now) → ⊥) }
     ensures fault { result ≡ 4 → Rose (H.faults shelf.old) (H.faults shelf.new) ⊎ (Rose (I.faults input.old) (I.faults input.new) ⊎ Rose (O.faults out.old) (O.faults out.new)) }
+
+    // What is refused leaves the runs that the folder shows.
+    ensures kept { 2 ≤ result → result ≤ 3 → KeepsRuns (H.state shelf.old) (H.state shelf.new) }
 
     // Over an input that is told: it is good packets and nothing else, was read to its end, and is one run more.
     ensures loaded { result ≡ 0 → LoadsTold
@@ -77,6 +80,9 @@ pub fn testr<H: Shelf, I: Source, O: Sink, E: Sink>(
 
     ensures usage { (result ≡ 2) ↔ (IsLoad (testr_word ∷ texts words.now) → ⊥) }
     ensures fault { result ≡ 4 → Rose (H.faults shelf.old) (H.faults shelf.new) ⊎ (Rose (I.faults input.old) (I.faults input.new) ⊎ Rose (O.faults out.old) (O.faults out.new)) }
+
+    // What is refused leaves the runs that the folder shows.
+    ensures kept { 2 ≤ result → result ≤ 3 → KeepsRuns (H.state shelf.old) (H.state shelf.new) }
 
     // Over an input that is told: it is good packets and nothing else, was read to its end, and is one run more.
     ensures loaded { result ≡ 0 → LoadsTold

@@ -1,8 +1,5 @@
-use Rattle.std.proofs.Common.{List, ℕ, Option, subst, ◌∙◌, ap, arith}
-use Rattle.std.specs.Io.KnownBytes.{Appends}
-use Rattle.edge_io.specs.Bytes.{AppendsPrefix}
-use Rattle.testr_cli.specs.Answer.{refusal_front, refusal_rest}
-use Rattle.testr_cli.proofs.Lines.{line_parts, front_in_part, whole_told, part_told}
+use Rattle.std.proofs.Common.{◌∙◌}
+use Rattle.testr_cli.proofs.Lines.{front_in_part, whole_told, part_told}
 use Rattle.testr_cli.proofs.telling.tell.Goals as goal
 
 pub returns-in_err-write_whole-clause-prefix : goal.returns-in_err-write_whole-clause-prefix

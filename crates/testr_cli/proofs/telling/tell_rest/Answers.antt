@@ -1,7 +1,7 @@
-use Rattle.std.proofs.Common.{◌≡◌, ℕ, List, [], ◌∷◌, ◌++◌, Option, subst, sym, ap, ◌∙◌}
+use Rattle.std.proofs.Common.{◌≡◌, [], ◌∷◌, ◌++◌, subst, sym, ap, ◌∙◌}
 use Rattle.std.specs.Fmt.{decimal}
 use Rattle.edge_io.specs.Bytes.{AppendsPrefix}
-use Rattle.testr_cli.specs.Answer.{refusal_rest, place_line}
+use Rattle.testr_cli.specs.Answer.{refusal_rest}
 use Rattle.testr_cli.proofs.Prefixes.{prefix_behind}
 use Rattle.testr_cli.proofs.telling.tell_rest.Goals as goal
 

@@ -1,4 +1,4 @@
-use Rattle.std.proofs.Common.{◌≡◌, List, ℕ, ◌∷◌, length, drop, sym, ap, subst, ◌∙◌, false, true}
+use Rattle.std.proofs.Common.{◌≡◌, ◌∷◌, sym, ap, subst, ◌∙◌, false, true}
 use Rattle.std.proofs.lemmas.List.{take_rest}
 use Rattle.testr_cli.specs.Words.{texts, testr_word, names_testr}
 use Rattle.testr_cli.specs.Program.{Answers}

@@ -1,4 +1,4 @@
-use Rattle.testr_cli.proofs.AnswerLemmas.{usage_exact, fault_cause, loads_told, gives_up_never}
+use Rattle.testr_cli.proofs.AnswerLemmas.{usage_exact, fault_cause, runs_kept, loads_told, gives_up_never}
 use Rattle.testr_cli.proofs.top.program.Goals as goal
 
 pub returns-clause-usage : goal.returns-clause-usage
@@ -12,3 +12,6 @@ returns-clause-loaded g c = loads_told _ _ _ _ _ _ _ _ c.dispatch.ensures.outcom
 
 pub returns-clause-complete : goal.returns-clause-complete
 returns-clause-complete g c = gives_up_never _ _ _ _ _ _ _ _ c.dispatch.ensures.outcome
+
+pub returns-clause-kept : goal.returns-clause-kept
+returns-clause-kept g c = runs_kept _ _ _ _ _ _ _ _ c.dispatch.ensures.outcome

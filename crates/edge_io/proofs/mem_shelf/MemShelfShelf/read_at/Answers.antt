@@ -1,4 +1,4 @@
-use Rattle.std.proofs.Common.{◌∙◌, ◌≡◌, ap, sym, subst, IfSome, List, ℕ}
+use Rattle.std.proofs.Common.{◌∙◌, ap, sym, subst, IfSome, List, ℕ}
 use Rattle.std.specs.Option.{option_map}
 use Rattle.edge_io.specs.Kept.{lookup}
 use Rattle.edge_io.specs.Steps.{IsPart}
