@@ -5,3 +5,4 @@ pub mod FlagLemmas
 pub mod HeaderLemmas
 pub mod RunsLeft
 pub mod PacketLemmas
+pub mod LookLemmas

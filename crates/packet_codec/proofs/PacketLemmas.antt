@@ -234,7 +234,7 @@ spelled_header p e s =
       };
     }
 
-pub header_found : (p : List ℕ) (header : Header) → HeaderStands p header → Found HeaderShape p (header.first, (header.second, header.size)) (drop header.start p)
+unfoldable pub header_found : (p : List ℕ) (header : Header) → HeaderStands p header → Found HeaderShape p (header.first, (header.second, header.size)) (drop header.start p)
 header_found p header stands = record { front = take header.start p; parts = sym (take-append-drop header.start p); spelled = stands.spelled }
 
 -- no packet is the front of another one

@@ -17,7 +17,7 @@ pub use decoding::decode;
 pub use event::{Event, FilePart};
 pub use front::Front;
 pub use laws::packets_are_one_event;
-pub use looking::look_simple;
+pub use looking::{look, look_simple};
 pub use stamp::Stamp;
 pub use status::Status;
 pub use tags::Tags;
