@@ -21,3 +21,6 @@ pub use looking::{look, look_simple};
 pub use stamp::Stamp;
 pub use status::Status;
 pub use tags::Tags;
+
+#[cfg(test)]
+mod tests_reading;
