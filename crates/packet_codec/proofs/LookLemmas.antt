@@ -1,5 +1,5 @@
 -- What the header tells of the front of some bytes.
-use Rattle.std.proofs.Common.{◌≡◌, ℕ, zero, suc, ◌+◌, ◌-◌, ◌*◌, ◌/◌, ◌%◌, ◌≤◌, ◌<◌, Bool, true, false, List, [], ◌∷◌, ◌++◌, length, get_or, take, drop, All, Fits, w8, refl, inl, inr, sym, ap, ◌∙◌, append_assoc, arith}
+use Rattle.std.proofs.Common.{◌≡◌, ℕ, ◌+◌, ◌-◌, ◌*◌, ◌/◌, ◌%◌, ◌≤◌, ◌<◌, Bool, true, false, List, [], ◌∷◌, ◌++◌, length, get_or, take, drop, refl, inl, inr, sym, ap, ◌∙◌, append_assoc, arith}
 use Rattle.std.specs.Prelude.{IsTrue, ◌↔◌}
 use Rattle.std.proofs.lemmas.Bool.{cases_lt}
 use Rattle.std.proofs.lemmas.List.{length-append, get_or_append_left, get_or-append_right, get_or-drop, append-nil}
@@ -47,9 +47,9 @@ unfolding header_found
 whole_is_no_front p header are stands front =
     let found = header_found p header stands in
     let longer : Found HeaderShape (p ++ front.rest) (header.first, (header.second, header.size)) (drop header.start p ++ front.rest) =
-        record { front = found.front; parts = ap (λ (l : List ℕ). l ++ front.rest) found.parts ∙ append_assoc found.front (drop header.start p) front.rest; spelled = found.spelled } in
+    record { front = found.front; parts = ap (λ (l : List ℕ). l ++ front.rest) found.parts ∙ append_assoc found.front (drop header.start p) front.rest; spelled = found.spelled } in
     let whole : Found HeaderShape (p ++ front.rest) (front.header.first, (front.header.second, front.size)) [] =
-        record { front = p ++ front.rest; parts = sym (append-nil (p ++ front.rest)); spelled = header_shape _ front.size front.header } in
+    record { front = p ++ front.rest; parts = sym (append-nil (p ++ front.rest)); spelled = header_shape _ front.size front.header } in
     let same = found_same HeaderShape header_free (p ++ front.rest) _ _ _ _ (are_append p front.rest are (fits_from_are front.rest front.are_bytes)) longer whole in
     omega (arith, front.some, ap length same.rest, length-append (drop header.start p) front.rest)
 
@@ -62,13 +62,14 @@ pub is_front_packet : (p : List ℕ) (header : Header) (answer : Bool) → Heade
 is_front_packet p header answer stands in_range holds tests = record { header = header_begins p header stands; in_range = in_range; packet = tests.0 holds }
 
 pub is_no_packet : (p : List ℕ) (header : Header) (answer : Bool) → AreBytes p → HeaderStands p header → header.size ≤ length p → answer ≡ false → (IsTrue answer ↔ IsPacket (take header.size p)) → ((size : ℕ) → BeginsWithPacket p size → ⊥) × (NeedsMore p → ⊥)
-is_no_packet p header answer are stands in_range is_not tests =
-    (λ size b.
+is_no_packet p header answer are stands in_range is_not tests = (
+  λ size b.
       let size-is = same_size p header size are stands b.header in
       let yes_it_is : answer ≡ true = tests.1 (rw size-is at b.packet) in
       let neither : false ≡ true = sym is_not ∙ yes_it_is in
       absurd cc,
-      never_more)
+  never_more,
+)
   where
     never_more : NeedsMore p → ⊥
     never_more (inl front) = whole_is_no_front p header are stands front
@@ -120,7 +121,10 @@ spells_three a b c top byte byte' = record { some = omega arith; few = omega ari
 
 eight_bytes : (p rest : List ℕ) (first second : ℕ) → p ++ rest ≡ signature ∷ first ∷ second ∷ 8 ∷ [] → first / 16 ≡ 2 → second / 8 % 2 ≡ 0 → 0 < length rest → grammar.AreBytes rest → IsFrontOfHeader p
 eight_bytes p rest first second e version zero_bit some are = record {
-  rest = rest; size = 8; some = some; are_bytes = are;
+  rest = rest;
+  size = 8;
+  some = some;
+  are_bytes = are;
   header = record { first = first; second = second; number = 8 ∷ []; parts = e; version = version; zero_bit = zero_bit; size_spelled = spells_eight; size_short = omega arith; room = omega (arith, ap length e) };
 }
 
@@ -160,16 +164,25 @@ front_of_size (a ∷ b ∷ []) are some is version zero_bit narrow part = absurd
 front_of_size (a ∷ b ∷ c ∷ []) are some is version zero_bit narrow part = absurd (omega arith)
 front_of_size (a ∷ b ∷ c ∷ d ∷ []) are some is version zero_bit narrow part = elim (cases_lt (d / 64) 2) [
   | inl one ↦ record {
-      rest = 255 ∷ []; size = d % 64 * 256 + 255; some = omega arith; are_bytes = one_byte 255 (omega arith);
-      header = record { first = b; second = c; number = d ∷ 255 ∷ []; parts = ap (λ (n : ℕ). n ∷ b ∷ c ∷ d ∷ 255 ∷ []) is; version = version; zero_bit = zero_bit; size_spelled = spells_two d 255 (omega arith) (omega arith); size_short = omega arith; room = omega arith };
-    }
+    rest = 255 ∷ [];
+    size = d % 64 * 256 + 255;
+    some = omega arith;
+    are_bytes = one_byte 255 (omega arith);
+    header = record { first = b; second = c; number = d ∷ 255 ∷ []; parts = ap (λ (n : ℕ). n ∷ b ∷ c ∷ d ∷ 255 ∷ []) is; version = version; zero_bit = zero_bit; size_spelled = spells_two d 255 (omega arith) (omega arith); size_short = omega arith; room = omega arith };
+  }
   | inr two ↦ record {
-      rest = 255 ∷ 255 ∷ []; size = d % 64 * 65536 + 255 * 256 + 255; some = omega arith; are_bytes = and_byte 255 (255 ∷ []) (omega arith) (one_byte 255 (omega arith));
-      header = record { first = b; second = c; number = d ∷ 255 ∷ 255 ∷ []; parts = ap (λ (n : ℕ). n ∷ b ∷ c ∷ d ∷ 255 ∷ 255 ∷ []) is; version = version; zero_bit = zero_bit; size_spelled = spells_three d 255 255 (omega arith) (omega arith) (omega arith); size_short = omega arith; room = omega arith };
-    }
+    rest = 255 ∷ 255 ∷ [];
+    size = d % 64 * 65536 + 255 * 256 + 255;
+    some = omega arith;
+    are_bytes = and_byte 255 (255 ∷ []) (omega arith) (one_byte 255 (omega arith));
+    header = record { first = b; second = c; number = d ∷ 255 ∷ 255 ∷ []; parts = ap (λ (n : ℕ). n ∷ b ∷ c ∷ d ∷ 255 ∷ 255 ∷ []) is; version = version; zero_bit = zero_bit; size_spelled = spells_three d 255 255 (omega arith) (omega arith) (omega arith); size_short = omega arith; room = omega arith };
+  }
 ]
 front_of_size (a ∷ b ∷ c ∷ d ∷ e ∷ []) are some is version zero_bit narrow part = record {
-  rest = 255 ∷ []; size = d % 64 * 65536 + e * 256 + 255; some = omega arith; are_bytes = one_byte 255 (omega arith);
+  rest = 255 ∷ [];
+  size = d % 64 * 65536 + e * 256 + 255;
+  some = omega arith;
+  are_bytes = one_byte 255 (omega arith);
   header = record { first = b; second = c; number = d ∷ e ∷ 255 ∷ []; parts = ap (λ (n : ℕ). n ∷ b ∷ c ∷ d ∷ e ∷ 255 ∷ []) is; version = version; zero_bit = zero_bit; size_spelled = spells_three d e 255 (omega arith) (omega (arith, are 4)) (omega arith); size_short = omega arith; room = omega arith };
 }
 front_of_size (a ∷ b ∷ c ∷ d ∷ e ∷ f ∷ p) are some is version zero_bit narrow part = absurd (omega arith)

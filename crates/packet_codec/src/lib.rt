@@ -1,9 +1,9 @@
 //! Packets of Subunit version 2: an event, and the bytes that spell it.
 #![tactic(auto)]
 
+mod decoding;
 mod event;
 mod front;
-mod decoding;
 mod header;
 mod laws;
 mod looking;

@@ -1,7 +1,5 @@
-use Rattle.std.proofs.Common.{rules, ◌≡◌, ◌<◌, ◌≤◌, ◌/◌, ◌%◌, ◌+◌, length, get_or, arith}
-use Rattle.std.specs.Prelude.{IsTrue, ◌↔◌}
-use Rattle.std.proofs.lemmas.Grind.{common_steps}
-use Rattle.packet_codec.proofs.RunsLeft.{answers_no, answers_yes}
+use Rattle.std.proofs.Common.{rules, ◌≡◌, ◌<◌, ◌≤◌, ◌/◌, ◌%◌, length, get_or}
+use Rattle.packet_codec.proofs.RunsLeft.{answers_yes}
 use Rattle.packet_codec.proofs.LookLemmas.{front_of_none, front_of_one, front_of_two, front_of_three, size_tells, too_wide}
 use Rattle.packet_codec.proofs.looking.is_front_of_header.Goals as goal
 
