@@ -3,13 +3,14 @@ use Rattle.std.proofs.Common.{◌≡◌, inl, inr, ℕ, zero, suc, ◌+◌, ◌<
 use Rattle.std.specs.Prelude.{if◌then◌else◌}
 use Rattle.std.specs.Str.{bytes_eq}
 use Rattle.std.specs.Option.{option_map}
-use Rattle.std.proofs.lemmas.Bool.{cond-true, cond-false, ltb-true, lt-ltb, le-ltb, cases_lt}
+use Rattle.std.proofs.lemmas.Bool.{cond-true, cond-false, ltb-true, lt-ltb, le-ltb, le-leb, lt-leb, cases_lt}
 use Rattle.std.proofs.lemmas.List.{take-append-le, take_more, take_all, map-append}
 use Rattle.std.proofs.lemmas.List.Elements.{All-head, All-tail, All-push, All-same, All-weaker}
 use Rattle.edge_io.specs.declared.kept.File.{File}
 use Rattle.edge_io.specs.declared.kept.Mark.{Mark}
-use Rattle.edge_io.specs.Disk.{Files, put, Disk, Draft, Folder, IsImage, at_rest}
+use Rattle.edge_io.specs.Disk.{Files, put, Draft, Folder, IsImage, at_rest}
 use Rattle.edge_io.specs.Steps.{CanPublish, placed, moved}
+use Rattle.edge_io.specs.MemState.{begins_with, image_of}
 use Rattle.edge_io.specs.Kept.{or_else, latest, mark_in_force, first_mark, disk_counts, lookup, nth, disk_with, pending_file, disk_at, IsWithin}
 
 or_if : (b : Bool) (v : List ℕ) (o other : Option (List ℕ)) → or_else (if b then Some v else o) other ≡ (if b then Some v else or_else o other)
@@ -67,11 +68,11 @@ module _ (files : List File) (i : ℕ) (file : File) (here : file ≡ get_or fil
       ap (λ (l : List File). lookup l q) (take_more files i file within ∙ (λ j. take i files ++ sym here j ∷ []))
       ∙ lookup_push_at (take i files) file q
 
-  pub found_here : bytes_eq q (string_bytes file.name) ≡ true → Some (length file.bytes.items) ≡ option_map length (lookup (take (i + 1) files) q)
-  found_here hit = sym (ap (option_map length) (lookup_more ∙ cond-true _ _ _ hit))
+  pub found_here : bytes_eq q (string_bytes file.name) ≡ true → Some file.bytes.items ≡ lookup (take (i + 1) files) q
+  found_here hit = sym (lookup_more ∙ cond-true _ _ _ hit)
 
-  pub found_before : (found : Option ℕ) → found ≡ option_map length (lookup (take i files) q) → bytes_eq q (string_bytes file.name) ≡ false → found ≡ option_map length (lookup (take (i + 1) files) q)
-  found_before found is miss = is ∙ sym (ap (option_map length) (lookup_more ∙ cond-false _ _ _ miss))
+  pub found_before : bytes_eq q (string_bytes file.name) ≡ false → lookup (take i files) q ≡ lookup (take (i + 1) files) q
+  found_before miss = sym (lookup_more ∙ cond-false _ _ _ miss)
 
 some_is : (a b : File) → Some a ≡ Some b → a ≡ b
 some_is a b e = cc
@@ -121,6 +122,22 @@ known_draft : (b : Bool) (draft : Draft) → IsSome (if b then Some draft else N
 known_draft true draft there = refl
 known_draft false draft there = cc
 
+-- the disks of the moments before one file more
+moments_later : (files later : List File) (now : Mark) (past marks : List Mark) (file : File)
+    → now.settled ≤ now.published → now.published ≤ now.settled + 1 → now.published ≡ length files → All (IsWithin (length files)) past
+    → later ≡ files ++ file ∷ [] → marks ≡ past ++ now ∷ []
+    → map (disk_at later) marks ≡ map (disk_at files) past ++ disk_at files now ∷ []
+moments_later files later now past marks file first one all within more longer =
+    (λ i. map (disk_at (more i)) (longer i))
+    ∙ past_push files file (past ++ now ∷ []) (All-push (IsWithin (length files)) past now within (record { first = first; one = one; published = omega arith }))
+    ∙ map-append (disk_at files) past (now ∷ [])
+
+-- a folder in which all is settled
+pub at_rest_with : (files : List File) (n : ℕ) (since : ℕ) → n ≡ length files → disk_at files (record { settled = n; published = n; whole = true; since = since }) ≡ at_rest (lookup files)
+at_rest_with files n since count =
+    let none : pending_file files (record { settled = n; published = n; whole = true; since = since }) ≡ None = cond-false _ _ _ (le-ltb n n (omega arith)) in
+    (λ i. disk_with (lookup (take_all n files (omega arith) i)) (none i) true)
+
 -- a publish: one file more, which is pending
 pub publish_step : (files later : List File) (now : Mark) (past marks : List Mark) (drafting : Bool) (draft : Draft) (file : File) (whole : Bool) (since : ℕ)
     → now.settled ≤ now.published → now.published ≤ now.settled + 1 → now.published ≡ length files → All (IsWithin (length files)) past
@@ -146,10 +163,26 @@ publish_step files later now past marks drafting draft file whole since first on
     let disk : disk_at later mark ≡ placed name (disk_at files now) (if drafting then Some draft else None) =
     new ∙ written ∙ (λ i. placed name (sym old i) (sym known i)) in
     let moments : map (disk_at later) marks ≡ map (disk_at files) past ++ disk_at files now ∷ [] =
-    (λ i. map (disk_at (more i)) (longer i))
-    ∙ past_push files file (past ++ now ∷ []) (All-push (IsWithin (length files)) past now within (record { first = first; one = one; published = omega arith }))
-    ∙ map-append (disk_at files) past (now ∷ []) in
+    moments_later files later now past marks file first one all within more longer in
     (λ i. record { disk = disk i; draft = None; past = moments i })
+
+-- a file put for good: one file more, with nothing pending
+pub put_step : (files later : List File) (now : Mark) (past marks : List Mark) (draft : Option Draft) (file : File) (since : ℕ)
+    → now.settled ≤ now.published → now.published ≤ now.settled + 1 → now.published ≡ length files → All (IsWithin (length files)) past
+    → (disk_at files now).pending ≡ None → later ≡ files ++ file ∷ [] → marks ≡ past ++ now ∷ []
+    → folder_with later (record { settled = now.settled + 1; published = now.settled + 1; whole = true; since = since }) draft marks
+    ≡ moved (folder_with files now draft past) (at_rest (put (disk_at files now).published (string_bytes file.name) file.bytes.items)) draft
+put_step files later now past marks draft file since first one all within none more longer =
+    let n = now.settled in
+    let name = string_bytes file.name in
+    let count : n ≡ length files = settled_all files now first one all none in
+    let size : n + 1 ≡ length later = omega (arith, count, ap length more, length-append files (file ∷ [])) in
+    let disk : disk_at later (record { settled = n + 1; published = n + 1; whole = true; since = since }) ≡ at_rest (put (disk_at files now).published name file.bytes.items) =
+    at_rest_with later (n + 1) since size
+    ∙ ap at_rest (ap lookup more ∙ lookup-push files file ∙ ap (λ (f : Files). put f name file.bytes.items) (sym (published_all files now first one all))) in
+    let moments : map (disk_at later) marks ≡ map (disk_at files) past ++ disk_at files now ∷ [] =
+    moments_later files later now past marks file first one all within more longer in
+    (λ i. record { disk = disk i; draft = draft; past = moments i })
 
 -- a sync of the folder
 pub sync_step : (files : List File) (now : Mark) (past marks : List Mark) (draft : Option Draft) (since : ℕ)
@@ -225,20 +258,19 @@ published_front files mark within = elim (cases_lt mark.settled mark.published) 
       ∙ ap (λ (n : ℕ). lookup (take n files)) same
 ]
 
-settled_counts : (stable : Files) (pending : Option File) (whole : Bool) → IsImage (disk_with stable pending whole) stable
-settled_counts stable None whole = inl refl
-settled_counts stable (Some file) whole = inl refl
+stable_is : (stable : Files) (pending : Option File) (whole : Bool) → (disk_with stable pending whole).stable ≡ stable
+stable_is stable None whole = refl
+stable_is stable (Some file) whole = refl
+
+-- the first files are what either choice leaves
+pub front_is : (files : List File) (mark : Mark) (choice : Bool) → IsWithin (length files) mark → lookup (take (if choice then mark.published else mark.settled) files) ≡ image_of (disk_at files mark) choice
+front_is files mark true within = sym (published_front files mark within)
+front_is files mark false within = sym (stable_is (lookup (take mark.settled files)) (pending_file files mark) mark.whole)
 
 -- both choices are images
-pub front_counts : (files : List File) (mark : Mark) (choice : Bool) → IsWithin (length files) mark → IsImage (disk_at files mark) (lookup (take (if choice then mark.published else mark.settled) files))
-front_counts files mark true within = subst (IsImage (disk_at files mark)) (published_front files mark within) (disk_counts (lookup (take mark.settled files)) (pending_file files mark) mark.whole)
-front_counts files mark false within = settled_counts (lookup (take mark.settled files)) (pending_file files mark) mark.whole
-
--- a folder in which all is settled
-pub at_rest_with : (files : List File) (n : ℕ) (since : ℕ) → n ≡ length files → disk_at files (record { settled = n; published = n; whole = true; since = since }) ≡ at_rest (lookup files)
-at_rest_with files n since count =
-    let none : pending_file files (record { settled = n; published = n; whole = true; since = since }) ≡ None = cond-false _ _ _ (le-ltb n n (omega arith)) in
-    (λ i. disk_with (lookup (take_all n files (omega arith) i)) (none i) true)
+pub choice_counts : (stable : Files) (pending : Option File) (whole : Bool) (choice : Bool) → IsImage (disk_with stable pending whole) (image_of (disk_with stable pending whole) choice)
+choice_counts stable pending whole true = disk_counts stable pending whole
+choice_counts stable pending whole false = inl refl
 
 pub count_within : (n : ℕ) (mark : Mark) (choice : Bool) → IsWithin n mark → (if choice then mark.published else mark.settled) ≤ n
 count_within n mark true within = within.published
@@ -258,6 +290,28 @@ latest_all past i mark moment found all is =
     ap (λ (m : Mark). if nat_le mark.since moment then mark else m) (is ∙ ap (λ (l : List Mark). mark_in_force l moment) (take_all i past all))
     ∙ sym (latest_push first_mark mark past moment)
 
+-- no moment before a new mark changes by it, nor by one file more
+module _ (files : List File) (past marks : List Mark) (current mark : Mark) (moment : ℕ) (longer : marks ≡ past ++ current ∷ []) (before : moment < mark.since) where
+  forces : mark_in_force (marks ++ mark ∷ []) moment ≡ mark_in_force (past ++ current ∷ []) moment
+  forces =
+      latest_push first_mark mark marks moment
+      ∙ cond-false _ _ _ (lt-leb mark.since moment before)
+      ∙ ap (λ (l : List Mark). mark_in_force l moment) longer
+
+  pub remembers : disk_at files (mark_in_force (marks ++ mark ∷ []) moment) ≡ disk_at files (mark_in_force (past ++ current ∷ []) moment)
+  remembers = ap (disk_at files) forces
+
+  pub remembers_more : (later : List File) (file : File) → later ≡ files ++ file ∷ []
+      → current.settled ≤ current.published → current.published ≤ current.settled + 1 → current.published ≡ length files → All (IsWithin (length files)) past
+      → disk_at later (mark_in_force (marks ++ mark ∷ []) moment) ≡ disk_at files (mark_in_force (past ++ current ∷ []) moment)
+  remembers_more later file more first one all within =
+      (λ i. disk_at (more i) (forces i))
+      ∙ disk_at_push files file _ (force_within files past current moment first one all within)
+
+-- the last mark is in force from its call on
+pub forces_now : (files : List File) (past : List Mark) (current : Mark) (moment : ℕ) → current.since ≤ moment → disk_at files (mark_in_force (past ++ current ∷ []) moment) ≡ disk_at files current
+forces_now files past current moment come = ap (disk_at files) (latest_push first_mark current past moment ∙ cond-true _ _ _ (le-leb current.since moment come))
+
 -- what a stop at a moment leaves, as a list of the first files
 module _ (files : List File) (past : List Mark) (current : Mark) (moment : ℕ) (first : current.settled ≤ current.published) (one : current.published ≤ current.settled + 1) (all : current.published ≡ length files) (within : All (IsWithin (length files)) past)
     (read : List Mark) (is_read : read ≡ past) (mark : Mark) (is_mark : mark ≡ mark_in_force (read ++ current ∷ []) moment) (choice : Bool) (count : ℕ) (is_count : count ≡ (if choice then mark.published else mark.settled)) where
@@ -270,13 +324,14 @@ module _ (files : List File) (past : List Mark) (current : Mark) (moment : ℕ) 
   pub few : count ≤ length files
   few = subst (λ n. n ≤ length files) (sym is_count) (count_within (length files) mark choice mark_within)
 
-  pub image_counts : (copies : List File) → lookup copies ≡ lookup (take count files) → count ≡ length copies → (since : ℕ)
-      → IsImage (disk_at files (mark_in_force (past ++ current ∷ []) moment)) (disk_at copies (record { settled = count; published = count; whole = true; since = since })).published
-  image_counts copies same size since =
-      let rest : lookup (take count files) ≡ (disk_at copies (record { settled = count; published = count; whole = true; since = since })).published =
-      sym same ∙ ap (λ (d : Disk). d.published) (sym (at_rest_with copies count since size)) in
-      let there : IsImage (disk_at files mark) (lookup (take count files)) = subst (λ n. IsImage (disk_at files mark) (lookup (take n files))) (sym is_count) (front_counts files mark choice mark_within) in
-      subst (λ d. IsImage d (disk_at copies (record { settled = count; published = count; whole = true; since = since })).published) (ap (disk_at files) in_force) (subst (IsImage (disk_at files mark)) rest there)
-
-pub rests : (copies : List File) (n since : ℕ) → n ≡ length copies → disk_at copies (record { settled = n; published = n; whole = true; since = since }) ≡ at_rest (disk_at copies (record { settled = n; published = n; whole = true; since = since })).published
-rests copies n since size = at_rest_with copies n since size ∙ ap (λ (d : Disk). at_rest d.published) (sym (at_rest_with copies n since size))
+  pub image_folder : (copies : List File) (none : List Mark) → lookup copies ≡ lookup (take count files) → count ≡ length copies → none ≡ [] → (since : ℕ)
+      → folder_with copies (record { settled = count; published = count; whole = true; since = since }) None none
+      ≡ begins_with (image_of (disk_at files (mark_in_force (past ++ current ∷ []) moment)) choice)
+  image_folder copies none same size empty since =
+      let image : lookup copies ≡ image_of (disk_at files (mark_in_force (past ++ current ∷ []) moment)) choice =
+      same
+      ∙ ap (λ (n : ℕ). lookup (take n files)) is_count
+      ∙ front_is files mark choice mark_within
+      ∙ ap (λ (m : Mark). image_of (disk_at files m) choice) in_force in
+      let disk = at_rest_with copies count since size ∙ ap at_rest image in
+      (λ i. record { disk = disk i; draft = None; past = map (disk_at copies) (empty i) })

@@ -1,5 +1,5 @@
--- What the calls of a shelf do to its folder.
-use Rattle.std.specs.Prelude.{◌≡◌, ◌⊎◌, ℕ, ◌≤◌, ⊤, Option, Some, None, IfSome, IsSome, List, [], ◌∷◌, ◌++◌, length, take, ◌==◌}
+-- What the calls of a shelf do to its folder (docs/FORMATS.md, the table of the shelf's calls).
+use Rattle.std.specs.Prelude.{◌≡◌, ◌⊎◌, ℕ, ◌≤◌, ⊤, Option, Some, None, IfSome, IsSome, List, [], ◌∷◌, ◌++◌, length, take, drop, ◌==◌}
 use Rattle.std.specs.Option.{option_map}
 use Rattle.edge_io.specs.Causes.{one_more}
 use Rattle.edge_io.specs.Disk.{put, Disk, Draft, Folder, at_rest}
@@ -31,6 +31,18 @@ IsReady state = IfSome state CanPublish
 
 abbrev pub FindsLength : Option Folder → List ℕ → Option ℕ → Type 0
 FindsLength state name found = IfSome state (λ s. found ≡ option_map length (s.disk.published name))
+
+-- there is a published file of this name
+abbrev pub HasFile : Option Folder → List ℕ → Type 0
+HasFile state name = IfSome state (λ s. IsSome (s.disk.published name))
+
+-- the first `count` bytes of the buffer are as many of these, from that place on, as are there and fit
+pub record IsPart (bytes : List ℕ) (place : ℕ) (buf : List ℕ) (count : ℕ) : Type 0 where
+  pub fits : count ≤ length buf
+  pub same : take count buf ≡ take (length buf) (drop place bytes)
+
+abbrev pub ReadsPart : Option Folder → List ℕ → ℕ → List ℕ → ℕ → Type 0
+ReadsPart state name place buf count = IfSome state (λ s. IfSome (s.disk.published name) (λ bytes. IsPart bytes place buf count))
 
 abbrev pub Opened : Folder → Folder → Type 0
 Opened s t = t ≡ record s { draft = Some (record { bytes = []; synced = 0 }) }

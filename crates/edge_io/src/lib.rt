@@ -1,4 +1,13 @@
-//! The outside as the program sees it: sources and sinks of bytes that may fail, and forms of them in memory.
+//! What the outside is: sources and sinks of bytes, a folder that keeps files over a stop, and forms of them in memory.
+//!
+//! Each trait counts its faults, and a call answers `Failed` only where that count rose. What an object holds or has
+//! left is told only by implementations that know it, and clauses on content hold where it is told.
+//!
+//! - `failed`: the answer of a call that failed.
+//! - `source`, `sink`: where bytes come from and go, and the writing of a whole piece.
+//! - `shelf`: a folder, its drafts, and what a stop at each moment may leave of it.
+//! - `list_source`, `list_sink`, `mem_shelf`: the forms in memory, which fail at the calls that they are told to.
+//! - `plan`, `kept`: which calls of these fail, and the files and moments that a shelf in memory keeps.
 #![tactic(auto)]
 
 mod failed;
@@ -15,7 +24,6 @@ pub use failed::Failed;
 pub use list_sink::ListSink;
 pub use list_source::ListSource;
 pub use mem_shelf::MemShelf;
-pub use plan::FaultPlan;
 pub use shelf::Shelf;
 pub use sink::{Sink, write_whole};
 pub use source::Source;

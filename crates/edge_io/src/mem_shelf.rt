@@ -1,13 +1,16 @@
 // A folder in memory, which keeps each moment that it has passed.
-ghost use Rattle.std.specs.Prelude.{◌≡◌, ◌+◌, ◌≤◌, ℕ, Some, length, All, OnOk, OnErr};
+ghost use Rattle.std.specs.Prelude.{◌≡◌, ◌+◌, ◌≤◌, ℕ, Some, None, [], length, All, OnOk, OnErr, IfOk};
 ghost use Rattle.edge_io.specs.Kept.{IsWithin};
 
 use crate::kept::{File, Mark, copied, count_at, keep, mark_at};
-use crate::{Failed, FaultPlan, Shelf};
+use crate::plan::FaultPlan;
+use crate::{Failed, Shelf};
 use std::alloc::{AllocError, Global};
 use std::mem;
+use sub_number::{Bytes, NoMemory, Text};
 
-/// Keeps what is published, and fails at the calls that it is told to, and where memory runs out.
+/// A shelf that keeps what is published, and each moment that it has passed. It fails at the calls that it is told to,
+/// and where memory runs out.
 #[derive(Drop)]
 pub struct MemShelf {
     alloc: Global,
@@ -22,10 +25,16 @@ pub struct MemShelf {
     ghost one_pending: { current.published ≤ current.settled + 1 },
     ghost all_published: { current.published ≡ length files.items },
     ghost past_within: { All (IsWithin (length files.items)) past.items },
+    ghost since_a_call: { current.since ≤ plan.calls },
 }
 
 impl Shelf for MemShelf {
-    ghost use Rattle.edge_io.specs.MemState.{folder_of, folder_counts};
+    ghost use Rattle.std.specs.Prelude.{◌<◌};
+    ghost use Rattle.std.specs.Io.{ReadsAtMost};
+    ghost use Rattle.edge_io.specs.Causes.{HasCause};
+    ghost use Rattle.edge_io.specs.Steps.{Goes, Stays, Ticks, HasDraft, HasFile, IsReady, FindsLength, ReadsPart, Opened, Dropped, Grown, GrownInPart, Synced, Placed, PlacedOrNot, Settled};
+    ghost use Rattle.edge_io.specs.Plans.{FailsAsListed};
+    ghost use Rattle.edge_io.specs.MemState.{folder_of, folder_counts, shelf_course, shelf_calls, shelf_faults, Remembers};
 
     ghost state = { λ s. Some (folder_of s) };
 
@@ -35,12 +44,47 @@ impl Shelf for MemShelf {
 
     ghost published_counts = { λ s. folder_counts s };
 
-    fn length(&mut self, name: &str) -> Result<Option<u64>, Failed> {
+    fn length(&mut self, name: &str) -> Result<Option<u64>, Failed>
+        ensures found { IfOk result (FindsLength (Some (folder_of self.old)) name.now) }
+        ensures same { Goes (Some (folder_of self.old)) (Some (folder_of self.new)) Stays }
+        ensures time { Ticks (shelf_calls self.old) (shelf_calls self.new) }
+        ensures cause { HasCause (shelf_faults self.old) (shelf_faults self.new) result }
+        ensures listed { FailsAsListed (shelf_course self.old) (shelf_course self.new) result }
+        ensures moments { Remembers self.old self.new }
+    {
         self.plan.turn()?;
-        Ok(length_of(&self.files, name))
+        match bytes_of(&self.files, name) {
+            Some(bytes) => Ok(Some(bytes.len() as u64)),
+            None => Ok(None),
+        }
     }
 
-    fn start_draft(&mut self) -> Result<(), Failed> {
+    fn read_at(&mut self, name: &str, place: u64, buf: &mut [u8]) -> Result<usize, Failed>
+        requires published { HasFile (Some (folder_of self.old)) name.now }
+        requires room { 0 < length buf.old }
+        ensures bound { ReadsAtMost result buf.new }
+        ensures part { IfOk result (ReadsPart (Some (folder_of self.old)) name.now place buf.new) }
+        ensures same { Goes (Some (folder_of self.old)) (Some (folder_of self.new)) Stays }
+        ensures time { Ticks (shelf_calls self.old) (shelf_calls self.new) }
+        ensures cause { HasCause (shelf_faults self.old) (shelf_faults self.new) result }
+        ensures listed { FailsAsListed (shelf_course self.old) (shelf_course self.new) result }
+        ensures moments { Remembers self.old self.new }
+    {
+        self.plan.turn()?;
+        match bytes_of(&self.files, name) {
+            Some(bytes) => Ok(copy_part(bytes, place, buf)),
+            None => Ok(0),
+        }
+    }
+
+    fn start_draft(&mut self) -> Result<(), Failed>
+        ensures ok { OnOk result (Goes (Some (folder_of self.old)) (Some (folder_of self.new)) Opened) }
+        ensures err { OnErr result (Goes (Some (folder_of self.old)) (Some (folder_of self.new)) Dropped) }
+        ensures time { Ticks (shelf_calls self.old) (shelf_calls self.new) }
+        ensures cause { HasCause (shelf_faults self.old) (shelf_faults self.new) result }
+        ensures listed { FailsAsListed (shelf_course self.old) (shelf_course self.new) result }
+        ensures moments { Remembers self.old self.new }
+    {
         self.drafting = false;
         self.plan.turn()?;
         self.drafting = true;
@@ -49,7 +93,16 @@ impl Shelf for MemShelf {
         Ok(())
     }
 
-    fn append(&mut self, piece: &[u8]) -> Result<(), Failed> {
+    /// The whole piece, or where it fails nothing of it.
+    fn append(&mut self, piece: &[u8]) -> Result<(), Failed>
+        requires { HasDraft (Some (folder_of self.old)) }
+        ensures ok { OnOk result (Goes (Some (folder_of self.old)) (Some (folder_of self.new)) (Grown piece.now)) }
+        ensures err { OnErr result (Goes (Some (folder_of self.old)) (Some (folder_of self.new)) Stays) }
+        ensures time { Ticks (shelf_calls self.old) (shelf_calls self.new) }
+        ensures cause { HasCause (shelf_faults self.old) (shelf_faults self.new) result }
+        ensures listed { FailsAsListed (shelf_course self.old) (shelf_course self.new) result }
+        ensures moments { Remembers self.old self.new }
+    {
         self.plan.turn()?;
         if self.draft.extend_from_slice(piece).is_err() {
             return Err(self.plan.count_short());
@@ -57,7 +110,15 @@ impl Shelf for MemShelf {
         Ok(())
     }
 
-    fn sync_draft(&mut self) -> Result<(), Failed> {
+    fn sync_draft(&mut self) -> Result<(), Failed>
+        requires { HasDraft (Some (folder_of self.old)) }
+        ensures ok { OnOk result (Goes (Some (folder_of self.old)) (Some (folder_of self.new)) Synced) }
+        ensures err { OnErr result (Goes (Some (folder_of self.old)) (Some (folder_of self.new)) Dropped) }
+        ensures time { Ticks (shelf_calls self.old) (shelf_calls self.new) }
+        ensures cause { HasCause (shelf_faults self.old) (shelf_faults self.new) result }
+        ensures listed { FailsAsListed (shelf_course self.old) (shelf_course self.new) result }
+        ensures moments { Remembers self.old self.new }
+    {
         if let Err(failed) = self.plan.turn() {
             self.drafting = false;
             return Err(failed);
@@ -66,7 +127,16 @@ impl Shelf for MemShelf {
         Ok(())
     }
 
-    fn publish(&mut self, name: &str) -> Result<(), Failed> {
+    /// Where it fails nothing is published.
+    fn publish(&mut self, name: &str) -> Result<(), Failed>
+        requires { IsReady (Some (folder_of self.old)) }
+        ensures ok { OnOk result (Goes (Some (folder_of self.old)) (Some (folder_of self.new)) (Placed name.now)) }
+        ensures err { OnErr result (Goes (Some (folder_of self.old)) (Some (folder_of self.new)) Dropped) }
+        ensures time { Ticks (shelf_calls self.old) (shelf_calls self.new) }
+        ensures cause { HasCause (shelf_faults self.old) (shelf_faults self.new) result }
+        ensures listed { FailsAsListed (shelf_course self.old) (shelf_course self.new) result }
+        ensures moments { Remembers self.old self.new }
+    {
         self.drafting = false;
         self.plan.turn()?;
         let Ok(name) = String::from_str(self.alloc, name) else {
@@ -92,7 +162,14 @@ impl Shelf for MemShelf {
         Ok(())
     }
 
-    fn sync_folder(&mut self) -> Result<(), Failed> {
+    fn sync_folder(&mut self) -> Result<(), Failed>
+        ensures ok { OnOk result (Goes (Some (folder_of self.old)) (Some (folder_of self.new)) Settled) }
+        ensures err { OnErr result (Goes (Some (folder_of self.old)) (Some (folder_of self.new)) Stays) }
+        ensures time { Ticks (shelf_calls self.old) (shelf_calls self.new) }
+        ensures cause { HasCause (shelf_faults self.old) (shelf_faults self.new) result }
+        ensures listed { FailsAsListed (shelf_course self.old) (shelf_course self.new) result }
+        ensures moments { Remembers self.old self.new }
+    {
         self.plan.turn()?;
         let Ok(()) = self.past.push(self.current) else {
             return Err(self.plan.count_short());
@@ -109,12 +186,70 @@ impl Shelf for MemShelf {
 }
 
 impl MemShelf {
-    ghost use Rattle.std.specs.Prelude.{IfOk};
-    ghost use Rattle.edge_io.specs.MemState.{IsRestOf};
+    ghost use Rattle.edge_io.specs.Steps.{Stays};
+    ghost use Rattle.edge_io.specs.MemState.{folder_of, shelf_course, shelf_calls, shelf_faults, begins_with, IsNew, IsRestOf, KeptForGood, Remembers};
 
-    /// The folder after a stop at a moment, without what was pending then or with it.
-    pub fn image(&self, moment: u64, choice: bool) -> Result<MemShelf, AllocError>
-        ensures { IfOk result (IsRestOf self.now moment) }
+    /// An empty shelf, with nothing pending. `fails` lists the calls of its trait, by their numbers from 0, that are to
+    /// fail. It takes no memory.
+    pub fn new(alloc: Global, fails: Vec<u64>) -> Self
+        ensures empty { folder_of result ≡ begins_with (λ name. None) }
+        ensures fresh { IsNew result fails.items }
+    {
+        MemShelf {
+            alloc,
+            files: Vec::new(alloc),
+            current: Mark {
+                settled: 0,
+                published: 0,
+                whole: true,
+                since: 0,
+            },
+            past: Vec::new(alloc),
+            drafting: false,
+            draft: Vec::new(alloc),
+            synced: 0,
+            plan: FaultPlan::new(fails),
+        }
+    }
+
+    /// How many calls failed for want of memory; they are a part of its faults. It stops at the last value of a `u64`.
+    pub fn short(&self) -> u64
+        ensures count { result ≡ (shelf_course self.now).short }
+        ensures part { result ≤ shelf_faults self.now }
+    {
+        self.plan.short
+    }
+
+    /// Publishes a file for good, in place of any earlier one of that name. Nothing may be pending. The draft stays, and
+    /// it is no call of those that are counted. Without the memory all is as before.
+    pub fn put(&mut self, name: Text, bytes: Bytes) -> Result<(), NoMemory>
+        requires { (folder_of self.old).disk.pending ≡ None }
+        ensures ok { OnOk result (KeptForGood name bytes (folder_of self.old) (folder_of self.new)) }
+        ensures err { OnErr result (Stays (folder_of self.old) (folder_of self.new)) }
+        ensures counts { shelf_course self.new ≡ shelf_course self.old }
+        ensures faults { shelf_faults self.new ≡ shelf_faults self.old }
+        ensures moments { Remembers self.old self.new }
+    {
+        let file = File {
+            name: name.into_string(),
+            bytes: bytes.into_vec(),
+        };
+        let published = self.current.settled + 1;
+        keep(&mut self.files, &mut self.past, self.current, file)?;
+        self.current = Mark {
+            settled: published,
+            published,
+            whole: true,
+            since: self.plan.calls,
+        };
+        Ok(())
+    }
+
+    /// The shelf after a stop at a moment, that is after so many calls, without the name that was pending then or with
+    /// it. A moment past the last call is now. It has nothing pending and no draft, and none of its calls is to fail.
+    pub fn image(&self, moment: u64, choice: bool) -> Result<MemShelf, NoMemory>
+        ensures rest { IfOk result (IsRestOf self.now moment choice) }
+        ensures fresh { IfOk result (λ image. IsNew image []) }
     {
         let mark = mark_at(&self.past, self.current, moment);
         let count = count_at(mark, choice);
@@ -135,39 +270,31 @@ impl MemShelf {
             plan: FaultPlan::new(Vec::new(self.alloc)),
         })
     }
-
-    /// An empty folder, with nothing pending.
-    pub fn new(alloc: Global, fails: Vec<u64>) -> Self {
-        MemShelf {
-            alloc,
-            files: Vec::new(alloc),
-            current: Mark {
-                settled: 0,
-                published: 0,
-                whole: true,
-                since: 0,
-            },
-            past: Vec::new(alloc),
-            drafting: false,
-            draft: Vec::new(alloc),
-            synced: 0,
-            plan: FaultPlan::new(fails),
-        }
-    }
 }
 
 ghost use Rattle.std.specs.Option.{option_map};
 ghost use Rattle.edge_io.specs.Kept.{lookup};
+ghost use Rattle.edge_io.specs.Steps.{IsPart};
 
-// How long the last file of this name is.
-fn length_of(files: &[File], name: &str) -> Option<u64>
-    ensures { result ≡ option_map length (lookup files.now name.now) }
+// The bytes of the last file of this name.
+fn bytes_of<'a>(files: &'a [File], name: &str) -> Option<&'a [u8]>
+    ensures { option_map (λ bytes. bytes.now) result ≡ lookup files.now name.now }
 {
-    let mut found = None;
+    let mut found: Option<&'a [u8]> = None;
     for file in files {
         if name == file.name.as_str() {
-            found = Some(file.bytes.len() as u64);
+            found = Some(&file.bytes);
         }
     }
     found
+}
+
+// Moves what fits of the bytes, from a place on.
+fn copy_part(bytes: &[u8], place: u64, buf: &mut [u8]) -> usize
+    ensures { IsPart bytes.now place buf.new result }
+{
+    let start = place.min(bytes.len() as u64) as usize;
+    let count = (bytes.len() - start).min(buf.len());
+    buf[..count].copy_from_slice(&bytes[start..start + count]);
+    count
 }

@@ -1,11 +1,15 @@
 // A folder as the program sees it: what reads give, and what a stop may leave.
-ghost use Rattle.std.specs.Prelude.{Option, IfSome, List, ℕ, IfOk, OnOk, OnErr};
+ghost use Rattle.std.specs.Prelude.{Option, IfSome, List, ℕ, ◌<◌, length, IfOk, OnOk, OnErr};
+ghost use Rattle.std.specs.Io.{ReadsAtMost};
 ghost use Rattle.edge_io.specs.Causes.{HasCause};
 ghost use Rattle.edge_io.specs.Disk.{Folder, IsImage};
-ghost use Rattle.edge_io.specs.Steps.{Goes, Stays, Ticks, HasDraft, IsReady, FindsLength, Opened, Dropped, Grown, GrownInPart, Synced, Placed, PlacedOrNot, Settled};
+ghost use Rattle.edge_io.specs.Steps.{Goes, Stays, Ticks, HasDraft, HasFile, IsReady, FindsLength, ReadsPart, Opened, Dropped, Grown, GrownInPart, Synced, Placed, PlacedOrNot, Settled};
 
 use crate::Failed;
 
+/// A folder of named files, as docs/FORMATS.md describes it. A file is written as a draft, of which there is at most one,
+/// brought to the disk by `sync_draft`, given its name by `publish`, and kept over any stop after `sync_folder`. Each call
+/// that answers `Failed` raises the count of faults, which never falls.
 pub trait Shelf {
     /// What the folder holds and has held, where it is known.
     ghost state: { Self → Option Folder };
@@ -16,21 +20,34 @@ pub trait Shelf {
     /// How often a call has failed.
     ghost faults: { Self → ℕ };
 
-    /// How long a published file is.
+    /// How many bytes the published file of this name has; none exactly where there is no such file. Nothing changes.
     fn length(&mut self, name: &str) -> Result<Option<u64>, Failed>
         ensures found { IfOk result (FindsLength (state self.old) name.now) }
         ensures same { Goes (state self.old) (state self.new) Stays }
         ensures time { Ticks (clock self.old) (clock self.new) }
         ensures cause { HasCause (faults self.old) (faults self.new) result };
 
-    /// Begins an empty draft.
+    /// Moves bytes of the published file of this name, which there must be, into the front of `buf`, which must not be
+    /// empty: from the byte number `place` on as many as are there and fit, and so none at or past the end. It answers how
+    /// many. Nothing else changes.
+    fn read_at(&mut self, name: &str, place: u64, buf: &mut [u8]) -> Result<usize, Failed>
+        requires published { HasFile (state self.old) name.now }
+        requires room { 0 < length buf.old }
+        ensures bound { ReadsAtMost result buf.new }
+        ensures part { IfOk result (ReadsPart (state self.old) name.now place buf.new) }
+        ensures same { Goes (state self.old) (state self.new) Stays }
+        ensures time { Ticks (clock self.old) (clock self.new) }
+        ensures cause { HasCause (faults self.old) (faults self.new) result };
+
+    /// Begins an empty draft, in place of any other. After `Failed` there is no draft.
     fn start_draft(&mut self) -> Result<(), Failed>
         ensures ok { OnOk result (Goes (state self.old) (state self.new) Opened) }
         ensures err { OnErr result (Goes (state self.old) (state self.new) Dropped) }
         ensures time { Ticks (clock self.old) (clock self.new) }
         ensures cause { HasCause (faults self.old) (faults self.new) result };
 
-    /// Adds to the draft.
+    /// Adds the piece at the end of the draft, which there must be. After `Failed` the draft has grown by some of the
+    /// piece's first bytes, or by none.
     fn append(&mut self, piece: &[u8]) -> Result<(), Failed>
         requires { HasDraft (state self.old) }
         ensures ok { OnOk result (Goes (state self.old) (state self.new) (Grown piece.now)) }
@@ -38,7 +55,7 @@ pub trait Shelf {
         ensures time { Ticks (clock self.old) (clock self.new) }
         ensures cause { HasCause (faults self.old) (faults self.new) result };
 
-    /// Brings the draft to the disk.
+    /// Brings all of the draft, which there must be, to the disk. After `Failed` there is no draft.
     fn sync_draft(&mut self) -> Result<(), Failed>
         requires { HasDraft (state self.old) }
         ensures ok { OnOk result (Goes (state self.old) (state self.new) Synced) }
@@ -46,7 +63,10 @@ pub trait Shelf {
         ensures time { Ticks (clock self.old) (clock self.new) }
         ensures cause { HasCause (faults self.old) (faults self.new) result };
 
-    /// Makes the draft the file of this name. Until the folder is synced, a stop may leave it out.
+    /// Makes the draft, which there must be, the file of this name, in place of any other. Nothing may be pending. The
+    /// name is then pending: until the folder is synced a stop may leave it out, and where the draft was not wholly synced
+    /// a stop may also leave any bytes under it. After `Failed` there is no draft, and the file is published and pending
+    /// or all is as before.
     fn publish(&mut self, name: &str) -> Result<(), Failed>
         requires { IsReady (state self.old) }
         ensures ok { OnOk result (Goes (state self.old) (state self.new) (Placed name.now)) }
@@ -54,7 +74,8 @@ pub trait Shelf {
         ensures time { Ticks (clock self.old) (clock self.new) }
         ensures cause { HasCause (faults self.old) (faults self.new) result };
 
-    /// Brings what was published to the disk.
+    /// Brings what is published to the disk, so that any later stop leaves it. Nothing is pending then. After `Failed`
+    /// nothing has changed.
     fn sync_folder(&mut self) -> Result<(), Failed>
         ensures ok { OnOk result (Goes (state self.old) (state self.new) Settled) }
         ensures err { OnErr result (Goes (state self.old) (state self.new) Stays) }

@@ -1,7 +1,19 @@
-//! Packets of Subunit version 2: an event, and the bytes that spell it.
+//! Packets of Subunit version 2, as its README spells them: one event as plain values, and the bytes that spell it.
+//!
+//! This room knows one packet, both ways, and nothing of streams or files. A spelling may use any width of number; the
+//! shortest one is the canonical one, which is what is written.
+//!
+//! - `event`, `stamp`, `status`, `tags`: an event and its parts
+//! - `looking`: whether some bytes begin with a packet
+//! - `decoding`: the event of a packet; it stands on `packet`, `header` and `parts`, which read from the front
+//! - `sizes`, `encoding`: the shortest spelling and its size
+//! - `routing`: an event under a lane's route
+//! - `laws`, `canonical_law`: what holds of all spellings
 #![tactic(auto)]
 
+mod canonical_law;
 mod decoding;
+mod encoding;
 mod event;
 mod front;
 mod header;
@@ -9,18 +21,27 @@ mod laws;
 mod looking;
 mod packet;
 mod parts;
+mod routing;
+mod sizes;
 mod stamp;
 mod status;
 mod tags;
 
+pub use canonical_law::canonical_is_shortest;
 pub use decoding::decode;
+pub use encoding::encode;
 pub use event::{Event, FilePart};
 pub use front::Front;
 pub use laws::packets_are_one_event;
 pub use looking::{look, look_simple};
+pub use routing::reroute;
+pub use sizes::{fits, routed_size, size};
 pub use stamp::Stamp;
 pub use status::Status;
 pub use tags::Tags;
 
 #[cfg(test)]
 mod tests_reading;
+
+#[cfg(test)]
+mod tests_writing;

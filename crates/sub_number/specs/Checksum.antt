@@ -1,5 +1,5 @@
--- zlib's CRC-32, bit by bit.
-use Rattle.std.specs.Prelude.{ℕ, ◌-◌, ◌/◌, ◌%◌, ◌^◌, ◌==◌, List, fold, bit_xor, if◌then◌else◌}
+-- zlib's CRC-32, bit by bit: the polynomial EDB88320, the lowest bit first.
+use Rattle.std.specs.Prelude.{ℕ, zero, suc, ◌-◌, ◌/◌, ◌%◌, ◌^◌, ◌==◌, List, fold, bit_xor, if◌then◌else◌}
 
 -- the value is shifted right by one, and a 1 that is shifted out mixes the polynomial in
 abbrev pub shifted : ℕ → ℕ
@@ -8,6 +8,11 @@ shifted value = if value % 2 == 1 then bit_xor (value / 2) 0xEDB88320 else value
 -- eight shifts
 unfoldable pub shifted_8 : ℕ → ℕ
 shifted_8 value = shifted (shifted (shifted (shifted (shifted (shifted (shifted (shifted value)))))))
+
+-- so many times eight shifts
+abbrev pub shifted_times : ℕ → ℕ → ℕ
+shifted_times zero value = value
+shifted_times (suc times) value = shifted_times times (shifted_8 value)
 
 -- a byte goes into the low eight bits, which are then shifted out
 abbrev pub crc_step : ℕ → ℕ → ℕ

@@ -1,4 +1,4 @@
--- Numbers as a Subunit stream spells them: one to four bytes, the greatest first.
+-- The number encoding of the Subunit README, version 2: one to four bytes, the greatest first.
 use Rattle.std.specs.Prelude.{◌≡◌, ℕ, ◌+◌, ◌-◌, ◌*◌, ◌^◌, ◌<◌, ◌≤◌, List, length, take, drop, nat_lt, if◌then◌else◌}
 use Rattle.std.specs.Int.{w32, to_be_bytes}
 use Rattle.std.specs.Int.Digits.{number_from_digits}

@@ -1,4 +1,4 @@
--- Texts as a Subunit stream spells them: the number of bytes, and then the bytes.
+-- The strings of the Subunit README, version 2: the number of bytes, in the number encoding, and then the bytes, which are UTF-8 without NUL.
 use Rattle.std.specs.Prelude.{◌≡◌, ◌≢◌, ℕ, ◌≤◌, ◌<◌, ◌^◌, List, ◌++◌, length, take, slice_range, All, IsUtf8}
 use Rattle.sub_number.specs.Numbers.{SpellsNumber}
 

@@ -6,6 +6,7 @@ use crate::NoMemory;
 use std::alloc::Global;
 use std::marker::Model;
 
+/// Bytes that are owned, of any values. Contracts see them as a list of bytes.
 #[derive(Drop)]
 pub struct Bytes {
     bytes: Vec<u8>,
@@ -22,6 +23,9 @@ impl Model for Bytes {
 }
 
 impl Bytes {
+    /// A copy of the bytes.
+    ///
+    /// `NoMemory` comes only for want of memory.
     pub fn new(alloc: Global, bytes: &[u8]) -> Result<Self, NoMemory>
         ensures { IfOk result (λ owned. owned ≡ bytes.now) }
     {
@@ -30,9 +34,17 @@ impl Bytes {
         })
     }
 
+    /// All of them, in order.
     pub fn bytes(&self) -> &[u8]
         ensures { result.now ≡ self.now }
     {
         &self.bytes
+    }
+
+    /// The bytes, moved out.
+    pub fn into_vec(self) -> Vec<u8>
+        ensures { result.items ≡ self }
+    {
+        self.bytes
     }
 }

@@ -1,4 +1,4 @@
-//! Ids of tests, and their times.
+//! Lists of ids of tests.
 
 ghost use Rattle.std.specs.Prelude.{◌≡◌, [], ◌∷◌, ◌++◌, IfErr, OnOk, OnErr};
 
@@ -6,7 +6,8 @@ use crate::text::Text;
 use std::alloc::Global;
 use std::marker::Model;
 
-/// A list of ids, in the order in which they came.
+/// A list of ids of tests, in the order in which they came. The same id may come again.
+/// Contracts see it as the list of their bytes.
 #[derive(Drop)]
 pub struct IdList {
     ids: Vec<Text>,
@@ -21,6 +22,7 @@ impl Model for IdList {
 }
 
 impl IdList {
+    /// A list of no ids. It takes no memory yet.
     pub fn new(alloc: Global) -> Self
         ensures { result ≡ [] }
     {
@@ -29,7 +31,9 @@ impl IdList {
         }
     }
 
-    /// Adds the id at the end, or hands it back for want of memory.
+    /// Adds the id at the end.
+    ///
+    /// The error is the id itself, handed back for want of memory alone, with the list as before.
     pub fn push(&mut self, id: Text) -> Result<(), Text>
         ensures ok { OnOk result (self.new ≡ self.old ++ id ∷ []) }
         ensures err { OnErr result (self.new ≡ self.old) }
@@ -38,6 +42,7 @@ impl IdList {
         self.ids.push(id).map_err(|failed| failed.value)
     }
 
+    /// The ids, the oldest first.
     pub fn list(&self) -> &[Text]
         ensures { result.now ≡ self.now }
     {

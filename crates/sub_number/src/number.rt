@@ -1,4 +1,5 @@
-//! Numbers of one to four bytes. The top two bits of the first byte say how many bytes follow it.
+//! Numbers of one to four bytes, by the number encoding of the Subunit README: the top two bits of the first byte say
+//! how many bytes follow it, and the rest is the value, the greatest byte first.
 
 ghost use Rattle.std.specs.Prelude.{◌≡◌, ◌<◌, ◌^◌, ◌++◌, length, IfSome, IfNone, OnOk, OnErr};
 ghost use Rattle.sub_number.specs.Numbers.{BeginsWithNumber, BeginsWithNoNumber, IsShortest, shortest_number};
@@ -6,14 +7,17 @@ ghost use Rattle.sub_number.specs.Width.{widest_of};
 
 use crate::NoMemory;
 
-/// The widest spelling that is read.
+/// The widest spelling that a reader takes.
 #[derive(Clone, Copy, PartialEq, Eq, Debug)]
 pub enum Width {
+    /// Three bytes, for values below 2^22, as for the length of a packet.
     Three,
+    /// Four bytes, for values below 2^30.
     Four,
 }
 
 impl Width {
+    /// The same in bytes, 3 or 4.
     pub fn bytes(self) -> usize
         ensures { result ≡ widest_of self }
     {
@@ -24,7 +28,9 @@ impl Width {
     }
 }
 
-/// The number that the bytes begin with, and how many bytes spell it.
+/// The number that the bytes begin with, and how many bytes spell it, of any width up to `max`.
+///
+/// `None` comes exactly where no prefix of at most so many bytes spells a number.
 pub fn read_number(bytes: &[u8], max: Width) -> Option<(u32, usize)>
     ensures number { IfSome result (λ r. BeginsWithNumber bytes.now (widest_of max) r.0 r.1) }
     ensures none { IfNone result (BeginsWithNoNumber bytes.now (widest_of max)) }
@@ -41,7 +47,7 @@ pub fn read_number(bytes: &[u8], max: Width) -> Option<(u32, usize)>
     Some((value, extra + 1))
 }
 
-/// How many bytes the shortest spelling takes.
+/// How many bytes the shortest spelling of the value takes, 1 to 4. A value of 2^30 or more has no spelling.
 pub fn number_size(value: u32) -> usize
     requires { value < 2 ^ 30 }
     ensures size { result ≡ length (shortest_number value) }
@@ -55,7 +61,9 @@ pub fn number_size(value: u32) -> usize
     }
 }
 
-/// Appends the shortest spelling.
+/// Appends the shortest spelling of the value, by the number encoding of the Subunit README.
+///
+/// `NoMemory` comes only for want of memory, and then `out` is as before.
 pub fn write_number(out: &mut Vec<u8>, value: u32) -> Result<(), NoMemory>
     requires { value < 2 ^ 30 }
     ensures ok { OnOk result (out.new.items ≡ out.old.items ++ shortest_number value) }

@@ -1,6 +1,7 @@
-//! Texts: UTF-8 without NUL, spelled as their length and their bytes.
+//! Texts, which are UTF-8 without NUL. By the Subunit README they are spelled as their length in bytes, a number, and
+//! then their bytes.
 
-ghost use Rattle.std.specs.Prelude.{◌≡◌, ◌↔◌, IfSome, IfNone, IfOk, IsTrue};
+ghost use Rattle.std.specs.Prelude.{◌≡◌, ◌↔◌, IfSome, IfNone, IfOk, IsTrue, IsUtf8};
 ghost use Rattle.sub_number.specs.Texts.{IsText, IsShortText, BeginsWithText, BeginsWithNoText};
 
 use crate::NoMemory;
@@ -10,21 +11,33 @@ use std::cmp::Ordering;
 use std::marker::Model;
 use std::str;
 
-/// Where some bytes stand.
+/// Where some bytes stand among others, counted in bytes from the front.
 #[derive(Clone, Copy, PartialEq, Eq, Debug)]
 pub struct Span {
+    /// The place of the first of them.
     pub start: usize,
+    /// The place behind the last of them.
     pub end: usize,
+}
+
+// Most texts are ASCII, which is the quicker test.
+fn is_utf8(bytes: &[u8]) -> bool
+    ensures { IsTrue result ↔ IsUtf8 bytes.now }
+{
+    bytes.is_ascii() || str::from_utf8(bytes).is_ok()
 }
 
 /// Whether the bytes are UTF-8 without NUL.
 pub fn is_text(bytes: &[u8]) -> bool
     ensures { IsTrue result ↔ IsText bytes.now }
 {
-    !bytes.contains(&0) && str::from_utf8(bytes).is_ok()
+    !bytes.contains(&0) && is_utf8(bytes)
 }
 
-/// Where the text stands that the bytes begin with, and how many bytes spell it.
+/// Where the text stands that the bytes begin with, and how many bytes spell it, its length included. The length may be
+/// spelled in any width.
+///
+/// `None` comes exactly where no prefix of the bytes spells a text.
 pub fn read_text(bytes: &[u8]) -> Option<(Span, usize)>
     ensures text { IfSome result (λ r. BeginsWithText bytes.now r.0.start r.0.end r.1) }
     ensures none { IfNone result (BeginsWithNoText bytes.now) }
@@ -41,10 +54,12 @@ pub fn read_text(bytes: &[u8]) -> Option<(Span, usize)>
     Some((Span { start, end }, end))
 }
 
-/// Why some bytes are no text.
+/// Why no text was made.
 #[derive(Clone, Copy, PartialEq, Eq, Debug)]
 pub enum TextFault {
+    /// The bytes are not UTF-8, have a NUL among them, or are 2^30 or more.
     NotText,
+    /// There is not enough memory.
     NoMemory,
 }
 
@@ -59,7 +74,8 @@ impl From<AllocError> for TextFault {
     }
 }
 
-/// A text of fewer than 2^30 bytes: UTF-8 without NUL.
+/// A text of fewer than 2^30 bytes, so that its length can be spelled: UTF-8 without NUL. Contracts see it as the list
+/// of its bytes, and its order is theirs.
 #[derive(Drop)]
 pub struct Text {
     text: String,
@@ -78,6 +94,9 @@ impl Model for Text {
 }
 
 impl Text {
+    /// The text of these bytes.
+    ///
+    /// `NotText` comes exactly where they are no such text, and `NoMemory` only for want of memory.
     pub fn new(alloc: Global, bytes: &[u8]) -> Result<Self, TextFault>
         ensures ok { IfOk result (λ text. (text ≡ bytes.now) × IsShortText bytes.now) }
         ensures not_text { result ≡ Err TextFault.NotText → ¬ (IsShortText bytes.now) }
@@ -94,6 +113,7 @@ impl Text {
         }
     }
 
+    /// Its bytes.
     pub fn bytes(&self) -> &[u8]
         ensures bytes { result.now ≡ self.now }
         ensures text { IsShortText self.now }
@@ -103,7 +123,18 @@ impl Text {
 }
 
 impl Text {
-    /// Another one of this text, over the same allocator.
+    ghost use Rattle.std.specs.String.{string_bytes};
+
+    /// The text, moved out.
+    pub fn into_string(self) -> String
+        ensures { string_bytes result ≡ self }
+    {
+        self.text
+    }
+
+    /// Another text of the same bytes, over the same allocator.
+    ///
+    /// `NoMemory` comes only for want of memory.
     pub fn copy(&self) -> Result<Self, NoMemory>
         ensures { IfOk result (λ text. text ≡ self.now) }
     {

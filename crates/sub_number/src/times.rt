@@ -1,4 +1,4 @@
-//! Ids and their times.
+//! The times of ids of tests.
 
 ghost use Rattle.std.specs.Prelude.{◌≡◌, ℕ, IfOk, OnOk, OnErr};
 ghost use Rattle.std.specs.FinMap as map;
@@ -13,7 +13,7 @@ use std::alloc::Global;
 use std::collections::BTreeMap;
 use std::marker::Model;
 
-/// The times of some ids, in nanoseconds.
+/// The times of some ids, in nanoseconds. Contracts see it as a finite map from the ids' bytes.
 #[derive(Drop)]
 pub struct TimeMap {
     times: BTreeMap<Text, u64>,
@@ -28,6 +28,7 @@ impl Model for TimeMap {
 }
 
 impl TimeMap {
+    /// A map in which no id has a time. It takes no memory yet.
     pub fn new(alloc: Global) -> Self
         ensures { result ≡ map.empty }
     {
@@ -36,6 +37,7 @@ impl TimeMap {
         }
     }
 
+    /// The time of the id in nanoseconds, and `None` exactly where it has none.
     pub fn get(&self, id: &Text) -> Option<u64>
         ensures { result ≡ map.get self.now id.now }
     {
@@ -44,7 +46,9 @@ impl TimeMap {
 }
 
 impl TimeMap {
-    /// Gives the id this time in place of any earlier one.
+    /// Gives the id this time in place of any earlier one, and leaves the other ids as they are.
+    ///
+    /// `NoMemory` comes only for want of memory, and then each id is as before.
     pub fn put(&mut self, id: &Text, nanos: u64) -> Result<(), NoMemory>
         ensures ok { OnOk result (self.new ≡ map.insert self.old id.now nanos) }
         ensures err { OnErr result (self.new ≡ self.old) }
@@ -53,7 +57,9 @@ impl TimeMap {
         Ok(())
     }
 
-    /// The ids that have a time, in the order of their bytes.
+    /// The ids that have a time, each once, in the order of their bytes.
+    ///
+    /// `NoMemory` comes only for want of memory.
     pub fn ids(&self, alloc: Global) -> Result<IdList, NoMemory>
         ensures { IfOk result (λ ids. ids ≡ map.keys self.now) }
     {

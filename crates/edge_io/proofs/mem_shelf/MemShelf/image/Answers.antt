@@ -1,8 +1,8 @@
-use Rattle.std.proofs.Common.{◌∙◌, sym, ap, ◌≤◌, length, take, arith, refl}
+use Rattle.std.proofs.Common.{◌∙◌, sym, ap, ◌≤◌, length, take, arith}
 use Rattle.std.proofs.lemmas.List.{length-take-le}
 use Rattle.std.proofs.lemmas.List.Elements.{All-nil, All-same}
 use Rattle.edge_io.specs.Kept.{IsWithin, lookup}
-use Rattle.edge_io.proofs.KeptLemmas.{few, image_counts, rests}
+use Rattle.edge_io.proofs.KeptLemmas.{few, image_folder, choice_counts, forces_now}
 use Rattle.edge_io.proofs.mem_shelf.MemShelf.image.Goals as goal
 
 pub slice_bounds-copied-end : goal.slice_bounds-copied-end
@@ -24,10 +24,11 @@ invariant_of-result c =
       one_pending = omega arith;
       all_published = sym (c.in_ok-files.ensures.length ∙ length-take-le _ _ all);
       past_within = All-same (IsWithin (length c.in_ok-files.files.items)) _ _ c.new.ensures.items (All-nil _);
+      since_a_call = omega arith;
     }
 
-pub returns : goal.returns
-returns c =
+pub returns-clause-rest : goal.returns-clause-rest
+returns-clause-rest c =
     let s = c.args.self.now in
     let first = few s.files.items s.past.items s.current c.args.moment s.settled_first s.one_pending s.all_published s.past_within _ c.deref.ensures.value _ c.mark_at-mark.ensures c.args.choice _ c.count_at-count.ensures in
     let length_same = ap length c.deref-2.ensures.value in
@@ -35,7 +36,7 @@ returns c =
     let size = sym (c.in_ok-files.ensures.length ∙ length-take-le _ _ all) in
     let same = c.in_ok-files.ensures.same ∙ ap (λ l. lookup (take c.count_at-count.result l)) c.deref-2.ensures.value in
     record {
-      rest = rests c.in_ok-files.files.items c.count_at-count.result 0 size;
-      draft = refl;
-      counts = image_counts s.files.items s.past.items s.current c.args.moment s.settled_first s.one_pending s.all_published s.past_within _ c.deref.ensures.value _ c.mark_at-mark.ensures c.args.choice _ c.count_at-count.ensures c.in_ok-files.files.items same size 0;
+      folder = image_folder s.files.items s.past.items s.current c.args.moment s.settled_first s.one_pending s.all_published s.past_within _ c.deref.ensures.value _ c.mark_at-mark.ensures c.args.choice _ c.count_at-count.ensures c.in_ok-files.files.items _ same size c.new.ensures.items 0;
+      counts = choice_counts _ _ _ c.args.choice;
+      now = λ come. forces_now s.files.items s.past.items s.current c.args.moment (omega (arith, s.since_a_call, come));
     }

@@ -1,0 +1,67 @@
+//! The route of an event, as names with `/` between them (testtools' routing codes).
+
+ghost use Rattle.std.specs.Prelude.{◌≡◌, ◌+◌, ◌<◌, [], ◌∷◌, ◌++◌, IfOk, OnOk, OnErr};
+ghost use Rattle.std.specs.Fmt.{decimal};
+ghost use Rattle.sub_number.specs.Texts.{IsShortText};
+ghost use Rattle.packet_codec.specs.Routing.{under, route_under};
+
+use crate::event::Event;
+use std::alloc::Global;
+use sub_number::{NoMemory, Text};
+
+/// Puts the event under the route of a lane: the lane's number where it had no route, and the number, `/` and the old
+/// route where it had one.
+///
+/// `NoMemory` comes only for want of memory, and the event is then as before.
+pub fn reroute(alloc: Global, event: &mut Event, lane: u32) -> Result<(), NoMemory>
+    requires lane { lane < 64 }
+    requires text { IsShortText (route_under lane event.old.route) }
+    ensures ok { OnOk result (event.new ≡ under lane event.old) }
+    ensures err { OnErr result (event.new ≡ event.old) }
+{
+    event.route = Some(text_under(alloc, &event.route, lane)?);
+    Ok(())
+}
+
+// The route under the lane.
+fn text_under(alloc: Global, route: &Option<Text>, lane: u32) -> Result<Text, NoMemory>
+    requires lane { lane < 64 }
+    requires text { IsShortText (route_under lane route.now) }
+    ensures { IfOk result (λ text. text ≡ route_under lane route.now) }
+{
+    let bytes = bytes_under(alloc, route, lane)?;
+    Text::new(alloc, &bytes).map_err(|_| NoMemory)
+}
+
+fn bytes_under(alloc: Global, route: &Option<Text>, lane: u32) -> Result<Vec<u8>, NoMemory>
+    requires { lane < 64 }
+    ensures { IfOk result (λ bytes. bytes.items ≡ route_under lane route.now) }
+{
+    let mut bytes = Vec::new(alloc);
+    put_number(lane, &mut bytes)?;
+    if let Some(route) = route {
+        bytes.push(b'/')?;
+        bytes.extend_from_slice(route.bytes())?;
+    }
+    Ok(bytes)
+}
+
+#[tactic(auto, using(std::proofs::lemmas::Fmt::decimal_digit, crate::proofs::RoutingLemmas::decimal_two))]
+fn put_number(lane: u32, out: &mut Vec<u8>) -> Result<(), NoMemory>
+    requires { lane < 64 }
+    ensures { OnOk result (out.new.items ≡ out.old.items ++ decimal lane) }
+{
+    if lane < 10 {
+        return put_digit(lane, out);
+    }
+    put_digit(lane / 10, out)?;
+    put_digit(lane % 10, out)
+}
+
+fn put_digit(digit: u32, out: &mut Vec<u8>) -> Result<(), NoMemory>
+    requires { digit < 10 }
+    ensures { OnOk result (out.new.items ≡ out.old.items ++ (48 + digit) ∷ []) }
+{
+    out.push(b'0' + digit as u8)?;
+    Ok(())
+}

@@ -1,0 +1,12 @@
+pub mod Words
+pub mod Answer
+pub mod Repository
+pub mod Cut
+pub mod Report
+pub mod Recording
+pub mod Scribing
+pub mod Reading
+pub mod Numbering
+pub mod Outside
+pub mod Load
+pub mod Program

@@ -1,0 +1,35 @@
+//! Tells of a refusal.
+
+ghost use Rattle.std.specs.Prelude.{OnOk};
+ghost use Rattle.std.specs.Io.KnownBytes.{Appends};
+ghost use Rattle.edge_io.specs.Bytes.{AppendsPrefix};
+ghost use Rattle.edge_io.specs.Causes.{HasCause};
+ghost use Rattle.testr_cli.specs.Answer.{testr_line, refusal_rest};
+
+use crate::Refusal;
+use edge_io::{Failed, Sink, write_whole};
+use itoa::Buffer;
+
+/// Writes the refusal's line.
+pub fn tell<E: Sink>(err: &mut E, refusal: Refusal) -> Result<(), Failed>
+    ensures whole { OnOk result (Appends (E.taken err.old) (E.taken err.new) (testr_line refusal)) }
+    ensures prefix { AppendsPrefix (E.taken err.old) (E.taken err.new) (testr_line refusal) }
+    ensures cause { HasCause (E.faults err.old) (E.faults err.new) result }
+{
+    write_whole(err, refusal.front().as_bytes())?;
+    tell_rest(err, refusal)
+}
+
+// Writes what stands behind the front: the place, where there is one, and the line's end.
+fn tell_rest<E: Sink>(err: &mut E, refusal: Refusal) -> Result<(), Failed>
+    ensures whole { OnOk result (Appends (E.taken err.old) (E.taken err.new) (refusal_rest refusal)) }
+    ensures prefix { AppendsPrefix (E.taken err.old) (E.taken err.new) (refusal_rest refusal) }
+    ensures cause { HasCause (E.faults err.old) (E.faults err.new) result }
+{
+    let Refusal::NotYet(place) = refusal else {
+        return Ok(());
+    };
+    let mut digits = Buffer::new();
+    write_whole(err, digits.format(place).as_bytes())?;
+    write_whole(err, b"\n")
+}
