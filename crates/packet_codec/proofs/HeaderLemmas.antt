@@ -1,13 +1,12 @@
 -- The header that some bytes begin with.
-use Rattle.std.proofs.Common.{◌≡◌, ℕ, suc, ◌+◌, ◌-◌, ◌/◌, ◌%◌, ◌≤◌, ◌<◌, List, [], ◌∷◌, ◌++◌, length, get_or, take, drop, refl, sym, ap, ◌∙◌, append_assoc, arith}
+use Rattle.std.proofs.Common.{◌≡◌, ℕ, ◌+◌, ◌≤◌, ◌<◌, List, [], ◌∷◌, ◌++◌, length, get_or, take, drop, refl, sym, ap, ◌∙◌, arith}
 use Rattle.std.proofs.lemmas.List.{take_at, length-append, get_or-drop}
-use Rattle.sub_number.specs.Numbers.{SpellsNumber, BeginsWithNumber, BeginsWithNoNumber}
+use Rattle.sub_number.specs.Numbers.{BeginsWithNumber, BeginsWithNoNumber}
 use Rattle.sub_number.proofs.NumberLemmas.{AreBytes, same_number}
 use Rattle.packet_codec.specs.Packet.{signature}
 use Rattle.packet_codec.specs.Grammar.{Found, NotFound}
-use Rattle.packet_codec.specs.Shapes.{HeaderShape, HeaderStands}
-use Rattle.packet_codec.specs.declared.header.Header.{Header}
-use Rattle.packet_codec.proofs.GrammarLemmas.{IsPrefixFree, Same, number_free, are_rest}
+use Rattle.packet_codec.specs.Shapes.{HeaderShape}
+use Rattle.packet_codec.proofs.GrammarLemmas.{IsPrefixFree, number_free, are_rest}
 
 pub header_free : IsPrefixFree HeaderShape
 header_free f r f' r' a a' are are' e s s' =

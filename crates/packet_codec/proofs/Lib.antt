@@ -3,6 +3,7 @@ pub mod GrammarLemmas
 pub mod HeaderLemmas
 pub mod LaneLemmas
 pub mod LeastLemmas
+pub mod LookLemmas
 pub mod PacketLemmas
 pub mod PartsLemmas
 pub mod RoutingLemmas

@@ -1,25 +1,22 @@
 -- A packet in its parts, and the one event that they tell of.
-use Rattle.std.proofs.Common.{◌≡◌, ℕ, suc, ◌+◌, ◌-◌, ◌/◌, ◌%◌, ◌≤◌, ◌<◌, Bool, true, false, Option, Some, None, List, [], ◌∷◌, ◌++◌, length, get_or, take, drop, All, refl, sym, ap, subst, ◌∙◌, append_assoc, arith}
+use Rattle.std.proofs.Common.{◌≡◌, ℕ, ◌+◌, ◌-◌, ◌/◌, ◌%◌, ◌≤◌, ◌<◌, Bool, true, false, Option, Some, None, List, [], ◌∷◌, ◌++◌, length, get_or, take, drop, All, refl, sym, ap, ◌∙◌, append_assoc, arith}
 use Rattle.std.specs.Prelude.{is_some, option_map, IfSome, IsSome, IsNone, IsTrue, IfOk, Result, Ok, Err, ◌↔◌}
 use Rattle.std.specs.Int.{w32, to_be_bytes}
-use Rattle.std.proofs.lemmas.List.{take_at, drop_at, take-append-drop, take-take, length-append, length-take-le, append-nil}
+use Rattle.std.proofs.lemmas.List.{take_at, drop_at, take-append-drop, take-take, length-append, length-take-le}
 use Rattle.std.proofs.lemmas.List.Elements.{All-nil, All-cons, All-head, All-tail}
-use Rattle.sub_number.specs.Numbers.{SpellsNumber}
 use Rattle.sub_number.specs.Texts.{IsText, SpellsText}
 use Rattle.sub_number.specs.Checksum.{crc32}
 use Rattle.sub_number.proofs.NumberLemmas.{AreBytes, are_bytes_take}
-use Rattle.packet_codec.specs.declared.stamp.Stamp.{Stamp}
 use Rattle.packet_codec.specs.declared.event.FilePart.{FilePart}
 use Rattle.packet_codec.specs.declared.event.Event.{Event}
 use Rattle.packet_codec.specs.declared.header.Header.{Header}
 use Rattle.packet_codec.specs.Flags.{first_flags, second_flags, status_number, flag}
 use Rattle.packet_codec.specs.Fields.{SpellsOptional, SpellsStamp, SpellsTexts, SpellsTags, SpellsFile, SpellsFields}
 use Rattle.packet_codec.specs.Packet.{signature, SpellsEvent, IsPacket}
-use Rattle.packet_codec.specs.Grammar as grammar
-use Rattle.packet_codec.specs.Grammar.{Found, NotFound, Pair, Counted, Flagged}
+use Rattle.packet_codec.specs.Grammar.{Found, NotFound, Flagged}
 use Rattle.packet_codec.specs.Shapes.{Run, Runs, CountedRuns, NamedRun, bit, Contents, FieldShapes, HeaderShape, HeaderStands, AreTexts, status_from, file_from, event_from, contents_of, fields_at}
 use Rattle.packet_codec.specs.Simple.{IsSimple, BeginsWithSimple, BeginsWithNoSimple}
-use Rattle.packet_codec.proofs.GrammarLemmas.{are_front, are_rest, fits_from_are, found_same, same_front}
+use Rattle.packet_codec.proofs.GrammarLemmas.{are_front, are_rest, found_same, same_front}
 use Rattle.packet_codec.proofs.FlagLemmas.{FirstBits, SecondBits, first_bits, second_bits, first_from_bits, second_from_bits, status_from_number, number_of_status}
 use Rattle.packet_codec.proofs.PartsLemmas.{fields_free}
 use Rattle.packet_codec.proofs.HeaderLemmas.{header_free}
@@ -135,19 +132,29 @@ fields_shape bytes e s =
     let first = first_of e in
     let second = second_of e in
     record {
-      first = s.stamp; second = s.id ++ (s.tags ++ (s.mime ++ (s.file ++ s.route))); parts = s.parts ∙ regroup_all s.stamp s.id s.tags s.mime s.file s.route;
+      first = s.stamp;
+      second = s.id ++ (s.tags ++ (s.mime ++ (s.file ++ s.route)));
+      parts = s.parts ∙ regroup_all s.stamp s.id s.tags s.mime s.file s.route;
       first_spelled = optional_shape SpellsStamp SpellsStamp (λ bytes a h. h) _ s.stamp e.stamp first.stamp_bit s.stamp_spelled;
       second_spelled = record {
-        first = s.id; second = s.tags ++ (s.mime ++ (s.file ++ s.route)); parts = refl;
+        first = s.id;
+        second = s.tags ++ (s.mime ++ (s.file ++ s.route));
+        parts = refl;
         first_spelled = optional_shape SpellsText Run run_from_text _ s.id e.id first.id_bit s.id_spelled;
         second_spelled = record {
-          first = s.tags; second = s.mime ++ (s.file ++ s.route); parts = refl;
+          first = s.tags;
+          second = s.mime ++ (s.file ++ s.route);
+          parts = refl;
           first_spelled = optional_shape SpellsTags CountedRuns tags_shape _ s.tags e.tags second.tags_bit s.tags_spelled;
           second_spelled = record {
-            first = s.mime; second = s.file ++ s.route; parts = refl;
+            first = s.mime;
+            second = s.file ++ s.route;
+            parts = refl;
             first_spelled = optional_shape SpellsText Run run_from_text _ s.mime e.mime second.mime_bit s.mime_spelled;
             second_spelled = record {
-              first = s.file; second = s.route; parts = refl;
+              first = s.file;
+              second = s.route;
+              parts = refl;
               first_spelled = optional_file_shape _ s.file e.file second.file_bit s.file_spelled;
               second_spelled = optional_shape SpellsText Run run_from_text _ s.route e.route first.route_bit s.route_spelled;
             };
@@ -175,7 +182,12 @@ fields_from_shape first second bytes c s good =
     let from_mime = from_tags.second_spelled in
     let from_file = from_mime.second_spelled in
     record {
-      stamp = s.first; id = from_id.first; tags = from_tags.first; mime = from_mime.first; file = from_file.first; route = from_file.second;
+      stamp = s.first;
+      id = from_id.first;
+      tags = from_tags.first;
+      mime = from_mime.first;
+      file = from_file.first;
+      route = from_file.second;
       parts = s.parts ∙ ap (λ (l : List ℕ). s.first ++ l) (from_id.parts ∙ ap (λ (l : List ℕ). from_id.first ++ l) (from_tags.parts ∙ ap (λ (l : List ℕ). from_tags.first ++ l) (from_mime.parts ∙ ap (λ (l : List ℕ). from_mime.first ++ l) from_file.parts))) ∙ sym (regroup_all s.first from_id.first from_tags.first from_mime.first from_file.first from_file.second);
       stamp_spelled = optional_from_shape SpellsStamp SpellsStamp (λ _. Unit {0}) (λ bytes a h _. h) _ s.first c.0 s.first_spelled (if_some_any c.0);
       id_spelled = optional_from_shape SpellsText Run IsText text_from_run _ from_id.first c.1.0 from_id.first_spelled good.id;
@@ -234,7 +246,7 @@ spelled_header p e s =
       };
     }
 
-pub header_found : (p : List ℕ) (header : Header) → HeaderStands p header → Found HeaderShape p (header.first, (header.second, header.size)) (drop header.start p)
+unfoldable pub header_found : (p : List ℕ) (header : Header) → HeaderStands p header → Found HeaderShape p (header.first, (header.second, header.size)) (drop header.start p)
 header_found p header stands = record { front = take header.start p; parts = sym (take-append-drop header.start p); spelled = stands.spelled }
 
 -- no packet is the front of another one
@@ -243,7 +255,7 @@ no_front a b x y d e are are' s t whole =
     let h = spelled_header a d s in
     let k = spelled_header b e t in
     let split : h.front ++ ((s.fields ++ to_be_bytes w32 (crc32 s.body)) ++ x) ≡ k.front ++ ((t.fields ++ to_be_bytes w32 (crc32 t.body)) ++ y) =
-        sym (ap (λ (l : List ℕ). l ++ x) h.parts ∙ append_assoc h.front _ x) ∙ whole ∙ ap (λ (l : List ℕ). l ++ y) k.parts ∙ append_assoc k.front _ y in
+    sym (ap (λ (l : List ℕ). l ++ x) h.parts ∙ append_assoc h.front _ x) ∙ whole ∙ ap (λ (l : List ℕ). l ++ y) k.parts ∙ append_assoc k.front _ y in
     let same = header_free h.front _ k.front _ _ _ (are_front h.front _ (rw (h.parts) at are)) (are_front k.front _ (rw (k.parts) at are')) split h.spelled k.spelled in
     (same_front a x b y whole (ap (λ (v : ℕ × (ℕ × ℕ)). v.1.1) same.value)).0
 
@@ -424,8 +436,10 @@ simple_by_flags e flags =
   where
     id_digit : (n : ℕ) → n / 2 ≡ 20 → n / 8 % 2 ≡ 1
     id_digit n e = omega arith
+
     route_digit : (n : ℕ) → n / 2 ≡ 20 → n / 4 % 2 ≡ 0
     route_digit n e = omega arith
+
     stamp_digit : (n : ℕ) → n / 2 ≡ 20 → n / 2 % 2 ≡ 0
     stamp_digit n e = omega arith
 

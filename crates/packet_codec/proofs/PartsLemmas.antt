@@ -1,9 +1,9 @@
 -- The fields of a packet, one after another.
-use Rattle.std.proofs.Common.{◌≡◌, ℕ, Bool, true, false, Option, Some, None, List, [], ◌∷◌, ◌++◌, length, refl, sym, ap, ◌∙◌, ◌<◌, append_assoc, arith}
+use Rattle.std.proofs.Common.{◌≡◌, ℕ, Option, List, [], length, sym, ap, ◌<◌, arith}
 use Rattle.std.proofs.lemmas.List.{append-nil, nil_from_length}
 use Rattle.sub_number.proofs.NumberLemmas.{AreBytes}
 use Rattle.packet_codec.specs.declared.stamp.Stamp.{Stamp}
-use Rattle.packet_codec.specs.Grammar.{Found, NotFound, Pair}
+use Rattle.packet_codec.specs.Grammar.{Found, NotFound}
 use Rattle.packet_codec.specs.Fields.{SpellsStamp}
 use Rattle.packet_codec.specs.Shapes.{Run, CountedRuns, NamedRun, bit, Contents, StampShape, IdShape, TagsShape, MimeShape, FileShape, RouteShape, FromFile, FromMime, FromTags, FromId, FieldShapes}
 use Rattle.packet_codec.proofs.GrammarLemmas.{IsPrefixFree, pair_free, flagged_free, found_same, found_are, found_pair, not_first, not_second}

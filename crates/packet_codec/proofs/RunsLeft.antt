@@ -1,14 +1,14 @@
 -- A list of runs read one after another: what is still to be read.
-use Rattle.std.proofs.Common.{◌≡◌, ℕ, suc, ◌+◌, ◌-◌, ◌<◌, ◌≤◌, ◌↔◌, Bool, true, false, Option, Some, None, List, [], ◌∷◌, ◌++◌, length, All, refl, sym, ap, ◌∙◌, append_assoc, arith}
-use Rattle.std.proofs.lemmas.List.{append-nil, nil_from_length}
-use Rattle.std.proofs.lemmas.List.Elements.{All-nil, All-cons, All-head, All-tail}
+use Rattle.std.proofs.Common.{◌≡◌, ℕ, ◌+◌, ◌<◌, ◌≤◌, ◌↔◌, true, false, Option, Some, None, List, [], ◌∷◌, ◌++◌, length, All, refl, ap, ◌∙◌, append_assoc, arith}
+use Rattle.std.proofs.lemmas.List.{nil_from_length}
+use Rattle.std.proofs.lemmas.List.Elements.{All-cons, All-head, All-tail}
 use Rattle.std.specs.Prelude.{IfNone, IsSome, IsTrue}
 use Rattle.sub_number.specs.Texts.{IsText}
 use Rattle.sub_number.proofs.NumberLemmas.{AreBytes}
 use Rattle.packet_codec.specs.Grammar.{Found, NotFound}
-use Rattle.packet_codec.specs.Shapes.{Run, Runs, BeginsWithRuns, ShowsRuns, ShowsTags}
+use Rattle.packet_codec.specs.Shapes.{Run, Runs, ShowsRuns, ShowsTags}
 use Rattle.packet_codec.specs.declared.parts.RunList.{RunList}
-use Rattle.packet_codec.proofs.GrammarLemmas.{found_same, found_are}
+use Rattle.packet_codec.proofs.GrammarLemmas.{found_same}
 use Rattle.packet_codec.proofs.ShapeLemmas.{run_free}
 
 -- so many runs are left, and they have P

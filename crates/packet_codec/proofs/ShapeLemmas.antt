@@ -1,16 +1,16 @@
 -- Each field has one reading.
-use Rattle.std.proofs.Common.{◌≡◌, ℕ, suc, ◌+◌, ◌-◌, ◌^◌, ◌≤◌, ◌<◌, Bool, true, false, Option, Some, None, List, [], ◌∷◌, ◌++◌, length, get_or, take, drop, Fits, w8, refl, inl, inr, sym, ap, subst, ◌∙◌, append_assoc, arith}
+use Rattle.std.proofs.Common.{◌≡◌, ℕ, ◌+◌, ◌^◌, ◌≤◌, ◌<◌, List, [], ◌∷◌, ◌++◌, length, get_or, take, drop, Fits, w8, refl, sym, ap, subst, ◌∙◌, append_assoc, arith}
 use Rattle.std.specs.Coded.{le_prop}
 use Rattle.std.specs.Int.{w32, to_be_bytes, from_be_bytes}
 use Rattle.std.proofs.lemmas.List.{take-append-drop, take_at, drop_at, append-nil, length-take-le, length-append}
 use Rattle.std.proofs.lemmas.Nat.{be_bytes_4, from_be_bytes-to_be_bytes_4}
-use Rattle.sub_number.specs.Numbers.{SpellsNumber, BeginsWithNumber, BeginsWithNoNumber}
+use Rattle.sub_number.specs.Numbers.{SpellsNumber, BeginsWithNoNumber}
 use Rattle.sub_number.proofs.NumberLemmas.{AreBytes, are_bytes_take}
 use Rattle.packet_codec.specs.declared.stamp.Stamp.{Stamp}
-use Rattle.packet_codec.specs.Grammar.{Found, NotFound, Pair, Counted, Flagged}
+use Rattle.packet_codec.specs.Grammar.{Found, NotFound}
 use Rattle.packet_codec.specs.Fields.{SpellsStamp}
 use Rattle.packet_codec.specs.Shapes.{Run, Runs, CountedRuns, NamedRun, BeginsWithRuns}
-use Rattle.packet_codec.proofs.GrammarLemmas.{are_front, are_rest, joined, regroup, same_front, Same, IsPrefixFree, IsPrefixFreeBySize, number_free, pair_free, counted_free, flagged_free, exactly_free, found_same, found_are, found_counted, not_content}
+use Rattle.packet_codec.proofs.GrammarLemmas.{are_front, are_rest, joined, regroup, same_front, IsPrefixFree, IsPrefixFreeBySize, number_free, pair_free, counted_free, exactly_free, found_same, found_are, found_counted, not_content}
 
 pub run_free : IsPrefixFree Run
 run_free = counted_free length (λ bytes run. bytes ≡ run) exactly_free
@@ -41,7 +41,7 @@ stamp_same : (s t : Stamp) → s.seconds ≡ t.seconds → s.nanos ≡ t.nanos �
 unfolding stamp_of
 stamp_same s t p q =
     let nanos : (fit : t.nanos < 2 ^ 30) → stamp_of s.seconds s.nanos s.nanos_fit ≡ stamp_of s.seconds t.nanos fit =
-        subst (λ (n : ℕ). (fit : n < 2 ^ 30) → stamp_of s.seconds s.nanos s.nanos_fit ≡ stamp_of s.seconds n fit) q (λ fit. ap (λ (h : s.nanos < 2 ^ 30). stamp_of s.seconds s.nanos h) (le_prop s.nanos_fit fit)) in
+    subst (λ (n : ℕ). (fit : n < 2 ^ 30) → stamp_of s.seconds s.nanos s.nanos_fit ≡ stamp_of s.seconds n fit) q (λ fit. ap (λ (h : s.nanos < 2 ^ 30). stamp_of s.seconds s.nanos h) (le_prop s.nanos_fit fit)) in
     nanos t.nanos_fit ∙ ap (λ (n : ℕ). stamp_of n t.nanos t.nanos_fit) p
 
 pub stamp_free : IsPrefixFree SpellsStamp
@@ -74,7 +74,7 @@ stamp_found bytes front middle rest stamp are long front-is middle-is seconds s 
     let four : (i : ℕ) → Fits w8 (get_or front i 0) = rw front-is (are_bytes_take 4 bytes are) in
     let spelled : to_be_bytes w32 stamp.seconds ≡ front = be_bytes_4 front stamp.seconds len (λ i. omega (arith, four i)) seconds in
     let whole : bytes ≡ to_be_bytes w32 stamp.seconds ++ (s.front ++ rest) =
-        sym (take-append-drop 4 bytes) ∙ ap (λ (l : List ℕ). l ++ drop 4 bytes) (sym front-is ∙ sym spelled) ∙ ap (λ (l : List ℕ). to_be_bytes w32 stamp.seconds ++ l) (sym middle-is ∙ s.parts) in
+    sym (take-append-drop 4 bytes) ∙ ap (λ (l : List ℕ). l ++ drop 4 bytes) (sym front-is ∙ sym spelled) ∙ ap (λ (l : List ℕ). to_be_bytes w32 stamp.seconds ++ l) (sym middle-is ∙ s.parts) in
     record {
       front = to_be_bytes w32 stamp.seconds ++ s.front;
       parts = whole ∙ sym (append_assoc (to_be_bytes w32 stamp.seconds) s.front rest);
@@ -85,9 +85,10 @@ stamp_found bytes front middle rest stamp are long front-is middle-is seconds s 
 stamp_number : (bytes rest : List ℕ) (stamp : Stamp) → (s : Found SpellsStamp bytes stamp rest) → (4 ≤ length bytes) × Found SpellsNumber (drop 4 bytes) stamp.nanos rest
 stamp_number bytes rest stamp s =
     let whole : bytes ≡ to_be_bytes w32 stamp.seconds ++ (s.spelled.nanos ++ rest) = regroup s.front (to_be_bytes w32 stamp.seconds) s.spelled.nanos rest bytes s.spelled.parts s.parts in
-    let len : length (to_be_bytes w32 stamp.seconds) ≡ 4 = refl in
-    (omega (arith, ap length whole, length-append (to_be_bytes w32 stamp.seconds) (s.spelled.nanos ++ rest)),
-      record { front = s.spelled.nanos; parts = ap (drop 4) whole ∙ drop_at (to_be_bytes w32 stamp.seconds) (s.spelled.nanos ++ rest) 4 len; spelled = s.spelled.nanos_spelled })
+    let len : length (to_be_bytes w32 stamp.seconds) ≡ 4 = refl in (
+      omega (arith, ap length whole, length-append (to_be_bytes w32 stamp.seconds) (s.spelled.nanos ++ rest)),
+      record { front = s.spelled.nanos; parts = ap (drop 4) whole ∙ drop_at (to_be_bytes w32 stamp.seconds) (s.spelled.nanos ++ rest) 4 len; spelled = s.spelled.nanos_spelled },
+    )
 
 pub no_stamp_short : (bytes : List ℕ) → length bytes < 4 → NotFound SpellsStamp bytes
 no_stamp_short bytes short stamp rest s = omega (arith, (stamp_number bytes rest stamp s).0)

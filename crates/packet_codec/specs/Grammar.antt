@@ -1,5 +1,5 @@
 -- Reading from the front: a relation `Spells` between a whole list of bytes and a value, on a front of a longer list.
-use Rattle.std.specs.Prelude.{◌≡◌, ℕ, ◌<◌, Bool, true, false, Option, Some, None, List, [], ◌∷◌, ◌++◌, All}
+use Rattle.std.specs.Prelude.{◌≡◌, ℕ, ◌<◌, Bool, true, false, Option, Some, None, List, [], ◌++◌, All}
 use Rattle.sub_number.specs.Numbers.{SpellsNumber}
 
 -- each of them is a byte

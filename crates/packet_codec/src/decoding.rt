@@ -53,10 +53,7 @@ fn optional_tags(alloc: Global, tags: Option<RunList<'_>>) -> Result<Option<Tags
     }
 }
 
-fn optional_file(
-    alloc: Global,
-    file: Option<FileBytes<'_>>,
-) -> Result<Option<FilePart>, NoMemory>
+fn optional_file(alloc: Global, file: Option<FileBytes<'_>>) -> Result<Option<FilePart>, NoMemory>
     ensures { IfOk result (λ part. part ≡ option_map file_from (file_of file.entry)) }
 {
     let Some(FileBytes { name, bytes }) = file else {
@@ -84,12 +81,7 @@ fn status_of(second: u8) -> Status
 }
 
 /// The event with these flag bytes and fields, each field copied once.
-fn event_of(
-    alloc: Global,
-    first: u8,
-    second: u8,
-    parts: &Parts<'_>,
-) -> Result<Event, NoMemory>
+fn event_of(alloc: Global, first: u8, second: u8, parts: &Parts<'_>) -> Result<Event, NoMemory>
     requires { (contents : Contents) × ShowsParts parts.now contents }
     ensures { (contents : Contents) → ShowsParts parts.now contents → IfOk result (λ event. event ≡ event_from first second contents) }
 {

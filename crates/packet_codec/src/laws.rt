@@ -9,5 +9,4 @@ ghost use Rattle.packet_codec.specs.declared.event.Event.{Event};
 pub fn packets_are_one_event()
     ensures one_event { (bytes : List ℕ) (d e : Event) → AreBytes bytes → SpellsEvent bytes d → SpellsEvent bytes e → d ≡ e }
     ensures no_front { (a b x y : List ℕ) (d e : Event) → AreBytes a → AreBytes b → SpellsEvent a d → SpellsEvent b e → a ++ x ≡ b ++ y → a ≡ b }
-{
-}
+{}

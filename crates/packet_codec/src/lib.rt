@@ -33,12 +33,15 @@ pub use encoding::encode;
 pub use event::{Event, FilePart};
 pub use front::Front;
 pub use laws::packets_are_one_event;
-pub use looking::look_simple;
+pub use looking::{look, look_simple};
 pub use routing::reroute;
 pub use sizes::{fits, routed_size, size};
 pub use stamp::Stamp;
 pub use status::Status;
 pub use tags::Tags;
+
+#[cfg(test)]
+mod tests_reading;
 
 #[cfg(test)]
 mod tests_writing;

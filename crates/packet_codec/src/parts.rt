@@ -165,5 +165,12 @@ pub fn parts_of(first: u8, second: u8, bytes: &[u8]) -> Option<Parts<'_>>
     if !rest.is_empty() {
         return None;
     }
-    Some(Parts { stamp, id, tags, mime, file, route })
+    Some(Parts {
+        stamp,
+        id,
+        tags,
+        mime,
+        file,
+        route,
+    })
 }

@@ -1,4 +1,3 @@
-use Rattle.std.proofs.Common.{◌++◌, ◌∷◌, []}
 use Rattle.packet_codec.proofs.ShapeLemmas.{runs_more, runs_stop}
 use Rattle.packet_codec.proofs.parts.after_runs.Goals as goal
 

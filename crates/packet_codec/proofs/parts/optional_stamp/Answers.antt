@@ -1,6 +1,6 @@
 use Rattle.std.proofs.Common.{rules}
 use Rattle.packet_codec.specs.Fields.{SpellsStamp}
-use Rattle.packet_codec.proofs.GrammarLemmas.{not_flagged_as, found_flagged_as}
+use Rattle.packet_codec.proofs.GrammarLemmas.{not_flagged_as}
 use Rattle.packet_codec.proofs.parts.optional_stamp.Goals as goal
 
 pub returns-in_err-stamp-clause-none : goal.returns-in_err-stamp-clause-none

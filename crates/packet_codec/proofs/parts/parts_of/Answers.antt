@@ -1,5 +1,4 @@
 use Rattle.std.proofs.Common.{rules, refl}
-use Rattle.packet_codec.specs.Shapes.{Contents}
 use Rattle.packet_codec.proofs.PartsLemmas.{no_stamp, no_id, no_tags, no_mime, no_file, no_route, fields_found, no_fields_with_rest, all_fields}
 use Rattle.packet_codec.proofs.parts.parts_of.Goals as goal
 

@@ -1,4 +1,4 @@
-use Rattle.std.proofs.Common.{rules, ◌≡◌, List, ℕ, length}
+use Rattle.std.proofs.Common.{rules, ◌≡◌, length}
 use Rattle.packet_codec.proofs.GrammarLemmas.{not_number}
 use Rattle.packet_codec.proofs.ShapeLemmas.{run_past_end, run_found}
 use Rattle.packet_codec.proofs.parts.run_at.Goals as goal
