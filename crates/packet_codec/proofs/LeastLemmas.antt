@@ -1,4 +1,5 @@
 -- No spelling of an event, or of a part of it, is shorter than the one with shortest numbers.
+use Rattle.std.specs.Prelude.{Result, Ok, Err, IfOk}
 use Rattle.std.proofs.Common.{◌≡◌, ℕ, zero, suc, ◌+◌, ◌-◌, ◌*◌, ◌<◌, ◌≤◌, ◌^◌, List, [], ◌∷◌, ◌++◌, length, ap, arith}
 use Rattle.std.specs.Prelude.{Option, Some, None}
 use Rattle.std.specs.List.{flat_map}
@@ -83,3 +84,8 @@ pub spelled_fits : (bytes : List ℕ) (e : Event) → SpellsEvent bytes e → Fi
 spelled_fits bytes e s =
     let small : length bytes ≤ largest_packet = small_of_width (length s.size) (length bytes) s.size_short s.size_spelled.fits in
     record { size = omega (arith, size_least bytes e s, small) }
+
+-- also where it may not be there
+pub spelled_fit : {E : Type 0} (bytes : List ℕ) (r : Result Event E) → IfOk r (SpellsEvent bytes) → IfOk r Fits
+spelled_fit bytes (Ok e) s = spelled_fits bytes e s
+spelled_fit bytes (Err e) s = tt

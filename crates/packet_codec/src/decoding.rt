@@ -1,6 +1,7 @@
 //! The event that a packet spells.
 
 ghost use Rattle.std.specs.Prelude.{◌≡◌, ◌%◌, Option, List, ℕ, option_map, IfOk};
+ghost use Rattle.packet_codec.specs.Canonical.{Fits};
 ghost use Rattle.packet_codec.specs.Packet.{SpellsEvent, IsPacket};
 ghost use Rattle.packet_codec.specs.Shapes.{Contents, ShowsRuns, ShowsTags, ShowsParts, bytes_of, file_of, file_from, status_from, event_from};
 ghost use Rattle.packet_codec.specs.declared.event.Event.{Event};
@@ -98,11 +99,13 @@ fn event_of(alloc: Global, first: u8, second: u8, parts: &Parts<'_>) -> Result<E
     })
 }
 
-/// The event that a packet spells: all of the bytes are one packet. The error comes for want of memory.
+/// The event that a packet spells: all of the bytes are one packet. Each part is copied once. The error comes for want
+/// of memory. The event fits, since its shortest spelling is no longer than the one that was read.
 pub fn decode(alloc: Global, bytes: &[u8]) -> Result<Event, NoMemory>
     requires { IsPacket bytes.now }
     ensures spelled { IfOk result (SpellsEvent bytes.now) }
     ensures only { (e : Event) → SpellsEvent bytes.now e → IfOk result (λ event. event ≡ e) }
+    ensures fits { IfOk result Fits }
 {
     let header = header_at(bytes).unwrap();
     let parts = packet_parts(header, bytes).unwrap();

@@ -42,6 +42,5 @@ pub use tags::Tags;
 
 #[cfg(test)]
 mod tests_reading;
-
 #[cfg(test)]
 mod tests_writing;

@@ -1,4 +1,5 @@
 use Rattle.std.proofs.Common.{sym}
+use Rattle.packet_codec.proofs.LeastLemmas.{spelled_fit}
 use Rattle.packet_codec.proofs.RunsLeft.{some_of}
 use Rattle.packet_codec.proofs.PacketLemmas.{told_at, header_never, decoded, decoded_spelled}
 use Rattle.packet_codec.proofs.decoding.decode.Goals as goal
@@ -27,3 +28,9 @@ returns-clause-spelled c =
     let stands = rw c.unwrap-header.ensures at c.header_at.ensures.found in
     let parts = rw c.unwrap-parts.ensures at c.packet_parts.ensures.found in
     decoded_spelled _ c.requires.0 _ c.requires.1 (decoded _ c.unwrap-header.result parts.0 c.requires.0 _ c.type_inv.bytes stands parts.1 c.requires.1 (c.event_of.ensures parts.0 parts.2))
+
+pub returns-clause-fits : goal.returns-clause-fits
+returns-clause-fits c =
+    let stands = rw c.unwrap-header.ensures at c.header_at.ensures.found in
+    let parts = rw c.unwrap-parts.ensures at c.packet_parts.ensures.found in
+    spelled_fit _ c.event_of.result (decoded_spelled _ c.requires.0 _ c.requires.1 (decoded _ c.unwrap-header.result parts.0 c.requires.0 _ c.type_inv.bytes stands parts.1 c.requires.1 (c.event_of.ensures parts.0 parts.2)))
