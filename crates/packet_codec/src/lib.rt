@@ -41,6 +41,8 @@ pub use status::Status;
 pub use tags::Tags;
 
 #[cfg(test)]
+mod tests_both_ways;
+#[cfg(test)]
 mod tests_reading;
 #[cfg(test)]
 mod tests_writing;
