@@ -9,9 +9,11 @@
 //! - `numbering`, `reading`, `scribing`, `recording`, `reporting`: the steps of `load`
 //! - `load`: these steps in their order
 //! - `top`: `program` and `testr`
+//! - `laws`: what the runs of a folder have to do with their numbers
 #![tactic(auto)]
 
 mod answer;
+mod laws;
 mod load;
 mod numbering;
 mod reading;
@@ -23,6 +25,7 @@ mod top;
 mod words;
 
 pub use answer::{Passed, Refusal};
+pub use laws::numbers_count_the_runs;
 pub use top::{program, testr};
 
 #[cfg(test)]
