@@ -16,10 +16,10 @@ use Rattle.testr_cli.specs.Outside.{Outside}
 use Rattle.testr_cli.specs.Repository.{Run, Shows, IsFirstFree, IsFull, full_name}
 use Rattle.testr_cli.specs.Recording.{Records, KeepsFiles}
 use Rattle.testr_cli.specs.Cut.{IsCut, run_bytes}
+use Rattle.testr_cli.specs.Reading.{most_bytes}
 use Rattle.testr_cli.specs.Report.{report_of}
 use Rattle.testr_cli.specs.Load.{Loads, ReadsAll, StopsAt}
 use Rattle.testr_cli.specs.Program.{Performs, HasRefusalCause, Answers, AddsRun, LoadsTold, HasNoCause, HasNoFault, KeepsRuns, with_run}
-use Rattle.testr_cli.specs.declared.reading.TheConstants.{MOST_BYTES}
 use Rattle.testr_cli.specs.declared.answer.Passed.{Passed}
 use Rattle.testr_cli.specs.declared.answer.Refusal.{Refusal}
 use Rattle.testr_cli.specs.declared.answer.Refusal.TheVariants.{Usage, Full, NotYet, TooLong, ShelfFault, InputFault, SinkFault, NoMemory}
@@ -69,16 +69,16 @@ loads_of words before after (Err InputFault) answer cause code zero = absurd (om
 loads_of words before after (Err SinkFault) answer cause code zero = absurd (omega arith)
 loads_of words before after (Err NoMemory) answer cause code zero = absurd (omega arith)
 
-kept_of : (words : List (List ℕ)) (before after : Outside) (outcome : Result Passed Refusal) (answer : ℕ) → MatchResult outcome (Performs words before after) (HasRefusalCause words before after) → answer ≡ code_of outcome → 2 ≤ answer → answer ≤ 3 → Goes before.folder after.folder KeepsFiles
-kept_of words before after (Ok passed) answer cause code least most = absurd (omega arith)
-kept_of words before after (Err Usage) answer cause code least most = cause.2.kept
-kept_of words before after (Err Full) answer cause code least most = cause.1.2.kept
-kept_of words before after (Err (NotYet place)) answer cause code least most = cause.1.1.kept
-kept_of words before after (Err TooLong) answer cause code least most = cause.1.2.kept
-kept_of words before after (Err ShelfFault) answer cause code least most = absurd (omega arith)
-kept_of words before after (Err InputFault) answer cause code least most = absurd (omega arith)
-kept_of words before after (Err SinkFault) answer cause code least most = absurd (omega arith)
-kept_of words before after (Err NoMemory) answer cause code least most = absurd (omega arith)
+kept_of : (words : List (List ℕ)) (before after : Outside) (outcome : Result Passed Refusal) (answer : ℕ) → MatchResult outcome (Performs words before after) (HasRefusalCause words before after) → answer ≡ code_of outcome → 2 ≤ answer → (answer ≡ 4 → ⊥) → Goes before.folder after.folder KeepsFiles
+kept_of words before after (Ok passed) answer cause code least other = absurd (omega arith)
+kept_of words before after (Err Usage) answer cause code least other = cause.2.kept
+kept_of words before after (Err Full) answer cause code least other = cause.1.2.kept
+kept_of words before after (Err (NotYet place)) answer cause code least other = cause.1.1.kept
+kept_of words before after (Err TooLong) answer cause code least other = cause.1.2.kept
+kept_of words before after (Err ShelfFault) answer cause code least other = absurd (other code)
+kept_of words before after (Err InputFault) answer cause code least other = absurd (other code)
+kept_of words before after (Err SinkFault) answer cause code least other = absurd (other code)
+kept_of words before after (Err NoMemory) answer cause code least other = cause.1.kept
 
 -- the same files show the same runs
 keeps_runs : (s t : Folder) → KeepsFiles s t → (runs : List Run) → Shows s.disk.published runs → Shows t.disk.published runs
@@ -101,13 +101,13 @@ told_of before after (Some told) is loads = (
   record {
     cut = subst (λ (l : List ℕ). IsCut l loads.events []) (sym (read_is_all before.left after.left loads.bytes told is loads.all.read loads.all.at_end)) loads.cut;
     at_end = loads.all.at_end;
-    stored = goes_from before.folder after.folder (λ s. IsFirstFree s.disk.published loads.number) (Records (full_name loads.number) (run_bytes loads.events)) _ loads.found loads.kept (adds loads.number loads.events);
-    printed = reports before.folder before.printed after.printed loads.number (length loads.events) loads.found loads.printed;
+    stored = goes_from before.folder after.folder (λ s. IsFirstFree s.disk.published loads.number) (Records (full_name loads.number) (run_bytes loads.events)) _ loads.found.1 loads.kept (adds loads.number loads.events);
+    printed = reports before.folder before.printed after.printed loads.number (length loads.events) loads.found.1 loads.printed;
   },
 )
 
 -- no place stops a stream that is good packets to its end
-no_stop : (before after : Outside) (place : ℕ) (left : Option (List ℕ)) → before.left ≡ left → IsSomeAnd left (λ bytes. (length bytes ≤ MOST_BYTES) × (events : List Event) × IsCut bytes events []) → (bytes : List ℕ) → ReadsAll before after bytes → StopsAt bytes place → ⊥
+no_stop : (before after : Outside) (place : ℕ) (left : Option (List ℕ)) → before.left ≡ left → IsSomeAnd left (λ bytes. (length bytes ≤ most_bytes) × (events : List Event) × IsCut bytes events []) → (bytes : List ℕ) → ReadsAll before after bytes → StopsAt bytes place → ⊥
 no_stop before after place None is good bytes reads stops = absurd good
 no_stop before after place (Some told) is (short, events, cut) bytes reads stops =
     let same : told ≡ bytes = read_is_all before.left after.left bytes told is reads.read reads.at_end in
@@ -115,7 +115,7 @@ no_stop before after place (Some told) is (short, events, cut) bytes reads stops
     let none : stops.rest ≡ [] = one_rest bytes stops.events events stops.rest [] (fits_from_are bytes reads.are_bytes) stops.cut.packets stops.cut.ends cut_here.packets cut_here.ends in
     omega (arith, stops.some, ap length none)
 
-no_excess : (left : Option (List ℕ)) → IsSomeAnd left (λ bytes. (length bytes ≤ MOST_BYTES) × (events : List Event) × IsCut bytes events []) → IfSome left (λ bytes. MOST_BYTES < length bytes) → ⊥
+no_excess : (left : Option (List ℕ)) → IsSomeAnd left (λ bytes. (length bytes ≤ most_bytes) × (events : List Event) × IsCut bytes events []) → IfSome left (λ bytes. most_bytes < length bytes) → ⊥
 no_excess None good long = absurd good
 no_excess (Some told) (short, events, cut) long = omega arith
 
@@ -144,8 +144,8 @@ module _ (words : List (List ℕ)) (before after : Outside) (errors told : Optio
   pub fault_cause : answer ≡ 4 → Rose before.folder_faults after.folder_faults ⊎ (Rose before.input_faults after.input_faults ⊎ Rose before.out_faults after.out_faults)
   fault_cause = fault_of words before after answers.outcome answer answers.cause answers.code
 
-  pub runs_kept : 2 ≤ answer → answer ≤ 3 → KeepsRuns before.folder after.folder
-  runs_kept least most = goes_weaker before.folder after.folder KeepsFiles _ (kept_of words before after answers.outcome answer answers.cause answers.code least most) keeps_runs
+  pub runs_kept : 2 ≤ answer → (answer ≡ 4 → ⊥) → KeepsRuns before.folder after.folder
+  runs_kept least other = goes_weaker before.folder after.folder KeepsFiles _ (kept_of words before after answers.outcome answer answers.cause answers.code least other) keeps_runs
 
   pub loads_told : answer ≡ 0 → LoadsTold before after
   loads_told zero = told_of before after before.left refl (loads_of words before after answers.outcome answer answers.cause answers.code zero)

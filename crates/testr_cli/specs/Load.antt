@@ -7,23 +7,23 @@ use Rattle.edge_io.specs.Steps.{Goes}
 use Rattle.packet_codec.specs.declared.event.Event.{Event}
 use Rattle.packet_codec.specs.Grammar.{AreBytes}
 use Rattle.testr_cli.specs.Outside.{Outside}
-use Rattle.testr_cli.specs.Repository.{IsFirstFree, IsFull, full_name}
+use Rattle.testr_cli.specs.Repository.{IsFirstFree, IsFull, full_name, most_runs}
 use Rattle.testr_cli.specs.Cut.{IsCut, run_bytes}
 use Rattle.testr_cli.specs.Report.{report_of}
+use Rattle.testr_cli.specs.Reading.{most_bytes}
 use Rattle.testr_cli.specs.Recording.{Records, RecordsOrNot, KeepsFiles}
-use Rattle.testr_cli.specs.declared.reading.TheConstants.{MOST_BYTES}
 use Rattle.testr_cli.specs.declared.answer.Refusal.{Refusal}
 use Rattle.testr_cli.specs.declared.answer.Refusal.TheVariants.{Usage, Full, NotYet, TooLong, ShelfFault, InputFault, SinkFault, NoMemory}
 
 -- a number was free for the run
 abbrev pub FindsNumber : Outside → ℕ → Type 0
-FindsNumber before number = IfSome before.folder (λ s. IsFirstFree s.disk.published number)
+FindsNumber before number = (number < most_runs) × IfSome before.folder (λ s. IsFirstFree s.disk.published number)
 
 -- the input was read to its end, and is not too long
 pub record ReadsAll (before after : Outside) (bytes : List ℕ) : Type 0 where
   pub read : Consumes before.left after.left bytes
   pub at_end : IsAtEnd after.left
-  pub size : length bytes ≤ MOST_BYTES
+  pub size : length bytes ≤ most_bytes
   pub are_bytes : AreBytes bytes
 
 -- The input was read to its end, it is good packets and nothing else, they are kept as one run under the first free
@@ -82,8 +82,8 @@ abbrev pub HasLoadCause : Outside → Outside → Refusal → Type 0
 HasLoadCause before after Usage = ⊥
 HasLoadCause before after Full = IfSome before.folder (λ s. IsFull s.disk.published) × Keeps before.left after.left × ChangesNothing before after
 HasLoadCause before after (NotYet place) = ReadsAndStops before after place × ChangesNothing before after
-HasLoadCause before after TooLong = ((number : ℕ) × FindsNumber before number) × IfSome before.left (λ bytes. MOST_BYTES < length bytes) × ChangesNothing before after
-HasLoadCause before after ShelfFault = Rose before.folder_faults after.folder_faults × (ChangesNothing before after ⊎ KeepsOrNot before after)
+HasLoadCause before after TooLong = ((number : ℕ) × FindsNumber before number) × IfSome before.left (λ bytes. most_bytes < length bytes) × ChangesNothing before after
+HasLoadCause before after ShelfFault = Rose before.folder_faults after.folder_faults × ((Keeps before.left after.left × ChangesNothing before after) ⊎ KeepsOrNot before after)
 HasLoadCause before after InputFault = ((number : ℕ) × FindsNumber before number) × Rose before.input_faults after.input_faults × ChangesNothing before after
 HasLoadCause before after SinkFault = Rose before.out_faults after.out_faults × PrintsInPart before after
 HasLoadCause before after NoMemory = ChangesNothing before after

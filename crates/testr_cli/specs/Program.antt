@@ -11,9 +11,9 @@ use Rattle.testr_cli.specs.Answer.{code_of, refusal_line}
 use Rattle.testr_cli.specs.Outside.{Outside}
 use Rattle.testr_cli.specs.Repository.{Run, Shows, IsFirstFree}
 use Rattle.testr_cli.specs.Cut.{IsCut, run_bytes}
+use Rattle.testr_cli.specs.Reading.{most_bytes}
 use Rattle.testr_cli.specs.Report.{report_of}
 use Rattle.testr_cli.specs.Load.{Loads, HasLoadCause, ChangesNothing}
-use Rattle.testr_cli.specs.declared.reading.TheConstants.{MOST_BYTES}
 use Rattle.testr_cli.specs.declared.answer.Passed.{Passed}
 use Rattle.testr_cli.specs.declared.answer.Refusal.{Refusal}
 use Rattle.testr_cli.specs.declared.answer.Refusal.TheVariants.{Usage}
@@ -61,7 +61,7 @@ KeepsRuns old new = Goes old new (λ s t. (runs : List Run) → Shows s.disk.pub
 -- no answer of `load` but a fault or want of memory has a cause
 pub record HasNoCause (before : Outside) : Type 0 where
   pub free : IsSomeAnd before.folder (λ s. (number : ℕ) × IsFirstFree s.disk.published number)
-  pub good : IsSomeAnd before.left (λ bytes. (length bytes ≤ MOST_BYTES) × (events : List Event) × IsCut bytes events [])
+  pub good : IsSomeAnd before.left (λ bytes. (length bytes ≤ most_bytes) × (events : List Event) × IsCut bytes events [])
 
 -- no count of faults rose
 pub record HasNoFault (before after : Outside) : Type 0 where

@@ -4,7 +4,7 @@ ghost use Rattle.std.specs.Prelude.{◌≡◌, ◌≤◌, length, IfOk, IfErr, L
 ghost use Rattle.std.specs.Io.KnownBytes.{Consumes, IsAtEnd};
 ghost use Rattle.testr_cli.specs.declared.reading.ReadRefusal.TheVariants.{Fault, NoMemory};
 ghost use Rattle.packet_codec.specs.Grammar.{AreBytes};
-ghost use Rattle.testr_cli.specs.Reading.{HasReadCause};
+ghost use Rattle.testr_cli.specs.Reading.{HasReadCause, most_bytes};
 
 use edge_io::{Failed, Source};
 use std::alloc::{AllocError, Global};
@@ -46,7 +46,7 @@ impl From<AllocError> for ReadRefusal {
 pub fn read_whole<I: Source>(alloc: Global, input: &mut I) -> Result<Vec<u8>, ReadRefusal>
     ensures whole { IfOk result (λ bytes. Consumes (I.left input.old) (I.left input.new) bytes.items) }
     ensures at_end { IfOk result (λ bytes. IsAtEnd (I.left input.new)) }
-    ensures size { IfOk result (λ bytes. length bytes.items ≤ MOST_BYTES) }
+    ensures size { IfOk result (λ bytes. length bytes.items ≤ most_bytes) }
     ensures are_bytes { IfOk result (λ bytes. AreBytes bytes.items) }
     ensures refused { IfErr result (HasReadCause (I.left input.old) (I.faults input.old) (I.faults input.new)) }
     ensures later { I.faults input.old ≤ I.faults input.new }

@@ -39,8 +39,8 @@ pub fn program<H: Shelf, I: Source, O: Sink, E: Sink>(
     ensures usage { (result ≡ 2) ↔ (IsLoad (texts words.now) → ⊥) }
     ensures fault { result ≡ 4 → Rose (H.faults shelf.old) (H.faults shelf.new) ⊎ (Rose (I.faults input.old) (I.faults input.new) ⊎ Rose (O.faults out.old) (O.faults out.new)) }
 
-    // What is refused leaves the runs that the folder shows.
-    ensures kept { 2 ≤ result → result ≤ 3 → KeepsRuns (H.state shelf.old) (H.state shelf.new) }
+    // What is refused leaves the runs that the folder shows. Only a fault may leave one more.
+    ensures kept { 2 ≤ result → (result ≡ 4 → ⊥) → KeepsRuns (H.state shelf.old) (H.state shelf.new) }
 
     // Over an input that is told: it is good packets and nothing else, was read to its end, and is one run more.
     ensures loaded { result ≡ 0 → LoadsTold
@@ -81,8 +81,8 @@ pub fn testr<H: Shelf, I: Source, O: Sink, E: Sink>(
     ensures usage { (result ≡ 2) ↔ (IsLoad (testr_word ∷ texts words.now) → ⊥) }
     ensures fault { result ≡ 4 → Rose (H.faults shelf.old) (H.faults shelf.new) ⊎ (Rose (I.faults input.old) (I.faults input.new) ⊎ Rose (O.faults out.old) (O.faults out.new)) }
 
-    // What is refused leaves the runs that the folder shows.
-    ensures kept { 2 ≤ result → result ≤ 3 → KeepsRuns (H.state shelf.old) (H.state shelf.new) }
+    // What is refused leaves the runs that the folder shows. Only a fault may leave one more.
+    ensures kept { 2 ≤ result → (result ≡ 4 → ⊥) → KeepsRuns (H.state shelf.old) (H.state shelf.new) }
 
     // Over an input that is told: it is good packets and nothing else, was read to its end, and is one run more.
     ensures loaded { result ≡ 0 → LoadsTold
