@@ -1,5 +1,5 @@
 -- A stream in its smallest pieces (docs/FORMATS.md, "Streams").
-use Rattle.std.specs.Prelude.{◌≡◌, ⊥, ℕ, List, [], ◌∷◌}
+use Rattle.std.specs.Prelude.{◌≡◌, ℕ, List, [], ◌∷◌}
 use Rattle.packet_codec.specs.declared.event.Event.{Event}
 use Rattle.packet_codec.specs.Packet.{SpellsEvent}
 use Rattle.packet_codec.specs.Grammar.{Found, NotFound}

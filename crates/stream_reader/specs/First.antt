@@ -6,10 +6,11 @@ use Rattle.stream_reader.specs.declared.note.Note.TheVariants as note
 use Rattle.stream_reader.specs.declared.first.Cut.{Cut}
 use Rattle.stream_reader.specs.Stream.{Gives, IsMadeOf}
 
--- the event of the packet that the first bytes are
-pub record IsPacketNote (bytes : List ℕ) (cut : Cut) : Type 0 where
+-- the event of the packet that the first `size` bytes are
+pub record IsPacketNote (bytes : List ℕ) (size : ℕ) (cut : Cut) : Type 0 where
+  pub size_is : cut.size ≡ size
   pub event : Event
-  pub spells : SpellsEvent (take cut.size bytes) event
+  pub spells : SpellsEvent (take size bytes) event
   pub note_is : cut.note ≡ note.Event event
 
 -- the first note, and the bytes at the front that it is made of

@@ -1,5 +1,5 @@
 -- The foreign bytes at the front of what is held, as far as a reader has looked.
-use Rattle.std.specs.Prelude.{◌≡◌, ◌⊎◌, ⊥, ℕ, ◌<◌, ◌≤◌, Bool, true, false, List, length, drop}
+use Rattle.std.specs.Prelude.{◌≡◌, ◌⊎◌, ℕ, ◌<◌, ◌≤◌, Bool, true, false, List, length, drop}
 use Rattle.packet_codec.specs.Header.{BeginsWithPacket, NeedsMore}
 use Rattle.packet_codec.specs.declared.front.Front.{Front}
 use Rattle.packet_codec.specs.declared.front.Front.TheVariants.{Packet, More, No}

@@ -23,7 +23,7 @@ pub(crate) struct Cut {
 /// The event of the packet of this size at the front.
 fn packet_note(alloc: Global, bytes: &[u8], size: usize) -> Result<Cut, NoMemory>
     requires { BeginsWithPacket bytes.now size }
-    ensures { IfOk result (λ cut. IsPacketNote bytes.now cut) }
+    ensures { IfOk result (λ cut. IsPacketNote bytes.now size cut) }
 {
     let event = decode(alloc, &bytes[..size])?;
     Ok(Cut {

@@ -26,7 +26,7 @@ pub struct Reader {
 }
 
 impl Model for Reader {
-    ghost use Rattle.std.specs.Prelude.{◌+◌, ◌≤◌, drop};
+    ghost use Rattle.std.specs.Prelude.{◌+◌, ◌≤◌, length, drop};
     ghost use Rattle.stream_reader.specs.Notes.{longest_foreign};
     ghost use Rattle.stream_reader.specs.Stream.{Held};
     ghost use Rattle.stream_reader.specs.Run.{AreForeign};
