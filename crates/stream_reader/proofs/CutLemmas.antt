@@ -11,7 +11,7 @@ use Rattle.stream_reader.proofs.FrontLemmas.{are_before, are_behind, packet_some
 pub not_empty : (rest : List ℕ) (e : Event) → BeginsWithPacketOf [] e rest → ⊥
 not_empty rest e f = omega (arith, packet_some f.front e f.spelled, ap length f.parts, length-append f.front rest)
 
-found_not_empty : (bytes rest : List ℕ) (e : Event) → BeginsWithPacketOf bytes e rest → bytes ≡ [] → ⊥
+pub found_not_empty : (bytes rest : List ℕ) (e : Event) → BeginsWithPacketOf bytes e rest → bytes ≡ [] → ⊥
 found_not_empty bytes rest e f empty = omega (arith, packet_some f.front e f.spelled, ap length f.parts, length-append f.front rest, ap length empty)
 
 are_rest : (bytes rest : List ℕ) (e : Event) → AreBytes bytes → BeginsWithPacketOf bytes e rest → AreBytes rest

@@ -1,7 +1,7 @@
 -- The first note of what is held, and that a reader's notes are those of the stream.
 use Rattle.std.proofs.Common.{◌≡◌, ◌⊎◌, ℕ, ◌+◌, ◌≤◌, ◌<◌, Bool, true, false, List, [], ◌∷◌, ◌++◌, length, take, drop, refl, inl, inr, sym, ap, ◌∙◌, append_assoc, arith}
 use Rattle.std.proofs.lemmas.Bool.{cases_lt}
-use Rattle.std.proofs.lemmas.List.{length-append, append-nil, take-append-drop, length-take-le, drop_all, take_all}
+use Rattle.std.proofs.lemmas.List.{length-append, append-nil, take-append-drop, length-take-le, drop_all, drop-drop}
 use Rattle.std.proofs.lemmas.List.Elements.{All-nil}
 use Rattle.packet_codec.specs.declared.event.Event.{Event}
 use Rattle.packet_codec.specs.Grammar.{AreBytes}
@@ -13,7 +13,7 @@ use Rattle.stream_reader.specs.declared.note.Note.TheVariants as note
 use Rattle.stream_reader.specs.declared.first.Cut.{Cut}
 use Rattle.stream_reader.specs.Cut.{Piece, packet, foreign, BeginsWithPacketOf, IsCut, IsOpenCut}
 use Rattle.stream_reader.specs.Notes.{foreign_note, notes_behind, notes_of, HasNotes, HasDecided}
-use Rattle.stream_reader.specs.Stream.{BeginsWithNotes, EndsWithNotes, Gives, IsMadeOf, IsSpent}
+use Rattle.stream_reader.specs.Stream.{BeginsWithNotes, EndsWithNotes, Gives, IsMadeOf, IsSpent, GivesNote}
 use Rattle.stream_reader.specs.Run.{AreForeign, StopsBy, IsRun}
 use Rattle.stream_reader.specs.First.{IsPacketNote, IsFirst}
 use Rattle.stream_reader.proofs.FrontLemmas.{are_dropped, packet_some, begins_found, found_longer, found_needs_no_more, are_both}
@@ -144,14 +144,14 @@ run_stops No ended b count run closed = stops run.stops
     stops (inr (end, all)) = inr (end, drop_all count b (omega arith))
 
 pub first_is_event : (ended : Bool) (b : List ℕ) (count size : ℕ) (front : Front) (cut : Cut) → count ≡ 0 → front ≡ Packet size → IsRun ended b count front → IsPacketNote b size cut → IsFirst ended b cut
-first_is_event ended b count size front cut none front-is run packet = is (rw (front-is, none) at run.stops)
+first_is_event ended b count size front cut none front-is run made = is (rw (front-is, none) at run.stops)
   where
     is : BeginsWithPacket b size → IsFirst ended b cut
     is p = record {
-      some = omega (arith, packet.size_is, packet_some (take size b) packet.event packet.spells, length-take-le size b p.in_range);
-      in_range = omega (arith, packet.size_is, p.in_range);
-      made = rw (packet.note_is, packet.size_is) packet.spells;
-      first = rw (packet.note_is, packet.size_is) (gives_event ended b (drop size b) packet.event (record { front = take size b; parts = sym (take-append-drop size b); spelled = packet.spells }));
+      some = omega (arith, made.size_is, packet_some (take size b) made.event made.spells, length-take-le size b p.in_range);
+      in_range = omega (arith, made.size_is, p.in_range);
+      made = rw (made.note_is, made.size_is) made.spells;
+      first = rw (made.note_is, made.size_is) (gives_event ended b (drop size b) made.event (record { front = take size b; parts = sym (take-append-drop size b); spelled = made.spells }));
     }
 
 pub first_is_run : (ended : Bool) (b : List ℕ) (count : ℕ) (front : Front) (cut : Cut) → AreBytes b → 0 < count → (front ≡ More → ⊥) → IsRun ended b count front → cut.note ≡ note.Foreign (take count b) → cut.size ≡ count → IsFirst ended b cut
@@ -194,3 +194,15 @@ spent_ended ended b count front front-is none run = is ended (rw front-is at run
         no_bytes : (b : List ℕ) → length b ≡ 0 → b ≡ []
         no_bytes [] len = refl
         no_bytes (byte ∷ b) len = absurd (omega arith)
+
+-- ---- a step of the reader
+
+pub gives_first : (items : List ℕ) (given : ℕ) (ended : Bool) (cut : Cut) → IsFirst ended (drop given items) cut → GivesNote (record { bytes = drop given items; ended = ended }) cut.note (record { bytes = drop (given + cut.size) items; ended = ended })
+gives_first items given ended cut first = record {
+  front = take cut.size (drop given items);
+  parts = sym (take-append-drop cut.size (drop given items)) ∙ ap (λ (l : List ℕ). take cut.size (drop given items) ++ l) (drop-drop cut.size given items);
+  some = omega (arith, first.some, length-take-le cut.size (drop given items) first.in_range);
+  made = first.made;
+  first = rw (← drop-drop cut.size given items) first.first;
+  ended = refl;
+}

@@ -46,9 +46,8 @@ fn foreign_note(alloc: Global, bytes: &[u8], size: usize) -> Result<Cut, NoMemor
 
 /// The first note that the bytes decide, behind the run that was found at their front. None where they decide none.
 pub(crate) fn first_note(alloc: Global, bytes: &[u8], run: Run) -> Result<Option<Cut>, NoMemory>
-    requires { (ended : Bool) × IsRun ended bytes.now run.count run.front }
-    ensures { (ended : Bool) → IsRun ended bytes.now run.count run.front
-        → IfOk result (λ answer. MatchOption answer (IsSpent ended bytes.now) (λ cut. IsFirst ended bytes.now cut)) }
+    requires { IsRun run.ended bytes.now run.count run.front }
+    ensures { IfOk result (λ answer. MatchOption answer (IsSpent run.ended bytes.now) (λ cut. IsFirst run.ended bytes.now cut)) }
 {
     match run.front {
         Front::More => Ok(None),

@@ -21,6 +21,8 @@ pub(crate) struct Run {
     pub(crate) count: usize,
     /// A packet, or bytes that may become one. `No` where the run is full, or goes up to the end of the stream.
     pub(crate) front: Front,
+    /// The stream ends behind the bytes.
+    pub(crate) ended: bool,
 }
 
 /// The first place from `from` on at which a packet may begin, or `room` where that comes first.
@@ -53,24 +55,29 @@ pub(crate) fn foreign_run(bytes: &[u8], known: usize, ended: bool) -> Run
     requires in_range { known ≤ length bytes.now }
     requires short { known ≤ longest_foreign }
     requires are_foreign { AreForeign ended bytes.now known }
-    ensures { IsRun ended bytes.now result.count result.front }
+    ensures ended { result.ended ≡ ended }
+    ensures run { IsRun ended bytes.now result.count result.front }
 {
     let room = bytes.len().min(LONGEST_FOREIGN);
     let mut count = next_signature(bytes, known, room);
     while count < room {
         match front_of(&bytes[count..], ended) {
             Front::No => count = next_signature(bytes, count + 1, room),
-            front => return Run { count, front },
+            front => return Run {
+                count,
+                front,
+                ended,
+            },
         }
     }
-    if ended || count == LONGEST_FOREIGN {
-        return Run {
-            count,
-            front: Front::No,
-        };
-    }
+    let front = if ended || count == LONGEST_FOREIGN {
+        Front::No
+    } else {
+        Front::More
+    };
     Run {
         count,
-        front: Front::More,
+        front,
+        ended,
     }
 }
