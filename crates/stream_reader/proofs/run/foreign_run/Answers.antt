@@ -1,9 +1,8 @@
-use Rattle.std.proofs.Common.{◌≡◌, ◌+◌, false, arith, rules}
+use Rattle.std.proofs.Common.{◌≡◌, ◌+◌, sym, ◌∙◌, arith, rules}
 use Rattle.std.proofs.lemmas.List.{take_rest}
 use Rattle.stream_reader.proofs.FrontLemmas.{are_from_fits}
 use Rattle.stream_reader.proofs.RunLemmas.{foreign_from, one_foreign_more, run_is_open}
 use Rattle.stream_reader.proofs.run.foreign_run.Goals as goal
-use Rattle.stream_reader.proofs.run.foreign_run.Goals.{then-ended, else-ended}
 
 pub loop-count-init : goal.loop-count-init
 loop-count-init c = record {
@@ -22,7 +21,6 @@ loop-count-preserved c =
     }
 
 pub returns-else-count-eq-LONGEST_FOREIGN-clause-run : goal.returns-else-count-eq-LONGEST_FOREIGN-clause-run
-returns-else-count-eq-LONGEST_FOREIGN-clause-run c = elim c.if-ended.branch [
-  | then-ended w ↦ let t = w.t-17-is in ?
-  | else-ended w ↦ let t = w.t-17-is in ?
-]
+returns-else-count-eq-LONGEST_FOREIGN-clause-run c =
+    let neither = c.if-count-eq-LONGEST_FOREIGN.false in
+    run_is_open _ _ _ c.min-room.result neither.0 (search rules) c.loop-count.invariant.high c.loop-count-test.false neither.1 c.loop-count.invariant.are_foreign
