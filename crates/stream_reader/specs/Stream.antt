@@ -48,3 +48,10 @@ pub record GivesNote (before : Held) (given : Note) (after : Held) : Type 0 wher
 abbrev pub IsSpent : Bool → List ℕ → Type 0
 IsSpent false bytes = HasDecided bytes []
 IsSpent true bytes = bytes ≡ []
+
+-- the next notes were given, behind those that were given before
+pub record GivesNotes (before : Held) (old : List Note) (after : Held) (new : List Note) : Type 0 where
+  pub given : List Note
+  pub new_is : new ≡ old ++ given
+  pub first : Gives before.ended before.bytes given after.bytes
+  pub ended : after.ended ≡ before.ended

@@ -7,6 +7,7 @@
 //! - `reader`: the bytes fed, and the notes that they decide
 //! - `run`: the foreign bytes at the front of what is held
 //! - `first`: the first note of what is held
+//! - `whole`: the notes of a whole stream
 //! - `laws`: what holds of the notes of all streams
 #![tactic(auto)]
 
@@ -15,10 +16,12 @@ mod laws;
 mod note;
 mod reader;
 mod run;
+mod whole;
 
 pub use laws::{notes_in_turn, notes_of_streams};
 pub use note::Note;
 pub use reader::Reader;
+pub use whole::notes_of_pieces;
 
 #[cfg(test)]
 mod tests;
