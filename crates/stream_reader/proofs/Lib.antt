@@ -1,0 +1,6 @@
+pub mod FrontLemmas
+pub mod CutLemmas
+pub mod NotesLemmas
+pub mod RunLemmas
+pub mod GivingLemmas
+pub mod TurnLemmas

@@ -1,0 +1,11 @@
+use Rattle.std.proofs.Common.{◌≡◌, false, take}
+use Rattle.std.specs.List.{flat_map}
+use Rattle.stream_reader.specs.Stream.{BeginsWithNotes}
+use Rattle.stream_reader.proofs.whole.notes_of_pieces.Given as goal
+
+-- the notes so far, and what is held, are those of the pieces so far
+abbrev pub invariant-loop-piece : goal.invariant-loop-piece
+invariant-loop-piece l = record {
+  going_on : l.reader.ended ≡ false;
+  notes : BeginsWithNotes (flat_map (λ piece. piece) (take l.piece-index l.pieces)) l.notes.items l.reader.bytes;
+}

@@ -1,0 +1,5 @@
+pub mod Cut
+pub mod Notes
+pub mod Stream
+pub mod Run
+pub mod First

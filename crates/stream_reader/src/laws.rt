@@ -1,0 +1,40 @@
+//! Laws of streams.
+
+ghost use Rattle.std.specs.Prelude.{◌≡◌, ◌++◌, List, [], ℕ, All, map};
+ghost use Rattle.std.specs.List.{flat_map};
+ghost use Rattle.packet_codec.specs.Grammar.{AreBytes};
+ghost use Rattle.packet_codec.specs.Canonical.{IsEvent, Fits, canonical};
+ghost use Rattle.packet_codec.specs.declared.event.Event.{Event};
+ghost use Rattle.stream_reader.specs.declared.note.Note.{Note};
+ghost use Rattle.stream_reader.specs.declared.note.Note.TheVariants as note;
+ghost use Rattle.stream_reader.specs.Notes.{HasNotes, HasDecided, HasEvents, AreFullRuns};
+ghost use Rattle.stream_reader.specs.Stream.{BeginsWithNotes, EndsWithNotes, AreMadeOf};
+
+/// Laws of the notes of all streams.
+pub fn notes_of_streams()
+    // A stream has one list of notes.
+    ensures one_list { (bytes : List ℕ) (notes others : List Note) → AreBytes bytes → HasNotes bytes notes → HasNotes bytes others → notes ≡ others }
+    // Its first bytes decide one list of notes.
+    ensures one_decided { (bytes : List ℕ) (notes others : List Note) → AreBytes bytes → HasDecided bytes notes → HasDecided bytes others → notes ≡ others }
+    // What the first bytes decide comes first, whatever follows.
+    ensures decided_first { (bytes more : List ℕ) (notes others : List Note) → AreBytes (bytes ++ more) → HasDecided bytes notes → HasNotes (bytes ++ more) others → (rest : List Note) × (others ≡ notes ++ rest) }
+    // Packets as they are written are their events, with no foreign note.
+    ensures written { (events : List Event) → All IsEvent events → All Fits events → HasNotes (flat_map canonical events) (map note.Event events) }
+    ensures written_events { (events : List Event) → All IsEvent events → All Fits events → HasEvents (flat_map canonical events) events }
+    // Foreign notes are as long as they can be.
+    ensures full_runs { (bytes : List ℕ) (notes : List Note) → HasNotes bytes notes → AreFullRuns notes }
+    // No byte is lost or made: each note is made of its bytes, which stand in order.
+    ensures all_bytes { (bytes : List ℕ) (notes : List Note) → HasNotes bytes notes → AreMadeOf notes bytes }
+{}
+
+/// Laws of a reader's notes, one call after another. With the clauses of `Reader` they tell that all notes that it gives
+/// are those of the whole stream, however the stream was cut into pieces.
+pub fn notes_in_turn()
+    ensures none { (bytes : List ℕ) → BeginsWithNotes bytes [] bytes }
+    ensures more { (bytes rest left : List ℕ) (given others : List Note) → BeginsWithNotes bytes given rest → BeginsWithNotes rest others left → BeginsWithNotes bytes (given ++ others) left }
+    ensures fed { (bytes rest more : List ℕ) (given : List Note) → AreBytes more → BeginsWithNotes bytes given rest → BeginsWithNotes (bytes ++ more) given (rest ++ more) }
+    ensures decided { (bytes rest : List ℕ) (given : List Note) → BeginsWithNotes bytes given rest → HasDecided rest [] → HasDecided bytes given }
+    ensures ended { (bytes rest : List ℕ) (given : List Note) → BeginsWithNotes bytes given rest → EndsWithNotes bytes given rest }
+    ensures more_ended { (bytes rest left : List ℕ) (given others : List Note) → EndsWithNotes bytes given rest → EndsWithNotes rest others left → EndsWithNotes bytes (given ++ others) left }
+    ensures whole { (bytes : List ℕ) (given : List Note) → EndsWithNotes bytes given [] → HasNotes bytes given }
+{}

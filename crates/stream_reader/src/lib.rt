@@ -1,0 +1,27 @@
+//! A stream cut into notes, in whatever pieces it comes.
+//!
+//! This room knows where packets stand in a stream, and nothing of where the stream comes from. What is no packet is
+//! kept as foreign bytes. The rule stands in docs/FORMATS.md, "Streams".
+//!
+//! - `note`: an event, or foreign bytes
+//! - `reader`: the bytes fed, and the notes that they decide
+//! - `run`: the foreign bytes at the front of what is held
+//! - `first`: the first note of what is held
+//! - `whole`: the notes of a whole stream
+//! - `laws`: what holds of the notes of all streams
+#![tactic(auto)]
+
+mod first;
+mod laws;
+mod note;
+mod reader;
+mod run;
+mod whole;
+
+pub use laws::{notes_in_turn, notes_of_streams};
+pub use note::Note;
+pub use reader::Reader;
+pub use whole::notes_of_pieces;
+
+#[cfg(test)]
+mod tests;

@@ -1,0 +1,83 @@
+//! The foreign bytes at the front of what is held.
+
+ghost use Rattle.std.specs.Prelude.{◌≡◌, ◌≢◌, ◌<◌, ◌≤◌, ℕ, length, get_or};
+ghost use Rattle.packet_codec.specs.Packet.{signature};
+ghost use Rattle.stream_reader.specs.Notes.{longest_foreign};
+ghost use Rattle.stream_reader.specs.Run.{AreForeign, FrontIs, IsRun};
+
+use memchr::memchr;
+use packet_codec::{Front, look};
+
+// The byte that each packet begins with.
+const SIGNATURE: u8 = 0xb3;
+
+// The most bytes of one foreign note.
+const LONGEST_FOREIGN: usize = 65_536;
+
+/// Foreign bytes at the front, of which one note can be made, and what stands behind them.
+#[derive(Clone, Copy)]
+pub(crate) struct Run {
+    /// How many there are.
+    pub(crate) count: usize,
+    /// A packet, or bytes that may become one. `No` where the run is full, or goes up to the end of the stream.
+    pub(crate) front: Front,
+    /// The stream ends behind the bytes.
+    pub(crate) ended: bool,
+}
+
+/// The first place from `from` on at which a packet may begin, or `room` where that comes first.
+fn next_signature(bytes: &[u8], from: usize, room: usize) -> usize
+    requires from { from ≤ room }
+    requires room { room ≤ length bytes.now }
+    ensures low { from ≤ result }
+    ensures high { result ≤ room }
+    ensures passed { (i : ℕ) → from ≤ i → i < result → get_or bytes.now i 0 ≢ signature }
+{
+    match memchr(SIGNATURE, &bytes[from..room]) {
+        Some(place) => from + place,
+        None => room,
+    }
+}
+
+/// What the front of the bytes is. At the end of a stream nothing may become a packet.
+fn front_of(bytes: &[u8], ended: bool) -> Front
+    ensures { FrontIs ended bytes.now result }
+{
+    match look(bytes) {
+        Front::More if ended => Front::No,
+        front => front,
+    }
+}
+
+/// The foreign bytes at the front, where it is known of the first `known` bytes that they are foreign. Those are not
+/// looked at again.
+pub(crate) fn foreign_run(bytes: &[u8], known: usize, ended: bool) -> Run
+    requires in_range { known ≤ length bytes.now }
+    requires short { known ≤ longest_foreign }
+    requires are_foreign { AreForeign ended bytes.now known }
+    ensures ended { result.ended ≡ ended }
+    ensures run { IsRun ended bytes.now result.count result.front }
+{
+    let room = bytes.len().min(LONGEST_FOREIGN);
+    let mut count = next_signature(bytes, known, room);
+    while count < room {
+        match front_of(&bytes[count..], ended) {
+            Front::No => count = next_signature(bytes, count + 1, room),
+            front => return Run {
+                count,
+                front,
+                ended,
+            },
+        }
+    }
+    let front = if ended || count == LONGEST_FOREIGN {
+        Front::No
+    } else {
+        Front::More
+    };
+    Run {
+        count,
+        front,
+        ended,
+    }
+}
