@@ -47,15 +47,15 @@ fn is_bare(event: &Event) -> bool {
 
 #[test]
 fn packets_of_the_format_are_read(rt: HostRuntime) -> Result<(), Fail> {
-    let table = vec![in rt.alloc();
+    let table = [
         (EXISTS_FOO, Status::Exists, false),
         (SUCCESS_FOO, Status::Success, false),
         (FAIL_FOO, Status::Fail, false),
         (ROUTED_FOO, Status::Success, true),
         (WIDE_FOO, Status::Success, false),
         (LONG_FOO, Status::Success, false),
-    ]?;
-    for &(bytes, status, routed) in &table {
+    ];
+    for (bytes, status, routed) in table {
         let event = read(rt.alloc(), bytes)?;
         assert_eq!(rt; bytes_of(&event.id), Some(b"foo".as_slice()));
         assert_eq!(rt; event.status, status);
@@ -151,83 +151,75 @@ fn each_front_of_a_packet_may_become_one(rt: HostRuntime) {
     assert_eq!(rt; look(b"\xb3\x29\x03\x40"), Front::More);
 }
 
+// What has one fault each, and its bytes.
+const REFUSED: [(&str, &[u8]); 22] = [
+    ("another byte in front", b"a\xb3"),
+    ("version 1", b"\xb3\x19"),
+    ("bit 3", b"\xb3\x29\x0b"),
+    ("a length of four bytes", b"\xb3\x29\x03\xc0"),
+    ("a length below its header", b"\xb3\x29\x03\x07"),
+    ("a length below its wider header", b"\xb3\x29\x03\x40\x08"),
+    (
+        "version 1, whole",
+        b"\xb3\x19\x03\x0c\x03foo\xed\xfe\x5b\x42",
+    ),
+    ("bit 3, whole", b"\xb3\x29\x0b\x0c\x03foo\xa9\xce\x7c\x7d"),
+    (
+        "a width past the end",
+        b"\xb3\x29\x03\x0b\xc0\x00\x00\xad\x5c\xb5\x2c",
+    ),
+    (
+        "an id past the end",
+        b"\xb3\x29\x03\x0c\x04foo\xd8\x4a\xc6\xa9",
+    ),
+    (
+        "bytes before the checksum",
+        b"\xb3\x29\x03\x0c\x02foo\xfd\x21\x99\x75",
+    ),
+    ("no id", b"\xb3\x29\x03\x08\x3c\xe9\x98\xf6"),
+    (
+        "NUL in an id",
+        b"\xb3\x29\x03\x0c\x03f\x00o\xa7\xf8\x89\x78",
+    ),
+    (
+        "an id that is not UTF-8",
+        b"\xb3\x29\x03\x0c\x03f\xc3o\x47\x2f\x0d\xf5",
+    ),
+    ("too few tags", b"\xb3\x21\x83\x0b\x02\x01a\x41\x6c\xa5\x72"),
+    (
+        "a tag that is not UTF-8",
+        b"\xb3\x21\x83\x0b\x01\x01\xff\x54\x9d\xa5\x68",
+    ),
+    (
+        "a short time",
+        b"\xb3\x23\x00\x0b\x00\x00\x00\xda\xc8\x7a\xda",
+    ),
+    (
+        "a file past the end",
+        b"\xb3\x21\x43\x0d\x01f\x03ab\x95\x70\x93\xa0",
+    ),
+    (
+        "NUL in a file's name",
+        b"\xb3\x21\x43\x0c\x01\x00\x01a\x83\xbf\xae\x2c",
+    ),
+    (
+        "a MIME type that is not UTF-8",
+        b"\xb3\x21\x23\x0a\x01\x80\x9a\x8e\xf1\xab",
+    ),
+    (
+        "NUL in a route",
+        b"\xb3\x25\x03\x0a\x01\x00\x22\x84\x7b\x75",
+    ),
+    (
+        "another checksum",
+        b"\xb3\x29\x03\x0c\x03foo\x45\x9d\xfe\x11",
+    ),
+];
+
 #[test]
-fn what_cannot_be_a_packet_is_refused(rt: HostRuntime) -> Result<(), Fail> {
-    let table = vec![in rt.alloc();
-        ("another byte in front", b"a\xb3".as_slice()),
-        ("version 1", b"\xb3\x19".as_slice()),
-        ("bit 3", b"\xb3\x29\x0b".as_slice()),
-        ("a length of four bytes", b"\xb3\x29\x03\xc0".as_slice()),
-        ("a length below its header", b"\xb3\x29\x03\x07".as_slice()),
-        (
-            "a length below its wider header",
-            b"\xb3\x29\x03\x40\x08".as_slice()
-        ),
-        (
-            "version 1, whole",
-            b"\xb3\x19\x03\x0c\x03foo\xed\xfe\x5b\x42".as_slice()
-        ),
-        (
-            "bit 3, whole",
-            b"\xb3\x29\x0b\x0c\x03foo\xa9\xce\x7c\x7d".as_slice()
-        ),
-        (
-            "a width past the end",
-            b"\xb3\x29\x03\x0b\xc0\x00\x00\xad\x5c\xb5\x2c".as_slice()
-        ),
-        (
-            "an id past the end",
-            b"\xb3\x29\x03\x0c\x04foo\xd8\x4a\xc6\xa9".as_slice()
-        ),
-        (
-            "bytes before the checksum",
-            b"\xb3\x29\x03\x0c\x02foo\xfd\x21\x99\x75".as_slice()
-        ),
-        ("no id", b"\xb3\x29\x03\x08\x3c\xe9\x98\xf6".as_slice()),
-        (
-            "NUL in an id",
-            b"\xb3\x29\x03\x0c\x03f\x00o\xa7\xf8\x89\x78".as_slice()
-        ),
-        (
-            "an id that is not UTF-8",
-            b"\xb3\x29\x03\x0c\x03f\xc3o\x47\x2f\x0d\xf5".as_slice()
-        ),
-        (
-            "too few tags",
-            b"\xb3\x21\x83\x0b\x02\x01a\x41\x6c\xa5\x72".as_slice()
-        ),
-        (
-            "a tag that is not UTF-8",
-            b"\xb3\x21\x83\x0b\x01\x01\xff\x54\x9d\xa5\x68".as_slice()
-        ),
-        (
-            "a short time",
-            b"\xb3\x23\x00\x0b\x00\x00\x00\xda\xc8\x7a\xda".as_slice()
-        ),
-        (
-            "a file past the end",
-            b"\xb3\x21\x43\x0d\x01f\x03ab\x95\x70\x93\xa0".as_slice()
-        ),
-        (
-            "NUL in a file's name",
-            b"\xb3\x21\x43\x0c\x01\x00\x01a\x83\xbf\xae\x2c".as_slice()
-        ),
-        (
-            "a MIME type that is not UTF-8",
-            b"\xb3\x21\x23\x0a\x01\x80\x9a\x8e\xf1\xab".as_slice()
-        ),
-        (
-            "NUL in a route",
-            b"\xb3\x25\x03\x0a\x01\x00\x22\x84\x7b\x75".as_slice()
-        ),
-        (
-            "another checksum",
-            b"\xb3\x29\x03\x0c\x03foo\x45\x9d\xfe\x11".as_slice()
-        ),
-    ]?;
-    for &(what, bytes) in &table {
+fn what_cannot_be_a_packet_is_refused(rt: HostRuntime) {
+    for (what, bytes) in REFUSED {
         assert_eq!(rt; look(bytes), Front::No, "{what}");
         assert_eq!(rt; look_simple(bytes), None, "{what}");
     }
-    Ok(())
 }

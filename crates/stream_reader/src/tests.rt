@@ -107,7 +107,13 @@ fn foreign_bytes_are_cut_every_65536(rt: HostRuntime) -> Result<(), Fail> {
     assert!(rt; reader.next().ok().ok_or("no memory")?.is_none());
     for size in [1_000, 65_535, 65_536, 65_537] {
         let notes = notes_of(rt.alloc(), &stream, size)?;
-        assert!(rt; are_wanted(&notes, &[Wanted::Foreign(&stream[..65_536]), Wanted::Foreign(b"a")]), "pieces of {size}");
+        assert!(rt;
+            are_wanted(
+                &notes,
+                &[Wanted::Foreign(&stream[..65_536]), Wanted::Foreign(b"a")]
+            ),
+            "pieces of {size}"
+        );
     }
     Ok(())
 }
