@@ -91,18 +91,22 @@ whole_is_no_front b size are (h, rest, parts, s) front =
 packet_header : (p : List ℕ) (e : Event) → SpellsEvent p e → BeginsWithHeader p (length p)
 packet_header p e s =
     let header : List ℕ = signature ∷ first_flags e ∷ second_flags e ∷ s.size in
-    let whole : p ≡ header ++ (s.fields ++ to_be_bytes w32 (crc32 s.body)) = s.parts ∙ ap (λ (l : List ℕ). l ++ to_be_bytes w32 (crc32 s.body)) s.body_is ∙ append_assoc header s.fields (to_be_bytes w32 (crc32 s.body)) in
-    (header, s.fields ++ to_be_bytes w32 (crc32 s.body), whole, record {
-      first = first_flags e;
-      second = second_flags e;
-      number = s.size;
-      parts = refl;
-      version = (first_bits (is_some e.id) (is_some e.route) (is_some e.stamp) e.runnable (first_flags e) refl).version;
-      zero_bit = (second_bits (is_some e.tags) (is_some e.file) (is_some e.mime) e.eof e.status (second_flags e) refl).zero_bit;
-      size_spelled = s.size_spelled;
-      size_short = s.size_short;
-      room = omega (arith, ap length whole, length-append header (s.fields ++ to_be_bytes w32 (crc32 s.body)), length-append s.fields (to_be_bytes w32 (crc32 s.body)));
-    })
+    let whole : p ≡ header ++ (s.fields ++ to_be_bytes w32 (crc32 s.body)) = s.parts ∙ ap (λ (l : List ℕ). l ++ to_be_bytes w32 (crc32 s.body)) s.body_is ∙ append_assoc header s.fields (to_be_bytes w32 (crc32 s.body)) in (
+      header,
+      s.fields ++ to_be_bytes w32 (crc32 s.body),
+      whole,
+      record {
+        first = first_flags e;
+        second = second_flags e;
+        number = s.size;
+        parts = refl;
+        version = (first_bits (is_some e.id) (is_some e.route) (is_some e.stamp) e.runnable (first_flags e) refl).version;
+        zero_bit = (second_bits (is_some e.tags) (is_some e.file) (is_some e.mime) e.eof e.status (second_flags e) refl).zero_bit;
+        size_spelled = s.size_spelled;
+        size_short = s.size_short;
+        room = omega (arith, ap length whole, length-append header (s.fields ++ to_be_bytes w32 (crc32 s.body)), length-append s.fields (to_be_bytes w32 (crc32 s.body)));
+      },
+    )
 
 pub packet_some : (p : List ℕ) (e : Event) → SpellsEvent p e → 0 < length p
 packet_some p e s = let h = packet_header p e s in omega (arith, h.3.room)

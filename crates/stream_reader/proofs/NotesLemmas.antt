@@ -70,13 +70,13 @@ decided_first (packet e ∷ ps) qs run =
     (next.0, ap (λ (l : List Note). foreign_note run ++ note.Event e ∷ l) next.1 ∙ sym (append_assoc (foreign_note run) (note.Event e ∷ notes_behind (λ run. []) ps []) next.0))
 decided_first (foreign byte ∷ ps) qs run = elim (cases_lt (length run + 1) 65536) [
   | inl less ↦ (
-    let next = decided_first ps qs (run ++ byte ∷ []) in
-    (next.0, one_more foreign_note (ps ++ qs) run byte less ∙ next.1 ∙ ap (λ (l : List Note). l ++ next.0) (sym (one_more (λ run. []) ps run byte less)))
-  )
+      let next = decided_first ps qs (run ++ byte ∷ []) in
+      (next.0, one_more foreign_note (ps ++ qs) run byte less ∙ next.1 ∙ ap (λ (l : List Note). l ++ next.0) (sym (one_more (λ run. []) ps run byte less)))
+      )
   | inr full ↦ (
-    let next = decided_first ps qs [] in
-    (next.0, last_one foreign_note (ps ++ qs) run byte full ∙ ap (λ (l : List Note). note.Foreign (run ++ byte ∷ []) ∷ l) next.1 ∙ ap (λ (l : List Note). l ++ next.0) (sym (last_one (λ run. []) ps run byte full)))
-  )
+      let next = decided_first ps qs [] in
+      (next.0, last_one foreign_note (ps ++ qs) run byte full ∙ ap (λ (l : List Note). note.Foreign (run ++ byte ∷ []) ∷ l) next.1 ∙ ap (λ (l : List Note). l ++ next.0) (sym (last_one (λ run. []) ps run byte full)))
+      )
 ]
 
 -- ---- events alone
@@ -105,9 +105,9 @@ are_full (packet e ∷ ps) run short = full_note run (note.Event e ∷ notes_beh
 are_full (foreign byte ∷ ps) run short = elim (cases_lt (length run + 1) 65536) [
   | inl less ↦ rw (one_more foreign_note ps run byte less) (are_full ps (run ++ byte ∷ []) (omega (arith, length-append run (byte ∷ []))))
   | inr full ↦ (
-    let len : length (run ++ byte ∷ []) ≡ 65536 = omega (arith, length-append run (byte ∷ [])) in
-    rw (last_one foreign_note ps run byte full) (omega arith, omega arith, λ _. len, are_full ps [] (omega arith))
-  )
+      let len : length (run ++ byte ∷ []) ≡ 65536 = omega (arith, length-append run (byte ∷ [])) in
+      rw (last_one foreign_note ps run byte full) (omega arith, omega arith, λ _. len, are_full ps [] (omega arith))
+      )
 ]
 
 made_note : (run bytes : List ℕ) (notes : List Note) → AreMadeOf notes bytes → AreMadeOf (foreign_note run ++ notes) (run ++ bytes)

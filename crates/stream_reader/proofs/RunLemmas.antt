@@ -57,9 +57,9 @@ pub one_foreign_more : (ended : Bool) (b : List ℕ) (count : ℕ) → AreForeig
 one_foreign_more ended b count before here i below = elim (cases_lt i count) [
   | inl less ↦ before i less
   | inr le ↦ (
-    let same : i ≡ count = omega arith in
-    rw same here
-  )
+      let same : i ≡ count = omega arith in
+      rw same here
+      )
 ]
 
 -- the same by cases on the run
