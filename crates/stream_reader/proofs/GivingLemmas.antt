@@ -204,5 +204,4 @@ gives_first items given ended cut first = record {
   some = omega (arith, first.some, length-take-le cut.size (drop given items) first.in_range);
   made = first.made;
   first = rw (← drop-drop cut.size given items) first.first;
-  ended = refl;
 }

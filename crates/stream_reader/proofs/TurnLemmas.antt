@@ -58,14 +58,14 @@ gives_then true bytes rest left given others first second = end_then bytes rest 
 pub notes_none : (held : Held) (old : List Note) → GivesNotes held old held old
 notes_none held old = record { given = []; new_is = sym (append-nil old); first = gives_none held.ended held.bytes; ended = refl }
 
-pub notes_more : (before held after : Held) (old new : List Note) (next : Note) → GivesNotes before old held new → GivesNote held next after → GivesNotes before old after (new ++ next ∷ [])
-notes_more before held after old new next first second =
+pub notes_more : (before held after : Held) (old new : List Note) (next : Note) → GivesNotes before old held new → GivesNote held next after → after.ended ≡ held.ended → GivesNotes before old after (new ++ next ∷ [])
+notes_more before held after old new next first second same =
     let step : Gives before.ended held.bytes (next ∷ []) after.bytes = rw (first.ended) at second.first in
     record {
       given = first.given ++ next ∷ [];
       new_is = ap (λ (l : List Note). l ++ next ∷ []) first.new_is ∙ append_assoc old first.given (next ∷ []);
       first = gives_then before.ended before.bytes held.bytes after.bytes first.given (next ∷ []) first.first step;
-      ended = second.ended ∙ first.ended;
+      ended = same ∙ first.ended;
     }
 
 pub note_is_shorter : (held after : Held) (next : Note) → GivesNote held next after → length after.bytes < length held.bytes

@@ -42,7 +42,6 @@ pub record GivesNote (before : Held) (given : Note) (after : Held) : Type 0 wher
   pub some : 0 < length front
   pub made : IsMadeOf given front
   pub first : Gives before.ended before.bytes (given ∷ []) after.bytes
-  pub ended : after.ended ≡ before.ended
 
 -- no further note can be told: none is decided yet, or the stream has ended and no bytes are left
 abbrev pub IsSpent : Bool → List ℕ → Type 0

@@ -77,6 +77,7 @@ impl Reader {
         ensures some { IfOk result (λ answer. IfSome answer (λ note. GivesNote self.old note self.new)) }
         ensures none { IfOk result (λ answer. IfNone answer (IsSpent self.old.ended self.old.bytes × (self.new ≡ self.old))) }
         ensures err { OnErr result (self.new ≡ self.old) }
+        ensures ended { self.new.ended ≡ self.old.ended }
     {
         let rest = &self.buffer[self.given..];
         let run = foreign_run(rest, self.foreign, self.ended);
