@@ -34,6 +34,13 @@ impl Bytes {
         })
     }
 
+    /// These bytes, moved in.
+    pub fn from_vec(bytes: Vec<u8>) -> Self
+        ensures { result ≡ bytes.items }
+    {
+        Bytes { bytes }
+    }
+
     /// All of them, in order.
     pub fn bytes(&self) -> &[u8]
         ensures { result.now ≡ self.now }
