@@ -3,3 +3,4 @@ pub mod BytesLemmas
 pub mod Going
 pub mod Passing
 pub mod KeptLemmas
+pub mod NamesLemmas

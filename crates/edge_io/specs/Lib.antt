@@ -3,6 +3,7 @@ pub mod Causes
 pub mod Plans
 pub mod Lists
 pub mod Disk
+pub mod Names
 pub mod Moments
 pub mod Steps
 pub mod Kept

@@ -7,6 +7,7 @@
 //! - `source`, `sink`: where bytes come from and go, and the writing of a whole piece.
 //! - `shelf`: a folder, its drafts, and what a stop at each moment may leave of it.
 //! - `list_source`, `list_sink`, `mem_shelf`: the forms in memory, which fail at the calls that they are told to.
+//! - `names`: the list of a folder's names.
 //! - `plan`, `kept`: which calls of these fail, and the files and moments that a shelf in memory keeps.
 #![tactic(auto)]
 
@@ -15,6 +16,7 @@ mod kept;
 mod list_sink;
 mod list_source;
 mod mem_shelf;
+mod names;
 mod plan;
 mod shelf;
 mod sink;
@@ -24,6 +26,7 @@ pub use failed::Failed;
 pub use list_sink::ListSink;
 pub use list_source::ListSource;
 pub use mem_shelf::MemShelf;
+pub use names::NamesFault;
 pub use shelf::Shelf;
 pub use sink::{Sink, write_whole};
 pub use source::Source;

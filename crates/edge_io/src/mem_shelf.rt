@@ -3,8 +3,9 @@ ghost use Rattle.std.specs.Prelude.{◌≡◌, ◌+◌, ◌≤◌, ℕ, Some, No
 ghost use Rattle.edge_io.specs.Kept.{IsWithin};
 
 use crate::kept::{File, Mark, copied, count_at, keep, mark_at};
+use crate::names::names_of;
 use crate::plan::FaultPlan;
-use crate::{Failed, Shelf};
+use crate::{Failed, NamesFault, Shelf};
 use std::alloc::{AllocError, Global};
 use std::mem;
 use sub_number::{Bytes, NoMemory, Text};
@@ -33,7 +34,8 @@ impl Shelf for MemShelf {
     ghost use Rattle.std.specs.Io.{ReadsAtMost};
     ghost use Rattle.edge_io.specs.Causes.{HasCause};
     ghost use Rattle.edge_io.specs.Steps.{Goes, Stays, Ticks, HasDraft, HasFile, IsReady, FindsLength, ReadsPart, Opened, Dropped, Grown, GrownInPart, Synced, Placed, PlacedOrNot, Settled};
-    ghost use Rattle.edge_io.specs.Plans.{FailsAsListed};
+    ghost use Rattle.edge_io.specs.Names.{ListsNames, HasNamesCause};
+    ghost use Rattle.edge_io.specs.Plans.{FailsAsListed, NamesAsListed};
     ghost use Rattle.edge_io.specs.MemState.{folder_of, folder_counts, shelf_course, shelf_calls, shelf_faults, Remembers};
 
     ghost state = { λ s. Some (folder_of s) };
@@ -43,6 +45,19 @@ impl Shelf for MemShelf {
     ghost faults = { λ s. s.plan.faults };
 
     ghost published_counts = { λ s. folder_counts s };
+
+    /// Want of memory is no failure of the folder here, and raises no count.
+    fn names(&mut self, alloc: Global) -> Result<Vec<Text>, NamesFault>
+        ensures found { IfOk result (λ names. ListsNames (Some (folder_of self.old)) names.items) }
+        ensures same { Goes (Some (folder_of self.old)) (Some (folder_of self.new)) Stays }
+        ensures time { Ticks (shelf_calls self.old) (shelf_calls self.new) }
+        ensures cause { HasNamesCause (shelf_faults self.old) (shelf_faults self.new) result }
+        ensures listed { NamesAsListed (shelf_course self.old) (shelf_course self.new) result }
+        ensures moments { Remembers self.old self.new }
+    {
+        self.plan.turn()?;
+        names_of(alloc, &self.files)
+    }
 
     fn length(&mut self, name: &str) -> Result<Option<u64>, Failed>
         ensures found { IfOk result (FindsLength (Some (folder_of self.old)) name.now) }

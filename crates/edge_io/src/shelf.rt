@@ -3,9 +3,12 @@ ghost use Rattle.std.specs.Prelude.{Option, IfSome, List, ℕ, ◌<◌, length, 
 ghost use Rattle.std.specs.Io.{ReadsAtMost};
 ghost use Rattle.edge_io.specs.Causes.{HasCause};
 ghost use Rattle.edge_io.specs.Disk.{Folder, IsImage};
+ghost use Rattle.edge_io.specs.Names.{ListsNames, HasNamesCause};
 ghost use Rattle.edge_io.specs.Steps.{Goes, Stays, Ticks, HasDraft, HasFile, IsReady, FindsLength, ReadsPart, Opened, Dropped, Grown, GrownInPart, Synced, Placed, PlacedOrNot, Settled};
 
-use crate::Failed;
+use crate::{Failed, NamesFault};
+use std::alloc::Global;
+use sub_number::Text;
 
 /// A folder of named files, as docs/FORMATS.md describes it. A file is written as a draft, of which there is at most one,
 /// brought to the disk by `sync_draft`, given its name by `publish`, and kept over any stop after `sync_folder`. Each call
@@ -19,6 +22,14 @@ pub trait Shelf {
 
     /// How often a call has failed.
     ghost faults: { Self → ℕ };
+
+    /// The published names that are texts, each once, in the order of their bytes. Nothing changes. `NamesFault::NoMemory`
+    /// comes only for want of memory, and is no failure of the folder.
+    fn names(&mut self, alloc: Global) -> Result<Vec<Text>, NamesFault>
+        ensures found { IfOk result (λ names. ListsNames (state self.old) names.items) }
+        ensures same { Goes (state self.old) (state self.new) Stays }
+        ensures time { Ticks (clock self.old) (clock self.new) }
+        ensures cause { HasNamesCause (faults self.old) (faults self.new) result };
 
     /// How many bytes the published file of this name has; none exactly where there is no such file. Nothing changes.
     fn length(&mut self, name: &str) -> Result<Option<u64>, Failed>
