@@ -1,21 +1,20 @@
 -- A packet in its parts, and the one event that they tell of.
 use Rattle.std.proofs.Common.{◌≡◌, ℕ, ◌+◌, ◌-◌, ◌/◌, ◌%◌, ◌≤◌, ◌<◌, Bool, true, false, Option, Some, None, List, [], ◌∷◌, ◌++◌, length, get_or, take, drop, All, refl, sym, ap, ◌∙◌, append_assoc, arith}
-use Rattle.std.specs.Prelude.{is_some, option_map, IfSome, IsSome, IsNone, IsTrue, IfOk, Result, Ok, Err, ◌↔◌}
+use Rattle.std.specs.Prelude.{is_some, option_map, IfSome, IsTrue, IfOk, Result, Ok, Err, ◌↔◌}
 use Rattle.std.specs.Int.{w32, to_be_bytes}
 use Rattle.std.proofs.lemmas.List.{take_at, drop_at, take-append-drop, take-take, length-append, length-take-le}
 use Rattle.std.proofs.lemmas.List.Elements.{All-nil, All-cons, All-head, All-tail}
 use Rattle.sub_number.specs.Texts.{IsText, SpellsText}
 use Rattle.sub_number.specs.Checksum.{crc32}
-use Rattle.sub_number.proofs.NumberLemmas.{AreBytes, are_bytes_take}
+use Rattle.sub_number.proofs.NumberLemmas.{AreBytes}
 use Rattle.packet_codec.specs.declared.event.FilePart.{FilePart}
 use Rattle.packet_codec.specs.declared.event.Event.{Event}
 use Rattle.packet_codec.specs.declared.header.Header.{Header}
-use Rattle.packet_codec.specs.Flags.{first_flags, second_flags, status_number, flag}
+use Rattle.packet_codec.specs.Flags.{first_flags, second_flags}
 use Rattle.packet_codec.specs.Fields.{SpellsOptional, SpellsStamp, SpellsTexts, SpellsTags, SpellsFile, SpellsFields}
 use Rattle.packet_codec.specs.Packet.{signature, SpellsEvent, IsPacket}
 use Rattle.packet_codec.specs.Grammar.{Found, NotFound, Flagged}
 use Rattle.packet_codec.specs.Shapes.{Run, Runs, CountedRuns, NamedRun, bit, Contents, FieldShapes, HeaderShape, HeaderStands, AreTexts, status_from, file_from, event_from, contents_of, fields_at}
-use Rattle.packet_codec.specs.Simple.{IsSimple, BeginsWithSimple, BeginsWithNoSimple}
 use Rattle.packet_codec.proofs.GrammarLemmas.{are_front, are_rest, found_same, same_front}
 use Rattle.packet_codec.proofs.FlagLemmas.{FirstBits, SecondBits, first_bits, second_bits, first_from_bits, second_from_bits, status_from_number, number_of_status}
 use Rattle.packet_codec.proofs.PartsLemmas.{fields_free}
@@ -379,124 +378,6 @@ by_checksum p body checksum header c answer are stands len shape texts body-is c
 
 pub header_never : (p : List ℕ) (e : Event) → SpellsEvent p e → NotFound HeaderShape p → ⊥
 header_never p e s never = never _ _ (spelled_header p e s)
-
--- ---- simple events
-
-some_is : {A : Type 0} (o : Option A) → IsSome o → is_some o ≡ true
-some_is o there = there
-
-none_is : {A : Type 0} (o : Option A) → IsNone o → is_some o ≡ false
-none_is (Some a) there = absurd cc
-none_is None there = refl
-
--- the flags that a simple event has, besides that it is runnable
-pub record HasSimpleFlags (e : Event) : Type 0 where
-  pub first : first_flags e / 2 ≡ 20
-  pub second : second_flags e ≡ 3
-
-runnable_or_not : (runnable : Bool) → (0x28 + flag runnable 1) / 2 ≡ 20
-runnable_or_not true = refl
-runnable_or_not false = refl
-
-simple_flags : (e : Event) → IsSimple e → HasSimpleFlags e
-simple_flags e simple =
-    let id = some_is e.id simple.id in
-    let route = none_is e.route simple.route in
-    let stamp = none_is e.stamp simple.stamp in
-    let tags = none_is e.tags simple.tags in
-    let file = none_is e.file simple.file in
-    let mime = none_is e.mime simple.mime in
-    record {
-      first = rw (id, route, stamp) (runnable_or_not e.runnable);
-      second = rw (tags, file, mime, simple.eof, simple.status) refl;
-    }
-
-none_from : {A : Type 0} (o : Option A) → false ≡ is_some o → IsNone o
-none_from (Some a) e = absurd cc
-none_from None e = refl
-
-pub simple_by_flags : (e : Event) → HasSimpleFlags e → IsSimple e
-simple_by_flags e flags =
-    let first = first_of e in
-    let second = second_of e in
-    let id-bit : first_flags e / 8 % 2 ≡ 1 = id_digit (first_flags e) flags.first in
-    let route-bit : first_flags e / 4 % 2 ≡ 0 = route_digit (first_flags e) flags.first in
-    let stamp-bit : first_flags e / 2 % 2 ≡ 0 = stamp_digit (first_flags e) flags.first in
-    let status : status_number e.status ≡ 3 = sym second.status_bits ∙ ap (λ (n : ℕ). n % 8) flags.second in
-    record {
-      id = sym (rw id-bit at first.id_bit);
-      status = sym (status_from_number e.status) ∙ ap status_from status;
-      stamp = none_from e.stamp (rw stamp-bit at first.stamp_bit);
-      tags = none_from e.tags (rw (flags.second) at second.tags_bit);
-      mime = none_from e.mime (rw (flags.second) at second.mime_bit);
-      file = none_from e.file (rw (flags.second) at second.file_bit);
-      route = none_from e.route (rw route-bit at first.route_bit);
-      eof = sym (rw (flags.second) at second.eof_bit);
-    }
-  where
-    id_digit : (n : ℕ) → n / 2 ≡ 20 → n / 8 % 2 ≡ 1
-    id_digit n e = omega arith
-
-    route_digit : (n : ℕ) → n / 2 ≡ 20 → n / 4 % 2 ≡ 0
-    route_digit n e = omega arith
-
-    stamp_digit : (n : ℕ) → n / 2 ≡ 20 → n / 2 % 2 ≡ 0
-    stamp_digit n e = omega arith
-
--- the header that a simple event at the front has
-simple_header : (p : List ℕ) (size : ℕ) (e : Event) → (s : BeginsWithSimple p size e) → Found HeaderShape p (first_flags e, (second_flags e, size)) ((s.spells.fields ++ to_be_bytes w32 (crc32 s.spells.body)) ++ drop size p)
-simple_header p size e s =
-    let q : List ℕ = take size p in
-    let h = spelled_header q e s.spells in
-    let len : length q ≡ size = length-take-le size p s.in_range in
-    record {
-      front = h.front;
-      parts = sym (take-append-drop size p) ∙ ap (λ (l : List ℕ). l ++ drop size p) h.parts ∙ append_assoc h.front _ (drop size p);
-      spelled = rw len at h.spelled;
-    }
-
-pub no_simple_without_header : (p : List ℕ) → NotFound HeaderShape p → BeginsWithNoSimple p
-no_simple_without_header p never size e s = never _ _ (simple_header p size e s)
-
-pub record SimpleHeader (p : List ℕ) (header : Header) (size : ℕ) : Type 0 where
-  pub first : header.first / 2 ≡ 20
-  pub second : header.second ≡ 3
-  pub same_size : size ≡ header.size
-  pub in_range : header.size ≤ length p
-
-pub simple_told : (p : List ℕ) (header : Header) (size : ℕ) (e : Event) → AreBytes p → HeaderStands p header → BeginsWithSimple p size e → SimpleHeader p header size
-simple_told p header size e are stands s =
-    let same = found_same HeaderShape header_free p _ _ _ _ are (header_found p header stands) (simple_header p size e s) in
-    let flags = simple_flags e s.simple in
-    let size-is : header.size ≡ size = ap (λ (v : ℕ × (ℕ × ℕ)). v.1.1) same.value in
-    record {
-      first = ap (λ (v : ℕ × (ℕ × ℕ)). v.0 / 2) same.value ∙ flags.first;
-      second = ap (λ (v : ℕ × (ℕ × ℕ)). v.1.0) same.value ∙ flags.second;
-      same_size = sym size-is;
-      in_range = omega (arith, s.in_range);
-    }
-
--- the same header stands at the front of the packet alone
-stands_alone : (p : List ℕ) (header : Header) → HeaderStands p header → header.size ≤ length p → HeaderStands (take header.size p) header
-stands_alone p header stands in_range =
-    let room = room_of p header stands in
-    record {
-      in_range = omega (arith, length-take-le header.size p in_range);
-      spelled = rw (take-take header.start header.size p (omega arith)) stands.spelled;
-    }
-
-pub no_simple_packet : (p : List ℕ) (header : Header) (answer : Bool) → AreBytes p → HeaderStands p header → answer ≡ false → (IsTrue answer ↔ IsPacket (take header.size p)) → BeginsWithNoSimple p
-no_simple_packet p header answer are stands is_not tests size e s =
-    let size-is = (simple_told p header size e are stands s).same_size in
-    let yes : answer ≡ true = tests.1 (e, rw size-is at s.spells) in
-    let neither : false ≡ true = sym is_not ∙ yes in
-    absurd cc
-
-pub simple_found : (p : List ℕ) (header : Header) (answer : Bool) → AreBytes p → HeaderStands p header → header.size ≤ length p → header.first / 2 ≡ 20 → header.second ≡ 3 → answer ≡ true → (IsTrue answer ↔ IsPacket (take header.size p)) → (e : Event) × BeginsWithSimple p header.size e
-simple_found p header answer are stands in_range first second holds tests =
-    let packet = tests.0 holds in
-    let t = told_at (take header.size p) header packet.0 (are_bytes_take header.size p are) (stands_alone p header stands in_range) packet.1 in
-    (packet.0, record { in_range = in_range; spells = packet.1; simple = simple_by_flags packet.0 (record { first = rw (← t.first) first; second = rw (← t.second) second }) })
 
 -- ---- decoding
 

@@ -3,7 +3,6 @@ pub mod Fields
 pub mod Packet
 pub mod Canonical
 pub mod Routing
-pub mod Simple
 pub mod Header
 pub mod Grammar
 pub mod Shapes

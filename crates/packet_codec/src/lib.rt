@@ -33,7 +33,7 @@ pub use encoding::encode;
 pub use event::{Event, FilePart};
 pub use front::Front;
 pub use laws::packets_are_one_event;
-pub use looking::{look, look_simple};
+pub use looking::look;
 pub use routing::reroute;
 pub use sizes::{fits, routed_size, size};
 pub use stamp::Stamp;

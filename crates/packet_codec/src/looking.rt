@@ -1,9 +1,7 @@
 //! What the front of some bytes is.
 
-ghost use Rattle.std.specs.Prelude.{◌↔◌, IfSome, IfNone, IsTrue};
+ghost use Rattle.std.specs.Prelude.{◌↔◌, IsTrue};
 ghost use Rattle.packet_codec.specs.Header.{IsFrontOfHeader, LooksLike};
-ghost use Rattle.packet_codec.specs.Simple.{BeginsWithSimple, BeginsWithNoSimple};
-ghost use Rattle.packet_codec.specs.declared.event.Event.{Event};
 
 use crate::front::Front;
 use crate::header::{SIGNATURE, header_at};
@@ -58,21 +56,4 @@ pub fn look(bytes: &[u8]) -> Front
         return Front::No;
     }
     Front::Packet(header.size)
-}
-
-/// The size in bytes of the packet that the bytes begin with, where it says that a test passed and nothing else: it
-/// has an id and the status success, is runnable or not, and has no other field. None where they do not begin with
-/// one. It takes no memory, and refuses as `look` does.
-pub fn look_simple(bytes: &[u8]) -> Option<usize>
-    ensures found { IfSome result (λ size. (e : Event) × BeginsWithSimple bytes.now size e) }
-    ensures none { IfNone result (BeginsWithNoSimple bytes.now) }
-{
-    let header = header_at(bytes)?;
-    if header.first / 2 != 0x14 || header.second != 3 || header.size > bytes.len() {
-        return None;
-    }
-    if !is_packet(header, &bytes[..header.size]) {
-        return None;
-    }
-    Some(header.size)
 }

@@ -1,4 +1,4 @@
-use crate::{Event, Front, Status, Tags, decode, look, look_simple};
+use crate::{Event, Front, Status, Tags, decode, look};
 use std::alloc::Global;
 use std::test::Fail;
 use sub_number::Text;
@@ -115,26 +115,6 @@ fn empty_parts_are_read(rt: HostRuntime) -> Result<(), Fail> {
 }
 
 #[test]
-fn only_a_success_is_simple(rt: HostRuntime) {
-    assert_eq!(rt; look_simple(SUCCESS_FOO), Some(12));
-    assert_eq!(rt; look_simple(WIDE_FOO), Some(13));
-    assert_eq!(rt;
-        look_simple(b"\xb3\x29\x03\x0c\x03foo\x45\x9d\xfe\x10\xb3"),
-        Some(12)
-    );
-    for bytes in [EXISTS_FOO, FAIL_FOO, END_ALONE, ROUTED_FOO, EVERY_FIELD] {
-        assert_eq!(rt; look_simple(bytes), None);
-    }
-    assert_eq!(rt; look_simple(&SUCCESS_FOO[..11]), None);
-    assert_eq!(rt;
-        look_simple(b"\xb3\x29\x03\x0c\x03foo\x45\x9d\xfe\x11"),
-        None
-    );
-    assert_eq!(rt; look_simple(b"a"), None);
-    assert_eq!(rt; look_simple(b""), None);
-}
-
-#[test]
 fn each_front_of_a_packet_may_become_one(rt: HostRuntime) {
     for size in 0..EVERY_FIELD.len() {
         assert_eq!(rt; look(&EVERY_FIELD[..size]), Front::More, "{size}");
@@ -220,6 +200,5 @@ const REFUSED: [(&str, &[u8]); 22] = [
 fn what_cannot_be_a_packet_is_refused(rt: HostRuntime) {
     for (what, bytes) in REFUSED {
         assert_eq!(rt; look(bytes), Front::No, "{what}");
-        assert_eq!(rt; look_simple(bytes), None, "{what}");
     }
 }

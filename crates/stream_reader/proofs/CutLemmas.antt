@@ -1,11 +1,10 @@
 -- A stream has one cut, and its first bytes begin it.
-use Rattle.std.proofs.Common.{◌≡◌, ℕ, ◌+◌, ◌≤◌, ◌<◌, List, [], ◌∷◌, ◌++◌, length, get_or, drop, refl, sym, ap, ◌∙◌, append_assoc, arith}
+use Rattle.std.proofs.Common.{◌≡◌, ℕ, List, [], ◌∷◌, ◌++◌, length, get_or, drop, refl, sym, ap, ◌∙◌, arith}
 use Rattle.std.proofs.lemmas.List.{length-append}
 use Rattle.packet_codec.specs.declared.event.Event.{Event}
 use Rattle.packet_codec.specs.Grammar.{AreBytes}
-use Rattle.packet_codec.specs.Header.{NeedsMore}
-use Rattle.stream_reader.specs.Cut.{Piece, packet, foreign, BeginsWithPacketOf, BeginsWithNone, IsCut, IsOpenCut}
-use Rattle.stream_reader.proofs.FrontLemmas.{are_before, are_behind, packet_some, found_none, none_found, found_longer, found_needs_no_more, stays_none, one_found}
+use Rattle.stream_reader.specs.Cut.{Piece, packet, foreign, BeginsWithPacketOf, IsCut, IsOpenCut}
+use Rattle.stream_reader.proofs.FrontLemmas.{are_behind, packet_some, found_none, none_found, found_longer, found_needs_no_more, stays_none, one_found}
 
 -- where a packet stands, there are bytes
 pub not_empty : (rest : List ℕ) (e : Event) → BeginsWithPacketOf [] e rest → ⊥

@@ -1,19 +1,17 @@
 -- The first note of what is held, and that a reader's notes are those of the stream.
 use Rattle.std.proofs.Common.{◌≡◌, ◌⊎◌, ℕ, ◌+◌, ◌≤◌, ◌<◌, Bool, true, false, List, [], ◌∷◌, ◌++◌, length, take, drop, refl, inl, inr, sym, ap, ◌∙◌, append_assoc, arith}
-use Rattle.std.proofs.lemmas.Bool.{cases_lt}
-use Rattle.std.proofs.lemmas.List.{length-append, append-nil, take-append-drop, length-take-le, drop_all, drop-drop}
-use Rattle.std.proofs.lemmas.List.Elements.{All-nil}
+use Rattle.std.proofs.lemmas.List.{take-append-drop, length-take-le, drop_all, drop-drop}
 use Rattle.packet_codec.specs.declared.event.Event.{Event}
 use Rattle.packet_codec.specs.Grammar.{AreBytes}
-use Rattle.packet_codec.specs.Header.{BeginsWithPacket, NeedsMore}
+use Rattle.packet_codec.specs.Header.{BeginsWithPacket}
 use Rattle.packet_codec.specs.declared.front.Front.{Front}
 use Rattle.packet_codec.specs.declared.front.Front.TheVariants.{Packet, More, No}
 use Rattle.stream_reader.specs.declared.note.Note.{Note}
 use Rattle.stream_reader.specs.declared.note.Note.TheVariants as note
 use Rattle.stream_reader.specs.declared.first.Cut.{Cut}
 use Rattle.stream_reader.specs.Cut.{Piece, packet, foreign, BeginsWithPacketOf, IsCut, IsOpenCut}
-use Rattle.stream_reader.specs.Notes.{foreign_note, notes_behind, notes_of, HasNotes, HasDecided}
-use Rattle.stream_reader.specs.Stream.{BeginsWithNotes, EndsWithNotes, Gives, IsMadeOf, IsSpent, GivesNote}
+use Rattle.stream_reader.specs.Notes.{foreign_note, notes_behind, notes_of}
+use Rattle.stream_reader.specs.Stream.{BeginsWithNotes, EndsWithNotes, Gives, IsSpent, GivesNote}
 use Rattle.stream_reader.specs.Run.{AreForeign, StopsBy, IsRun}
 use Rattle.stream_reader.specs.First.{IsPacketNote, IsFirst}
 use Rattle.stream_reader.proofs.FrontLemmas.{are_dropped, packet_some, begins_found, found_longer, found_needs_no_more, are_both}

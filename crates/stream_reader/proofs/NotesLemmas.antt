@@ -11,7 +11,7 @@ use Rattle.stream_reader.specs.declared.note.Note.{Note}
 use Rattle.stream_reader.specs.declared.note.Note.TheVariants as note
 use Rattle.stream_reader.specs.Cut.{Piece, packet, foreign, IsCut}
 use Rattle.stream_reader.specs.Stream.{AreMadeOf}
-use Rattle.stream_reader.specs.Notes.{longest_foreign, foreign_note, notes_behind, notes_of, decided_of, BeginsForeign, AreFullRuns, events_of}
+use Rattle.stream_reader.specs.Notes.{foreign_note, notes_behind, notes_of, BeginsForeign, AreFullRuns, events_of}
 
 -- the foreign pieces of a run
 abbrev pub pieces_of : List ℕ → List Piece

@@ -1,15 +1,14 @@
 -- Foreign bytes at the front, and the cut of a stream that begins with them.
-use Rattle.std.proofs.Common.{eq-eqb, ◌-◌, ◌≡◌, ◌≢◌, ℕ, zero, suc, ◌+◌, ◌≤◌, ◌<◌, min, Bool, true, false, List, [], ◌∷◌, ◌++◌, length, get_or, take, drop, refl, inl, inr, sym, ap, ◌∙◌, append_assoc, arith}
+use Rattle.std.proofs.Common.{eq-eqb, ◌-◌, ◌≡◌, ℕ, zero, suc, ◌+◌, ◌≤◌, ◌<◌, min, Bool, true, false, List, [], ◌∷◌, ◌++◌, length, get_or, take, drop, refl, inl, inr, sym, ap, ◌∙◌, append_assoc, arith}
 use Rattle.std.proofs.lemmas.Bool.{cases_lt}
-use Rattle.std.proofs.lemmas.List.{length-append, append-nil, take-append-drop, get_or-take, get_or-drop, length-drop, drop-append-le}
+use Rattle.std.proofs.lemmas.List.{take-append-drop, get_or-take, get_or-drop, length-drop, drop-append-le}
 use Rattle.std.specs.Prelude.{slice_index, ◌==◌}
 use Rattle.packet_codec.specs.Packet.{signature}
 use Rattle.packet_codec.specs.Grammar.{AreBytes}
-use Rattle.packet_codec.specs.Header.{BeginsWithPacket, BeginsWithHeader, NeedsMore, LooksLike}
-use Rattle.packet_codec.specs.declared.front.Front.{Front}
-use Rattle.packet_codec.specs.declared.front.Front.TheVariants.{Packet, More, No}
+use Rattle.packet_codec.specs.Header.{NeedsMore, LooksLike}
+use Rattle.packet_codec.specs.declared.front.Front.TheVariants.{More, No}
 use Rattle.packet_codec.proofs.LookLemmas.{front_of_none}
-use Rattle.stream_reader.specs.Cut.{Piece, packet, foreign, BeginsWithNone, IsCut, IsOpenCut}
+use Rattle.stream_reader.specs.Cut.{Piece, IsCut, IsOpenCut}
 use Rattle.stream_reader.specs.Run.{IsForeign, AreForeign, IsRun}
 use Rattle.stream_reader.proofs.FrontLemmas.{none_found, stays_none, stays_closed, packet_needs_no_more, header_first, front_first, are_dropped}
 use Rattle.stream_reader.proofs.NotesLemmas.{pieces_of}

@@ -19,7 +19,7 @@ mod run;
 mod whole;
 
 pub use laws::{notes_in_turn, notes_of_streams};
-pub use note::Note;
+pub use note::{Note, stdout_event};
 pub use reader::Reader;
 pub use whole::notes_of_pieces;
 

@@ -1,6 +1,6 @@
-use Rattle.std.proofs.Common.{rules, arith}
+use Rattle.std.proofs.Common.{arith}
 use Rattle.stream_reader.proofs.FrontLemmas.{are_from_fits}
-use Rattle.stream_reader.proofs.GivingLemmas.{first_is_event, first_is_run, spent_open, spent_ended}
+use Rattle.stream_reader.proofs.GivingLemmas.{first_is_event, first_is_run, spent_open}
 use Rattle.stream_reader.proofs.first.first_note.Goals as goal
 use Rattle.stream_reader.proofs.first.first_note.Goals.{in_default-via-in-Packet+else-run-eq0, in_default-via-in-No+else-run-eq0-2}
 

@@ -1,4 +1,4 @@
-use Rattle.std.proofs.Common.{◌∙◌, ◌++◌, sym, ap, refl, [], map, arith}
+use Rattle.std.proofs.Common.{◌∙◌, ◌++◌, sym, ap, [], map, arith}
 use Rattle.stream_reader.specs.Notes.{notes_of, decided_of}
 use Rattle.stream_reader.proofs.FrontLemmas.{are_before, are_behind}
 use Rattle.stream_reader.proofs.CutLemmas.{one_cut, one_open_cut, open_cut_first}

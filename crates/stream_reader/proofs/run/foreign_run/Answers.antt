@@ -1,4 +1,4 @@
-use Rattle.std.proofs.Common.{◌≡◌, ◌+◌, sym, ◌∙◌, arith, rules}
+use Rattle.std.proofs.Common.{◌+◌, arith, rules}
 use Rattle.std.proofs.lemmas.List.{take_rest}
 use Rattle.stream_reader.proofs.FrontLemmas.{are_from_fits}
 use Rattle.stream_reader.proofs.RunLemmas.{foreign_from, one_foreign_more, run_is_open}

@@ -1,5 +1,3 @@
-use Rattle.std.proofs.Common.{rules}
-use Rattle.stream_reader.specs.Stream.{GivesNote, GivesNotes}
 use Rattle.stream_reader.proofs.TurnLemmas.{notes_none, notes_more}
 use Rattle.stream_reader.proofs.whole.take_notes.Goals as goal
 

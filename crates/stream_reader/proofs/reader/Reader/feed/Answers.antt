@@ -1,4 +1,4 @@
-use Rattle.std.proofs.Common.{◌≡◌, ◌≤◌, ◌+◌, length, false, rules, arith, length-append, ap}
+use Rattle.std.proofs.Common.{◌≡◌, length, false, rules, arith, length-append, ap}
 use Rattle.stream_reader.proofs.FrontLemmas.{are_from_fits}
 use Rattle.stream_reader.proofs.RunLemmas.{foreign_fed}
 use Rattle.stream_reader.proofs.reader.Reader.feed.Goals as goal
