@@ -1,0 +1,12 @@
+use Rattle.std.proofs.Common.{◌≡◌, ◌∙◌, sym, ap, [], ◌++◌, map}
+use Rattle.std.proofs.lemmas.Map.Iter.{rest_all}
+use Rattle.std.proofs.lemmas.List.{append-nil}
+use Rattle.outcome_fold.proofs.CloseLemmas.{row_of_open, rows_at_end}
+use Rattle.outcome_fold.proofs.fold.Fold.close.Goals as goal
+
+pub returns : goal.returns
+returns c seen has =
+    let none : c.loop-key.key-iterator ≡ [] = rest_all (λ x. x) _ _ _ c.in-None.is c.next.ensures.steps in
+    let all : c.loop-key.rows.items ≡ map row_of_open c.into_iter-key-iterator.result = sym (append-nil c.loop-key.rows.items) ∙ ap (λ rest. c.loop-key.rows.items ++ map row_of_open rest) (sym none) ∙ c.loop-key.invariant in
+    let gives = c.into_iter-key-iterator.ensures.into_iter_gives in
+    all ∙ ap (map row_of_open) gives.0 ∙ rows_at_end seen _ gives.5 has

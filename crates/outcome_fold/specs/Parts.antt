@@ -1,0 +1,85 @@
+-- The parts of a test's events (docs/FORMATS.md, "The fold": a part ends with each event that completes its test).
+use Rattle.std.specs.Prelude.{ℕ, ◌+◌, ◌-◌, ◌*◌, Bool, false, Option, Some, None, List, [], ◌∷◌, take, codes, nat_eq, nat_le, is_some, if◌then◌else◌}
+use Rattle.std.specs.List.{filter, list_any, flat_map, starts_with}
+use Rattle.std.specs.Option.{option_map, unwrap_or}
+use Rattle.std.specs.Ordering.{eq_by_cmp}
+use Rattle.packet_codec.specs.declared.stamp.Stamp.{Stamp}
+use Rattle.packet_codec.specs.declared.status.Status.{Status}
+use Rattle.packet_codec.specs.declared.status.Status.TheVariants as status
+use Rattle.packet_codec.specs.declared.event.FilePart.{FilePart}
+use Rattle.packet_codec.specs.declared.event.Event.{Event}
+use Rattle.outcome_fold.specs.declared.ended.Ended.{Ended}
+use Rattle.outcome_fold.specs.declared.ended.Ended.TheVariants as ended
+use Rattle.outcome_fold.specs.declared.test_key.TestKey.{TestKey}
+use Rattle.outcome_fold.specs.Order.{test_cmp, in_byte_order}
+
+-- the test that an event speaks of, which an event without an id does not
+abbrev pub test_of : Event → Option TestKey
+test_of e = option_map (λ id. record { route = e.route; id = id }) e.id
+
+abbrev pub speaks_of : TestKey → Option TestKey → Bool
+speaks_of test None = false
+speaks_of test (Some other) = eq_by_cmp test_cmp test other
+
+-- the events that speak of the test, of its id under its route
+abbrev pub events_of_test : TestKey → List Event → List Event
+events_of_test test = filter (λ e. speaks_of test (test_of e))
+
+-- How an event of this status ends its test. Unset and inprogress end none.
+abbrev pub ended_by : Status → Option Ended
+ended_by status.Unset = None
+ended_by status.Exists = Some ended.Exists
+ended_by status.InProgress = None
+ended_by status.Success = Some ended.Success
+ended_by status.UxSuccess = Some ended.UxSuccess
+ended_by status.Skip = Some ended.Skip
+ended_by status.Fail = Some ended.Fail
+ended_by status.XFail = Some ended.XFail
+
+abbrev pub completes : Event → Bool
+completes e = is_some (ended_by e.status)
+
+-- the last part of a test's events: those behind the last one that completes
+abbrev pub last_part : List Event → List Event
+last_part [] = []
+last_part (e ∷ es) = if list_any completes (e ∷ es) then last_part es else e ∷ es
+
+-- in nanoseconds since 1970 in UTC
+abbrev pub instant : Stamp → ℕ
+instant stamp = stamp.seconds * 1000000000 + stamp.nanos
+
+-- the instant of the first event
+abbrev pub start_of : List Event → Option ℕ
+start_of [] = None
+start_of (e ∷ es) = option_map instant e.stamp
+
+-- what lies between two instants, where both are there and the second is not the earlier one
+abbrev pub elapsed : Option ℕ → Option ℕ → Option ℕ
+elapsed None end = None
+elapsed (Some start) None = None
+elapsed (Some start) (Some end) = if nat_le start end then Some (end - start) else None
+
+-- the tags of the last event that has tags
+abbrev pub last_tags : List Event → List (List ℕ)
+last_tags [] = []
+last_tags (e ∷ es) = if list_any (λ e. is_some e.tags) es then last_tags es else unwrap_or e.tags []
+
+abbrev pub tags_of : List Event → List (List ℕ)
+tags_of part = in_byte_order (last_tags part)
+
+abbrev pub is_text_type : List ℕ → Bool
+is_text_type mime = starts_with nat_eq mime (codes "text/")
+
+-- the bytes of the event's file, where it has a MIME type that begins with text/
+abbrev pub text_in : Option (List ℕ) → Option FilePart → List ℕ
+text_in None file = []
+text_in (Some mime) None = []
+text_in (Some mime) (Some file) = if is_text_type mime then file.bytes else []
+
+-- the bytes of a text that are kept
+abbrev pub text_limit : ℕ
+text_limit = 65536
+
+-- the first bytes of the part's files of text, joined
+abbrev pub text_of : List Event → List ℕ
+text_of part = take text_limit (flat_map (λ e. text_in e.mime e.file) part)

@@ -1,0 +1,149 @@
+//! The fold of events into rows.
+
+ghost use Rattle.std.specs.Prelude.{◌≡◌, List, [], ◌∷◌, ◌++◌, IfOk, OnOk, OnErr, is_some, if◌then◌else◌};
+ghost use Rattle.std.specs.FinMap as map;
+ghost use Rattle.packet_codec.specs.declared.event.Event.{Event as AnEvent};
+ghost use Rattle.outcome_fold.specs.Rows.{is_failure, completed_row, open_rows};
+ghost use Rattle.outcome_fold.specs.Folded.{HasSeen, open_in, extended, with_extended, row_at};
+
+use crate::ended::{Ended, ended_by};
+use crate::kept_text::KeptText;
+use crate::part::{Started, elapsed, instant_of};
+use crate::row::Row;
+use crate::test_key::{TestKey, key_of};
+use packet_codec::Event;
+use std::alloc::Global;
+use std::collections::BTreeMap;
+use sub_number::{Bytes, NoMemory};
+
+/// The tests that are open, over all routes, while events are folded into rows.
+#[derive(Drop)]
+pub struct Fold {
+    alloc: Global,
+    open: BTreeMap<TestKey, Started>,
+}
+
+impl Fold {
+    /// A fold that has taken no event. It takes no memory yet.
+    pub fn new(alloc: Global) -> Self
+        ensures { HasSeen result [] }
+    {
+        Fold {
+            alloc,
+            open: BTreeMap::new(alloc),
+        }
+    }
+
+    // Whether the test is open. Where it is, its part takes the event.
+    fn extend(&mut self, key: &TestKey, event: &Event) -> Result<bool, NoMemory>
+        ensures was_open { IfOk result (λ was_open. was_open ≡ is_some (map.get (open_in self.old) key.now)) }
+        ensures ok { OnOk result (open_in self.new ≡ with_extended (open_in self.old) key.now event.now) }
+        ensures err { OnErr result (open_in self.new ≡ open_in self.old) }
+    {
+        let alloc = self.alloc;
+        match self.open.get_mut(key) {
+            Some(started) => {
+                started.take(alloc, event)?;
+                Ok(true)
+            }
+            None => Ok(false),
+        }
+    }
+
+    // Takes an event that does not complete its test, which is open then.
+    fn go_on(&mut self, key: TestKey, event: &Event) -> Result<(), NoMemory>
+        ensures ok { OnOk result (open_in self.new ≡ map.insert (open_in self.old) key (extended (map.get (open_in self.old) key) event.now)) }
+        ensures err { OnErr result (open_in self.new ≡ open_in self.old) }
+    {
+        if self.extend(&key, event)? {
+            return Ok(());
+        }
+        let started = Started::begun(self.alloc, event)?;
+        self.open.insert(key, started)?;
+        Ok(())
+    }
+
+    // What the part of the test says with this event, and the test is no longer open.
+    fn finish(&mut self, key: &TestKey, event: &Event) -> Result<Started, NoMemory>
+        ensures part { IfOk result (λ started. started ≡ extended (map.get (open_in self.old) key.now) event.now) }
+        ensures ok { OnOk result (open_in self.new ≡ map.remove (open_in self.old) key.now) }
+        ensures err { OnErr result (open_in self.new ≡ open_in self.old) }
+    {
+        if self.extend(key, event)? {
+            Ok(self.open.remove(key).unwrap())
+        } else {
+            Started::begun(self.alloc, event)
+        }
+    }
+}
+
+impl Fold {
+    /// Takes the event, and gives the row of the part of its test that it completes. `None` comes exactly where it
+    /// completes none.
+    ///
+    /// `NoMemory` comes only for want of memory, and then the fold is as before.
+    pub fn add(&mut self, event: &Event) -> Result<Option<Row>, NoMemory>
+        ensures row { (seen : List AnEvent) → HasSeen self.old seen → IfOk result (λ row. row ≡ completed_row seen event.now) }
+        ensures ok { (seen : List AnEvent) → HasSeen self.old seen → OnOk result (HasSeen self.new (seen ++ event.now ∷ [])) }
+        ensures err { OnErr result (open_in self.new ≡ open_in self.old) }
+    {
+        let Some(key) = key_of(event)? else {
+            return Ok(None);
+        };
+        match ended_by(event.status) {
+            Some(ended) => {
+                let started = self.finish(&key, event)?;
+                let nanos = elapsed(started.start, instant_of(event));
+                Ok(Some(row_of(self.alloc, key, ended, nanos, started)))
+            }
+            None => {
+                self.go_on(key, event)?;
+                Ok(None)
+            }
+        }
+    }
+
+    /// Ends the fold, and gives a row for each open test, by route, no route first, and then by id.
+    ///
+    /// `NoMemory` comes only for want of memory.
+    pub fn close(self) -> Result<Vec<Row>, NoMemory>
+        ensures { (seen : List AnEvent) → HasSeen self seen → IfOk result (λ rows. rows.items ≡ open_rows seen) }
+    {
+        let mut rows = Vec::new(self.alloc);
+        for (key, started) in self.open {
+            rows.push(row_of(self.alloc, key, Ended::Open, None, started))?;
+        }
+        Ok(rows)
+    }
+}
+
+// The text of a row that ended so: all of it where the row fails, else none.
+fn row_text(alloc: Global, ended: Ended, text: KeptText) -> Bytes
+    ensures { result ≡ (if is_failure ended then text else []) }
+{
+    if ended.fails() {
+        text.into_bytes()
+    } else {
+        Bytes::from_vec(Vec::new(alloc))
+    }
+}
+
+// The row of a part that says this. It takes no memory.
+fn row_of(alloc: Global, key: TestKey, ended: Ended, nanos: Option<u64>, started: Started) -> Row
+    ensures { result ≡ row_at key ended nanos started }
+{
+    let TestKey { route, id } = key;
+    let Started {
+        start: _,
+        tags,
+        text,
+    } = started;
+    Row {
+        id,
+        route,
+        ended,
+        tags,
+        nanos,
+        text: row_text(alloc, ended, text),
+    }
+}

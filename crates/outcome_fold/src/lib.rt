@@ -1,0 +1,25 @@
+//! What became of the tests of a stream: its events folded into rows, one for each part of a test's events.
+//!
+//! The rules stand in docs/FORMATS.md under "The fold". `specs/` states them of whole lists of events.
+#![tactic(auto)]
+
+mod counting;
+mod ended;
+mod fold;
+mod groups;
+mod kept_text;
+mod outcomes;
+mod part;
+mod row;
+mod rows;
+mod test_key;
+mod text_set;
+
+pub use ended::Ended;
+pub use fold::Fold;
+pub use outcomes::Outcomes;
+pub use row::{Counts, Row};
+pub use rows::Rows;
+
+#[cfg(test)]
+mod tests;

@@ -1,0 +1,43 @@
+//! Which test an event speaks of.
+
+ghost use Rattle.std.specs.Prelude.{◌≡◌, IfOk};
+ghost use Rattle.outcome_fold.specs.Parts.{test_of};
+
+use packet_codec::Event;
+use sub_number::{NoMemory, Text};
+
+/// A test: its route and its id. In order, no route comes first, then the routes by their bytes, and in a route the ids
+/// by their bytes.
+#[derive(PartialEq, Eq, PartialOrd, Ord, Drop)]
+pub struct TestKey {
+    /// Where its events come from.
+    pub route: Option<Text>,
+    /// Its id.
+    pub id: Text,
+}
+
+/// The test that the event speaks of. `None` comes exactly where it has no id.
+///
+/// `NoMemory` comes only for want of memory.
+pub fn key_of(event: &Event) -> Result<Option<TestKey>, NoMemory>
+    ensures { IfOk result (λ key. key ≡ test_of event.now) }
+{
+    let id = match &event.id {
+        Some(id) => id.copy()?,
+        None => return Ok(None),
+    };
+    let route = copy_route(&event.route)?;
+    Ok(Some(TestKey { route, id }))
+}
+
+/// Another route of the same bytes.
+///
+/// `NoMemory` comes only for want of memory.
+pub fn copy_route(route: &Option<Text>) -> Result<Option<Text>, NoMemory>
+    ensures { IfOk result (λ copy. copy ≡ route.now) }
+{
+    match route {
+        Some(route) => Ok(Some(route.copy()?)),
+        None => Ok(None),
+    }
+}
