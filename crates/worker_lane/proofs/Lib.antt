@@ -1,0 +1,5 @@
+pub mod PiecesLemmas
+pub mod EventLemmas
+pub mod NoteLemmas
+pub mod RecordingLemmas
+pub mod WaitingLemmas

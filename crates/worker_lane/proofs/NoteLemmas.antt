@@ -1,0 +1,122 @@
+-- The events that are recorded of a note.
+use Rattle.std.proofs.Common.{◌≡◌, ℕ, zero, suc, ◌<◌, ◌≤◌, Bool, true, false, List, [], ◌∷◌, ◌++◌, length, map, All, refl, inl, inr, ap, arith}
+use Rattle.std.proofs.lemmas.Bool.{cases_lt, cond-true, cond-false, le-leb, lt-leb}
+use Rattle.std.proofs.lemmas.List.{length-append, length-map, append-nil}
+use Rattle.std.proofs.lemmas.List.Elements.{All-nil, All-cons, All-append, All-map, All-weaker}
+use Rattle.packet_codec.specs.declared.event.Event.{Event}
+use Rattle.packet_codec.specs.Grammar.{AreBytes}
+use Rattle.packet_codec.specs.Packet.{SpellsEvent}
+use Rattle.packet_codec.specs.Canonical.{canonical, canonical_size, IsEvent, Fits}
+use Rattle.packet_codec.specs.Routing.{under}
+use Rattle.packet_codec.proofs.LeastLemmas.{size_least, spelled_fits}
+use Rattle.packet_codec.proofs.SpellingLemmas.{length_canonical}
+use Rattle.packet_codec.proofs.LaneLemmas.{is_event_under}
+use Rattle.stream_reader.specs.declared.note.Note.{Note}
+use Rattle.stream_reader.specs.declared.note.Note.TheVariants as note
+use Rattle.stream_reader.specs.Cut.{Piece, packet, foreign, BeginsWithNone, IsCut}
+use Rattle.stream_reader.specs.Notes.{notes_of, HasNotes, AreFullRuns}
+use Rattle.stream_reader.specs.Stream.{Gives, IsMadeOf, AreMadeOf}
+use Rattle.stream_reader.proofs.FrontLemmas.{are_before, are_behind, packet_some}
+use Rattle.stream_reader.proofs.NotesLemmas.{are_full}
+use Rattle.worker_lane.specs.Recorded.{pieces_of, stdout_under, recorded_event, recorded_note, recorded_events}
+use Rattle.worker_lane.specs.Waiting.{IsShortNote}
+use Rattle.worker_lane.proofs.PiecesLemmas.{IsPiece, are_pieces, pieces_count}
+use Rattle.worker_lane.proofs.EventLemmas.{spelled_is_event, canonical_bytes, stdout_fits, stdout_is_event}
+
+-- ---- a foreign note is short
+
+-- it cannot be that a stream has no cut
+not_without_cut : (n : ℕ) (bytes : List ℕ) → length bytes ≤ n → ((pieces : List Piece) → IsCut bytes pieces → ⊥) → ⊥
+not_without_cut n [] short without = without [] refl
+not_without_cut zero (byte ∷ bytes) short without = absurd (omega arith)
+not_without_cut (suc n) (byte ∷ bytes) short without =
+    let none : BeginsWithNone (byte ∷ bytes) = λ e rest found.
+    not_without_cut n rest (omega (arith, packet_some found.front e found.spelled, ap length found.parts, length-append found.front rest)) (λ pieces cut. without (packet e ∷ pieces) (rest, found, cut)) in
+    not_without_cut n bytes (omega arith) (λ pieces cut. without (foreign byte ∷ pieces) (bytes, none, refl, cut))
+
+pub are_full_runs : (bytes : List ℕ) (notes : List Note) → HasNotes bytes notes → AreFullRuns notes
+are_full_runs bytes notes h = rw (h.made) (are_full h.pieces [] (omega arith))
+
+short_in_stream : (bytes run : List ℕ) (others : List Note) → HasNotes bytes (note.Foreign run ∷ others) → length run ≤ 65536
+short_in_stream bytes run others h = (are_full_runs bytes (note.Foreign run ∷ others) h).1
+
+whole_front : (ended : Bool) (bytes rest : List ℕ) (given others : List Note) → Gives ended bytes given rest → HasNotes rest others → (whole : List ℕ) × HasNotes whole (given ++ others)
+whole_front false bytes rest given others first h = (bytes ++ [], first.notes [] others (All-nil (λ byte. byte < 256)) (rw (append-nil rest) h))
+whole_front true bytes rest given others first h = (bytes, first.notes others h)
+
+foreign_short : (ended : Bool) (bytes run rest : List ℕ) → Gives ended bytes (note.Foreign run ∷ []) rest → length run ≤ 65536
+foreign_short ended bytes run rest first = elim (cases_lt 65536 (length run)) [
+  | inl long ↦ absurd (not_without_cut (length rest) rest (omega arith) (λ pieces cut.
+      let whole = whole_front ended bytes rest (note.Foreign run ∷ []) (notes_of pieces) first (record { pieces = pieces; cut = cut; made = refl }) in
+      let short : length run ≤ 65536 = short_in_stream whole.0 run (notes_of pieces) whole.1 in
+      omega arith))
+  | inr short ↦ short
+]
+
+pub note_is_short : (ended : Bool) (bytes front rest : List ℕ) (given : Note) → IsMadeOf given front → Gives ended bytes (given ∷ []) rest → IsShortNote given
+note_is_short ended bytes front rest (note.Event e) made first = spelled_fits front e made
+note_is_short ended bytes front rest (note.Foreign run) made first = foreign_short ended bytes run rest first
+
+-- ---- an event is one, or many
+
+pub recorded_whole : (lane : ℕ) (e : Event) → canonical_size (under lane e) ≤ 4194303 → recorded_event lane e ≡ under lane e ∷ []
+recorded_whole lane e small = cond-true _ _ _ (le-leb (canonical_size (under lane e)) 4194303 small)
+
+pub recorded_in_pieces : (lane : ℕ) (e : Event) → 4194303 < canonical_size (under lane e) → recorded_event lane e ≡ map (stdout_under lane) (pieces_of (canonical e))
+recorded_in_pieces lane e large = cond-false _ _ _ (lt-leb (canonical_size (under lane e)) 4194303 large)
+
+-- no more than its bytes
+pub recorded_count : (lane : ℕ) (given : Note) (front : List ℕ) → IsMadeOf given front → 0 < length front → length (recorded_note lane given) ≤ length front
+recorded_count lane (note.Foreign run) front made some = omega arith
+recorded_count lane (note.Event e) front made some = elim (cases_lt 4194303 (canonical_size (under lane e))) [
+  | inl large ↦ omega (
+    arith,
+    ap length (recorded_in_pieces lane e large),
+    length-map (pieces_of (canonical e)) (stdout_under lane),
+    pieces_count (canonical e),
+    length_canonical e (spelled_fits front e made),
+    size_least front e made,
+  )
+  | inr small ↦ omega (arith, ap length (recorded_whole lane e small))
+]
+
+-- ---- each can be encoded
+
+pub record HavePackets (events : List Event) : Type 0 where
+  pub are_events : All IsEvent events
+  pub fit : All Fits events
+
+one_packet : (e : Event) → IsEvent e → Fits e → HavePackets (e ∷ [])
+one_packet e is fits = record { are_events = All-cons IsEvent e [] is (All-nil IsEvent); fit = All-cons Fits e [] fits (All-nil Fits) }
+
+pieces_have_packets : (lane : ℕ) (pieces : List (List ℕ)) → lane < 64 → All IsPiece pieces → HavePackets (map (stdout_under lane) pieces)
+pieces_have_packets lane pieces small are = record {
+  are_events = All-map IsEvent (stdout_under lane) pieces (All-weaker IsPiece (λ piece. IsEvent (stdout_under lane piece)) (λ piece is. stdout_is_event lane piece small is.are_bytes is.short) pieces are);
+  fit = All-map Fits (stdout_under lane) pieces (All-weaker IsPiece (λ piece. Fits (stdout_under lane piece)) (λ piece is. stdout_fits lane piece small is.short) pieces are);
+}
+
+event_has_packets : (lane : ℕ) (e : Event) (front : List ℕ) → lane < 64 → AreBytes front → SpellsEvent front e → HavePackets (recorded_event lane e)
+event_has_packets lane e front small are made = elim (cases_lt 4194303 (canonical_size (under lane e))) [
+  | inl large ↦ rw (recorded_in_pieces lane e large) (pieces_have_packets lane (pieces_of (canonical e)) small (are_pieces (canonical e) (canonical_bytes front e are made)))
+  | inr fits ↦ (
+      let fit : Fits (under lane e) = record { size = fits } in
+      rw (recorded_whole lane e fits) (one_packet (under lane e) (is_event_under lane e small (spelled_is_event front e are made) fit) fit)
+      )
+]
+
+foreign_has_packet : (lane : ℕ) (run front : List ℕ) → lane < 64 → AreBytes front → run ≡ front → length run ≤ 65536 → HavePackets (stdout_under lane run ∷ [])
+foreign_has_packet lane run front small are made short =
+    let are_run : AreBytes run = rw made are in
+    one_packet (stdout_under lane run) (stdout_is_event lane run small are_run short) (stdout_fits lane run small short)
+
+both_have_packets : (first more : List Event) → HavePackets first → HavePackets more → HavePackets (first ++ more)
+both_have_packets first more h k = record { are_events = All-append IsEvent first more h.are_events k.are_events; fit = All-append Fits first more h.fit k.fit }
+
+pub notes_have_packets : (lane : ℕ) (notes : List Note) (bytes : List ℕ) → lane < 64 → AreBytes bytes → AreMadeOf notes bytes → AreFullRuns notes → HavePackets (recorded_events lane notes)
+notes_have_packets lane [] bytes small are made full = record { are_events = All-nil IsEvent; fit = All-nil Fits }
+notes_have_packets lane (note.Event e ∷ notes) bytes small are (front, rest, parts, first, more) full =
+    let whole : AreBytes (front ++ rest) = rw parts at are in
+    both_have_packets (recorded_event lane e) (recorded_events lane notes) (event_has_packets lane e front small (are_before front rest whole) first) (notes_have_packets lane notes rest small (are_behind front rest whole) more full)
+notes_have_packets lane (note.Foreign run ∷ notes) bytes small are (front, rest, parts, first, more) (some, short, last, full) =
+    let whole : AreBytes (front ++ rest) = rw parts at are in
+    both_have_packets (stdout_under lane run ∷ []) (recorded_events lane notes) (foreign_has_packet lane run front small (are_before front rest whole) first short) (notes_have_packets lane notes rest small (are_behind front rest whole) more full)

@@ -1,0 +1,202 @@
+-- What a scribe gives, one call after another.
+use Rattle.std.proofs.Common.{◌≡◌, ℕ, ◌<◌, Bool, true, false, List, [], ◌∷◌, ◌++◌, length, refl, inl, inr, sym, ap, ◌∙◌, append_assoc, arith}
+use Rattle.std.specs.Prelude.{Result, Ok, Err, IfOk, OnOk}
+use Rattle.std.specs.List.{flat_map}
+use Rattle.std.proofs.lemmas.List.{length-append, append-nil, flat_map_more}
+use Rattle.std.proofs.lemmas.List.Concat.{flat_map-append}
+use Rattle.std.proofs.lemmas.List.Elements.{All-nil}
+use Rattle.packet_codec.specs.declared.event.Event.{Event}
+use Rattle.packet_codec.specs.Canonical.{canonical}
+use Rattle.packet_codec.specs.Grammar.{AreBytes}
+use Rattle.stream_reader.specs.declared.note.Note.{Note}
+use Rattle.stream_reader.specs.Notes.{HasDecided}
+use Rattle.stream_reader.specs.Stream.{Gives}
+use Rattle.stream_reader.proofs.FrontLemmas.{are_both}
+use Rattle.stream_reader.proofs.TurnLemmas.{begin_fed, begin_decided, begin_ended, end_whole, gives_none, gives_then}
+use Rattle.worker_lane.specs.Recorded.{recorded_note, recorded_events, IsRecorded}
+use Rattle.worker_lane.specs.Scribing.{Scribing, holding, TakesNote, IsAsBefore, GivesEvent, GivesPacket, HasNone, most_left, Recording, GivesPackets, IsRecordedSoFar}
+use Rattle.worker_lane.proofs.NoteLemmas.{recorded_count}
+
+-- ---- bytes fed, and the end
+
+pub recording_start : (lane : ℕ) → lane < 64 → Recording [] (record { lane = lane; waiting = []; held = record { bytes = []; ended = false } }) []
+recording_start lane small = record { lane = small; are_bytes = All-nil (λ byte. byte < 256); notes = []; taken = gives_none false []; events = []; parts = refl; packets = refl }
+
+pub recording_fed : (fed piece written : List ℕ) (before after : Scribing) → AreBytes piece → before.held.ended ≡ false → after ≡ holding before (before.held.bytes ++ piece) false → Recording fed before written → Recording (fed ++ piece) after written
+recording_fed fed piece written before after are going_on after-is r =
+    let taken : Gives false fed r.notes before.held.bytes = rw going_on at r.taken in
+    rw after-is (record {
+      lane = r.lane;
+      are_bytes = are_both fed piece r.are_bytes are;
+      notes = r.notes;
+      taken = begin_fed fed before.held.bytes piece r.notes are taken;
+      events = r.events;
+      parts = r.parts;
+      packets = r.packets;
+    })
+
+gives_ended : (ended : Bool) (bytes rest : List ℕ) (given : List Note) → Gives ended bytes given rest → Gives true bytes given rest
+gives_ended false bytes rest given first = begin_ended bytes rest given first
+gives_ended true bytes rest given first = first
+
+pub recording_ended : (fed written : List ℕ) (before after : Scribing) → after ≡ holding before before.held.bytes true → Recording fed before written → Recording fed after written
+recording_ended fed written before after after-is r = rw after-is (record {
+  lane = r.lane;
+  are_bytes = r.are_bytes;
+  notes = r.notes;
+  taken = gives_ended before.held.ended fed before.held.bytes r.notes r.taken;
+  events = r.events;
+  parts = r.parts;
+  packets = r.packets;
+})
+
+pub recording_on_ok : {E : Type 0} (result : Result (Unit {0}) E) (before after : Scribing) (piece : List ℕ) → AreBytes piece → before.held.ended ≡ false → OnOk result (after ≡ holding before (before.held.bytes ++ piece) false) → OnOk result ((fed written : List ℕ) → Recording fed before written → Recording (fed ++ piece) after written)
+recording_on_ok (Ok done) before after piece are going_on after-is = λ fed written r. recording_fed fed piece written before after are going_on after-is r
+recording_on_ok (Err refused) before after piece are going_on after-is = tt
+
+-- ---- one packet
+
+recording_taken : (fed written : List ℕ) (before after : Scribing) → TakesNote before after → Recording fed before written → Recording fed after written
+recording_taken fed written before after t r =
+    let all : recorded_events before.lane r.notes ≡ r.events = r.parts ∙ ap (λ (l : List Event). r.events ++ l) t.none ∙ append-nil r.events in
+    record {
+      lane = omega (arith, r.lane, t.lane);
+      are_bytes = r.are_bytes;
+      notes = r.notes ++ t.note ∷ [];
+      taken = rw (t.ended) (gives_then before.held.ended fed before.held.bytes after.held.bytes r.notes (t.note ∷ []) r.taken t.given.first);
+      events = r.events;
+      parts = ap (λ (lane : ℕ). recorded_events lane (r.notes ++ t.note ∷ [])) t.lane
+          ∙ flat_map-append (recorded_note before.lane) r.notes (t.note ∷ [])
+          ∙ ap (λ (l : List Event). l ++ (recorded_note before.lane t.note ++ [])) all
+          ∙ ap (λ (l : List Event). r.events ++ l) (append-nil (recorded_note before.lane t.note) ∙ sym t.waiting);
+      packets = r.packets;
+    }
+
+pub recording_as_before : (fed written : List ℕ) (before after : Scribing) → IsAsBefore before after → Recording fed before written → Recording fed after written
+recording_as_before fed written before after (inl same) r = rw same r
+recording_as_before fed written before after (inr t) r = recording_taken fed written before after t r
+
+pub recording_given : (fed written : List ℕ) (before after : Scribing) (event : Event) → GivesEvent before event after → Recording fed before written → Recording fed after (written ++ canonical event)
+recording_given fed written before after event g r =
+    let ready : Recording fed g.waiting written = recording_as_before fed written before g.waiting g.ready r in
+    let first : Recording fed (record { lane = after.lane; waiting = event ∷ after.waiting; held = after.held }) written = rw (g.first) at ready in
+    record {
+      lane = first.lane;
+      are_bytes = first.are_bytes;
+      notes = first.notes;
+      taken = first.taken;
+      events = first.events ++ event ∷ [];
+      parts = first.parts ∙ sym (append_assoc first.events (event ∷ []) after.waiting);
+      packets = ap (λ (l : List ℕ). l ++ canonical event) first.packets ∙ flat_map_more canonical [] first.events event;
+    }
+
+-- ---- what stays
+
+as_before_lane : (before after : Scribing) → IsAsBefore before after → after.lane ≡ before.lane
+as_before_lane before after (inl same) = ap (λ (s : Scribing). s.lane) same
+as_before_lane before after (inr t) = t.lane
+
+as_before_ended : (before after : Scribing) → IsAsBefore before after → after.held.ended ≡ before.held.ended
+as_before_ended before after (inl same) = ap (λ (s : Scribing). s.held.ended) same
+as_before_ended before after (inr t) = t.ended
+
+given_lane : (before after : Scribing) (event : Event) → GivesEvent before event after → after.lane ≡ before.lane
+given_lane before after event g = sym (ap (λ (s : Scribing). s.lane) g.first) ∙ as_before_lane before g.waiting g.ready
+
+given_ended : (before after : Scribing) (event : Event) → GivesEvent before event after → after.held.ended ≡ before.held.ended
+given_ended before after event g = sym (ap (λ (s : Scribing). s.held.ended) g.first) ∙ as_before_ended before g.waiting g.ready
+
+-- ---- some packets
+
+pub packets_none : (before : Scribing) (old : List ℕ) → GivesPackets before old before old
+packets_none before old = record { lane = refl; ended = refl; packets = []; new_is = sym (append-nil old); recording = λ fed written r. rw (append-nil written) r }
+
+pub packets_as_before : (before after : Scribing) (old new : List ℕ) → IsAsBefore before after → new ≡ old → GivesPackets before old after new
+packets_as_before before after old new same kept = record {
+  lane = as_before_lane before after same;
+  ended = as_before_ended before after same;
+  packets = [];
+  new_is = kept ∙ sym (append-nil old);
+  recording = λ fed written r. rw (append-nil written) (recording_as_before fed written before after same r);
+}
+
+pub packets_one : (before after : Scribing) (old new : List ℕ) → GivesPacket before old after new → GivesPackets before old after new
+packets_one before after old new g = record {
+  lane = given_lane before after g.event g.given;
+  ended = given_ended before after g.event g.given;
+  packets = canonical g.event;
+  new_is = g.new_is;
+  recording = λ fed written r. recording_given fed written before after g.event g.given r;
+}
+
+pub packets_then : (before between after : Scribing) (old middle new : List ℕ) → GivesPackets before old between middle → GivesPackets between middle after new → GivesPackets before old after new
+packets_then before between after old middle new g h = record {
+  lane = h.lane ∙ g.lane;
+  ended = h.ended ∙ g.ended;
+  packets = g.packets ++ h.packets;
+  new_is = h.new_is ∙ ap (λ (l : List ℕ). l ++ h.packets) g.new_is ∙ append_assoc old g.packets h.packets;
+  recording = λ fed written r. rw (← append_assoc written g.packets h.packets) (h.recording fed (written ++ g.packets) (g.recording fed written r));
+}
+
+-- ---- all of them
+
+all_given : (fed written : List ℕ) (scribe : Scribing) → scribe.waiting ≡ [] → (r : Recording fed scribe written) → recorded_events scribe.lane r.notes ≡ r.events
+all_given fed written scribe none r = r.parts ∙ ap (λ (l : List Event). r.events ++ l) none ∙ append-nil r.events
+
+pub recording_decided : (fed written : List ℕ) (scribe : Scribing) → scribe.held.ended ≡ false → HasNone scribe → Recording fed scribe written → IsRecordedSoFar scribe.lane fed written
+recording_decided fed written scribe going_on (none, spent) r =
+    let taken : Gives false fed r.notes scribe.held.bytes = rw going_on at r.taken in
+    let rest : HasDecided scribe.held.bytes [] = rw going_on at spent in
+    record {
+      notes = r.notes;
+      decided = begin_decided fed scribe.held.bytes r.notes taken rest;
+      packets = r.packets ∙ ap (flat_map canonical) (sym (all_given fed written scribe none r));
+    }
+
+pub recording_whole : (fed written : List ℕ) (scribe : Scribing) → scribe.held.ended ≡ true → HasNone scribe → Recording fed scribe written → IsRecorded scribe.lane fed written
+recording_whole fed written scribe ended (none, spent) r =
+    let taken : Gives true fed r.notes scribe.held.bytes = rw ended at r.taken in
+    let rest : scribe.held.bytes ≡ [] = rw ended at spent in
+    let all : Gives true fed r.notes [] = rw rest at taken in
+    record {
+      events = r.events;
+      has = record { notes = r.notes; are_notes = end_whole fed r.notes all; made = sym (all_given fed written scribe none r) };
+      packets = r.packets;
+    }
+
+-- ---- less is left
+
+pub given_shorter : (before after : Scribing) (event : Event) → GivesEvent before event after → most_left after < most_left before
+given_shorter before after event g = shorter g.waiting g.ready g.first
+  where
+    shorter : (waiting : Scribing) → IsAsBefore before waiting → waiting ≡ record { lane = after.lane; waiting = event ∷ after.waiting; held = after.held } → most_left after < most_left before
+    shorter waiting (inl same) first =
+        let e = sym same ∙ first in
+        omega (arith, ap (λ (s : Scribing). length s.waiting) e, ap (λ (s : Scribing). length s.held.bytes) e)
+    shorter waiting (inr t) first = omega (
+      arith,
+      ap (λ (s : Scribing). length s.waiting) first,
+      ap (λ (s : Scribing). length s.held.bytes) first,
+      ap length t.waiting,
+      ap length t.none,
+      recorded_count before.lane t.note t.given.front t.given.made t.given.some,
+      ap length t.given.parts,
+      length-append t.given.front waiting.held.bytes,
+    )
+
+pub shorter_if_given : {E : Type 0} (result : Result Bool E) (before after : Scribing) (old new : List ℕ) → IfOk result (λ given. given ≡ true → GivesPacket before old after new) → IfOk result (λ given. given ≡ true → most_left after < most_left before)
+shorter_if_given (Ok given) before after old new gives = λ yes. given_shorter before after (gives yes).event (gives yes).given
+shorter_if_given (Err refused) before after old new gives = tt
+
+-- ---- a whole stream
+
+-- what was given of a scribe is behind what was written before
+pub recording_packets : (fed old new : List ℕ) (before after : Scribing) → GivesPackets before old after new → Recording fed before old → Recording fed after new
+recording_packets fed old new before after g r = rw (g.new_is) (g.recording fed old r)
+
+pub all_recorded : (fed old new : List ℕ) (lane : ℕ) (before ended after : Scribing) → before.lane ≡ lane → Recording fed before old → ended ≡ holding before before.held.bytes true → GivesPackets ended old after new → HasNone after → IsRecorded lane fed new
+all_recorded fed old new lane before ended after lane-is r ended-is g none =
+    let last : Recording fed after new = recording_packets fed old new ended after g (recording_ended fed old before ended ended-is r) in
+    let same : after.lane ≡ lane = g.lane ∙ ap (λ (s : Scribing). s.lane) ended-is ∙ lane-is in
+    let end : after.held.ended ≡ true = g.ended ∙ ap (λ (s : Scribing). s.held.ended) ended-is in
+    rw same at (recording_whole fed new after end none last)

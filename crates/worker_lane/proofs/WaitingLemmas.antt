@@ -1,0 +1,103 @@
+-- The events that are waiting, one by one.
+use Rattle.std.proofs.Common.{◌≡◌, ℕ, ◌+◌, ◌-◌, ◌<◌, ◌≤◌, min, Bool, false, ◌↔◌, rules, List, [], ◌∷◌, ◌++◌, length, map, take, drop, refl, inl, inr, sym, ap, ◌∙◌, arith}
+use Rattle.std.proofs.lemmas.Bool.{cases_lt}
+use Rattle.std.proofs.lemmas.List.{length-append, length-map, length-take, length-drop, drop-drop, drop_all, take_all}
+use Rattle.packet_codec.specs.declared.event.Event.{Event}
+use Rattle.std.specs.Prelude.{IsTrue}
+use Rattle.std.specs.Int.{w32, to_be_bytes}
+use Rattle.sub_number.specs.Checksum.{crc32}
+use Rattle.packet_codec.specs.Canonical.{canonical, canonical_body, canonical_size}
+use Rattle.packet_codec.specs.Routing.{under}
+use Rattle.stream_reader.specs.declared.note.Note.{Note}
+use Rattle.stream_reader.specs.declared.note.Note.TheVariants as note
+use Rattle.worker_lane.specs.declared.waiting.Spelling.{Spelling}
+use Rattle.worker_lane.specs.declared.waiting.Waiting.{Waiting}
+use Rattle.worker_lane.specs.declared.waiting.Waiting.TheVariants.{Nothing, OfNote, Packet, Pieces}
+use Rattle.worker_lane.specs.Recorded.{pieces_of, stdout_under, recorded_event, recorded_note}
+use Rattle.worker_lane.specs.Waiting.{waiting_events, IsSound, PutsFirst}
+use Rattle.worker_lane.proofs.PiecesLemmas.{pieces_first}
+use Rattle.worker_lane.proofs.NoteLemmas.{recorded_whole, recorded_in_pieces}
+
+-- the slice that is taken is the next piece
+pub piece_is : (bytes piece : List ℕ) (given size : ℕ) → given < length bytes → size ≡ min (length bytes - given) 65536 → piece ≡ take ((given + size) - given) (drop given bytes) → piece ≡ take 65536 (drop given bytes)
+piece_is bytes piece given size some is same = elim (cases_lt (length bytes - given) 65536) [
+  | inl less ↦
+      same
+      ∙ take_all ((given + size) - given) (drop given bytes) (omega (arith, length-drop given bytes))
+      ∙ sym (take_all 65536 (drop given bytes) (omega (arith, length-drop given bytes)))
+  | inr more ↦ (
+      let full : (given + size) - given ≡ 65536 = omega arith in
+      same ∙ ap (λ (k : ℕ). take k (drop given bytes)) full
+      )
+]
+
+pub piece_is_short : (piece bytes : List ℕ) → piece ≡ take 65536 bytes → length piece ≤ 65536
+piece_is_short piece bytes is = omega (arith, ap length is, length-take 65536 bytes)
+
+drop_least : (bytes : List ℕ) (n : ℕ) → drop (min n (length bytes)) bytes ≡ drop n bytes
+drop_least bytes n = elim (cases_lt n (length bytes)) [
+  | inl less ↦ (
+      let same : min n (length bytes) ≡ n = omega arith in
+      ap (λ (k : ℕ). drop k bytes) same
+      )
+  | inr more ↦ drop_all (min n (length bytes)) bytes (omega arith) ∙ sym (drop_all n bytes (omega arith))
+]
+
+next_pieces : (bytes : List ℕ) (given next : ℕ) → given < length bytes → next ≡ min (given + 65536) (length bytes) → pieces_of (drop given bytes) ≡ take 65536 (drop given bytes) ∷ pieces_of (drop next bytes)
+next_pieces bytes given next some is =
+    let rest : drop 65536 (drop given bytes) ≡ drop next bytes =
+    drop-drop 65536 given bytes ∙ sym (drop_least bytes (given + 65536)) ∙ ap (λ (k : ℕ). drop k bytes) (sym is) in
+    pieces_first (drop given bytes) (omega (arith, length-drop given bytes)) ∙ ap (λ (l : List ℕ). take 65536 (drop given bytes) ∷ pieces_of l) rest
+
+-- a piece was appended
+pub puts_piece : (lane : ℕ) (waiting : Waiting) (spelling after : Spelling) (old new : List ℕ) → waiting ≡ Pieces spelling → IsSound waiting → after ≡ record { bytes = spelling.bytes; given = min (spelling.given + 65536) (length spelling.bytes.items) } → new ≡ old ++ canonical (stdout_under lane (take 65536 (drop spelling.given spelling.bytes.items))) → PutsFirst (waiting_events lane waiting) old (waiting_events lane (Pieces after)) new
+puts_piece lane waiting spelling after old new waiting-is sound after-is grown =
+    let some : spelling.given < length spelling.bytes.items = rw waiting-is at sound in
+    rw (waiting-is, after-is) (record {
+      event = stdout_under lane (take 65536 (drop spelling.given spelling.bytes.items));
+      events_are = ap (map (stdout_under lane)) (next_pieces spelling.bytes.items spelling.given (min (spelling.given + 65536) (length spelling.bytes.items)) some refl);
+      new_is = grown;
+    })
+
+-- and none is left
+pub puts_last_piece : (lane : ℕ) (events : List Event) (spelling : Spelling) (left : Waiting) (old new : List ℕ) → PutsFirst events old (waiting_events lane (Pieces spelling)) new → length spelling.bytes.items ≤ spelling.given → left ≡ Nothing → PutsFirst events old (waiting_events lane left) new
+puts_last_piece lane events spelling left old new first all left-is =
+    let none : waiting_events lane (Pieces spelling) ≡ [] = ap (λ (l : List ℕ). map (stdout_under lane) (pieces_of l)) (drop_all spelling.given spelling.bytes.items all) in
+    rw left-is (rw none at first)
+
+pub puts_packet : (lane : ℕ) (waiting left : Waiting) (event : Event) (old new : List ℕ) → waiting ≡ Packet event → left ≡ Nothing → new ≡ old ++ canonical event → PutsFirst (waiting_events lane waiting) old (waiting_events lane left) new
+puts_packet lane waiting left event old new waiting-is left-is grown = rw (waiting-is, left-is) (record { event = event; events_are = refl; new_is = grown })
+
+-- ---- something is waiting, unless it is nothing
+
+spelling_some : (e : Event) → 0 < length (canonical e)
+spelling_some e = omega (arith, length-append (canonical_body e) (to_be_bytes w32 (crc32 (canonical_body e))))
+
+some_pieces : (lane : ℕ) (bytes : List ℕ) → 0 < length bytes → 0 < length (map (stdout_under lane) (pieces_of bytes))
+some_pieces lane bytes some = omega (arith, length-map (pieces_of bytes) (stdout_under lane), ap length (pieces_first bytes some))
+
+some_recorded : (lane : ℕ) (e : Event) → 0 < length (recorded_event lane e)
+some_recorded lane e = elim (cases_lt 4194303 (canonical_size (under lane e))) [
+  | inl large ↦ omega (arith, ap length (recorded_in_pieces lane e large), some_pieces lane (canonical e) (spelling_some e))
+  | inr small ↦ omega (arith, ap length (recorded_whole lane e small))
+]
+
+pub waiting_some : (lane : ℕ) (waiting : Waiting) → IsSound waiting → (waiting ≡ Nothing → ⊥) → 0 < length (waiting_events lane waiting)
+waiting_some lane Nothing sound other = absurd (other refl)
+waiting_some lane (OfNote (note.Event e)) sound other = some_recorded lane e
+waiting_some lane (OfNote (note.Foreign bytes)) sound other = omega arith
+waiting_some lane (Packet event) sound other = omega arith
+waiting_some lane (Pieces spelling) sound other = some_pieces lane (drop spelling.given spelling.bytes.items) (omega (arith, sound, length-drop spelling.given spelling.bytes.items))
+
+pub not_nothing : (lane : ℕ) (waiting : Waiting) (test : Bool) → IsSound waiting → IsTrue test ↔ (waiting ≡ Nothing) → test ≡ false → waiting_events lane waiting ≡ [] → ⊥
+not_nothing lane waiting test sound (to, from) is_false empty =
+    let never : IsTrue test → ⊥ = search (rules, is_false) in
+    let other : waiting ≡ Nothing → ⊥ = λ is. never (from is) in
+    omega (arith, waiting_some lane waiting sound other, ap length empty)
+
+pub note_is_some : (lane : ℕ) (waiting : Waiting) (given : Note) → waiting ≡ OfNote given → waiting_events lane waiting ≡ [] → ⊥
+note_is_some lane waiting given is empty = some given (rw is at empty)
+  where
+    some : (given : Note) → recorded_note lane given ≡ [] → ⊥
+    some (note.Event e) none = omega (arith, some_recorded lane e, ap length none)
+    some (note.Foreign bytes) none = omega (arith, ap length none)

@@ -1,0 +1,12 @@
+use Rattle.std.proofs.Common.{◌≡◌, false, take}
+use Rattle.std.specs.List.{flat_map}
+use Rattle.worker_lane.specs.Scribing.{Recording}
+use Rattle.worker_lane.proofs.whole.recorded_of_pieces.Given as goal
+
+-- the packets so far are those of the pieces so far
+abbrev pub invariant-loop-piece : goal.invariant-loop-piece
+invariant-loop-piece l = record {
+  lane : l.scribe.lane ≡ l.lane;
+  going_on : l.scribe.held.ended ≡ false;
+  recording : Recording (flat_map (λ piece. piece) (take l.piece-index l.pieces)) l.scribe l.out.items;
+}

@@ -1,0 +1,51 @@
+-- What a stream becomes when it is recorded under a lane (docs/FORMATS.md, "What is recorded of a stream").
+use Rattle.std.specs.Prelude.{◌≡◌, ℕ, ◌+◌, ◌*◌, ◌-◌, ◌/◌, List, [], ◌∷◌, length, take, drop, map, nat_le, if◌then◌else◌}
+use Rattle.std.specs.List.{flat_map, range_with_len}
+use Rattle.packet_codec.specs.declared.event.Event.{Event}
+use Rattle.packet_codec.specs.Canonical.{canonical, canonical_size, largest_packet}
+use Rattle.packet_codec.specs.Routing.{under}
+use Rattle.stream_reader.specs.declared.note.Note.{Note}
+use Rattle.stream_reader.specs.declared.note.Note.TheVariants as note
+use Rattle.stream_reader.specs.Notes.{HasNotes, stdout_event}
+
+-- the most bytes of one piece
+abbrev pub longest_piece : ℕ
+longest_piece = 65536
+
+-- the bytes cut every 65,536 bytes from their front
+abbrev pub pieces_of : List ℕ → List (List ℕ)
+pieces_of bytes = map (λ i. take longest_piece (drop (i * longest_piece) bytes)) (range_with_len 0 ((length bytes + (longest_piece - 1)) / longest_piece))
+
+-- these bytes as a piece of the file `stdout`, under the lane
+abbrev pub stdout_under : (lane : ℕ) → (bytes : List ℕ) → Event
+stdout_under lane bytes = under lane (stdout_event bytes)
+
+-- The event under the lane, where it fits. Where it does not, its own shortest spelling, in pieces.
+abbrev pub recorded_event : (lane : ℕ) → Event → List Event
+recorded_event lane event =
+    if nat_le (canonical_size (under lane event)) largest_packet then under lane event ∷ []
+    else map (stdout_under lane) (pieces_of (canonical event))
+
+abbrev pub recorded_note : (lane : ℕ) → Note → List Event
+recorded_note lane (note.Event event) = recorded_event lane event
+recorded_note lane (note.Foreign bytes) = stdout_under lane bytes ∷ []
+
+-- the events that are recorded of these notes
+abbrev pub recorded_events : (lane : ℕ) → List Note → List Event
+recorded_events lane notes = flat_map (recorded_note lane) notes
+
+-- and their packets
+abbrev pub recorded : (lane : ℕ) → List Note → List ℕ
+recorded lane notes = flat_map canonical (recorded_events lane notes)
+
+-- the events that are recorded of a whole stream
+pub record HasRecorded (lane : ℕ) (bytes : List ℕ) (events : List Event) : Type 0 where
+  pub notes : List Note
+  pub are_notes : HasNotes bytes notes
+  pub made : events ≡ recorded_events lane notes
+
+-- these bytes are the packets of those events
+pub record IsRecorded (lane : ℕ) (bytes written : List ℕ) : Type 0 where
+  pub events : List Event
+  pub has : HasRecorded lane bytes events
+  pub packets : written ≡ flat_map canonical events

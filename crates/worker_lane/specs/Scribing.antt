@@ -1,0 +1,79 @@
+-- What a scribe has still to give, and what it has given of the bytes fed (docs/FORMATS.md, "What is recorded of a
+-- stream").
+use Rattle.std.specs.Prelude.{◌≡◌, ◌⊎◌, ℕ, ◌+◌, ◌<◌, Bool, List, [], ◌∷◌, ◌++◌, length}
+use Rattle.std.specs.List.{flat_map}
+use Rattle.packet_codec.specs.declared.event.Event.{Event}
+use Rattle.packet_codec.specs.Canonical.{canonical}
+use Rattle.packet_codec.specs.Grammar.{AreBytes}
+use Rattle.stream_reader.specs.declared.note.Note.{Note}
+use Rattle.stream_reader.specs.Notes.{HasDecided}
+use Rattle.stream_reader.specs.Stream.{Held, Gives, GivesNote, IsSpent}
+use Rattle.worker_lane.specs.Recorded.{recorded_note, recorded_events, recorded}
+
+-- The events that are to be given before the next note is taken, and the bytes fed of which no note was taken.
+pub record Scribing : Type 0 where
+  pub lane : ℕ
+  pub waiting : List Event
+  pub held : Held
+
+-- more bytes were fed, or the stream has ended
+abbrev pub holding : Scribing → (bytes : List ℕ) → (ended : Bool) → Scribing
+holding scribe bytes ended = record { lane = scribe.lane; waiting = scribe.waiting; held = record { bytes = bytes; ended = ended } }
+
+-- no event was waiting, and a note was taken, whose events are waiting now
+pub record TakesNote (before after : Scribing) : Type 0 where
+  pub none : before.waiting ≡ []
+  pub note : Note
+  pub given : GivesNote before.held note after.held
+  pub ended : after.held.ended ≡ before.held.ended
+  pub lane : after.lane ≡ before.lane
+  pub waiting : after.waiting ≡ recorded_note before.lane note
+
+-- What is to be given is as before: at most, the next note was taken.
+abbrev pub IsAsBefore : Scribing → Scribing → Type 0
+IsAsBefore before after = (after ≡ before) ⊎ TakesNote before after
+
+-- the next event was given: the first one waiting, or where none was, the first one of the next note
+pub record GivesEvent (before : Scribing) (event : Event) (after : Scribing) : Type 0 where
+  pub waiting : Scribing
+  pub ready : IsAsBefore before waiting
+  pub first : waiting ≡ record { lane = after.lane; waiting = event ∷ after.waiting; held = after.held }
+
+-- it was given as its packet, behind what was written before
+pub record GivesPacket (before : Scribing) (old : List ℕ) (after : Scribing) (new : List ℕ) : Type 0 where
+  pub event : Event
+  pub given : GivesEvent before event after
+  pub new_is : new ≡ old ++ canonical event
+
+-- the bytes fed so far decide no further event
+abbrev pub HasNone : Scribing → Type 0
+HasNone scribe = (scribe.waiting ≡ []) × IsSpent scribe.held.ended scribe.held.bytes
+
+-- no more events than this are still to be given of the bytes fed
+abbrev pub most_left : Scribing → ℕ
+most_left scribe = length scribe.held.bytes + length scribe.waiting
+
+-- With these bytes fed, so many packets were given: those of the first of the events that are recorded of the notes
+-- taken, and the others are waiting.
+pub record Recording (fed : List ℕ) (scribe : Scribing) (written : List ℕ) : Type 0 where
+  pub lane : scribe.lane < 64
+  pub are_bytes : AreBytes fed
+  pub notes : List Note
+  pub taken : Gives scribe.held.ended fed notes scribe.held.bytes
+  pub events : List Event
+  pub parts : recorded_events scribe.lane notes ≡ events ++ scribe.waiting
+  pub packets : written ≡ flat_map canonical events
+
+-- some packets were given, in order
+pub record GivesPackets (before : Scribing) (old : List ℕ) (after : Scribing) (new : List ℕ) : Type 0 where
+  pub lane : after.lane ≡ before.lane
+  pub ended : after.held.ended ≡ before.held.ended
+  pub packets : List ℕ
+  pub new_is : new ≡ old ++ packets
+  pub recording : (fed written : List ℕ) → Recording fed before written → Recording fed after (written ++ packets)
+
+-- these bytes are the packets of what the first bytes of a stream decide, whatever follows
+pub record IsRecordedSoFar (lane : ℕ) (bytes written : List ℕ) : Type 0 where
+  pub notes : List Note
+  pub decided : HasDecided bytes notes
+  pub packets : written ≡ recorded lane notes

@@ -1,0 +1,140 @@
+//! What one stream becomes under a lane.
+
+ghost use Rattle.std.specs.Prelude.{◌≡◌, ◌<◌, ℕ, List, [], ◌++◌, true, false, length, IfOk, OnOk, OnErr, IfSome, IfNone};
+ghost use Rattle.packet_codec.specs.declared.event.Event.{Event};
+ghost use Rattle.packet_codec.specs.Canonical.{canonical};
+ghost use Rattle.worker_lane.specs.Scribing.{holding, IsAsBefore, GivesEvent, GivesPacket, HasNone, most_left, Recording};
+
+use crate::waiting::{Waiting, is_nothing, prepare, put_first, wait_for};
+use std::alloc::Global;
+use std::marker::Model;
+use stream_reader::Reader;
+use sub_number::{Bytes, NoMemory};
+
+/// What a stream becomes when it is recorded under a lane: for each note of the stream, packets under the lane's route.
+/// Contracts see the lane, the events that are given before the next note is taken, and the bytes fed of which no note
+/// was taken.
+///
+/// With `recording` the clauses say of all calls together what was given: that of `new` holds, each call keeps it, and
+/// `recording_in_turn` tells what it comes to at the end.
+#[derive(Drop)]
+pub struct Scribe {
+    alloc: Global,
+    lane: u32,
+    reader: Reader,
+    waiting: Waiting,
+}
+
+impl Model for Scribe {
+    ghost use Rattle.std.specs.Prelude.{◌<◌};
+    ghost use Rattle.worker_lane.specs.Scribing.{Scribing};
+    ghost use Rattle.worker_lane.specs.Waiting.{waiting_events, IsSound};
+
+    ghost Value = { Scribing };
+
+    ghost view = { λ s. record { lane = s.lane; waiting = waiting_events s.lane s.waiting; held = s.reader } };
+
+    ghost invariant = { λ s. (s.lane < 64) × IsSound s.waiting };
+}
+
+impl Scribe {
+    /// A scribe to which nothing was fed. The lane is below 64.
+    ///
+    /// `NoMemory` comes only for want of memory.
+    pub fn new(alloc: Global, lane: u32) -> Result<Self, NoMemory>
+        requires { lane < 64 }
+        ensures empty { IfOk result (λ scribe. scribe ≡ record { lane = lane; waiting = []; held = record { bytes = []; ended = false } }) }
+        ensures recording { IfOk result (λ scribe. Recording [] scribe []) }
+    {
+        Ok(Scribe {
+            alloc,
+            lane,
+            reader: Reader::new(alloc)?,
+            waiting: Waiting::Nothing,
+        })
+    }
+
+    /// The next bytes of the stream, any number of them.
+    ///
+    /// `NoMemory` comes only for want of memory, and leaves the scribe as before.
+    pub fn feed(&mut self, piece: &[u8]) -> Result<(), NoMemory>
+        requires { self.old.held.ended ≡ false }
+        ensures ok { OnOk result (self.new ≡ holding self.old (self.old.held.bytes ++ piece.now) false) }
+        ensures recording { OnOk result ((fed written : List ℕ) → Recording fed self.old written → Recording (fed ++ piece.now) self.new written) }
+        ensures err { OnErr result (self.new ≡ self.old) }
+    {
+        self.reader.feed(piece)
+    }
+
+    /// The stream has ended: nothing is fed any more. A second call changes nothing.
+    pub fn finish(&mut self)
+        ensures ended { self.new ≡ holding self.old self.old.held.bytes true }
+        ensures recording { (fed written : List ℕ) → Recording fed self.old written → Recording fed self.new written }
+    {
+        self.reader.finish();
+    }
+
+    /// How many bytes were fed of which no note was taken.
+    pub fn held(&self) -> usize
+        ensures { result ≡ length self.now.held.bytes }
+    {
+        self.reader.held()
+    }
+
+    /// Appends the next recorded packet, and answers true. False comes where there is none: before the end, until more
+    /// bytes are fed; behind the end, where all were given.
+    ///
+    /// `NoMemory` comes only for want of memory. `out` then has what it had, and what is to be given is as before. Its
+    /// next note may have been taken by then; `held` does not count that note any more.
+    pub fn next_into(&mut self, out: &mut Vec<u8>) -> Result<bool, NoMemory>
+        ensures given { IfOk result (λ given. given ≡ true → GivesPacket self.old out.old.items self.new out.new.items) }
+        ensures shorter { IfOk result (λ given. given ≡ true → most_left self.new < most_left self.old) }
+        ensures none { IfOk result (λ given. given ≡ false → HasNone self.old × (self.new ≡ self.old) × (out.new.items ≡ out.old.items)) }
+        ensures err { OnErr result (IsAsBefore self.old self.new × (out.new.items ≡ out.old.items)) }
+    {
+        self.put_next(out)
+    }
+
+    /// The next recorded packet. None comes where `next_into` answers false.
+    ///
+    /// `NoMemory` comes only for want of memory, and what is to be given is then as before.
+    pub fn next(&mut self) -> Result<Option<Bytes>, NoMemory>
+        ensures some { IfOk result (λ answer. IfSome answer (λ packet. GivesPacket self.old [] self.new packet)) }
+        ensures shorter { IfOk result (λ answer. IfSome answer (λ packet. most_left self.new < most_left self.old)) }
+        ensures none { IfOk result (λ answer. IfNone answer (HasNone self.old × (self.new ≡ self.old))) }
+        ensures err { OnErr result (IsAsBefore self.old self.new) }
+    {
+        let mut packet = Vec::new(self.alloc);
+        if self.next_into(&mut packet)? {
+            Ok(Some(Bytes::from_vec(packet)))
+        } else {
+            Ok(None)
+        }
+    }
+}
+
+impl Scribe {
+    fn put_next(&mut self, out: &mut Vec<u8>) -> Result<bool, NoMemory>
+        ensures given { IfOk result (λ given. given ≡ true → GivesPacket self.old out.old.items self.new out.new.items) }
+        ensures none { IfOk result (λ given. given ≡ false → HasNone self.old × (self.new ≡ self.old) × (out.new.items ≡ out.old.items)) }
+        ensures err { OnErr result (IsAsBefore self.old self.new × (out.new.items ≡ out.old.items)) }
+    {
+        self.take_note()?;
+        prepare(self.alloc, self.lane, &mut self.waiting)?;
+        put_first(self.alloc, self.lane, &mut self.waiting, out)
+    }
+
+    // Takes the next note, where nothing is waiting.
+    fn take_note(&mut self) -> Result<(), NoMemory>
+        ensures as_before { IsAsBefore self.old self.new }
+        ensures none { OnOk result (self.new.waiting ≡ [] → HasNone self.old × (self.new ≡ self.old)) }
+        ensures err { OnErr result (self.new ≡ self.old) }
+    {
+        if is_nothing(&self.waiting) {
+            if let Some(note) = self.reader.next()? {
+                wait_for(&mut self.waiting, Waiting::OfNote(note));
+            }
+        }
+        Ok(())
+    }
+}

@@ -1,0 +1,208 @@
+use crate::{Scribe, recorded_of_pieces, take_packets};
+use packet_codec::{Event, FilePart, Status, encode, fits};
+use std::alloc::Global;
+use std::test::Fail;
+use stream_reader::{Note, notes_of_pieces};
+use sub_number::{Bytes, Text};
+
+// `foo` passed: as it comes, and as it is recorded under lane 0.
+const FOO: &[u8] = b"\xb3\x29\x03\x0c\x03foo\x45\x9d\xfe\x10";
+
+const FOO_UNDER_0: &[u8] = b"\xb3\x2d\x03\x0e\x03foo\x01\x30\xa4\xaf\xdb\xe0";
+
+// The bytes `ab` as a piece of the file `stdout`, under lane 0.
+const AB_UNDER_0: &[u8] = b"\xb3\x25\x40\x14\x06stdout\x02ab\x01\x30\x3a\xe0\x57\xa9";
+
+fn pieces(alloc: Global, stream: &[u8], size: usize) -> Option<Vec<Bytes>> {
+    let mut pieces = Vec::new(alloc);
+    for piece in stream.chunks(size.max(1)) {
+        pieces.push(Bytes::new(alloc, piece).ok()?).ok()?;
+    }
+    Some(pieces)
+}
+
+// What is recorded of a stream that is fed in pieces of this size.
+fn recorded(alloc: Global, lane: u32, stream: &[u8], size: usize) -> Option<Vec<u8>> {
+    if lane > 63 {
+        return None;
+    }
+    recorded_of_pieces(alloc, lane, &pieces(alloc, stream, size)?).ok()
+}
+
+fn is_recorded(alloc: Global, lane: u32, stream: &[u8], size: usize, wanted: &[u8]) -> bool {
+    match recorded(alloc, lane, stream, size) {
+        Some(bytes) => bytes.as_slice() == wanted,
+        None => false,
+    }
+}
+
+#[test]
+fn streams_under_lane_0_in_pieces_of_every_size(rt: HostRuntime) {
+    let table = [
+        (FOO, FOO_UNDER_0),
+        (b"".as_slice(), b"".as_slice()),
+        // `foo` failed.
+        (
+            b"\xb3\x29\x06\x0c\x03foo\x15\x50\x6f\xa3",
+            b"\xb3\x2d\x06\x0e\x03foo\x01\x30\xec\x4f\xd5\x84",
+        ),
+        // The end alone.
+        (
+            b"\xb3\x21\x10\x08\x53\x15\x88\xdc",
+            b"\xb3\x25\x10\x0a\x01\x30\x46\xf1\xb3\xa8",
+        ),
+        // The checksum is wrong.
+        (
+            b"\xb3\x29\x03\x0c\x03foo\x45\x9d\xfe\x11",
+            b"\xb3\x25\x40\x1e\x06stdout\x0c\xb3\x29\x03\x0c\x03foo\x45\x9d\xfe\x11\x01\x30\x7c\x95\xa7\xfd",
+        ),
+        // Foreign bytes, and a packet.
+        (
+            b"ab\xb3\x29\x03\x0c\x03foo\x45\x9d\xfe\x10",
+            b"\xb3\x25\x40\x14\x06stdout\x02ab\x01\x30\x3a\xe0\x57\xa9\xb3\x2d\x03\x0e\x03foo\x01\x30\xa4\xaf\xdb\xe0",
+        ),
+        // A header of 60 bytes, and a packet among them.
+        (
+            b"\xb3\x29\x03\x3c\xb3\x29\x03\x0c\x03foo\x45\x9d\xfe\x10",
+            b"\xb3\x25\x40\x16\x06stdout\x04\xb3\x29\x03\x3c\x01\x30\xec\x41\x8b\x3d\xb3\x2d\x03\x0e\x03foo\x01\x30\xa4\xaf\xdb\xe0",
+        ),
+    ];
+    for (stream, wanted) in table {
+        for size in [1, 5, 100] {
+            assert!(rt;
+                is_recorded(rt.alloc(), 0, stream, size, wanted),
+                "pieces of {size}"
+            );
+        }
+    }
+}
+
+#[test]
+fn other_lanes_and_routes(rt: HostRuntime) {
+    let table = [
+        (
+            12,
+            FOO,
+            b"\xb3\x2d\x03\x0f\x03foo\x02\x31\x32\x6d\x8c\x7c\x28".as_slice(),
+        ),
+        // `foo` passed, with the route `r`.
+        (
+            12,
+            b"\xb3\x2d\x03\x0e\x03foo\x01r\x3c\x7d\xfb\x5c",
+            b"\xb3\x2d\x03\x11\x03foo\x0412/r\x5f\x07\x80\x48",
+        ),
+        (
+            63,
+            b"ab",
+            b"\xb3\x25\x40\x15\x06stdout\x02ab\x0263\x0b\xf1\x8d\x29",
+        ),
+    ];
+    for (lane, stream, wanted) in table {
+        assert!(rt;
+            is_recorded(rt.alloc(), lane, stream, 100, wanted),
+            "lane {lane}"
+        );
+    }
+}
+
+#[test]
+fn each_packet_is_given_as_soon_as_it_is_decided(rt: HostRuntime) -> Result<(), Fail> {
+    let stream = b"ab\xb3\x29\x03\x0c\x03foo\x45\x9d\xfe\x10";
+    let mut scribe = Scribe::new(rt.alloc(), 0).ok().ok_or("no memory")?;
+    let mut out = Vec::new(rt.alloc());
+    scribe.feed(&stream[..13]).ok().ok_or("no memory")?;
+    assert!(rt; !scribe.next_into(&mut out).ok().ok_or("no memory")?);
+    assert_eq!(rt; scribe.held(), 13);
+    scribe.feed(&stream[13..]).ok().ok_or("no memory")?;
+    assert!(rt; scribe.next_into(&mut out).ok().ok_or("no memory")?);
+    assert!(rt; out.as_slice() == AB_UNDER_0);
+    assert_eq!(rt; scribe.held(), 12);
+    let second = scribe.next().ok().ok_or("no memory")?.ok_or("no packet")?;
+    assert!(rt; second.bytes() == FOO_UNDER_0);
+    assert!(rt; scribe.next().ok().ok_or("no memory")?.is_none());
+    scribe.feed(b"ab").ok().ok_or("no memory")?;
+    take_packets(&mut scribe, &mut out).ok().ok_or("no memory")?;
+    assert!(rt; out.as_slice() == AB_UNDER_0);
+    scribe.finish();
+    scribe.finish();
+    out.clear();
+    take_packets(&mut scribe, &mut out).ok().ok_or("no memory")?;
+    assert!(rt; out.as_slice() == AB_UNDER_0);
+    assert_eq!(rt; scribe.held(), 0);
+    Ok(())
+}
+
+// The packet of an event without route whose file has so many zeros.
+fn long_packet(alloc: Global, count: usize) -> Option<Vec<u8>> {
+    let mut zeros = Vec::new(alloc);
+    zeros.resize(count, 0u8).ok()?;
+    let event = Event {
+        stamp: None,
+        id: None,
+        tags: None,
+        runnable: false,
+        status: Status::Unset,
+        mime: None,
+        file: Some(FilePart {
+            name: Text::new(alloc, b"").ok()?,
+            bytes: Bytes::from_vec(zeros),
+        }),
+        eof: false,
+        route: None,
+    };
+    if !fits(&event) {
+        return None;
+    }
+    let mut out = Vec::new(alloc);
+    encode(&event, &mut out).ok()?;
+    Some(out)
+}
+
+// Appends the bytes of a piece of the file `stdout` under lane 0, and answers how many they are.
+fn take_piece(note: &Note, joined: &mut Vec<u8>) -> Option<usize> {
+    let Note::Event(event) = note else {
+        return None;
+    };
+    let file = event.file.as_ref()?;
+    if file.name.bytes() != b"stdout".as_slice()
+        || event.route.as_ref()?.bytes() != b"0".as_slice()
+    {
+        return None;
+    }
+    joined.extend_from_slice(file.bytes.bytes()).ok()?;
+    Some(file.bytes.bytes().len())
+}
+
+#[test]
+fn the_largest_packet_is_recorded_in_64_pieces(rt: HostRuntime) -> Result<(), Fail> {
+    let packet = long_packet(rt.alloc(), 4_194_289).ok_or("no packet")?;
+    assert_eq!(rt; packet.len(), 4_194_303);
+    let run = recorded(rt.alloc(), 0, &packet, 65_536).ok_or("no memory")?;
+    let stored = pieces(rt.alloc(), &run, 65_536).ok_or("no memory")?;
+    let notes = notes_of_pieces(rt.alloc(), &stored)
+        .ok()
+        .ok_or("no memory")?;
+    assert_eq!(rt; notes.len(), 64);
+    let mut joined = Vec::new(rt.alloc());
+    for (place, note) in notes.iter().enumerate() {
+        let size = if place < 63 { 65_536 } else { 65_535 };
+        assert_eq!(rt; take_piece(note, &mut joined), Some(size));
+    }
+    assert!(rt; joined.as_slice() == packet.as_slice());
+    Ok(())
+}
+
+// The route takes two bytes under lane 9, and three under lane 10.
+#[test]
+fn an_event_that_just_fits_is_one_packet(rt: HostRuntime) -> Result<(), Fail> {
+    let packet = long_packet(rt.alloc(), 4_194_287).ok_or("no packet")?;
+    let one = recorded(rt.alloc(), 9, &packet, 65_536).ok_or("no memory")?;
+    assert_eq!(rt; one.len(), 4_194_303);
+    let many = recorded(rt.alloc(), 10, &packet, 65_536).ok_or("no memory")?;
+    // Around each piece stand 23 bytes: 6 of header, the name in 7, the count in 3, the route in 3, and 4 of checksum.
+    assert!(rt;
+        many.starts_with(b"\xb3\x25\x40\x81\x00\x17\x06stdout\x81\x00\x00\xb3\x20\x40\xbf\xff\xfd")
+    );
+    assert_eq!(rt; many.len(), 63 * (65_536 + 23) + 65_533 + 23);
+    Ok(())
+}
