@@ -1,0 +1,26 @@
+-- When a count of faults may rise, by what a call answered (docs/FORMATS.md, faults).
+use Rattle.std.specs.Prelude.{◌≡◌, ℕ, ◌≤◌, Bool, true, false, Result, Ok, Err}
+use Rattle.edge_io.specs.Causes.{Rose}
+use Rattle.run_shelf.specs.declared.faults.InitFault.{InitFault}
+use Rattle.run_shelf.specs.declared.faults.InitFault.TheVariants.{Exists, Shelf}
+use Rattle.run_shelf.specs.declared.faults.OpenFault.{OpenFault}
+use Rattle.run_shelf.specs.declared.faults.OpenFault.TheVariants as open_fault
+
+-- the count never falls, where a call of the shelf failed it rose, and else it stands
+pub record Counts (before now : ℕ) (failed : Bool) : Type 0 where
+  pub later : before ≤ now
+  pub rose : failed ≡ true → Rose before now
+  pub stands : failed ≡ false → now ≡ before
+
+abbrev pub init_failed : {T : Type 0} → Result T InitFault → Bool
+init_failed (Ok done) = false
+init_failed (Err Exists) = false
+init_failed (Err (Shelf call)) = true
+
+abbrev pub open_failed : {T : Type 0} → Result T OpenFault → Bool
+open_failed (Ok found) = false
+open_failed (Err open_fault.NoStore) = false
+open_failed (Err open_fault.UnknownFormat) = false
+open_failed (Err (open_fault.Gap number)) = false
+open_failed (Err (open_fault.Shelf call)) = true
+open_failed (Err open_fault.NoMemory) = false

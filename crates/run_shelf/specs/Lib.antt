@@ -1,0 +1,10 @@
+pub mod Repository
+pub mod Names
+pub mod Drafts
+pub mod Marks
+pub mod Images
+pub mod Faults
+pub mod Holds
+pub mod Looking
+pub mod Outcomes
+pub mod Stores

@@ -1,0 +1,81 @@
+-- What is seen of a store and of its recorder.
+use Rattle.std.specs.Prelude.{◌≡◌, ◌↔◌, ⊤, ℕ, ◌<◌, Bool, true, false, Option, Some, None, IfSome, List, [], length, Result, Ok, Err}
+use Rattle.edge_io.specs.Disk.{Folder}
+use Rattle.run_shelf.specs.declared.faults.ShelfCall.{ShelfCall}
+use Rattle.run_shelf.specs.declared.faults.StoreFault.{StoreFault}
+use Rattle.run_shelf.specs.declared.faults.StoreFault.TheVariants.{Shelf, Closed}
+use Rattle.run_shelf.specs.declared.faults.OpenFault.{OpenFault}
+use Rattle.run_shelf.specs.declared.faults.OpenFault.TheVariants as open_fault
+use Rattle.run_shelf.specs.declared.faults.StartFault.{StartFault}
+use Rattle.run_shelf.specs.declared.faults.StartFault.TheVariants as start_fault
+use Rattle.run_shelf.specs.declared.store.Store.{Store}
+use Rattle.run_shelf.specs.declared.recorder.Recorder.{Recorder}
+use Rattle.run_shelf.specs.Holds.{Fits, kinds_of}
+use Rattle.run_shelf.specs.Outcomes.{KeepFails}
+use Rattle.run_shelf.specs.Repository.{HasFormat, HasOtherFormat, IsGap, format_name, most_runs}
+
+-- whether each run is partial, in the order of their numbers
+abbrev pub store_kinds : {H : Type 0} → Store H → List Bool
+store_kinds store = kinds_of store.found
+
+-- the call that failed, after which the store is closed
+abbrev pub store_fault : {H : Type 0} → Store H → Option ShelfCall
+store_fault store = store.fault
+
+abbrev pub recorder_kinds : {H : Type 0} → Recorder H → List Bool
+recorder_kinds recorder = kinds_of recorder.recording.found
+
+-- what was added, in order
+abbrev pub recorded : {H : Type 0} → Recorder H → List ℕ
+recorded recorder = recorder.recording.bytes.items
+
+abbrev pub recorder_partial : {H : Type 0} → Recorder H → Bool
+recorder_partial recorder = recorder.recording.partial
+
+-- until a call of the folder has failed, what the store knows fits the folder
+abbrev pub FitsUnlessBroken : List Bool → Option ShelfCall → Option Folder → Type 0
+FitsUnlessBroken kinds fault state = fault ≡ None → IfSome state (Fits kinds)
+
+-- the call failed that is kept, or the one before it
+abbrev pub fault_after : {T : Type 0} → Option ShelfCall → Result T StoreFault → Option ShelfCall
+fault_after before (Ok done) = before
+fault_after before (Err (Shelf call)) = Some call
+fault_after before (Err (Closed call)) = before
+
+abbrev pub store_failed : {T : Type 0} → Result T StoreFault → Bool
+store_failed (Ok done) = false
+store_failed (Err (Shelf call)) = true
+store_failed (Err (Closed call)) = false
+
+-- `Closed` comes exactly after a fault, with its call, and each fault is kept
+pub record Closes {T : Type 0} (before after : Option ShelfCall) (result : Result T StoreFault) : Type 0 where
+  pub closed : (call : ShelfCall) → (result ≡ Err (Closed call)) ↔ (before ≡ Some call)
+  pub kept : after ≡ fault_after before result
+
+-- why a folder was not taken for a repository
+abbrev pub HasOpenCause : OpenFault → Folder → Type 0
+HasOpenCause open_fault.NoStore s = s.disk.published format_name ≡ None
+HasOpenCause open_fault.UnknownFormat s = HasOtherFormat s.disk.published
+HasOpenCause (open_fault.Gap number) s = HasFormat s.disk.published × IsGap s.disk.published number
+HasOpenCause (open_fault.Shelf call) s = ⊤
+HasOpenCause open_fault.NoMemory s = ⊤
+
+-- why no recording was started, by the number of runs and the fault that is kept
+abbrev pub HasStartCause : ℕ → Option ShelfCall → StartFault → Type 0
+HasStartCause runs fault start_fault.Full = (fault ≡ None) × (runs ≡ most_runs)
+HasStartCause runs fault (start_fault.Store (Shelf call)) = ⊥
+HasStartCause runs fault (start_fault.Store (Closed call)) = fault ≡ Some call
+HasStartCause runs fault start_fault.NoMemory = (fault ≡ None) × (runs < most_runs)
+
+-- a recording of a run of this kind, to which nothing was added yet, of a store that had this
+pub record StartsFrom {H : Type 0} (kinds : List Bool) (fault : Option ShelfCall) (partial : Bool) (recorder : Recorder H) : Type 0 where
+  pub kinds_are : recorder_kinds recorder ≡ kinds
+  pub partial_is : recorder_partial recorder ≡ partial
+  pub nothing : recorded recorder ≡ []
+  pub unbroken : fault ≡ None
+  pub few : length kinds < most_runs
+
+-- a run was to be kept, and this call failed; a recorder's store is never closed
+abbrev pub StoreKeepFails : List ℕ → List ℕ → StoreFault → Folder → Folder → Type 0
+StoreKeepFails name bytes (Shelf call) s t = KeepFails name bytes call s t
+StoreKeepFails name bytes (Closed call) s t = ⊥

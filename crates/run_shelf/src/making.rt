@@ -1,0 +1,44 @@
+//! Makes an empty repository.
+
+ghost use Rattle.std.specs.Prelude.{IfErr, OnOk};
+ghost use Rattle.edge_io.specs.Steps.{Goes};
+ghost use Rattle.run_shelf.specs.Faults.{Counts, init_failed};
+ghost use Rattle.run_shelf.specs.Images.{MakesRepository, PassesFormat};
+ghost use Rattle.run_shelf.specs.Outcomes.{InitFails};
+
+use crate::keeping::keep_file;
+use crate::{InitFault, ShelfCall};
+use edge_io::Shelf;
+
+/// The name of the file that makes a folder a repository.
+pub const FORMAT_NAME: &str = "format";
+
+/// The bytes of that file.
+pub const FORMAT_BYTES: &[u8] = b"subunit-store 1\n";
+
+/// Makes the folder a repository: brings what is pending to the disk, and keeps the file `format` there. It takes no
+/// memory.
+///
+/// `Exists` comes exactly where the file `format` is there, and `Shelf` only where a call of the folder failed. A stop at
+/// any moment leaves what one before the call might have left, or the files as read before it with `format` beside them;
+/// after `Ok` each later stop leaves `format`.
+pub fn make_repository<H: Shelf>(shelf: &mut H) -> Result<(), InitFault>
+    ensures made { OnOk result (Goes (H.state shelf.old) (H.state shelf.new) MakesRepository) }
+    ensures refused { IfErr result (λ fault. Goes (H.state shelf.old) (H.state shelf.new) (InitFails fault)) }
+    ensures any_moment { Goes (H.state shelf.old) (H.state shelf.new) PassesFormat }
+    ensures cause { Counts (H.faults shelf.old) (H.faults shelf.new) (init_failed result) }
+{
+    let Ok(()) = shelf.sync_folder() else {
+        return Err(InitFault::Shelf(ShelfCall::SyncFolder));
+    };
+    let Ok(found) = shelf.length(FORMAT_NAME) else {
+        return Err(InitFault::Shelf(ShelfCall::Length));
+    };
+    if found.is_some() {
+        return Err(InitFault::Exists);
+    }
+    match keep_file(shelf, FORMAT_NAME, FORMAT_BYTES) {
+        Ok(()) => Ok(()),
+        Err(call) => Err(InitFault::Shelf(call)),
+    }
+}

@@ -1,0 +1,205 @@
+//! A repository that holds its folder.
+
+ghost use Rattle.std.specs.Prelude.{◌≡◌, ◌<◌, None, Some, length, slice_get, IfSome, IfOk, IfErr, OnOk};
+ghost use Rattle.std.specs.Io.{ReadsAtMost};
+ghost use Rattle.edge_io.specs.Steps.{Goes, Stays};
+ghost use Rattle.run_shelf.specs.Faults.{Counts, init_failed};
+ghost use Rattle.run_shelf.specs.Holds.{kinds_of};
+ghost use Rattle.run_shelf.specs.Images.{MakesRepository, PassesFormat, PassesOld};
+ghost use Rattle.run_shelf.specs.Outcomes.{InitFails, Surveys, IsRunLength, IsRunPart, TicksAtMost};
+ghost use Rattle.run_shelf.specs.declared.faults.StoreFault.TheVariants.{Shelf as ShelfFailed};
+ghost use Rattle.run_shelf.specs.Stores.{store_kinds, store_fault, store_failed, FitsUnlessBroken, Closes, HasOpenCause, HasStartCause, StartsFrom};
+
+use crate::gathering::Recording;
+use crate::recorder::Recorder;
+use crate::{
+    Found, InitFault, MOST_RUNS, OpenFault, ShelfCall, StartFault, StoreFault, make_repository,
+    read_run, run_length, survey,
+};
+use edge_io::Shelf;
+use std::alloc::Global;
+
+/// A repository over the folder that it was opened on. What it knows of the runs fits the folder until a call of the
+/// folder fails; then each call that can tell of it answers `StoreFault::Closed` with that call, until the folder is
+/// opened again.
+#[derive(Drop)]
+pub struct Store<'h, H: Shelf> {
+    shelf: &'h mut H,
+    found: Found,
+    fault: Option<ShelfCall>,
+}
+
+impl<'h, H: Shelf> Store<'h, H> {
+    /// Makes the folder a repository, as `make_repository`.
+    pub fn init(shelf: &mut H) -> Result<(), InitFault>
+        ensures made { OnOk result (Goes (H.state shelf.old) (H.state shelf.new) MakesRepository) }
+        ensures refused { IfErr result (λ fault. Goes (H.state shelf.old) (H.state shelf.new) (InitFails fault)) }
+        ensures any_moment { Goes (H.state shelf.old) (H.state shelf.new) PassesFormat }
+        ensures cause { Counts (H.faults shelf.old) (H.faults shelf.new) (init_failed result) }
+    {
+        make_repository(shelf)
+    }
+
+    /// Opens the repository of the folder, as `survey` looks at it, and holds the folder.
+    pub fn open(alloc: Global, shelf: &'h mut H) -> Result<Store<'h, H>, OpenFault>
+        ensures same_reference { IfOk result (λ store. store.shelf.ghost_name ≡ shelf.entry.ghost_name) }
+        ensures opened { IfOk result (λ store. Goes (H.state shelf.entry.now) (H.state store.shelf.now) (Surveys (store_kinds store))) }
+        ensures any_moment { IfOk result (λ store. Goes (H.state shelf.entry.now) (H.state store.shelf.now) PassesOld) }
+        ensures fault { IfOk result (λ store. store_fault store ≡ None) }
+        ensures count { IfOk result (λ store. H.faults store.shelf.now ≡ H.faults shelf.entry.now) }
+        ensures refused { IfErr result (λ fault. IfSome (H.state shelf.entry.now) (HasOpenCause fault)) }
+    {
+        let found = survey(alloc, shelf)?;
+        Ok(Store::attach(shelf, found))
+    }
+
+    /// A store over a folder of which this is known.
+    pub fn attach(shelf: &'h mut H, found: Found) -> Store<'h, H>
+        ensures same_reference { result.shelf.ghost_name ≡ shelf.entry.ghost_name }
+        ensures same { result.shelf.now ≡ shelf.entry.now }
+        ensures kinds { store_kinds result ≡ kinds_of found }
+        ensures fault { store_fault result ≡ None }
+    {
+        Store {
+            shelf,
+            found,
+            fault: None,
+        }
+    }
+
+    /// The call of the folder that failed, after which the store is closed.
+    pub fn fault(&self) -> Option<ShelfCall>
+        ensures { result ≡ store_fault self.now }
+    {
+        self.fault
+    }
+
+    /// How many runs there are.
+    pub fn runs(&self) -> u32
+        ensures { result ≡ length (store_kinds self.now) }
+    {
+        self.found.runs()
+    }
+
+    /// Whether the run of this number, which there must be, is partial.
+    pub fn partial(&self, number: u32) -> bool
+        requires { number < length (store_kinds self.now) }
+        ensures { slice_get (store_kinds self.now) number ≡ Some result }
+    {
+        self.found.partial(number)
+    }
+
+    /// How many bytes the run of this number has, which there must be. It takes no memory.
+    pub fn run_length(&mut self, number: u32) -> Result<u64, StoreFault>
+        requires known { number < length (store_kinds self.old) }
+        requires fits { FitsUnlessBroken (store_kinds self.old) (store_fault self.old) (H.state self.old.shelf.now) }
+        ensures same_reference { self.new.shelf.ghost_name ≡ self.old.shelf.ghost_name }
+        ensures size { IfOk result (λ size. IfSome (H.state self.old.shelf.now) (IsRunLength number size)) }
+        ensures closes { Closes (store_fault self.old) (store_fault self.new) result }
+        ensures kinds { store_kinds self.new ≡ store_kinds self.old }
+        ensures same { Goes (H.state self.old.shelf.now) (H.state self.new.shelf.now) Stays }
+        ensures fits { FitsUnlessBroken (store_kinds self.new) (store_fault self.new) (H.state self.new.shelf.now) }
+        ensures time { TicksAtMost (H.clock self.old.shelf.now) (H.clock self.new.shelf.now) }
+        ensures cause { Counts (H.faults self.old.shelf.now) (H.faults self.new.shelf.now) (store_failed result) }
+    {
+        if let Some(call) = self.fault {
+            return Err(StoreFault::Closed(call));
+        }
+        match run_length(self.shelf, &self.found, number) {
+            Ok(size) => Ok(size),
+            Err(call) => Err(self.close(call)),
+        }
+    }
+
+    /// Moves bytes of the run of this number, which there must be, into the front of `buf`: from the byte number `place`
+    /// on as many as are there and fit. It answers how many, and takes no memory.
+    pub fn read_run(&mut self, number: u32, place: u64, buf: &mut [u8]) -> Result<usize, StoreFault>
+        requires known { number < length (store_kinds self.old) }
+        requires fits { FitsUnlessBroken (store_kinds self.old) (store_fault self.old) (H.state self.old.shelf.now) }
+        ensures same_reference { self.new.shelf.ghost_name ≡ self.old.shelf.ghost_name }
+        ensures bound { ReadsAtMost result buf.new }
+        ensures part { IfOk result (λ count. IfSome (H.state self.old.shelf.now) (IsRunPart number place buf.new count)) }
+        ensures closes { Closes (store_fault self.old) (store_fault self.new) result }
+        ensures kinds { store_kinds self.new ≡ store_kinds self.old }
+        ensures same { Goes (H.state self.old.shelf.now) (H.state self.new.shelf.now) Stays }
+        ensures fits { FitsUnlessBroken (store_kinds self.new) (store_fault self.new) (H.state self.new.shelf.now) }
+        ensures time { TicksAtMost (H.clock self.old.shelf.now) (H.clock self.new.shelf.now) }
+        ensures cause { Counts (H.faults self.old.shelf.now) (H.faults self.new.shelf.now) (store_failed result) }
+    {
+        if let Some(call) = self.fault {
+            return Err(StoreFault::Closed(call));
+        }
+        match read_run(self.shelf, &self.found, number, place, buf) {
+            Ok(count) => Ok(count),
+            Err(call) => Err(self.close(call)),
+        }
+    }
+
+    // Keeps the call that failed.
+    fn close(&mut self, call: ShelfCall) -> StoreFault
+        ensures same_reference { self.new.shelf.ghost_name ≡ self.old.shelf.ghost_name }
+        ensures same { self.new.shelf.now ≡ self.old.shelf.now }
+        ensures kinds { store_kinds self.new ≡ store_kinds self.old }
+        ensures fault { store_fault self.new ≡ Some call }
+        ensures told { result ≡ ShelfFailed call }
+    {
+        self.fault = Some(call);
+        StoreFault::Shelf(call)
+    }
+
+    /// Starts the recording of one run more, and takes the memory that the commit needs. On each refusal the store is
+    /// handed back as it was: `Full` comes exactly where there are 1,000,000 runs, `Store` where the store is closed,
+    /// which comes first, and `NoMemory` only for want of memory.
+    pub fn start_run(
+        self,
+        alloc: Global,
+        partial: bool,
+    ) -> Result<Recorder<'h, H>, (Store<'h, H>, StartFault)>
+        ensures same_reference { IfOk result (λ recorder. recorder.shelf.ghost_name ≡ self.entry.shelf.ghost_name) }
+        ensures same { IfOk result (λ recorder. recorder.shelf.now ≡ self.entry.shelf.now) }
+        ensures started { IfOk result (λ recorder. StartsFrom (store_kinds self.entry) (store_fault self.entry) partial recorder) }
+        ensures same_reference_err { IfErr result (λ e. e.0.shelf.ghost_name ≡ self.entry.shelf.ghost_name) }
+        ensures same_err { IfErr result (λ e. e.0.shelf.now ≡ self.entry.shelf.now) }
+        ensures kept { IfErr result (λ e. (store_kinds e.0 ≡ store_kinds self.entry) × (store_fault e.0 ≡ store_fault self.entry)) }
+        ensures refused { IfErr result (λ e. HasStartCause (length (store_kinds self.entry)) (store_fault self.entry) e.1) }
+    {
+        let mut store = self;
+        if let Some(call) = store.fault {
+            return Err((store, StartFault::Store(StoreFault::Closed(call))));
+        }
+        if store.found.runs() == MOST_RUNS {
+            return Err((store, StartFault::Full));
+        }
+        let Ok(()) = store.found.make_room() else {
+            return Err((store, StartFault::NoMemory));
+        };
+        let Store {
+            shelf,
+            found,
+            fault: _,
+        } = store;
+        Ok(Recorder::over(shelf, Recording::start(alloc, found, partial)))
+    }
+
+    // A store over a folder of which a call failed.
+    pub(crate) fn broken(shelf: &'h mut H, found: Found, call: ShelfCall) -> Store<'h, H>
+        ensures same_reference { result.shelf.ghost_name ≡ shelf.entry.ghost_name }
+        ensures same { result.shelf.now ≡ shelf.entry.now }
+        ensures kinds { store_kinds result ≡ kinds_of found }
+        ensures fault { store_fault result ≡ Some call }
+    {
+        Store {
+            shelf,
+            found,
+            fault: Some(call),
+        }
+    }
+
+    /// The folder, given back.
+    pub fn into_shelf(self) -> &'h mut H
+        ensures same_reference { result.ghost_name ≡ self.entry.shelf.ghost_name }
+        ensures same { result.now ≡ self.entry.shelf.now }
+    {
+        self.shelf
+    }
+}
