@@ -1,0 +1,120 @@
+-- What the runs of a repository say, run by run.
+use Rattle.std.proofs.Common.{◌≡◌, ℕ, zero, suc, ◌+◌, ◌<◌, ◌≤◌, Bool, List, [], ◌∷◌, ◌++◌, Option, Some, None, IfSome, IsSomeAnd, take, length, refl, sym, ap, ◌∙◌, subst, arith}
+use Rattle.std.specs.Prelude.{slice_get}
+use Rattle.std.specs.Option.{option_map}
+use Rattle.std.proofs.lemmas.List.{take_all, length-map}
+use Rattle.edge_io.specs.Disk.{Files, Folder}
+use Rattle.edge_io.specs.Steps.{Goes, Stays}
+use Rattle.std.specs.FinMap as fin
+use Rattle.std.specs.FinMap.{FinMap}
+use Rattle.outcome_fold.specs.declared.row.Row.{Row}
+use Rattle.outcome_fold.specs.Order.{text_cmp}
+use Rattle.outcome_fold.specs.Answers.{times_of}
+use Rattle.run_shelf.specs.Holds.{Fits}
+use Rattle.run_shelf.specs.Repository.{Run, run_at, most_runs, Shows, HasKinds}
+use Rattle.run_shelf.proofs.ShowsLemmas.{shown, kinds_of_runs}
+use Rattle.run_ledger.specs.Reading.{AreRowsOf}
+use Rattle.run_ledger.specs.Ledger.{RunRows, IsRunRows, AreRunRows, ShowRows, HasRowsAt, failing_behind, failing_from, failing_after, replaced, times_from, times_after}
+
+-- the rows of as many runs of the files, from the first
+pub record ShowRowsTo (files : Files) (count : ℕ) (entries : List RunRows) : Type 0 where
+  pub runs : List Run
+  pub shown : Shows files runs
+  pub are : AreRunRows (take count runs) entries
+
+-- what is said of all lists of rows, of the first runs of the folder
+abbrev pub SaysTo : {X : Type 0} → (List RunRows → X) → ℕ → X → Folder → Type 0
+SaysTo says count x s = (entries : List RunRows) × ShowRowsTo s.disk.published count entries × (x ≡ says entries)
+
+pub says_none : {X : Type 0} (says : List RunRows → X) (state : Option Folder) (kinds : List Bool) (count : ℕ) (x : X) → count ≡ 0 → x ≡ says [] → IfSome state (Fits kinds) → IfSome state (SaysTo says count x)
+says_none says None kinds count x begin is fits = tt
+says_none says (Some s) kinds count x begin is fits =
+    let all = shown s.disk.published fits.repository in
+    ([], record { runs = all.0; shown = all.1; are = subst (λ (n : ℕ). AreRunRows (take n all.0) []) (sym begin) tt }, is)
+
+take_one_more : (runs : List Run) (n : ℕ) (run : Run) → slice_get runs n ≡ Some run → take (suc n) runs ≡ take n runs ++ run ∷ []
+take_one_more [] n run is = cc
+take_one_more (r ∷ runs) zero run is = let same : r ≡ run = cc in ap (λ x. x ∷ []) same
+take_one_more (r ∷ runs) (suc n) run is = ap (λ l. r ∷ l) (take_one_more runs n run is)
+
+rows_behind : (runs : List Run) (entries : List RunRows) (run : Run) (entry : RunRows) → AreRunRows runs entries → IsRunRows run entry → AreRunRows (runs ++ run ∷ []) (entries ++ entry ∷ [])
+rows_behind [] [] run entry are one = (one, tt)
+rows_behind [] (e ∷ entries) run entry are one = absurd are
+rows_behind (r ∷ runs) [] run entry are one = absurd are
+rows_behind (r ∷ runs) (e ∷ entries) run entry are one = (are.0, rows_behind runs entries run entry are.1 one)
+
+-- a number below has a kind
+pub kind_below : (kinds : List Bool) (n : ℕ) → n < length kinds → (partial : Bool) × (slice_get kinds n ≡ Some partial)
+kind_below [] n below = absurd (omega arith)
+kind_below (kind ∷ kinds) zero below = (kind, refl)
+kind_below (kind ∷ kinds) (suc n) below = kind_below kinds n (omega arith)
+
+-- the run of a number
+found_at : (o : Option Run) (partial : Bool) (rows : List Row) → option_map (λ run. run.partial) o ≡ Some partial → IsSomeAnd o (λ run. AreRowsOf run.bytes rows)
+    → (run : Run) × (o ≡ Some run) × IsRunRows run (record { partial = partial; rows = rows })
+found_at None partial rows kind are = absurd are
+found_at (Some run) partial rows kind are = let same : run.partial ≡ partial = cc in (run, refl, record { kind = sym same; rows = are })
+
+module _ (files : Files) (kinds : List Bool) (has : HasKinds files kinds) where
+  -- one run more
+  rows_more : (count : ℕ) (partial : Bool) (entries : List RunRows) (rows : List Row) → count < length kinds → slice_get kinds count ≡ Some partial
+      → IsSomeAnd (run_at files count) (λ run. AreRowsOf run.bytes rows) → ShowRowsTo files count entries
+      → ShowRowsTo files (suc count) (entries ++ record { partial = partial; rows = rows } ∷ [])
+  rows_more count partial entries rows below kind are so_far =
+      let few : count < most_runs = omega (arith, has.few) in
+      let run = found_at (run_at files count) partial rows (has.each count few ∙ kind) are in
+      record {
+        runs = so_far.runs;
+        shown = so_far.shown;
+        are = subst (λ (l : List Run). AreRunRows l (entries ++ record { partial = partial; rows = rows } ∷ []))
+            (sym (take_one_more so_far.runs count run.0 (sym (so_far.shown.each count few) ∙ run.1)))
+            (rows_behind (take count so_far.runs) entries run.0 (record { partial = partial; rows = rows }) so_far.are run.2);
+      }
+
+  -- all runs
+  rows_all : (count : ℕ) (entries : List RunRows) → length kinds ≤ count → ShowRowsTo files count entries → ShowRows files entries
+  rows_all count entries past so_far =
+      let size : length kinds ≡ length so_far.runs = ap length (kinds_of_runs files so_far.runs kinds so_far.shown has) ∙ length-map so_far.runs (λ (run : Run). run.partial) in
+      record {
+        runs = so_far.runs;
+        shown = so_far.shown;
+        are = subst (λ (l : List Run). AreRunRows l entries) (take_all count so_far.runs (omega (arith, size, past))) so_far.are;
+      }
+
+module _ {X : Type 0} (says : List RunRows → X) (step : X → RunRows → X) (folds : (entries : List RunRows) (entry : RunRows) → says (entries ++ entry ∷ []) ≡ step (says entries) entry) where
+  -- one run more
+  pub says_more : (first before : Option Folder) (kinds kinds_now : List Bool) (count next : ℕ) (partial : Bool) (rows : List Row) (old new : X)
+      → next ≡ count + 1 → count < length kinds → kinds_now ≡ kinds → slice_get kinds_now count ≡ Some partial
+      → IfSome first (Fits kinds) → Goes first before Stays → IfSome before (HasRowsAt count rows) → new ≡ step old (record { partial = partial; rows = rows })
+      → IfSome first (SaysTo says count old) → IfSome first (SaysTo says next new)
+  says_more None before kinds kinds_now count next partial rows old new is below same_kinds kind fits same are new-is so_far = tt
+  says_more (Some s) None kinds kinds_now count next partial rows old new is below same_kinds kind fits same are new-is so_far = absurd same
+  says_more (Some s) (Some t) kinds kinds_now count next partial rows old new is below same_kinds kind fits same are new-is so_far =
+      let entry : RunRows = record { partial = partial; rows = rows } in
+      let here : HasRowsAt count rows s = subst (HasRowsAt count rows) same are in
+      let kind_is : slice_get kinds count ≡ Some partial = subst (λ (l : List Bool). slice_get l count ≡ Some partial) same_kinds kind in
+      let one_more : next ≡ suc count = omega (arith, is) in (
+        so_far.0 ++ entry ∷ [],
+        subst (λ (n : ℕ). ShowRowsTo s.disk.published n (so_far.0 ++ entry ∷ [])) (sym one_more) (rows_more s.disk.published kinds fits.kinds_are count partial so_far.0 rows below kind_is here so_far.1),
+        new-is ∙ ap (λ x. step x entry) so_far.2 ∙ sym (folds so_far.0 entry),
+      )
+
+-- all runs
+pub says_all : {X : Type 0} (says : List RunRows → X) (state : Option Folder) (kinds : List Bool) (count : ℕ) (x : X) → length kinds ≤ count → IfSome state (Fits kinds)
+    → IfSome state (SaysTo says count x) → IfSome state (λ s. (entries : List RunRows) × ShowRows s.disk.published entries × (x ≡ says entries))
+says_all says None kinds count x past fits so_far = tt
+says_all says (Some s) kinds count x past fits so_far = (so_far.0, rows_all s.disk.published kinds fits.kinds_are count so_far.0 past so_far.1, so_far.2)
+
+failing_more : (earlier : List (List ℕ)) (entries : List RunRows) (entry : RunRows) → failing_from earlier (entries ++ entry ∷ []) ≡ failing_behind (failing_from earlier entries) entry
+failing_more earlier [] entry = refl
+failing_more earlier (e ∷ entries) entry = failing_more (failing_behind earlier e) entries entry
+
+pub failing_folds : (entries : List RunRows) (entry : RunRows) → failing_after (entries ++ entry ∷ []) ≡ failing_behind (failing_after entries) entry
+failing_folds entries entry = failing_more [] entries entry
+
+times_more : (earlier : FinMap text_cmp ℕ) (entries : List RunRows) (entry : RunRows) → times_from earlier (entries ++ entry ∷ []) ≡ replaced (times_from earlier entries) (times_of entry.rows)
+times_more earlier [] entry = refl
+times_more earlier (e ∷ entries) entry = times_more (replaced earlier (times_of e.rows)) entries entry
+
+pub times_folds : (entries : List RunRows) (entry : RunRows) → times_after (entries ++ entry ∷ []) ≡ replaced (times_after entries) (times_of entry.rows)
+times_folds entries entry = times_more fin.empty entries entry

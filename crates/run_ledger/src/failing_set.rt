@@ -1,0 +1,41 @@
+//! The failing set of the runs of a store.
+
+ghost use Rattle.std.specs.Prelude.{◌≡◌, IfSome, IfOk};
+ghost use Rattle.edge_io.specs.Steps.{Goes, Stays};
+ghost use Rattle.run_shelf.specs.Faults.{Counts};
+ghost use Rattle.run_shelf.specs.Stores.{store_kinds, store_fault, FitsUnlessBroken};
+ghost use Rattle.run_ledger.specs.Ledger.{IsFailingSet};
+ghost use Rattle.run_ledger.specs.Outcomes.{ledger_failed, LedgerCloses};
+
+use crate::failed_ids::FailedIds;
+use crate::fault::{LedgerFault, check_open};
+use crate::rows::rows_of;
+use edge_io::Shelf;
+use run_shelf::Store;
+use std::alloc::Global;
+use sub_number::IdList;
+
+/// The ids of the failing set, in the order of their bytes, each once. A full run replaces the set by the ids that fail
+/// in it; a partial run takes the ids out that passed in it, and adds those that fail. Each run is read once, from the
+/// first on. Nothing changes in the folder.
+///
+/// `Store` comes only where a call of the folder failed, and where one had failed before, which comes first. `NoMemory`
+/// comes only for want of memory, and leaves the store open.
+pub fn failing<H: Shelf>(alloc: Global, store: &mut Store<'_, H>) -> Result<IdList, LedgerFault>
+    requires fits { FitsUnlessBroken (store_kinds store.old) (store_fault store.old) (H.state store.old.shelf.now) }
+    ensures same_reference { store.new.shelf.ghost_name ≡ store.old.shelf.ghost_name }
+    ensures ids { IfOk result (λ ids. IfSome (H.state store.old.shelf.now) (IsFailingSet ids)) }
+    ensures closes { LedgerCloses (store_fault store.old) (store_fault store.new) result }
+    ensures kinds { store_kinds store.new ≡ store_kinds store.old }
+    ensures same { Goes (H.state store.old.shelf.now) (H.state store.new.shelf.now) Stays }
+    ensures fits { FitsUnlessBroken (store_kinds store.new) (store_fault store.new) (H.state store.new.shelf.now) }
+    ensures cause { Counts (H.faults store.old.shelf.now) (H.faults store.new.shelf.now) (ledger_failed result) }
+{
+    check_open(store)?;
+    let mut failed = FailedIds::new(alloc);
+    for number in 0..store.runs() {
+        let rows = rows_of(alloc, store, number)?;
+        failed.take_run(alloc, store.partial(number), &rows)?;
+    }
+    Ok(failed.ids(alloc)?)
+}

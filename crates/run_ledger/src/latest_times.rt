@@ -1,0 +1,63 @@
+//! The times of the ids in the runs of a store.
+
+ghost use Rattle.std.specs.Prelude.{◌≡◌, IfSome, IfOk, OnOk};
+ghost use Rattle.edge_io.specs.Steps.{Goes, Stays};
+ghost use Rattle.run_shelf.specs.Faults.{Counts};
+ghost use Rattle.run_shelf.specs.Stores.{store_kinds, store_fault, FitsUnlessBroken};
+ghost use Rattle.outcome_fold.specs.Answers.{times_of};
+ghost use Rattle.run_ledger.specs.Ledger.{AreTimes, replaced};
+ghost use Rattle.run_ledger.specs.Replacing.{ReplacedAt};
+ghost use Rattle.run_ledger.specs.Outcomes.{ledger_failed, LedgerCloses};
+
+use crate::fault::{LedgerFault, check_open};
+use crate::rows::rows_of;
+use edge_io::Shelf;
+use outcome_fold::Rows;
+use run_shelf::Store;
+use std::alloc::Global;
+use sub_number::{NoMemory, Text, TimeMap};
+
+/// The time of each id that has one in some run, in nanoseconds: that of the last run where it has one, and there the
+/// longest of its times. Each run is read once, from the first on. Nothing changes in the folder.
+///
+/// `Store` comes only where a call of the folder failed, and where one had failed before, which comes first. `NoMemory`
+/// comes only for want of memory, and leaves the store open.
+pub fn times<H: Shelf>(alloc: Global, store: &mut Store<'_, H>) -> Result<TimeMap, LedgerFault>
+    requires fits { FitsUnlessBroken (store_kinds store.old) (store_fault store.old) (H.state store.old.shelf.now) }
+    ensures same_reference { store.new.shelf.ghost_name ≡ store.old.shelf.ghost_name }
+    ensures times { IfOk result (λ times. IfSome (H.state store.old.shelf.now) (AreTimes times)) }
+    ensures closes { LedgerCloses (store_fault store.old) (store_fault store.new) result }
+    ensures kinds { store_kinds store.new ≡ store_kinds store.old }
+    ensures same { Goes (H.state store.old.shelf.now) (H.state store.new.shelf.now) Stays }
+    ensures fits { FitsUnlessBroken (store_kinds store.new) (store_fault store.new) (H.state store.new.shelf.now) }
+    ensures cause { Counts (H.faults store.old.shelf.now) (H.faults store.new.shelf.now) (ledger_failed result) }
+{
+    check_open(store)?;
+    let mut latest = TimeMap::new(alloc);
+    for number in 0..store.runs() {
+        let rows = rows_of(alloc, store, number)?;
+        replace_times(alloc, &mut latest, &rows)?;
+    }
+    Ok(latest)
+}
+
+// Gives each id that has a time in these rows that time.
+fn replace_times(alloc: Global, latest: &mut TimeMap, rows: &Rows) -> Result<(), NoMemory>
+    ensures { OnOk result (latest.new ≡ replaced latest.old (times_of rows.now)) }
+{
+    let times = rows.times(alloc)?;
+    let ids = times.ids(alloc)?;
+    replace_each(latest, &times, ids.list())
+}
+
+// Gives each of these ids the time that it has in `times`, where it has one.
+fn replace_each(latest: &mut TimeMap, times: &TimeMap, ids: &[Text]) -> Result<(), NoMemory>
+    ensures { OnOk result (ReplacedAt ids.now latest.old times.now latest.new) }
+{
+    for id in ids {
+        if let Some(nanos) = times.get(id) {
+            latest.put(id, nanos)?;
+        }
+    }
+    Ok(())
+}

@@ -1,0 +1,34 @@
+//! What the runs of a repository say.
+//!
+//! This room knows runs as bytes, and what their tests became; it knows nothing of files or of printed text. The rules
+//! stand in docs/FORMATS.md, "Streams", "The fold" and "What the runs say together".
+//!
+//! - `run_reader`, `folding`: the rows of one run, read in pieces
+//! - `whole`: the same of bytes that are at hand
+//! - `fault`: why nothing is said of the runs of a store
+//! - `rows`: the rows of one run of a store
+//! - `failing_set`, `failed_ids`: the ids that fail after all runs of a store
+//! - `latest_times`: the times of the ids after all runs of a store
+//! - `laws`: a run has one list of rows
+#![tactic(auto)]
+
+mod failed_ids;
+mod failing_set;
+mod fault;
+mod folding;
+mod latest_times;
+mod laws;
+mod rows;
+mod run_reader;
+mod whole;
+
+pub use failing_set::failing;
+pub use fault::LedgerFault;
+pub use latest_times::times;
+pub use laws::runs_have_one_list_of_rows;
+pub use rows::rows_of;
+pub use run_reader::RunReader;
+pub use whole::rows_of_bytes;
+
+#[cfg(test)]
+mod tests;

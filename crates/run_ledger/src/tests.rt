@@ -1,0 +1,186 @@
+//! Runs of a few events in folders in memory: which rows they give, and what the runs say together.
+
+use super::*;
+use edge_io::{Failed, MemShelf, Shelf};
+use packet_codec::{Event, Stamp, Status, encode, fits};
+use run_shelf::{ShelfCall, Store, StoreFault};
+use std::alloc::Global;
+use std::test::Fail;
+use sub_number::Text;
+
+const FORMAT: &[u8] = b"subunit-store 1\n";
+
+// Keeps a file over any stop, in six calls.
+fn keep<H: Shelf>(shelf: &mut H, name: &str, bytes: &[u8]) -> Result<(), Failed> {
+    shelf.sync_folder()?;
+    shelf.start_draft()?;
+    shelf.append(bytes)?;
+    shelf.sync_draft()?;
+    shelf.publish(name)?;
+    shelf.sync_folder()
+}
+
+// An empty repository, made in six calls, of which these calls of all are to fail.
+fn repository(alloc: Global, fails: &[u64]) -> Result<MemShelf, Fail> {
+    let mut shelf = MemShelf::new(alloc, fails.to_vec(alloc)?);
+    keep(&mut shelf, "format", FORMAT)?;
+    Ok(shelf)
+}
+
+// Appends the packet of an event of the test, at this second.
+fn says(alloc: Global, run: &mut Vec<u8>, id: u8, status: Status, second: u32) -> Option<()> {
+    let event = Event {
+        stamp: Some(Stamp {
+            seconds: second,
+            nanos: 0,
+        }),
+        id: Some(Text::new(alloc, &[id]).ok()?),
+        tags: None,
+        runnable: true,
+        status,
+        mime: None,
+        file: None,
+        eof: false,
+        route: None,
+    };
+    if !fits(&event) {
+        return None;
+    }
+    encode(&event, run).ok()
+}
+
+// A run in which two tests end so.
+fn ended(alloc: Global, a: u8, first: Status, b: u8, second: Status) -> Option<Vec<u8>> {
+    let mut run = Vec::new(alloc);
+    says(alloc, &mut run, a, first, 0)?;
+    says(alloc, &mut run, b, second, 0)?;
+    Some(run)
+}
+
+// A run in which one test takes so many seconds.
+fn timed(alloc: Global, id: u8, seconds: u32) -> Option<Vec<u8>> {
+    let mut run = Vec::new(alloc);
+    says(alloc, &mut run, id, Status::InProgress, 0)?;
+    says(alloc, &mut run, id, Status::Success, seconds)?;
+    Some(run)
+}
+
+// Whether the texts are these, of one byte each.
+fn are(texts: &[Text], names: &[u8]) -> bool {
+    texts.len() == names.len()
+        && texts
+            .iter()
+            .zip(names.iter())
+            .all(|(text, name)| text.bytes() == [*name].as_slice())
+}
+
+fn fails<H: Shelf>(alloc: Global, shelf: &mut H, names: &[u8]) -> Result<bool, Fail> {
+    let mut store = Store::open(alloc, shelf)?;
+    let ids = failing(alloc, &mut store)?;
+    Ok(are(ids.list(), names))
+}
+
+// Whether a and b fail behind the first run, and these ids behind a second one, where a passes and c fails.
+fn behind_two(alloc: Global, name: &str, names: &[u8]) -> Result<Option<bool>, Fail> {
+    let Some(first) = ended(alloc, b'b', Status::Fail, b'a', Status::Fail) else {
+        return Ok(None);
+    };
+    let Some(second) = ended(alloc, b'a', Status::Success, b'c', Status::Fail) else {
+        return Ok(None);
+    };
+    let mut shelf = repository(alloc, &[])?;
+    keep(&mut shelf, "0", &first)?;
+    let before = fails(alloc, &mut shelf, b"ab")?;
+    keep(&mut shelf, name, &second)?;
+    Ok(Some(before && fails(alloc, &mut shelf, names)?))
+}
+
+#[test]
+fn a_partial_run_changes_the_failing_set(rt: HostRuntime) -> Result<(), Fail> {
+    assert_eq!(rt; behind_two(rt.alloc(), "1.part", b"bc")?, Some(true));
+    Ok(())
+}
+
+#[test]
+fn a_full_run_replaces_the_failing_set(rt: HostRuntime) -> Result<(), Fail> {
+    assert_eq!(rt; behind_two(rt.alloc(), "1", b"c")?, Some(true));
+    Ok(())
+}
+
+// The seconds of both ids behind a run of a alone, one of b alone, and a partial one of a again.
+fn seconds(alloc: Global) -> Result<Option<(Option<u64>, Option<u64>)>, Fail> {
+    let (Some(first), Some(second), Some(third)) = (
+        timed(alloc, b'a', 2),
+        timed(alloc, b'b', 7),
+        timed(alloc, b'a', 1),
+    ) else {
+        return Ok(None);
+    };
+    let mut shelf = repository(alloc, &[])?;
+    keep(&mut shelf, "0", &first)?;
+    keep(&mut shelf, "1", &second)?;
+    keep(&mut shelf, "2.part", &third)?;
+    let (Ok(a), Ok(b)) = (Text::new(alloc, b"a"), Text::new(alloc, b"b")) else {
+        return Ok(None);
+    };
+    let mut store = Store::open(alloc, &mut shelf)?;
+    let latest = times(alloc, &mut store)?;
+    Ok(Some((latest.get(&a), latest.get(&b))))
+}
+
+#[test]
+fn the_last_time_of_an_id_is_its_time(rt: HostRuntime) -> Result<(), Fail> {
+    let both = (Some(1_000_000_000), Some(7_000_000_000));
+    assert_eq!(rt; seconds(rt.alloc())?, Some(both));
+    Ok(())
+}
+
+// How many rows a run has where two packets stand behind so many foreign bytes.
+fn row_count(alloc: Global, foreign: usize) -> Result<Option<usize>, Fail> {
+    let Some(packets) = ended(alloc, b'a', Status::Fail, b'b', Status::Success) else {
+        return Ok(None);
+    };
+    let mut run = vec![in alloc; b'.'; foreign]?;
+    run.extend_from_slice(&packets)?;
+    let mut shelf = repository(alloc, &[])?;
+    keep(&mut shelf, "0", &run)?;
+    let mut store = Store::open(alloc, &mut shelf)?;
+    if store.runs() != 1 {
+        return Ok(None);
+    }
+    let rows = rows_of(alloc, &mut store, 0)?;
+    Ok(Some(rows.list().len()))
+}
+
+#[test]
+fn a_packet_may_stand_across_two_pieces(rt: HostRuntime) -> Result<(), Fail> {
+    for foreign in [0, 65_530, 65_536, 131_070] {
+        assert_eq!(rt; row_count(rt.alloc(), foreign)?, Some(2));
+    }
+    Ok(())
+}
+
+// What both calls answer where the read of the one run fails, and then without a call of the folder.
+fn refused<H: Shelf>(
+    alloc: Global,
+    shelf: &mut H,
+) -> Result<(Option<LedgerFault>, Option<LedgerFault>), Fail> {
+    let mut store = Store::open(alloc, shelf)?;
+    let first = failing(alloc, &mut store).err();
+    let second = times(alloc, &mut store).err();
+    Ok((first, second))
+}
+
+#[test]
+fn a_closed_store_is_not_read(rt: HostRuntime) -> Result<(), Fail> {
+    let alloc = rt.alloc();
+    // Twelve calls keep two files, four look at the folder, and then one asks for the length of the run.
+    let mut shelf = repository(alloc, &[17])?;
+    keep(&mut shelf, "0", b"x")?;
+    let (first, second) = refused(alloc, &mut shelf)?;
+    let shelf_failed = LedgerFault::Store(StoreFault::Shelf(ShelfCall::ReadAt));
+    let closed = LedgerFault::Store(StoreFault::Closed(ShelfCall::ReadAt));
+    assert_eq!(rt; first, Some(shelf_failed));
+    assert_eq!(rt; second, Some(closed));
+    Ok(())
+}

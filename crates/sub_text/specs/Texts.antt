@@ -1,0 +1,139 @@
+-- The texts that are printed of a run (docs/FORMATS.md, "Printed texts").
+use Rattle.std.specs.Prelude.{ℕ, ◌+◌, ◌-◌, ◌/◌, ◌%◌, Bool, Option, None, Some, List, [], ◌∷◌, ◌++◌, map, take, length, replicate, codes, nat_eq, if◌then◌else◌, ◌==◌}
+use Rattle.std.specs.List.{filter, flat_map, ends_with}
+use Rattle.std.specs.Fmt.{decimal}
+use Rattle.std.specs.Option.{unwrap_or}
+use Rattle.std.specs.Ordering.{nat_cmp, is_lt, ordering_then}
+use Rattle.std.specs.declared.cmp.Ordering.{Ordering}
+use Rattle.outcome_fold.specs.declared.ended.Ended.{Ended}
+use Rattle.outcome_fold.specs.declared.ended.Ended.TheVariants as ended
+use Rattle.outcome_fold.specs.declared.row.Row.{Row}
+use Rattle.outcome_fold.specs.declared.row.Counts.{Counts}
+use Rattle.outcome_fold.specs.Order.{text_cmp, route_cmp}
+use Rattle.outcome_fold.specs.Answers.{row_fails, timed_rows, counts_of}
+
+abbrev pub newline : List ℕ
+newline = 10 ∷ []
+
+-- Seconds with three places.
+
+-- in thousandths of a second, halves up
+abbrev pub millis_of : ℕ → ℕ
+millis_of nanos = (nanos + 500000) / 1000000
+
+-- a number below 1000 in three digits
+abbrev pub three_digits : ℕ → List ℕ
+three_digits n = (48 + n / 100) ∷ (48 + n / 10 % 10) ∷ (48 + n % 10) ∷ []
+
+abbrev pub seconds_of : ℕ → List ℕ
+seconds_of nanos = decimal (millis_of nanos / 1000) ++ codes "." ++ three_digits (millis_of nanos % 1000)
+
+-- The summary.
+
+-- the first line's end: how long the tests took, where that is known
+abbrev pub took : Option ℕ → List ℕ
+took None = []
+took (Some nanos) = codes " in " ++ seconds_of nanos ++ codes "s"
+
+abbrev pub verdict : ℕ → List ℕ
+verdict failed = if failed == 0 then codes "PASSED" else codes "FAILED"
+
+-- how many of this name there are, where there are any
+abbrev pub counted : List ℕ → ℕ → List ℕ
+counted name count = if count == 0 then [] else name ++ decimal count
+
+abbrev pub first_line : Counts → List ℕ
+first_line counts = codes "Ran " ++ decimal counts.total ++ codes " tests" ++ took counts.nanos ++ newline
+
+abbrev pub second_line : Counts → ℕ → List ℕ
+second_line counts run =
+    verdict counts.failed ++ codes " (id=" ++ decimal run
+    ++ counted (codes ", failures=") counts.failed ++ counted (codes ", skips=") counts.skipped ++ codes ")\n"
+
+-- the two lines of a run of this number, of which these are the counts
+abbrev pub summary_lines : Counts → ℕ → List ℕ
+summary_lines counts run = first_line counts ++ second_line counts run
+
+abbrev pub summary_of : List Row → ℕ → List (List ℕ) → List ℕ
+summary_of rows run filter_tags = summary_lines (counts_of filter_tags rows) run
+
+-- The report.
+
+-- a line of 70 signs
+unfoldable pub ruler : ℕ → List ℕ
+ruler sign = replicate 70 sign ++ newline
+
+-- What stands before the id of a test that failed. The others are not reported.
+abbrev pub label : Ended → List ℕ
+label ended.Exists = []
+label ended.Success = []
+label ended.UxSuccess = codes "UNEXPECTED SUCCESS"
+label ended.Skip = []
+label ended.Fail = codes "FAIL"
+label ended.XFail = []
+label ended.Open = codes "UNFINISHED"
+
+-- a text that is not empty and ends within a line has one newline more
+abbrev pub whole_lines : List ℕ → List ℕ
+whole_lines text = text ++ (if length text == 0 then [] else if ends_with nat_eq text newline then [] else newline)
+
+-- the label and the id between two rulers, of `=` and of `-`
+abbrev pub heading_of : Row → List ℕ
+heading_of row = ruler 61 ++ label row.ended ++ codes ": " ++ row.id ++ newline ++ ruler 45
+
+abbrev pub failure_of : Row → List ℕ
+failure_of row = heading_of row ++ whole_lines row.text
+
+-- each row that fails, in the order of the rows, and then the summary
+abbrev pub report_of : List Row → ℕ → List (List ℕ) → List ℕ
+report_of rows run filter_tags = flat_map failure_of (filter row_fails rows) ++ summary_of rows run filter_tags
+
+-- The failing ids.
+
+abbrev pub id_line : List ℕ → List ℕ
+id_line id = id ++ newline
+
+abbrev pub failing_line : List ℕ → List ℕ
+failing_line id = codes "FAIL: " ++ id ++ newline
+
+-- as a list, each id on a line; else with their number
+abbrev pub failing_text_of : List (List ℕ) → Bool → List ℕ
+failing_text_of ids list = if list then flat_map id_line ids else flat_map failing_line ids ++ codes "failures=" ++ decimal (length ids) ++ newline
+
+-- The slowest tests.
+
+-- a test that ran and has a time
+pub record Timed : Type 0 where
+  pub nanos : ℕ
+  pub id : List ℕ
+  pub route : Option (List ℕ)
+
+abbrev pub timed_of : Row → Timed
+timed_of row = record { nanos = unwrap_or row.nanos 0; id = row.id; route = row.route }
+
+-- the longest first, of equal times by id, then by route
+abbrev pub slow_cmp : Timed → Timed → Ordering
+slow_cmp s t = ordering_then (nat_cmp t.nanos s.nanos) (ordering_then (text_cmp s.id t.id) (route_cmp s.route t.route))
+
+-- in front of the first that is not before it
+abbrev pub placed : Timed → List Timed → List Timed
+placed t [] = t ∷ []
+placed t (u ∷ us) = if is_lt (slow_cmp u t) then u ∷ placed t us else t ∷ u ∷ us
+
+abbrev pub in_order : List Timed → List Timed
+in_order [] = []
+in_order (t ∷ ts) = placed t (in_order ts)
+
+-- right in ten places, or in its own width where that is more
+abbrev pub in_ten_places : List ℕ → List ℕ
+in_ten_places text = replicate (10 - length text) 32 ++ text
+
+abbrev pub slow_line : Timed → List ℕ
+slow_line t = in_ten_places (seconds_of t.nanos) ++ codes "  " ++ t.id ++ newline
+
+-- all of them, or the first ten
+abbrev pub first_ones : Bool → List Timed → List Timed
+first_ones all ts = if all then ts else take 10 ts
+
+abbrev pub slowest_of : List Row → Bool → List ℕ
+slowest_of rows all = flat_map slow_line (first_ones all (in_order (map timed_of (timed_rows rows))))

@@ -1,0 +1,20 @@
+//! The texts that are printed of a run: its report and summary, its failing ids, and its slowest tests.
+//!
+//! The texts stand in docs/FORMATS.md under "Printed texts". `specs/` states each of them as a list of bytes that the
+//! rows, ids and numbers decide.
+#![tactic(auto)]
+
+mod failing;
+mod report;
+mod seconds;
+mod slowest;
+mod summary;
+
+pub use failing::failing_text;
+pub use report::report_text;
+pub use seconds::seconds_text;
+pub use slowest::slowest_text;
+pub use summary::summary_text;
+
+#[cfg(test)]
+mod tests;
