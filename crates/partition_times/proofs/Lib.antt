@@ -1,0 +1,11 @@
+pub mod PatternLemmas
+pub mod NameLemmas
+pub mod OrderLemmas
+pub mod RankLemmas
+pub mod LoopLemmas
+pub mod LoadLemmas
+pub mod ShareLemmas
+pub mod SumLemmas
+pub mod DealLemmas
+pub mod LawLemmas
+pub mod BoundLemmas

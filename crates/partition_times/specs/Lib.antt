@@ -1,0 +1,10 @@
+pub mod Order
+pub mod Compiled
+pub mod Patterns
+pub mod Names
+pub mod Gathered
+pub mod Shares
+pub mod Bound
+pub mod Ranked
+pub mod Loads
+pub mod Kept

@@ -1,0 +1,25 @@
+//! Which ids run, and on which worker.
+//!
+//! This room knows patterns, groups of ids and shares of work, and nothing of where ids and times come from. The rules
+//! stand in docs/FORMATS.md, "Patterns", "Groups" and "Shares". The crate `regex` does all matching.
+//!
+//! - `pattern`: one pattern, compiled
+//! - `filters`: patterns, and the ids in which some pattern is found
+//! - `groups`: ids that stay together
+//! - `rank`: the order in which groups are given away
+//! - `shares`: groups of ids, given to workers
+#![tactic(auto)]
+
+mod filters;
+mod groups;
+mod pattern;
+mod rank;
+mod shares;
+
+pub use filters::{Filters, pick};
+pub use groups::Groups;
+pub use pattern::PatternFault;
+pub use shares::partition;
+
+#[cfg(test)]
+mod tests;
