@@ -1,6 +1,10 @@
 #!/bin/sh
-# How long `testr load` takes, and how much memory, on a stream of small packets with ids of their own.
-# usage: bench/load.sh [PACKETS [RUNS]]: by default 100000 packets, at most 1000000, loaded 5 times, at most 20.
+# How long `testr load` takes, and how much memory, on four streams: small events, texts, log lines between events, and
+# heads of packets that are none.
+# usage: bench/load.sh [RUNS [PERCENT [KIND..]]]: by default each stream is loaded 3 times, at most 20, and has 100
+# percent of its size, at most 1000.
+# Where the variable YARDSTICK names another program that keeps runs in the same way by `YARDSTICK testr load`, it is
+# measured in turn with ours, and what both keep and print is compared.
 set -eu
 
 root=$(CDPATH='' cd -- "$(dirname -- "$0")/.." && pwd -P)
@@ -14,75 +18,103 @@ work=$(mktemp -d)
 trap 'rm -rf -- "$work"' EXIT
 trap 'exit 1' HUP INT TERM
 
-python3 - "$program" "$work" "${1:-100000}" "${2:-5}" <<'PYTHON'
+PYTHONDONTWRITEBYTECODE=1 PYTHONPATH=$root/bench YARDSTICK=${YARDSTICK:-} \
+    python3 - "$program" "$work" "$@" <<'PYTHON'
+import filecmp
 import os
 import resource
-import struct
+import shutil
 import subprocess
 import sys
-import zlib
 
-LIMITS = {"PACKETS": 1_000_000, "RUNS": 20}
-RUNNABLE_SUCCESS = 0x2903
+import streams
+
+SIZES = {"small": 1_000_000, "texts": 50_000, "logs": 1_000_000, "false": 8_000_000}
+EVENTS = {"small": 1, "texts": 6, "logs": 1, "false": 0}
+LIMIT = 600
 TIME = "/usr/bin/time"
 
 
-def count(name, word):
-    if not word.isdigit() or not 1 <= int(word) <= LIMITS[name]:
-        sys.exit(f"{name} is a number from 1 to {LIMITS[name]}")
+def number(word, most):
+    if not word.isdigit() or not 1 <= int(word) <= most:
+        sys.exit(f"load: {word} is no number from 1 to {most}")
     return int(word)
 
 
-def packet(number):
-    """A runnable success of one test. Its id, and the packet, are shorter than 64 bytes."""
-    name = b"bench.test_%07d.test_passes" % number
-    body = bytes([len(name)]) + name
-    head = b"\xb3" + struct.pack(">HB", RUNNABLE_SUCCESS, 4 + len(body) + 4)
-    return head + body + struct.pack(">I", zlib.crc32(head + body))
-
-
-def write_stream(path, packets):
-    with open(path, "wb") as stream:
-        for start in range(0, packets, 10_000):
-            end = min(start + 10_000, packets)
-            stream.write(b"".join(map(packet, range(start, end))))
-
-
 def load(words, folder, stream):
-    """Loads the stream into a new repository: seconds of user and of system time, and the exit status."""
-    os.mkdir(folder)
+    """Loads the stream into a new repository: seconds of user and of system time, the exit status, and the output."""
+    shutil.copytree(os.path.join(os.path.dirname(folder), "made"), folder)
     before = resource.getrusage(resource.RUSAGE_CHILDREN)
     with open(stream, "rb") as given:
-        status = subprocess.run(
-            words, stdin=given, cwd=folder, stdout=subprocess.DEVNULL, timeout=600
-        ).returncode
+        done = subprocess.run(words, stdin=given, cwd=folder, stdout=subprocess.PIPE, timeout=LIMIT)
     after = resource.getrusage(resource.RUSAGE_CHILDREN)
-    user, system = after.ru_utime - before.ru_utime, after.ru_stime - before.ru_stime
-    return user, system, status
+    return after.ru_utime - before.ru_utime, after.ru_stime - before.ru_stime, done.returncode, done.stdout
 
 
 def memory_of(words, folder, stream):
     """The most memory that the program had at a time, in KiB."""
-    if os.access(TIME, os.X_OK):
-        said = os.path.join(folder + ".memory")
-        load([TIME, "-f", "%M", "-o", said, *words], folder, stream)
-        with open(said) as it:
-            return it.read().split()[-1]
-    # A child's memory before it becomes the program counts too, and that is Python's.
-    return f"{resource.getrusage(resource.RUSAGE_CHILDREN).ru_maxrss} or less"
+    if not os.access(TIME, os.X_OK):
+        return "unknown"
+    said = folder + ".memory"
+    load([TIME, "-f", "%M", "-o", said, *words], folder, stream)
+    shutil.rmtree(folder)
+    with open(said) as file:
+        return file.read().split()[-1]
 
 
-def main(program, work, packets, runs):
-    packets, runs = count("PACKETS", packets), count("RUNS", runs)
-    stream, words = os.path.join(work, "stream.subunit"), [program, "testr", "load"]
-    write_stream(stream, packets)
-    print(f"{packets} packets, {os.path.getsize(stream)} bytes")
-    for run in range(runs):
-        user, system, status = load(words, os.path.join(work, f"run-{run}"), stream)
-        both = user + system
-        print(f"user {user:.3f} s, system {system:.3f} s, both {both:.3f} s, status {status}")
-    memory = memory_of(words, os.path.join(work, "memory"), stream)
-    print(f"maximum resident memory {memory} KiB")
+class Measured:
+    """One program on one stream."""
+
+    def __init__(self, name, path, folder):
+        self.name, self.words, self.folder, self.times = name, [path, "testr", "load"], folder, []
+
+    def measure(self, stream):
+        shutil.rmtree(self.folder, ignore_errors=True)
+        user, system, self.status, self.out = load(self.words, self.folder, stream)
+        self.times.append((user + system, user, system))
+
+    def kept(self):
+        return os.path.join(self.folder, ".testrepository", "0")
+
+    def tell(self, kind, size, events, stream):
+        both, user, system = sorted(self.times)[len(self.times) // 2]
+        memory = memory_of(self.words, self.folder + "-memory", stream)
+        speed = f"{size / both / 1e6:9.1f} {events / both:11.0f} {user:8.3f} {system:8.3f} {both:8.3f}"
+        print(f"{kind:6} {self.name:9} {speed} {memory:>10} {self.status:6}", flush=True)
+        return both
+
+
+def measure(kind, percent, runs, programs, work):
+    stream, count = os.path.join(work, kind), max(2, SIZES[kind] * percent // 100)
+    with open(stream, "wb") as file:
+        streams.write(file, streams.KINDS[kind](count))
+    both = [Measured(name, path, os.path.join(work, f"{kind}-{name}")) for name, path in programs]
+    for _ in range(runs):
+        for one in both:
+            one.measure(stream)
+    times = [one.tell(kind, os.path.getsize(stream), count * EVENTS[kind], stream) for one in both]
+    if len(both) == 2:
+        same = filecmp.cmp(both[0].kept(), both[1].kept(), False) and both[0].out == both[1].out
+        told = "the same kept and printed" if same else "OTHER BYTES kept or printed"
+        print(f"{kind:6} {times[0] / times[1]:.2f} times the yardstick; {told}")
+    for one in both:
+        shutil.rmtree(one.folder)
+    os.remove(stream)
+
+
+def main(program, work, runs="3", percent="100", *kinds):
+    runs, percent = number(runs, 20), number(percent, 1000)
+    programs = [("testr", program)]
+    if os.environ["YARDSTICK"]:
+        programs.append(("yardstick", os.path.abspath(os.environ["YARDSTICK"])))
+    made = os.path.join(work, "made")
+    os.mkdir(made)
+    subprocess.run([program, "testr", "init"], cwd=made, check=True, timeout=LIMIT)
+    print("stream program        MB/s    events/s     user   system     both  peak KiB  status")
+    for kind in kinds or SIZES:
+        if kind not in SIZES:
+            sys.exit(f"load: the streams are {', '.join(SIZES)}")
+        measure(kind, percent, runs, programs, work)
 
 
 main(*sys.argv[1:])

@@ -1,8 +1,11 @@
 pub mod Prefixes
 pub mod Lines
 pub mod WordsLemmas
-pub mod GoodLemmas
+pub mod StepLemmas
+pub mod ReadLemmas
+pub mod RowsLemmas
 pub mod LoadLemmas
-pub mod ShowsLemmas
-pub mod CutLemmas
+pub mod StopLemmas
+pub mod FolderLemmas
+pub mod TellLemmas
 pub mod AnswerLemmas

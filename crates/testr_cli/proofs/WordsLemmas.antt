@@ -1,21 +1,13 @@
--- A slice of one word.
-use Rattle.std.proofs.Common.{◌≡◌, ℕ, ◌≤◌, ◌<◌, Bool, true, false, IsTrue, List, [], ◌∷◌, drop, length, get_or, String, string_bytes, sym, ap, ◌∙◌, arith}
+-- Which command words are.
+use Rattle.std.proofs.Common.{◌≡◌, ℕ, suc, arith, Bool, true, false, List, [], ◌∷◌, drop, length, nat_eq, None, Some, String, string_bytes, refl, sym, ap, ◌∙◌}
+use Rattle.std.specs.Prelude.{not}
 use Rattle.std.specs.declared.alloc.Global.{Global}
 use Rattle.std.specs.Str.{bytes_eq}
+use Rattle.std.specs.List.{list_all}
+use Rattle.std.proofs.lemmas.List.Folds.{list_all-map}
+use Rattle.std.proofs.lemmas.Bool.{cond-true, cond-false}
 use Rattle.std.proofs.lemmas.Slice.Eq.{bytes_eq-Decides}
-use Rattle.testr_cli.specs.Words.{texts, testr_word, names_testr, IsLoad}
-
-pub texts_of_one : (words : List (String Global)) (a : String Global) → a ≡ get_or words 0 a → 1 ≤ length words → length words < 2 → texts words ≡ string_bytes a ∷ []
-texts_of_one [] a is least most = absurd (omega arith)
-texts_of_one (x ∷ []) a is least most = λ i. string_bytes (sym is i) ∷ []
-texts_of_one (x ∷ y ∷ words) a is least most = absurd (omega arith)
-
--- the one word decides
-pub one_decides : (w v first : List ℕ) (ts : List (List ℕ)) (r : Bool) → ts ≡ w ∷ [] → r ≡ bytes_eq w v → (IsTrue r → first ∷ ts ≡ first ∷ v ∷ []) × (first ∷ ts ≡ first ∷ v ∷ [] → IsTrue r)
-one_decides w v first ts r is test = (
-  λ t. ap (λ l. first ∷ l) (is ∙ ap (λ x. x ∷ []) ((bytes_eq-Decides w v).0 (sym test ∙ t))),
-  λ e. test ∙ (bytes_eq-Decides w v).1 (ap (λ l. get_or l 1 []) (ap (λ l. first ∷ l) (sym is) ∙ e)),
-)
+use Rattle.testr_cli.specs.Words.{texts, testr_word, names_testr, command_of, command_behind, has_words, flag_in}
 
 -- words that name this program are its name and the words behind it
 pub names_first : (words : List (String Global)) → names_testr (texts words) ≡ true → texts words ≡ testr_word ∷ texts (drop 1 words)
@@ -23,7 +15,28 @@ names_first [] is = cc
 names_first (word ∷ words) is = λ i. (bytes_eq-Decides (string_bytes word) testr_word).0 is i ∷ texts words
 
 -- words that do not name it are no command of it
-pub names_no_load : (words : List (List ℕ)) → names_testr words ≡ false → IsLoad words → ⊥
-names_no_load words unnamed load =
-    let named : names_testr words ≡ true = ap names_testr load ∙ (bytes_eq-Decides testr_word testr_word).1 (λ i. testr_word) in
-    cc
+pub names_no_command : (words : List (List ℕ)) → names_testr words ≡ false → command_of words ≡ None
+names_no_command [] unnamed = refl
+names_no_command (word ∷ words) unnamed = cond-false (bytes_eq word testr_word) (command_behind words) None unnamed
+
+-- behind the name, the words decide
+pub named_command : (words : List (List ℕ)) → command_of (testr_word ∷ words) ≡ command_behind words
+named_command words = cond-true (bytes_eq testr_word testr_word) (command_behind words) None ((bytes_eq-Decides testr_word testr_word).1 refl)
+
+-- whether all words are this flag
+all_are : (words : List (String Global)) (flag : List ℕ) → list_all (λ word. bytes_eq word flag) (texts words) ≡ list_all (λ word. bytes_eq (string_bytes word) flag) words
+all_are words flag = list_all-map (λ word. bytes_eq word flag) string_bytes words
+
+not_not : (b : Bool) → not (not b) ≡ b
+not_not true = refl
+not_not false = refl
+
+pub flag_given : (words : List (String Global)) (flag : List ℕ) (all none : Bool) → all ≡ list_all (λ word. bytes_eq (string_bytes word) flag) words → all ≡ true → none ≡ not (has_words (texts words)) → Some (not none) ≡ flag_in flag (texts words)
+flag_given words flag all none is given none_is =
+    ap (λ (b : Bool). Some (not b)) none_is
+    ∙ ap Some (not_not (has_words (texts words)))
+    ∙ sym (cond-true (list_all (λ word. bytes_eq word flag) (texts words)) (Some (has_words (texts words))) None (all_are words flag ∙ sym is ∙ given))
+
+pub flag_not_given : (words : List (String Global)) (flag : List ℕ) (all : Bool) → all ≡ list_all (λ word. bytes_eq (string_bytes word) flag) words → all ≡ false → None ≡ flag_in flag (texts words)
+flag_not_given words flag all is other =
+    sym (cond-false (list_all (λ word. bytes_eq word flag) (texts words)) (Some (has_words (texts words))) None (all_are words flag ∙ sym is ∙ other))

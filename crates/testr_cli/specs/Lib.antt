@@ -1,12 +1,11 @@
 pub mod Words
 pub mod Answer
-pub mod Repository
-pub mod Cut
-pub mod Report
-pub mod Recording
-pub mod Scribing
 pub mod Reading
-pub mod Numbering
 pub mod Outside
+pub mod Init
 pub mod Load
+pub mod Prepared
+pub mod Ask
+pub mod Told
+pub mod Stops
 pub mod Program

@@ -4,29 +4,35 @@
 //! and two sinks. Its contract is the theorem of each command. It knows the words, the order of the steps and the
 //! refusals, and never a real file.
 //!
-//! - `words`: which words are a command
-//! - `answer`: statuses and refusals, and the lines that tell of them
-//! - `numbering`, `reading`, `scribing`, `recording`, `reporting`: the steps of `load`
-//! - `load`: these steps in their order
+//! - `command`, `words`: which words are a command
+//! - `answer`, `telling`: statuses and refusals, and the lines that tell of them
+//! - `init`, `load`, `ask`: the commands
+//! - `reading`, `reporting`: the steps of `load`
+//! - `told`: what is told of the runs
 //! - `top`: `program` and `testr`
-//! - `laws`: what the runs of a folder have to do with their numbers
 #![tactic(auto)]
 
 mod answer;
-mod laws;
+mod ask;
+mod command;
+mod init;
 mod load;
-mod numbering;
 mod reading;
-mod recording;
 mod reporting;
-mod scribing;
 mod telling;
+mod told;
 mod top;
 mod words;
 
-pub use answer::{Passed, Refusal};
-pub use laws::numbers_count_the_runs;
+pub use answer::{Refusal, Verdict};
+pub use command::{Command, Question};
 pub use top::{program, testr};
 
 #[cfg(test)]
 mod tests;
+#[cfg(test)]
+mod tests_ask;
+#[cfg(test)]
+mod tests_load;
+#[cfg(test)]
+mod tests_store;

@@ -1,67 +1,126 @@
 //! `testr load`.
 
-ghost use Rattle.std.specs.Prelude.{OnOk, IfErr};
-ghost use Rattle.testr_cli.specs.Outside.{outside, Later};
+ghost use Rattle.std.specs.Prelude.{◌≡◌, Bool, Option, List, ℕ, IfOk, IfErr};
+ghost use Rattle.edge_io.specs.Steps.{Goes};
+ghost use Rattle.run_shelf.specs.Images.{PassesOld};
+ghost use Rattle.testr_cli.specs.Outside.{outside, StandsUnless};
+ghost use Rattle.testr_cli.specs.declared.answer.Refusal.TheVariants.{ShelfFault, InputFault, SinkFault};
 ghost use Rattle.testr_cli.specs.Load.{Loads, HasLoadCause};
+ghost use Rattle.testr_cli.specs.Prepared.{Prepares, refusal_of_open, refusal_of_read};
+ghost use Rattle.testr_cli.specs.Stops.{PassesLoad};
 
-use crate::numbering::{NumberRefusal, free_number};
-use crate::reading::{ReadRefusal, read_whole};
-use crate::recording::record_run;
-use crate::reporting::report;
-use crate::scribing::{ScribeRefusal, run_of};
-use crate::{Passed, Refusal};
+use crate::reading::{ReadRefusal, record_input};
+use crate::reporting::{report, rows_of_run, verdict};
+use crate::{Refusal, Verdict};
 use edge_io::{Shelf, Sink, Source, write_whole};
+use run_shelf::{Found, MOST_RUNS, OpenFault, keep_run, survey};
 use std::alloc::Global;
 
-/// Reads the input to its end, keeps its packets as the next run, and prints the run's report.
+/// A run that is to be kept.
+#[derive(Drop)]
+pub struct Prepared {
+    /// The runs that are there.
+    pub found: Found,
+    /// The bytes of the new one.
+    pub run: Vec<u8>,
+    /// Its report.
+    pub text: Vec<u8>,
+    /// Whether its tests passed.
+    pub verdict: Verdict,
+}
+
+/// Reads the input to its end, keeps what is recorded of it as the next run, and prints the run's report.
 pub fn load<H: Shelf, I: Source, O: Sink>(
     alloc: Global,
+    partial: bool,
     shelf: &mut H,
     input: &mut I,
     out: &mut O,
-) -> Result<Passed, Refusal>
-    ensures done { OnOk result (Loads
+) -> Result<Verdict, Refusal>
+    ensures done { IfOk result (Loads partial
         (outside (H.state shelf.old) (H.faults shelf.old) (I.left input.old) (I.faults input.old) (O.taken out.old) (O.faults out.old))
         (outside (H.state shelf.new) (H.faults shelf.new) (I.left input.new) (I.faults input.new) (O.taken out.new) (O.faults out.new))) }
-    ensures refused { IfErr result (HasLoadCause
+    ensures refused { IfErr result (HasLoadCause partial
         (outside (H.state shelf.old) (H.faults shelf.old) (I.left input.old) (I.faults input.old) (O.taken out.old) (O.faults out.old))
         (outside (H.state shelf.new) (H.faults shelf.new) (I.left input.new) (I.faults input.new) (O.taken out.new) (O.faults out.new))) }
-    ensures later { Later
-        (outside (H.state shelf.old) (H.faults shelf.old) (I.left input.old) (I.faults input.old) (O.taken out.old) (O.faults out.old))
-        (outside (H.state shelf.new) (H.faults shelf.new) (I.left input.new) (I.faults input.new) (O.taken out.new) (O.faults out.new)) }
+    ensures folder_count { StandsUnless ShelfFault result (H.faults shelf.old) (H.faults shelf.new) }
+    ensures input_count { StandsUnless InputFault result (I.faults input.old) (I.faults input.new) }
+    ensures out_count { StandsUnless SinkFault result (O.faults out.old) (O.faults out.new) }
+    ensures any_moment { Goes (H.state shelf.old) (H.state shelf.new) (PassesLoad partial (I.left input.old)) }
 {
-    // What an earlier stop left pending is settled first.
-    let Ok(()) = shelf.sync_folder() else {
+    let mut prepared = match prepare(alloc, shelf, input) {
+        Ok(prepared) => prepared,
+        Err(refusal) => return Err(refusal),
+    };
+    let Ok(_) = keep_run(shelf, &mut prepared.found, partial, &prepared.run) else {
         return Err(Refusal::ShelfFault);
     };
-    let number = match free_number(alloc, shelf) {
-        Ok(number) => number,
-        Err(NumberRefusal::Fault) => return Err(Refusal::ShelfFault),
-        Err(NumberRefusal::Full) => return Err(Refusal::Full),
-        Err(NumberRefusal::NoMemory) => return Err(Refusal::NoMemory),
-    };
-    let stream = match read_whole(alloc, input) {
-        Ok(stream) => stream,
-        Err(ReadRefusal::Fault) => return Err(Refusal::InputFault),
-        Err(ReadRefusal::TooLong) => return Err(Refusal::TooLong),
-        Err(ReadRefusal::NoMemory) => return Err(Refusal::NoMemory),
-    };
-    let run = match run_of(alloc, &stream) {
-        Ok(run) => run,
-        Err(ScribeRefusal::NotYet(place)) => return Err(Refusal::NotYet(place)),
-        Err(ScribeRefusal::NoMemory) => return Err(Refusal::NoMemory),
-    };
-    let Ok(name) = format!(in alloc; "{number}") else {
-        return Err(Refusal::NoMemory);
-    };
-    let Ok(text) = report(alloc, number, run.tests) else {
-        return Err(Refusal::NoMemory);
-    };
-    let Ok(()) = record_run(shelf, name.as_str(), &run.bytes) else {
-        return Err(Refusal::ShelfFault);
-    };
-    let Ok(()) = write_whole(out, text.as_bytes()) else {
+    let Ok(()) = write_whole(out, &prepared.text) else {
         return Err(Refusal::SinkFault);
     };
-    Ok(Passed)
+    Ok(prepared.verdict)
+}
+
+// All that stands before the keeping. The report is made here, so that no want of memory comes after the run was kept.
+fn prepare<H: Shelf, I: Source>(
+    alloc: Global,
+    shelf: &mut H,
+    input: &mut I,
+) -> Result<Prepared, Refusal>
+    ensures done { IfOk result (Prepares (H.state shelf.old) (H.state shelf.new) (I.left input.old) (I.left input.new)) }
+    ensures refused { (partial : Bool) (printed : Option (List ℕ)) (out_faults : ℕ) → IfErr result (HasLoadCause partial
+        (outside (H.state shelf.old) (H.faults shelf.old) (I.left input.old) (I.faults input.old) printed out_faults)
+        (outside (H.state shelf.new) (H.faults shelf.new) (I.left input.new) (I.faults input.new) printed out_faults)) }
+    ensures any_moment { Goes (H.state shelf.old) (H.state shelf.new) PassesOld }
+    ensures folder_count { StandsUnless ShelfFault result (H.faults shelf.old) (H.faults shelf.new) }
+    ensures input_count { StandsUnless InputFault result (I.faults input.old) (I.faults input.new) }
+{
+    let found = match survey(alloc, shelf) {
+        Ok(found) => found,
+        Err(fault) => return Err(open_refusal(fault)),
+    };
+    let number = found.runs();
+    if number == MOST_RUNS {
+        return Err(Refusal::Full);
+    }
+    let run = match record_input(alloc, input) {
+        Ok(run) => run,
+        Err(fault) => return Err(read_refusal(fault)),
+    };
+    let Ok(rows) = rows_of_run(alloc, &run) else {
+        return Err(Refusal::NoMemory);
+    };
+    let Ok(text) = report(alloc, &rows, number) else {
+        return Err(Refusal::NoMemory);
+    };
+    Ok(Prepared {
+        found,
+        run,
+        text,
+        verdict: verdict(&rows),
+    })
+}
+
+/// What a folder that cannot be opened answers.
+pub fn open_refusal(fault: OpenFault) -> Refusal
+    ensures { result ≡ refusal_of_open fault }
+{
+    match fault {
+        OpenFault::NoStore => Refusal::NoStore,
+        OpenFault::UnknownFormat => Refusal::UnknownFormat,
+        OpenFault::Gap(number) => Refusal::Gap(number),
+        OpenFault::Shelf(_) => Refusal::ShelfFault,
+        OpenFault::NoMemory => Refusal::NoMemory,
+    }
+}
+
+// What an input that was not read whole answers.
+fn read_refusal(fault: ReadRefusal) -> Refusal
+    ensures { result ≡ refusal_of_read fault }
+{
+    match fault {
+        ReadRefusal::Fault => Refusal::InputFault,
+        ReadRefusal::TooLong => Refusal::TooLong,
+        ReadRefusal::NoMemory => Refusal::NoMemory,
+    }
 }

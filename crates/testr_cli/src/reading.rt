@@ -1,13 +1,14 @@
-//! Reads an input to its end.
+//! Records an input as it is read.
 
-ghost use Rattle.std.specs.Prelude.{◌≡◌, ◌≤◌, length, IfOk, IfErr, List, ℕ};
-ghost use Rattle.std.specs.Io.KnownBytes.{Consumes, IsAtEnd};
+ghost use Rattle.std.specs.Prelude.{◌≡◌, ℕ, List, [], ◌++◌, false, IfOk, IfErr, OnOk};
+ghost use Rattle.std.specs.Io.KnownBytes.{IsAtEnd};
+ghost use Rattle.worker_lane.specs.Scribing.{Recording};
 ghost use Rattle.testr_cli.specs.declared.reading.ReadRefusal.TheVariants.{Fault, NoMemory};
-ghost use Rattle.packet_codec.specs.Grammar.{AreBytes};
-ghost use Rattle.testr_cli.specs.Reading.{HasReadCause, most_bytes};
+ghost use Rattle.testr_cli.specs.Reading.{HasReadCause, ReadCounts, RecordsInput, RecordsPieces};
 
 use edge_io::{Failed, Source};
-use std::alloc::{AllocError, Global};
+use std::alloc::Global;
+use worker_lane::{Scribe, take_packets};
 
 /// How many bytes an input may have: 2^60.
 pub const MOST_BYTES: usize = 1 << 60;
@@ -34,33 +35,67 @@ impl From<Failed> for ReadRefusal {
     }
 }
 
-impl From<AllocError> for ReadRefusal {
+impl From<sub_number::NoMemory> for ReadRefusal {
     ghost from_gives = { λ _ refusal. refusal ≡ NoMemory };
 
-    fn from(_: AllocError) -> Self {
+    fn from(_: sub_number::NoMemory) -> Self {
         ReadRefusal::NoMemory
     }
 }
 
-/// All bytes of the input, read in pieces.
-pub fn read_whole<I: Source>(alloc: Global, input: &mut I) -> Result<Vec<u8>, ReadRefusal>
-    ensures whole { IfOk result (λ bytes. Consumes (I.left input.old) (I.left input.new) bytes.items) }
-    ensures at_end { IfOk result (λ bytes. IsAtEnd (I.left input.new)) }
-    ensures size { IfOk result (λ bytes. length bytes.items ≤ most_bytes) }
-    ensures are_bytes { IfOk result (λ bytes. AreBytes bytes.items) }
+/// The packets that are recorded of the input under lane 0. It is read in pieces, to its end.
+pub fn record_input<I: Source>(alloc: Global, input: &mut I) -> Result<Vec<u8>, ReadRefusal>
+    ensures recorded { IfOk result (λ run. RecordsInput (I.left input.old) (I.left input.new) run.items) }
     ensures refused { IfErr result (HasReadCause (I.left input.old) (I.faults input.old) (I.faults input.new)) }
-    ensures later { I.faults input.old ≤ I.faults input.new }
+    ensures count { ReadCounts (I.faults input.old) (I.faults input.new) result }
 {
-    let mut bytes = Vec::new(alloc);
+    let mut run = Vec::new(alloc);
+    let mut scribe = Scribe::new(alloc, 0)?;
+    record_pieces(input, &mut scribe, &mut run)?;
+    scribe.finish();
+    take_packets(&mut scribe, &mut run)?;
+    Ok(run)
+}
+
+// Records the input piece by piece, up to its end, which the scribe is not told.
+fn record_pieces<I: Source>(
+    input: &mut I,
+    scribe: &mut Scribe,
+    run: &mut Vec<u8>,
+) -> Result<(), ReadRefusal>
+    requires { scribe.old.held.ended ≡ false }
+    ensures recorded { Recording [] scribe.old run.old.items → OnOk result (RecordsPieces (I.left input.old) (I.left input.new) scribe.new run.new.items) }
+    ensures lane { OnOk result (scribe.new.lane ≡ scribe.old.lane) }
+    ensures at_end { OnOk result (IsAtEnd (I.left input.new)) }
+    ensures refused { IfErr result (HasReadCause (I.left input.old) (I.faults input.old) (I.faults input.new)) }
+    ensures count { ReadCounts (I.faults input.old) (I.faults input.new) result }
+{
     let mut piece = [0u8; PIECE];
+    let mut total = 0;
     loop {
         let count = input.read(&mut piece)?;
         if count == 0 {
-            return Ok(bytes);
+            return Ok(());
         }
-        bytes.extend_from_slice(&piece[..count])?;
-        if bytes.len() > MOST_BYTES {
+        total += count;
+        if total > MOST_BYTES {
             return Err(ReadRefusal::TooLong);
         }
+        record_piece(scribe, run, &piece[..count])?;
     }
+}
+
+// Records one more piece.
+fn record_piece(
+    scribe: &mut Scribe,
+    run: &mut Vec<u8>,
+    piece: &[u8],
+) -> Result<(), sub_number::NoMemory>
+    requires { scribe.old.held.ended ≡ false }
+    ensures recorded { (fed : List ℕ) → Recording fed scribe.old run.old.items → OnOk result (Recording (fed ++ piece.now) scribe.new run.new.items) }
+    ensures going_on { OnOk result (scribe.new.held.ended ≡ false) }
+    ensures lane { OnOk result (scribe.new.lane ≡ scribe.old.lane) }
+{
+    scribe.feed(piece)?;
+    take_packets(scribe, run)
 }

@@ -1,13 +1,53 @@
-//! What is printed of a run.
+//! What is told of a run.
 
-ghost use Rattle.std.specs.Prelude.{◌≡◌, string_bytes, IfOk};
-ghost use Rattle.testr_cli.specs.Report.{report_of};
+ghost use Rattle.std.specs.Prelude.{◌≡◌, [], ℕ, List, All, IfOk};
+ghost use Rattle.packet_codec.specs.declared.event.Event.{Event};
+ghost use Rattle.packet_codec.specs.Canonical.{IsEvent, Fits};
+ghost use Rattle.std.specs.List.{list_any};
+ghost use Rattle.outcome_fold.specs.Answers.{row_fails};
+ghost use Rattle.outcome_fold.specs.Rows.{rows_of};
+ghost use Rattle.sub_text.specs.Texts.{report_of};
+ghost use Rattle.testr_cli.specs.Answer.{verdict_of};
+ghost use Rattle.testr_cli.specs.Load.{run_bytes};
 
-use std::alloc::{AllocError, Global};
+use crate::Verdict;
+use outcome_fold::{Row, Rows};
+use packet_codec::Tags;
+use run_ledger::rows_of_bytes;
+use std::alloc::Global;
+use sub_number::NoMemory;
+use sub_text::report_text;
 
-/// The report of a run in which all tests passed.
-pub fn report(alloc: Global, number: u32, tests: usize) -> Result<String, AllocError>
-    ensures { IfOk result (λ text. string_bytes text ≡ report_of number tests) }
+/// The rows of a run, read back from its bytes, which are packets in their shortest form.
+pub fn rows_of_run(alloc: Global, run: &[u8]) -> Result<Rows, NoMemory>
+    ensures { (events : List Event) → All IsEvent events → All Fits events → run.now ≡ run_bytes events → IfOk result (λ rows. rows ≡ rows_of events) }
 {
-    format!(in alloc; "Ran {tests} tests\nPASSED (id={number})\n")
+    rows_of_bytes(alloc, run)
+}
+
+/// The report of the run of this number.
+pub fn report(alloc: Global, rows: &Rows, number: u32) -> Result<Vec<u8>, NoMemory>
+    ensures { IfOk result (λ text. text.items ≡ report_of rows.now number []) }
+{
+    let mut text = Vec::new(alloc);
+    report_text(rows, number, &Tags::new(alloc), &mut text)?;
+    Ok(text)
+}
+
+/// Whether the tests passed.
+pub fn verdict(rows: &Rows) -> Verdict
+    ensures { result ≡ verdict_of rows.now }
+{
+    if one_fails(rows.list()) {
+        Verdict::Failed
+    } else {
+        Verdict::Passed
+    }
+}
+
+// Whether one of the rows fails.
+fn one_fails(rows: &[Row]) -> bool
+    ensures { result ≡ list_any row_fails rows.now }
+{
+    rows.iter().any(|row| row.ended.fails())
 }

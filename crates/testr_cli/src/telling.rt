@@ -20,16 +20,16 @@ pub fn tell<E: Sink>(err: &mut E, refusal: Refusal) -> Result<(), Failed>
     tell_rest(err, refusal)
 }
 
-// Writes what stands behind the front: the place, where there is one, and the line's end.
+// Writes what stands behind the front, where a number does.
 fn tell_rest<E: Sink>(err: &mut E, refusal: Refusal) -> Result<(), Failed>
     ensures whole { OnOk result (Appends (E.taken err.old) (E.taken err.new) (refusal_rest refusal)) }
     ensures prefix { AppendsPrefix (E.taken err.old) (E.taken err.new) (refusal_rest refusal) }
     ensures cause { HasCause (E.faults err.old) (E.faults err.new) result }
 {
-    let Refusal::NotYet(place) = refusal else {
+    let Refusal::Gap(number) = refusal else {
         return Ok(());
     };
     let mut digits = Buffer::new();
-    write_whole(err, digits.format(place).as_bytes())?;
-    write_whole(err, b"\n")
+    write_whole(err, digits.format(number).as_bytes())?;
+    write_whole(err, b" is missing\n")
 }

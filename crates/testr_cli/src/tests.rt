@@ -1,28 +1,43 @@
-//! What only a run can refuse: the program over the forms in memory, with ample memory.
+//! The program over the forms in memory, with ample memory: the words, the faults, and what the other tests use.
 
-ghost use Rattle.std.specs.Prelude.{◌≤◌, ◌-◌, ◌^◌, None};
+ghost use Rattle.std.specs.Prelude.{◌≡◌, None, IfOk};
+ghost use Rattle.edge_io.specs.MemState.{folder_of};
 
 use crate::{program, testr};
-use edge_io::{Failed, ListSink, ListSource, MemShelf, Shelf};
+use edge_io::{ListSink, ListSource, MemShelf, Shelf};
 use std::alloc::Global;
 use std::test::Fail;
 use sub_number::{Bytes, Text};
 
-// Success foo, and the same as run 0 keeps it.
-const FOO: &[u8] = b"\xb3\x29\x03\x0c\x03foo\x45\x9d\xfe\x10";
+// `foo` passed: as it comes, and as it is kept.
+pub const FOO: &[u8] = b"\xb3\x29\x03\x0c\x03foo\x45\x9d\xfe\x10";
 
-const FOO_KEPT: &[u8] = b"\xb3\x2d\x03\x0e\x03foo\x010\xa4\xaf\xdb\xe0";
+pub const FOO_KEPT: &[u8] = b"\xb3\x2d\x03\x0e\x03foo\x01\x30\xa4\xaf\xdb\xe0";
 
-const PASSED: &[u8] = b"Ran 1 tests\nPASSED (id=0)\n";
+pub const PASSED_AS_0: &[u8] = b"Ran 1 tests\nPASSED (id=0)\n";
 
-const NOTHING: &[u64] = &[];
+pub const PASSED_AS_1: &[u8] = b"Ran 1 tests\nPASSED (id=1)\n";
+
+pub const SHELF_FAULT: &[u8] = b"testr: fault of the repository folder\n";
+
+pub const NOTHING: &[u8] = b"";
+
+const WRONG_USAGE: &[u8] = b"testr: wrong usage\n";
+
+const USAGE: &[u8] = b"usage: testr COMMAND or a subunit filter\n";
 
 // What a call of the program answered and wrote.
 #[derive(Drop)]
-struct Told {
-    status: u8,
-    out: Vec<u8>,
-    err: Vec<u8>,
+pub struct Told {
+    pub status: u8,
+    pub out: Vec<u8>,
+    pub err: Vec<u8>,
+}
+
+impl Told {
+    pub fn is(&self, status: u8, out: &[u8], err: &[u8]) -> bool {
+        self.status == status && self.out.as_slice() == out && self.err.as_slice() == err
+    }
 }
 
 fn owned(alloc: Global, words: &[&str]) -> Result<Vec<String>, Fail> {
@@ -33,27 +48,33 @@ fn owned(alloc: Global, words: &[&str]) -> Result<Vec<String>, Fail> {
     Ok(list)
 }
 
-fn source(alloc: Global, input: &[u8], piece: usize, fails: &[u64]) -> Result<ListSource, Fail>
-    requires { 1 ≤ piece }
-{
+// These bytes in pieces of this size, where it is not 0.
+pub fn source(
+    alloc: Global,
+    input: &[u8],
+    piece: usize,
+    fails: &[u64],
+) -> Result<ListSource, Fail> {
     let bytes = Bytes::new(alloc, input)?;
-    Ok(ListSource::new(bytes, piece, fails.to_vec(alloc)?))
+    Ok(ListSource::new(bytes, piece.max(1), fails.to_vec(alloc)?))
 }
 
 fn sink(alloc: Global, fails: &[u64]) -> Result<ListSink, Fail> {
     Ok(ListSink::new(alloc, fails.to_vec(alloc)?))
 }
 
-// Calls the program over sinks that do not fail.
-fn call<H: Shelf>(
+// Calls the program over sinks that fail at these writes.
+fn call_over<H: Shelf>(
     alloc: Global,
     words: &[&str],
     shelf: &mut H,
     input: &mut ListSource,
+    out_fails: &[u64],
+    err_fails: &[u64],
 ) -> Result<Told, Fail> {
     let words = owned(alloc, words)?;
-    let mut out = sink(alloc, NOTHING)?;
-    let mut err = sink(alloc, NOTHING)?;
+    let mut out = sink(alloc, out_fails)?;
+    let mut err = sink(alloc, err_fails)?;
     let status = program(alloc, &words, shelf, input, &mut out, &mut err);
     Ok(Told {
         status,
@@ -62,104 +83,78 @@ fn call<H: Shelf>(
     })
 }
 
-// `testr load` of this input over an empty shelf.
-fn load(alloc: Global, input: &[u8]) -> Result<(Told, MemShelf), Fail> {
-    let mut shelf = MemShelf::new(alloc, Vec::new(alloc));
-    let mut input = source(alloc, input, 65_536, NOTHING)?;
-    let told = call(alloc, &["testr", "load"], &mut shelf, &mut input)?;
-    Ok((told, shelf))
+// Calls the program over sinks that do not fail.
+pub fn call<H: Shelf>(
+    alloc: Global,
+    words: &[&str],
+    shelf: &mut H,
+    input: &mut ListSource,
+) -> Result<Told, Fail> {
+    call_over(alloc, words, shelf, input, &[], &[])
 }
 
-// The file of this name, which has fewer than 4,096 bytes.
-fn file(alloc: Global, shelf: &mut MemShelf, name: &str) -> Result<Option<Vec<u8>>, Fail> {
-    let mut buf = [0u8; 4096];
-    match shelf.length(name)? {
-        None => Ok(None),
-        Some(_) => {
-            let count = shelf.read_at(name, 0, &mut buf)?;
-            Ok(Some(buf[..count].to_vec(alloc)?))
-        }
-    }
+// `testr load` of this input.
+pub fn load<H: Shelf>(alloc: Global, shelf: &mut H, input: &[u8]) -> Result<Told, Fail> {
+    let mut input = source(alloc, input, 65_536, &[])?;
+    call(alloc, &["testr", "load"], shelf, &mut input)
 }
 
-#[test]
-fn one_passed_test_becomes_run_0(rt: HostRuntime) -> Result<(), Fail> {
-    let (told, mut shelf) = load(rt.alloc(), FOO)?;
-    assert_eq!(rt; told.status, 0);
-    assert_eq!(rt; told.out.as_slice(), PASSED);
-    assert_eq!(rt; told.err.len(), 0);
-    let kept = file(rt.alloc(), &mut shelf, "0")?;
-    assert!(rt; kept.is_some_and(|bytes| bytes.as_slice() == FOO_KEPT));
+// Publishes a file for good in a folder in which nothing is pending.
+pub fn put(alloc: Global, shelf: &mut MemShelf, name: &[u8], bytes: &[u8]) -> Result<(), Fail>
+    requires { (folder_of shelf.old).disk.pending ≡ None }
+    ensures { (folder_of shelf.new).disk.pending ≡ None }
+{
+    let name = Text::new(alloc, name)?;
+    let bytes = Bytes::new(alloc, bytes)?;
+    shelf.put(name, bytes)?;
     Ok(())
 }
 
-#[test]
-fn nothing_becomes_an_empty_run(rt: HostRuntime) -> Result<(), Fail> {
-    let (told, mut shelf) = load(rt.alloc(), b"")?;
-    assert_eq!(rt; told.status, 0);
-    assert_eq!(rt;
-        told.out.as_slice(),
-        b"Ran 0 tests\nPASSED (id=0)\n".as_slice()
-    );
-    assert_eq!(rt; shelf.length("0")?, Some(0));
-    Ok(())
+// An empty repository, whose folder fails at these calls.
+pub fn repository(alloc: Global, fails: &[u64]) -> Result<MemShelf, Fail>
+    ensures { IfOk result (λ shelf. (folder_of shelf).disk.pending ≡ None) }
+{
+    let mut shelf = MemShelf::new(alloc, fails.to_vec(alloc)?);
+    put(alloc, &mut shelf, b"format", b"subunit-store 1\n")?;
+    Ok(shelf)
 }
 
-#[test]
-fn what_is_no_packet_of_a_passed_test_is_refused_at_its_place(rt: HostRuntime) -> Result<(), Fail> {
-    let table = [
-        // A byte behind a good packet, a failed test, an end without a test, a log line, and a wrong checksum.
-        (
-            b"\xb3\x29\x03\x0c\x03foo\x45\x9d\xfe\x10a".as_slice(),
-            b"testr: not built yet at byte 12\n".as_slice(),
-        ),
-        (
-            b"\xb3\x29\x06\x0c\x03foo\x15\x50\x6f\xa3".as_slice(),
-            b"testr: not built yet at byte 0\n".as_slice(),
-        ),
-        (
-            b"\xb3\x21\x10\x08\x53\x15\x88\xdc".as_slice(),
-            b"testr: not built yet at byte 0\n".as_slice(),
-        ),
-        (
-            b"ab\xb3\x29\x03\x0c\x03foo\x45\x9d\xfe\x10".as_slice(),
-            b"testr: not built yet at byte 0\n".as_slice(),
-        ),
-        (
-            b"\xb3\x29\x03\x0c\x03foo\x45\x9d\xfe\x11".as_slice(),
-            b"testr: not built yet at byte 0\n".as_slice(),
-        ),
-    ];
-    for (input, line) in table {
-        let (told, mut shelf) = load(rt.alloc(), input)?;
-        assert_eq!(rt; told.status, 3);
-        assert_eq!(rt; told.out.len(), 0);
-        assert_eq!(rt; told.err.as_slice(), line);
-        assert_eq!(rt; shelf.length("0")?, None);
-    }
-    Ok(())
+// Whether the file of this name has these bytes, of which there are at most 256.
+pub fn has_file(shelf: &mut MemShelf, name: &str, wanted: &[u8]) -> Result<bool, Fail> {
+    let mut buf = [0u8; 256];
+    let Some(size) = shelf.length(name)? else {
+        return Ok(false);
+    };
+    let count = shelf.read_at(name, 0, &mut buf)?;
+    Ok(size == wanted.len() as u64 && &buf[..count] == wanted)
 }
 
 #[test]
 fn other_words_are_no_command(rt: HostRuntime) -> Result<(), Fail> {
     let alloc = rt.alloc();
-    let usage = b"usage: testr COMMAND or a subunit filter\n".as_slice();
-    let wrong = b"testr: wrong usage\n".as_slice();
     let table = [
-        (["testr", "load", "x"].as_slice(), wrong),
-        (["testr"].as_slice(), wrong),
-        (["testr", "runn"].as_slice(), wrong),
-        (["load"].as_slice(), usage),
-        ([].as_slice(), usage),
+        (["testr", "load", "x"].as_slice(), WRONG_USAGE),
+        (["testr", "load", "--partial=1"].as_slice(), WRONG_USAGE),
+        (["testr", "load", "--list"].as_slice(), WRONG_USAGE),
+        (["testr", "load", "--partial", "x"].as_slice(), WRONG_USAGE),
+        (["testr", "init", "x"].as_slice(), WRONG_USAGE),
+        (["testr", "init", "--partial"].as_slice(), WRONG_USAGE),
+        (["testr", "testr"].as_slice(), WRONG_USAGE),
+        (["testr", "runn"].as_slice(), WRONG_USAGE),
+        (["testr", ""].as_slice(), WRONG_USAGE),
+        (["testr"].as_slice(), WRONG_USAGE),
+        (["load"].as_slice(), USAGE),
+        (["Testr", "load"].as_slice(), USAGE),
+        (["", "testr", "load"].as_slice(), USAGE),
+        ([].as_slice(), USAGE),
     ];
-    for (words, line) in table {
-        let mut shelf = MemShelf::new(alloc, Vec::new(alloc));
-        let mut input = source(alloc, FOO, 5, NOTHING)?;
+    for (row, (words, line)) in table.into_iter().enumerate() {
+        let mut shelf = repository(alloc, &[])?;
+        let mut input = source(alloc, FOO, 5, &[])?;
         let told = call(alloc, words, &mut shelf, &mut input)?;
-        assert_eq!(rt; told.status, 2);
-        assert_eq!(rt; told.err.as_slice(), line);
-        assert_eq!(rt; told.out.len(), 0);
-        assert_eq!(rt; input.left().len(), FOO.len());
+        assert!(rt; told.is(2, NOTHING, line), "row {row}");
+        assert_eq!(rt; input.left().len(), 12);
+        assert_eq!(rt; shelf.length("0")?, None);
     }
     Ok(())
 }
@@ -168,163 +163,79 @@ fn other_words_are_no_command(rt: HostRuntime) -> Result<(), Fail> {
 fn the_face_alone_takes_the_words_behind_its_name(rt: HostRuntime) -> Result<(), Fail> {
     let alloc = rt.alloc();
     let words = owned(alloc, &["load"])?;
-    let mut shelf = MemShelf::new(alloc, Vec::new(alloc));
-    let mut input = source(alloc, FOO, 1, NOTHING)?;
-    let mut out = sink(alloc, NOTHING)?;
-    let mut err = sink(alloc, NOTHING)?;
-    assert_eq!(rt;
-        testr(alloc, &words, &mut shelf, &mut input, &mut out, &mut err),
-        0
-    );
-    assert_eq!(rt; out.taken(), PASSED);
+    let mut shelf = repository(alloc, &[])?;
+    let mut input = source(alloc, FOO, 1, &[])?;
+    let mut out = sink(alloc, &[])?;
+    let mut err = sink(alloc, &[])?;
+    let status = testr(alloc, &words, &mut shelf, &mut input, &mut out, &mut err);
+    assert_eq!(rt; status, 0);
+    assert_eq!(rt; out.taken(), PASSED_AS_0);
+    assert_eq!(rt; err.taken().len(), 0);
     assert_eq!(rt; input.left().len(), 0);
-    Ok(())
-}
-
-#[test]
-fn the_next_run_has_the_least_number_that_is_free(rt: HostRuntime) -> Result<(), Fail> {
-    let alloc = rt.alloc();
-    let mut shelf = MemShelf::new(alloc, Vec::new(alloc));
-    shelf.put(Text::new(alloc, b"0")?, Bytes::new(alloc, b"x")?)?;
-    let mut input = source(alloc, FOO, 12, NOTHING)?;
-    let told = call(alloc, &["testr", "load"], &mut shelf, &mut input)?;
-    assert_eq!(rt;
-        told.out.as_slice(),
-        b"Ran 1 tests\nPASSED (id=1)\n".as_slice()
-    );
-    let mut again = source(alloc, FOO, 3, NOTHING)?;
-    let told = call(alloc, &["testr", "load"], &mut shelf, &mut again)?;
-    assert_eq!(rt;
-        told.out.as_slice(),
-        b"Ran 1 tests\nPASSED (id=2)\n".as_slice()
-    );
-    assert_eq!(rt; shelf.length("0")?, Some(1));
-    assert_eq!(rt; shelf.length("1")?, Some(14));
-    assert_eq!(rt; shelf.length("2")?, Some(14));
-    Ok(())
-}
-
-#[test]
-fn a_partial_run_has_a_number_too(rt: HostRuntime) -> Result<(), Fail> {
-    let alloc = rt.alloc();
-    let mut shelf = MemShelf::new(alloc, Vec::new(alloc));
-    shelf.put(Text::new(alloc, b"0.part")?, Bytes::new(alloc, b"x")?)?;
-    let mut input = source(alloc, FOO, 12, NOTHING)?;
-    let told = call(alloc, &["testr", "load"], &mut shelf, &mut input)?;
-    assert_eq!(rt;
-        told.out.as_slice(),
-        b"Ran 1 tests\nPASSED (id=1)\n".as_slice()
-    );
-    Ok(())
-}
-
-// A shelf in which each name is published, so that no number is free.
-#[derive(Drop)]
-struct AllThere;
-
-impl Shelf for AllThere {
-    ghost state = { λ _. None };
-
-    ghost clock = { λ _. 2 ^ 64 - 1 };
-
-    ghost faults = { λ _. 0 };
-
-    ghost published_counts = { λ _. tt };
-
-    fn length(&mut self, _: &str) -> Result<Option<u64>, Failed> {
-        Ok(Some(0))
-    }
-
-    fn read_at(&mut self, _: &str, _: u64, _: &mut [u8]) -> Result<usize, Failed> {
-        Ok(0)
-    }
-
-    fn start_draft(&mut self) -> Result<(), Failed> {
-        Ok(())
-    }
-
-    fn append(&mut self, _: &[u8]) -> Result<(), Failed> {
-        Ok(())
-    }
-
-    fn sync_draft(&mut self) -> Result<(), Failed> {
-        Ok(())
-    }
-
-    fn publish(&mut self, _: &str) -> Result<(), Failed> {
-        Ok(())
-    }
-
-    fn sync_folder(&mut self) -> Result<(), Failed> {
-        Ok(())
-    }
-}
-
-#[test]
-fn a_full_repository_takes_no_run(rt: HostRuntime) -> Result<(), Fail> {
-    let alloc = rt.alloc();
-    let mut input = source(alloc, FOO, 12, NOTHING)?;
-    let told = call(alloc, &["testr", "load"], &mut AllThere, &mut input)?;
-    assert_eq!(rt; told.status, 3);
-    assert_eq!(rt;
-        told.err.as_slice(),
-        b"testr: the repository is full\n".as_slice()
-    );
-    assert_eq!(rt; input.left().len(), FOO.len());
-    Ok(())
-}
-
-#[test]
-fn each_call_of_the_shelf_may_fail(rt: HostRuntime) -> Result<(), Fail> {
-    let alloc = rt.alloc();
-    // The barrier, two lengths, the draft, its bytes, its sync, the publish, and the last barrier.
-    for call_number in 0..8 {
-        let mut shelf = MemShelf::new(alloc, [call_number].to_vec(alloc)?);
-        let mut input = source(alloc, FOO, 12, NOTHING)?;
-        let told = call(alloc, &["testr", "load"], &mut shelf, &mut input)?;
-        assert_eq!(rt; told.status, 4, "call {call_number}");
-        assert_eq!(rt;
-            told.err.as_slice(),
-            b"testr: fault of the repository folder\n".as_slice()
-        );
-        assert_eq!(rt; told.out.len(), 0);
-        let kept = if call_number == 7 { Some(14) } else { None };
-        assert_eq!(rt; shelf.length("0")?, kept, "call {call_number}");
-    }
+    let wrong = owned(alloc, &["testr", "load"])?;
+    let status = testr(alloc, &wrong, &mut shelf, &mut input, &mut out, &mut err);
+    assert_eq!(rt; status, 2);
+    assert_eq!(rt; out.taken(), PASSED_AS_0);
+    assert_eq!(rt; err.taken(), WRONG_USAGE);
     Ok(())
 }
 
 #[test]
 fn a_failed_read_leaves_the_runs(rt: HostRuntime) -> Result<(), Fail> {
     let alloc = rt.alloc();
+    // Three reads give four bytes each, and the fourth finds the end.
     for read in 0..4 {
-        let mut shelf = MemShelf::new(alloc, Vec::new(alloc));
+        let mut shelf = repository(alloc, &[])?;
         let mut input = source(alloc, FOO, 4, &[read])?;
         let told = call(alloc, &["testr", "load"], &mut shelf, &mut input)?;
-        assert_eq!(rt; told.status, 4, "read {read}");
-        assert_eq!(rt;
-            told.err.as_slice(),
-            b"testr: fault reading standard input\n".as_slice()
+        let line = b"testr: fault reading standard input\n";
+        assert!(rt; told.is(4, NOTHING, line), "read {read}");
+        assert!(rt;
+            load(alloc, &mut shelf, FOO)?.is(0, PASSED_AS_0, NOTHING),
+            "read {read}"
         );
-        assert_eq!(rt; shelf.length("0")?, None);
     }
     Ok(())
 }
 
 #[test]
-fn a_failed_write_leaves_the_new_run(rt: HostRuntime) -> Result<(), Fail> {
+fn a_failed_write_of_the_report_leaves_the_new_run(rt: HostRuntime) -> Result<(), Fail> {
     let alloc = rt.alloc();
-    let words = owned(alloc, &["testr", "load"])?;
+    let words = ["testr", "load"].as_slice();
+    let mut shelf = repository(alloc, &[])?;
+    let mut input = source(alloc, FOO, 12, &[])?;
+    let told = call_over(alloc, words, &mut shelf, &mut input, &[0], &[])?;
+    assert!(rt; told.is(4, NOTHING, b"testr: fault writing output\n"));
+    assert!(rt; has_file(&mut shelf, "0", FOO_KEPT)?);
+    let mut again = source(alloc, FOO, 12, &[])?;
+    let told = call_over(alloc, words, &mut shelf, &mut again, &[0], &[0])?;
+    assert!(rt; told.is(4, NOTHING, NOTHING));
+    assert!(rt; has_file(&mut shelf, "1", FOO_KEPT)?);
+    Ok(())
+}
+
+#[test]
+fn a_failed_write_of_a_line_changes_no_status(rt: HostRuntime) -> Result<(), Fail> {
+    let alloc = rt.alloc();
+    let line = b"testr: run 0 is missing\n".as_slice();
+    // The line is written in pieces.
+    for write in 0..3 {
+        let mut shelf = repository(alloc, &[])?;
+        put(alloc, &mut shelf, b"1", FOO_KEPT)?;
+        let mut input = source(alloc, FOO, 12, &[])?;
+        let words = ["testr", "load"].as_slice();
+        let told = call_over(alloc, words, &mut shelf, &mut input, &[], &[write])?;
+        assert_eq!(rt; told.status, 3);
+        assert!(rt;
+            line.starts_with(&told.err) && told.err.len() < line.len(),
+            "write {write}"
+        );
+    }
     let mut shelf = MemShelf::new(alloc, Vec::new(alloc));
-    let mut input = source(alloc, FOO, 12, NOTHING)?;
-    let mut out = sink(alloc, &[0])?;
-    let mut err = sink(alloc, &[0])?;
-    assert_eq!(rt;
-        program(alloc, &words, &mut shelf, &mut input, &mut out, &mut err),
-        4
-    );
-    assert_eq!(rt; out.taken().len(), 0);
-    assert_eq!(rt; err.taken().len(), 0);
-    assert_eq!(rt; shelf.length("0")?, Some(14));
+    let mut input = source(alloc, FOO, 12, &[])?;
+    for words in [["testr"].as_slice(), ["load"].as_slice()] {
+        let told = call_over(alloc, words, &mut shelf, &mut input, &[], &[0])?;
+        assert!(rt; told.is(2, NOTHING, NOTHING));
+    }
     Ok(())
 }

@@ -1,19 +1,26 @@
 //! The top call.
 
-ghost use Rattle.std.specs.Prelude.{◌≡◌, ◌≤◌, ◌⊎◌, ◌↔◌, ◌∷◌, OnOk, IfErr};
+ghost use Rattle.std.specs.Prelude.{◌≡◌, ◌≤◌, ◌⊎◌, ◌↔◌, ◌∷◌, Bool, Some, None, IfOk, IfErr};
 ghost use Rattle.std.specs.Io.KnownBytes.{Appends};
 ghost use Rattle.edge_io.specs.Bytes.{AppendsPrefix};
 ghost use Rattle.edge_io.specs.Causes.{Rose};
+ghost use Rattle.edge_io.specs.Steps.{Goes};
+ghost use Rattle.run_shelf.specs.Images.{MakesRepository};
+ghost use Rattle.testr_cli.specs.declared.command.Command.TheVariants.{Init, Load, Ask};
+ghost use Rattle.testr_cli.specs.declared.command.Question.{Question as AQuestion};
 ghost use Rattle.testr_cli.specs.Answer.{usage_line};
-ghost use Rattle.testr_cli.specs.Words.{texts, IsLoad, testr_word};
-ghost use Rattle.testr_cli.specs.Outside.{outside};
-ghost use Rattle.testr_cli.specs.Load.{Loads};
-ghost use Rattle.testr_cli.specs.Program.{HasRefusalCause, Answers, LoadsTold, KeepsRuns, HasNoCause, HasNoFault};
+ghost use Rattle.testr_cli.specs.Words.{texts, command_of, command_behind, testr_word};
+ghost use Rattle.testr_cli.specs.Outside.{outside, HasNoFault, RisesOnlyAt};
+ghost use Rattle.testr_cli.specs.Stops.{PassesCommand};
+ghost use Rattle.testr_cli.specs.Program.{Performs, HasRefusalCause, Answers, LoadsTold, AnswersQuestion, KeepsRuns, CanInit, CanLoad, CanAsk};
 
+use crate::ask::ask;
+use crate::command::Command;
+use crate::init::init;
 use crate::load::load;
 use crate::telling::tell;
-use crate::words::{is_load, is_testr};
-use crate::{Passed, Refusal};
+use crate::words::{command, is_testr};
+use crate::{Refusal, Verdict};
 use edge_io::{Shelf, Sink, Source, write_whole};
 use std::alloc::Global;
 
@@ -36,33 +43,62 @@ pub fn program<H: Shelf, I: Source, O: Sink, E: Sink>(
         (E.taken err.old) (E.taken err.new) (E.faults err.old) (E.faults err.new)
         result }
 
-    ensures usage { (result ≡ 2) ↔ (IsLoad (texts words.now) → ⊥) }
+    ensures usage { (result ≡ 2) ↔ (command_of (texts words.now) ≡ None) }
     ensures fault { result ≡ 4 → Rose (H.faults shelf.old) (H.faults shelf.new) ⊎ (Rose (I.faults input.old) (I.faults input.new) ⊎ Rose (O.faults out.old) (O.faults out.new)) }
 
     // What is refused leaves the runs that the folder shows. Only a fault may leave one more.
     ensures kept { 2 ≤ result → (result ≡ 4 → ⊥) → KeepsRuns (H.state shelf.old) (H.state shelf.new) }
 
-    // Over an input that is told: it is good packets and nothing else, was read to its end, and is one run more.
-    ensures loaded { result ≡ 0 → LoadsTold
+    // A stop at each moment leaves what one before the call might have left, or the files as reads gave them before the
+    // call with all that the command adds.
+    ensures any_moment { Goes (H.state shelf.old) (H.state shelf.new) (PassesCommand (command_of (texts words.now)) (I.left input.old)) }
+
+    ensures made { command_of (texts words.now) ≡ Some Init → result ≡ 0 → Goes (H.state shelf.old) (H.state shelf.new) MakesRepository }
+
+    // Over an input that is told: it was read to its end, what is recorded of it is one run more, and its report was
+    // printed.
+    ensures loaded { (partial : Bool) → command_of (texts words.now) ≡ Some (Load partial) → result ≤ 1 → LoadsTold partial
         (outside (H.state shelf.old) (H.faults shelf.old) (I.left input.old) (I.faults input.old) (O.taken out.old) (O.faults out.old))
-        (outside (H.state shelf.new) (H.faults shelf.new) (I.left input.new) (I.faults input.new) (O.taken out.new) (O.faults out.new)) }
+        (outside (H.state shelf.new) (H.faults shelf.new) (I.left input.new) (I.faults input.new) (O.taken out.new) (O.faults out.new))
+        result }
+
+    // The answer of a question was printed, the status is its own, and nothing else happened.
+    ensures asked { (question : AQuestion) → command_of (texts words.now) ≡ Some (Ask question) → result ≤ 1 → AnswersQuestion question
+        (outside (H.state shelf.old) (H.faults shelf.old) (I.left input.old) (I.faults input.old) (O.taken out.old) (O.faults out.old))
+        (outside (H.state shelf.new) (H.faults shelf.new) (I.left input.new) (I.faults input.new) (O.taken out.new) (O.faults out.new))
+        result }
 
     // It does not give up without a cause.
-    ensures complete { IsLoad (texts words.now)
-        → HasNoCause (outside (H.state shelf.old) (H.faults shelf.old) (I.left input.old) (I.faults input.old) (O.taken out.old) (O.faults out.old))
+    ensures can_init { command_of (texts words.now) ≡ Some Init
+        → CanInit (outside (H.state shelf.old) (H.faults shelf.old) (I.left input.old) (I.faults input.old) (O.taken out.old) (O.faults out.old))
         → HasNoFault
         (outside (H.state shelf.old) (H.faults shelf.old) (I.left input.old) (I.faults input.old) (O.taken out.old) (O.faults out.old))
         (outside (H.state shelf.new) (H.faults shelf.new) (I.left input.new) (I.faults input.new) (O.taken out.new) (O.faults out.new))
-        → (result ≡ 0) ⊎ (result ≡ 5) }
+        → result ≡ 0 }
+    ensures can_load { (partial : Bool) → command_of (texts words.now) ≡ Some (Load partial)
+        → CanLoad (outside (H.state shelf.old) (H.faults shelf.old) (I.left input.old) (I.faults input.old) (O.taken out.old) (O.faults out.old))
+        → HasNoFault
+        (outside (H.state shelf.old) (H.faults shelf.old) (I.left input.old) (I.faults input.old) (O.taken out.old) (O.faults out.old))
+        (outside (H.state shelf.new) (H.faults shelf.new) (I.left input.new) (I.faults input.new) (O.taken out.new) (O.faults out.new))
+        → (result ≤ 1) ⊎ (result ≡ 5) }
+    ensures can_ask { (question : AQuestion) → command_of (texts words.now) ≡ Some (Ask question)
+        → CanAsk question (outside (H.state shelf.old) (H.faults shelf.old) (I.left input.old) (I.faults input.old) (O.taken out.old) (O.faults out.old))
+        → HasNoFault
+        (outside (H.state shelf.old) (H.faults shelf.old) (I.left input.old) (I.faults input.old) (O.taken out.old) (O.faults out.old))
+        (outside (H.state shelf.new) (H.faults shelf.new) (I.left input.new) (I.faults input.new) (O.taken out.new) (O.faults out.new))
+        → (result ≤ 1) ⊎ (result ≡ 5) }
 {
     dispatch(alloc, words, shelf, input, out, err)
 }
 
-/// Does what the words behind `testr` say, and answers the exit status: 0 where all tests passed, 2 where the words are
-/// no command, 3 for a named refusal, 4 for a fault of the outside, 5 for want of memory.
+/// Does what the words behind `testr` say, and answers the exit status: 0 where it was done and no test failed, 1 where a
+/// test failed, 2 where the words are no command, 3 for a named refusal, 4 for a fault of the outside, 5 for want of
+/// memory.
 ///
-/// `load` reads the input to its end, keeps its events as the next run, and prints the run's report. A refusal prints one
-/// line to `err`. Before a run is kept a refusal leaves the shown runs as they were; a fault of `out` leaves the new run.
+/// `init` makes a repository. `load` reads the input to its end, keeps what is recorded of it as the next run, and prints
+/// the run's report. `last`, `failing`, `slowest` and `stats` tell of the runs and change nothing. A refusal prints one line to `err`. Before a run is kept a refusal leaves the shown runs as they
+/// were; a fault of `out` leaves the new run. A stop at any moment leaves the earlier runs, and the new one wholly or not
+/// at all.
 pub fn testr<H: Shelf, I: Source, O: Sink, E: Sink>(
     alloc: Global,
     words: &[String],
@@ -78,24 +114,50 @@ pub fn testr<H: Shelf, I: Source, O: Sink, E: Sink>(
         (E.taken err.old) (E.taken err.new) (E.faults err.old) (E.faults err.new)
         result }
 
-    ensures usage { (result ≡ 2) ↔ (IsLoad (testr_word ∷ texts words.now) → ⊥) }
+    ensures usage { (result ≡ 2) ↔ (command_of (testr_word ∷ texts words.now) ≡ None) }
     ensures fault { result ≡ 4 → Rose (H.faults shelf.old) (H.faults shelf.new) ⊎ (Rose (I.faults input.old) (I.faults input.new) ⊎ Rose (O.faults out.old) (O.faults out.new)) }
 
     // What is refused leaves the runs that the folder shows. Only a fault may leave one more.
     ensures kept { 2 ≤ result → (result ≡ 4 → ⊥) → KeepsRuns (H.state shelf.old) (H.state shelf.new) }
 
-    // Over an input that is told: it is good packets and nothing else, was read to its end, and is one run more.
-    ensures loaded { result ≡ 0 → LoadsTold
+    // A stop at each moment leaves what one before the call might have left, or the files as reads gave them before the
+    // call with all that the command adds.
+    ensures any_moment { Goes (H.state shelf.old) (H.state shelf.new) (PassesCommand (command_of (testr_word ∷ texts words.now)) (I.left input.old)) }
+
+    ensures made { command_of (testr_word ∷ texts words.now) ≡ Some Init → result ≡ 0 → Goes (H.state shelf.old) (H.state shelf.new) MakesRepository }
+
+    // Over an input that is told: it was read to its end, what is recorded of it is one run more, and its report was
+    // printed.
+    ensures loaded { (partial : Bool) → command_of (testr_word ∷ texts words.now) ≡ Some (Load partial) → result ≤ 1 → LoadsTold partial
         (outside (H.state shelf.old) (H.faults shelf.old) (I.left input.old) (I.faults input.old) (O.taken out.old) (O.faults out.old))
-        (outside (H.state shelf.new) (H.faults shelf.new) (I.left input.new) (I.faults input.new) (O.taken out.new) (O.faults out.new)) }
+        (outside (H.state shelf.new) (H.faults shelf.new) (I.left input.new) (I.faults input.new) (O.taken out.new) (O.faults out.new))
+        result }
+
+    // The answer of a question was printed, the status is its own, and nothing else happened.
+    ensures asked { (question : AQuestion) → command_of (testr_word ∷ texts words.now) ≡ Some (Ask question) → result ≤ 1 → AnswersQuestion question
+        (outside (H.state shelf.old) (H.faults shelf.old) (I.left input.old) (I.faults input.old) (O.taken out.old) (O.faults out.old))
+        (outside (H.state shelf.new) (H.faults shelf.new) (I.left input.new) (I.faults input.new) (O.taken out.new) (O.faults out.new))
+        result }
 
     // It does not give up without a cause.
-    ensures complete { IsLoad (testr_word ∷ texts words.now)
-        → HasNoCause (outside (H.state shelf.old) (H.faults shelf.old) (I.left input.old) (I.faults input.old) (O.taken out.old) (O.faults out.old))
+    ensures can_init { command_of (testr_word ∷ texts words.now) ≡ Some Init
+        → CanInit (outside (H.state shelf.old) (H.faults shelf.old) (I.left input.old) (I.faults input.old) (O.taken out.old) (O.faults out.old))
         → HasNoFault
         (outside (H.state shelf.old) (H.faults shelf.old) (I.left input.old) (I.faults input.old) (O.taken out.old) (O.faults out.old))
         (outside (H.state shelf.new) (H.faults shelf.new) (I.left input.new) (I.faults input.new) (O.taken out.new) (O.faults out.new))
-        → (result ≡ 0) ⊎ (result ≡ 5) }
+        → result ≡ 0 }
+    ensures can_load { (partial : Bool) → command_of (testr_word ∷ texts words.now) ≡ Some (Load partial)
+        → CanLoad (outside (H.state shelf.old) (H.faults shelf.old) (I.left input.old) (I.faults input.old) (O.taken out.old) (O.faults out.old))
+        → HasNoFault
+        (outside (H.state shelf.old) (H.faults shelf.old) (I.left input.old) (I.faults input.old) (O.taken out.old) (O.faults out.old))
+        (outside (H.state shelf.new) (H.faults shelf.new) (I.left input.new) (I.faults input.new) (O.taken out.new) (O.faults out.new))
+        → (result ≤ 1) ⊎ (result ≡ 5) }
+    ensures can_ask { (question : AQuestion) → command_of (testr_word ∷ texts words.now) ≡ Some (Ask question)
+        → CanAsk question (outside (H.state shelf.old) (H.faults shelf.old) (I.left input.old) (I.faults input.old) (O.taken out.old) (O.faults out.old))
+        → HasNoFault
+        (outside (H.state shelf.old) (H.faults shelf.old) (I.left input.old) (I.faults input.old) (O.taken out.old) (O.faults out.old))
+        (outside (H.state shelf.new) (H.faults shelf.new) (I.left input.new) (I.faults input.new) (O.taken out.new) (O.faults out.new))
+        → (result ≤ 1) ⊎ (result ≡ 5) }
 {
     answer(alloc, words, shelf, input, out, err)
 }
@@ -114,6 +176,7 @@ fn dispatch<H: Shelf, I: Source, O: Sink, E: Sink>(
         (outside (H.state shelf.new) (H.faults shelf.new) (I.left input.new) (I.faults input.new) (O.taken out.new) (O.faults out.new))
         (E.taken err.old) (E.taken err.new) (E.faults err.old) (E.faults err.new)
         result }
+    ensures any_moment { Goes (H.state shelf.old) (H.state shelf.new) (PassesCommand (command_of (texts words.now)) (I.left input.old)) }
 {
     if !is_testr(words) {
         return tell_usage(err);
@@ -145,9 +208,10 @@ fn answer<H: Shelf, I: Source, O: Sink, E: Sink>(
         (outside (H.state shelf.new) (H.faults shelf.new) (I.left input.new) (I.faults input.new) (O.taken out.new) (O.faults out.new))
         (E.taken err.old) (E.taken err.new) (E.faults err.old) (E.faults err.new)
         result }
+    ensures any_moment { Goes (H.state shelf.old) (H.state shelf.new) (PassesCommand (command_of (testr_word ∷ texts words.now)) (I.left input.old)) }
 {
     match perform(alloc, words, shelf, input, out) {
-        Ok(Passed) => 0,
+        Ok(verdict) => verdict.code(),
         Err(refusal) => {
             let _ = tell(err, refusal);
             refusal.code()
@@ -162,16 +226,23 @@ fn perform<H: Shelf, I: Source, O: Sink>(
     shelf: &mut H,
     input: &mut I,
     out: &mut O,
-) -> Result<Passed, Refusal>
-    ensures done { OnOk result (IsLoad (testr_word ∷ texts words.now) × Loads
+) -> Result<Verdict, Refusal>
+    ensures done { IfOk result (Performs (command_behind (texts words.now))
         (outside (H.state shelf.old) (H.faults shelf.old) (I.left input.old) (I.faults input.old) (O.taken out.old) (O.faults out.old))
         (outside (H.state shelf.new) (H.faults shelf.new) (I.left input.new) (I.faults input.new) (O.taken out.new) (O.faults out.new))) }
-    ensures refused { IfErr result (HasRefusalCause (testr_word ∷ texts words.now)
+    ensures refused { IfErr result (HasRefusalCause (command_behind (texts words.now))
         (outside (H.state shelf.old) (H.faults shelf.old) (I.left input.old) (I.faults input.old) (O.taken out.old) (O.faults out.old))
         (outside (H.state shelf.new) (H.faults shelf.new) (I.left input.new) (I.faults input.new) (O.taken out.new) (O.faults out.new))) }
+    ensures counts { RisesOnlyAt
+        (outside (H.state shelf.old) (H.faults shelf.old) (I.left input.old) (I.faults input.old) (O.taken out.old) (O.faults out.old))
+        (outside (H.state shelf.new) (H.faults shelf.new) (I.left input.new) (I.faults input.new) (O.taken out.new) (O.faults out.new))
+        result }
+    ensures any_moment { Goes (H.state shelf.old) (H.state shelf.new) (PassesCommand (command_behind (texts words.now)) (I.left input.old)) }
 {
-    if !is_load(words) {
-        return Err(Refusal::Usage);
+    match command(words) {
+        None => Err(Refusal::Usage),
+        Some(Command::Init) => init(shelf),
+        Some(Command::Load { partial }) => load(alloc, partial, shelf, input, out),
+        Some(Command::Ask(question)) => ask(alloc, question, shelf, out),
     }
-    load(alloc, shelf, input, out)
 }

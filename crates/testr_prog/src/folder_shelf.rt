@@ -1,21 +1,24 @@
 // The repository's folder as a shelf.
 ghost use Rattle.std.specs.Prelude.{None};
 
-use crate::counting::counted;
+use crate::counting::{counted, counted_names};
 use crate::folder::Folder;
-use edge_io::{Failed, Shelf};
+use edge_io::{Failed, NamesFault, Shelf};
 use std::alloc::Global;
-use std::fs::Files;
+use std::fs::{File, Files};
+use sub_number::Text;
 
-/// The folder `.testrepository` of the current folder. Counts its calls, and those that fail.
+/// The folder `.testrepository` of the current folder. Counts its calls, and those that fail. The first call that finds
+/// the folder there, or makes it, takes the lock on the file `lock` in it, for as long as this value lasts. Where another
+/// program has that lock, that call and all later ones fail.
 #[derive(Drop)]
-pub struct FolderShelf<'r, R: Files> {
+pub struct FolderShelf<'r, R> {
     folder: Folder<'r, R>,
     calls: u64,
     faults: u64,
 }
 
-impl<'r, R: Files> FolderShelf<'r, R> {
+impl<'r, R: Files<File = File>> FolderShelf<'r, R> {
     /// The folder as it stands, before any call.
     pub fn new(alloc: Global, rt: &'r R) -> Self {
         FolderShelf {
@@ -26,7 +29,7 @@ impl<'r, R: Files> FolderShelf<'r, R> {
     }
 }
 
-impl<R: Files> Shelf for FolderShelf<'_, R> {
+impl<R: Files<File = File> + AllocGlobal + Clone + Drop> Shelf for FolderShelf<'_, R> {
     ghost state = { λ _. None };
 
     ghost clock = { λ s. s.calls };
@@ -34,6 +37,13 @@ impl<R: Files> Shelf for FolderShelf<'_, R> {
     ghost faults = { λ s. s.faults };
 
     ghost published_counts = { λ _. tt };
+
+    /// Lists the folder, without the files `draft` and `lock`.
+    fn names(&mut self, alloc: Global) -> Result<Vec<Text>, NamesFault> {
+        self.calls = self.calls.saturating_add(1);
+        let result = self.folder.names(alloc);
+        counted_names(&mut self.faults, result)
+    }
 
     /// The length of the published file in bytes, from its metadata.
     fn length(&mut self, name: &str) -> Result<Option<u64>, Failed> {
@@ -77,7 +87,7 @@ impl<R: Files> Shelf for FolderShelf<'_, R> {
         counted(&mut self.faults, result)
     }
 
-    /// Syncs the folder, where it is there.
+    /// Syncs the folder, where it is there, and the first time the folder that it stands in.
     fn sync_folder(&mut self) -> Result<(), Failed> {
         self.calls = self.calls.saturating_add(1);
         let result = self.folder.sync();

@@ -4,6 +4,7 @@
 mod counting;
 mod folder;
 mod folder_shelf;
+mod lock;
 mod stream_sink;
 mod stream_source;
 #[cfg(test)]

@@ -1,18 +1,34 @@
-use Rattle.std.proofs.Common.{rules, inr, arith, ◌∙◌}
-use Rattle.testr_cli.proofs.LoadLemmas.{kept_or_not}
+use Rattle.std.proofs.Common.{refl, arith}
+use Rattle.testr_cli.proofs.LoadLemmas.{load_done, load_unkept, load_untold}
+use Rattle.testr_cli.proofs.StopLemmas.{load_moments}
 use Rattle.testr_cli.proofs.load.load.Goals as goal
 
-pub returns-in_default-record_run-clause-refused : goal.returns-in_default-record_run-clause-refused
-returns-in_default-record_run-clause-refused g c = (
-  omega (arith, c.sync_folder.ensures.cause.later, c.free_number.ensures.later, c.in_default-record_run.ensures.cause.failed),
-  inr (record {
-    number = c.in-Ok-free_number.number;
-    bytes = c.in-Ok-read_whole.stream.items;
-    events = c.in-Ok-run_of.ensures.run.events;
-    found = search rules;
-    all = search rules;
-    cut = search rules;
-    printed = search rules;
-    kept = kept_or_not _ _ _ _ _ _ _ _ c.in-Ok.ensures.ok c.free_number.ensures.same c.in_default-record_run.ensures.err (search rules) (c.deref-2.ensures.value ∙ c.in-Ok-run_of.ensures.run.bytes);
-  }),
-)
+pub returns-in-Err-clause-refused : goal.returns-in-Err-clause-refused
+returns-in-Err-clause-refused g c = c.in-Err.ensures.refused c.args.partial (g.O.Sink.taken c.args.out.now) (g.O.Sink.faults c.args.out.now)
+
+pub returns-in_default-clause-refused : goal.returns-in_default-clause-refused
+returns-in_default-clause-refused g c =
+    load_unkept c.args.partial _ _ _ _ _ _ _ _ _ _ _ _ _ c.in-Ok.prepared c.in-Ok.ensures.done _ _ c.deref.ensures.value refl _ refl
+    (omega (arith, c.in-Ok.ensures.folder_count (λ e. cc), c.in_default.ensures.cause.failed)) c.in_default.ensures.failed
+
+pub returns-in_default-clause-any_moment : goal.returns-in_default-clause-any_moment
+returns-in_default-clause-any_moment g c =
+    load_moments c.args.partial _ _ _ _ _ c.in-Ok.prepared c.in-Ok.ensures.done _ c.deref.ensures.value (g.met.H.Shelf.published_counts c.args.shelf.now) c.in-Ok.ensures.any_moment c.keep_run.ensures.any_moment
+
+pub returns-in_default-write_whole-clause-refused : goal.returns-in_default-write_whole-clause-refused
+returns-in_default-write_whole-clause-refused g c =
+    load_untold c.args.partial _ _ _ _ _ _ _ _ _ _ _ _ _ c.in-Ok.prepared c.in-Ok.ensures.done _ _ c.deref.ensures.value c.deref-2.ensures.value
+    c.in_default-write_whole.ensures.cause.failed c.in-Ok-keep_run.ensures.kept c.write_whole.ensures.prefix
+
+pub returns-in_default-write_whole-clause-any_moment : goal.returns-in_default-write_whole-clause-any_moment
+returns-in_default-write_whole-clause-any_moment g c =
+    load_moments c.args.partial _ _ _ _ _ c.in-Ok.prepared c.in-Ok.ensures.done _ c.deref.ensures.value (g.met.H.Shelf.published_counts c.args.shelf.now) c.in-Ok.ensures.any_moment c.keep_run.ensures.any_moment
+
+pub returns-clause-done : goal.returns-clause-done
+returns-clause-done g c =
+    load_done c.args.partial _ _ _ _ _ _ _ _ _ _ _ _ _ c.in-Ok.prepared c.in-Ok.ensures.done _ _ c.deref.ensures.value c.deref-2.ensures.value
+    c.in-Ok-keep_run.ensures.kept c.in-Ok-write_whole.ensures.whole
+
+pub returns-clause-any_moment : goal.returns-clause-any_moment
+returns-clause-any_moment g c =
+    load_moments c.args.partial _ _ _ _ _ c.in-Ok.prepared c.in-Ok.ensures.done _ c.deref.ensures.value (g.met.H.Shelf.published_counts c.args.shelf.now) c.in-Ok.ensures.any_moment c.keep_run.ensures.any_moment

@@ -1,12 +1,9 @@
-use Rattle.std.proofs.Common.{◌≡◌, [], ◌∷◌, ◌++◌, subst, sym, ap, ◌∙◌}
-use Rattle.std.specs.Fmt.{decimal}
-use Rattle.edge_io.specs.Bytes.{AppendsPrefix}
-use Rattle.testr_cli.specs.Answer.{refusal_rest}
-use Rattle.testr_cli.proofs.Prefixes.{prefix_behind}
+use Rattle.std.proofs.Common.{◌∙◌}
+use Rattle.testr_cli.proofs.Lines.{rest_told, rest_in_part}
 use Rattle.testr_cli.proofs.telling.tell_rest.Goals as goal
 
+pub returns-clause-whole : goal.returns-clause-whole
+returns-clause-whole g c = rest_told _ _ _ c.args.refusal c.in-Gap.number _ c.write_whole-2.result c.in-Gap.is (c.as_bytes.ensures.value ∙ c.format.ensures.text) c.in_ok-write_whole.ensures.whole c.write_whole-2.ensures.whole
+
 pub returns-clause-prefix : goal.returns-clause-prefix
-returns-clause-prefix g c =
-    let digits : c.as_bytes.result.now ≡ decimal c.in-NotYet.place = c.as_bytes.ensures.value ∙ c.format.ensures.text in
-    let line : c.as_bytes.result.now ++ 10 ∷ [] ≡ refusal_rest c.args.refusal = ap (λ l. l ++ 10 ∷ []) digits ∙ sym (ap refusal_rest c.in-NotYet.is) in
-    subst (AppendsPrefix _ _) line (prefix_behind _ _ _ _ _ c.in_ok-write_whole.ensures.whole c.write_whole-2.ensures.prefix)
+returns-clause-prefix g c = rest_in_part _ _ _ c.args.refusal c.in-Gap.number _ c.in-Gap.is (c.as_bytes.ensures.value ∙ c.format.ensures.text) c.in_ok-write_whole.ensures.whole c.write_whole-2.ensures.prefix

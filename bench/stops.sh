@@ -1,0 +1,189 @@
+#!/bin/sh
+# Kills `testr load` of a large stream at random moments, and looks what each kill left in the repository: the earlier
+# runs byte for byte, and the new one wholly or not at all. This tries kills, and no power cuts. A load that ends before
+# its kill is tried again, at most as often as there are kills.
+# usage: bench/stops.sh [KILLS [EVENTS [SEED]]]: by default 200 kills of the load of 650000 events, which are 50 MB.
+set -eu
+
+root=$(CDPATH='' cd -- "$(dirname -- "$0")/.." && pwd -P)
+program=$root/crates/testr_prog/out/testr_prog
+if [ ! -x "$program" ]; then
+    # The launcher builds it. Without words it then does nothing.
+    "$root/bin/testr" </dev/null >/dev/null || [ -x "$program" ]
+fi
+
+work=$(mktemp -d)
+trap 'rm -rf -- "$work"' EXIT
+trap 'exit 1' HUP INT TERM
+
+PYTHONDONTWRITEBYTECODE=1 PYTHONPATH=$root/bench \
+    python3 - "$program" "$work" "${1:-200}" "${2:-650000}" "${3:-1}" <<'PYTHON'
+import os
+import random
+import shutil
+import subprocess
+import sys
+import time
+
+import streams
+
+# A load that takes longer, in seconds, is an error, and none is begun once all together have taken longer.
+ONE_LOAD, ALL_LOADS = 120, 3600
+FORMAT = b"subunit-store 1\n"
+
+
+def stream_of(count):
+    return b"".join(streams.small(count))
+
+
+def recorded(count):
+    """What is kept of that stream: each event in its shortest form, under the route 0."""
+    return b"".join(streams.small(count, b"0"))
+
+
+EARLIER, LATER = [recorded(10), recorded(2000)], recorded(4)
+
+
+def fail(text):
+    sys.exit(f"stops: {text}")
+
+
+def run(program, folder, words, given=b""):
+    command = [program, "testr", *words]
+    done = subprocess.run(command, cwd=folder, input=given, capture_output=True, timeout=ONE_LOAD)
+    return done.returncode, done.stdout, done.stderr
+
+
+def published(folder):
+    """The files of the repository. The draft and the lock are none."""
+    home = os.path.join(folder, ".testrepository")
+    return {name: os.path.join(home, name) for name in os.listdir(home) if name not in ("draft", "lock")}
+
+
+def holds(path, wanted):
+    if os.path.getsize(path) != len(wanted):
+        return False
+    with open(path, "rb") as file:
+        return file.read() == wanted
+
+
+def make_repository(program, folder):
+    """A repository with two runs, made by the program."""
+    os.mkdir(folder)
+    if run(program, folder, ["init"])[0] != 0:
+        fail("init failed")
+    for count in (10, 2000):
+        if run(program, folder, ["load"], stream_of(count))[0] > 1:
+            fail("a load failed")
+    files = published(folder)
+    if not all(holds(files[str(place)], bytes) for place, bytes in enumerate(EARLIER)):
+        fail("the first runs are wrong")
+
+
+class Load:
+    """The load of the large stream."""
+
+    def __init__(self, program, folder, stream):
+        home = os.path.join(folder, ".testrepository")
+        self.draft, self.run = os.path.join(home, "draft"), os.path.join(home, "2")
+        with open(stream, "rb") as given:
+            self.child = subprocess.Popen(
+                [program, "testr", "load"], cwd=folder, stdin=given,
+                stdout=subprocess.DEVNULL, stderr=subprocess.DEVNULL)
+        self.start = time.monotonic()
+
+    def wait_for(self, path):
+        """Until this file is there, or the program has ended."""
+        while self.child.poll() is None and not os.path.exists(path):
+            if time.monotonic() - self.start > ONE_LOAD:
+                self.kill()
+                fail("a load took too long")
+            time.sleep(0.0002)
+
+    def wait_at_random(self, kind, chance, whole, tail):
+        """Until some moment of the load. Few of them would fall into the short time in which the run is being kept, or
+        into that between its publish and the end, so these are two kinds of their own."""
+        if kind == 0:
+            time.sleep(chance.uniform(0, whole))
+        elif kind == 1:
+            self.wait_for(self.draft)
+            time.sleep(chance.uniform(0, tail))
+        else:
+            self.wait_for(self.run)
+            time.sleep(chance.uniform(0, 0.002))
+
+    def age(self):
+        return time.monotonic() - self.start
+
+    def kill(self):
+        """Whether the kill was what ended it."""
+        self.child.kill()
+        return self.child.wait() == -9
+
+
+def look(program, folder, large):
+    """What is there after a kill: whether the new run is, and whether anything is damaged. The program opens the
+    repository again, and adds a run."""
+    files = published(folder)
+    is_there = "2" in files
+    sound = set(files) == {"format", "0", "1"} | ({"2"} if is_there else set())
+    status, out, _ = run(program, folder, ["load"], stream_of(4))
+    number = 3 if is_there else 2
+    files = published(folder)
+    wanted = {"format": FORMAT, "0": EARLIER[0], "1": EARLIER[1], str(number): LATER}
+    if is_there:
+        wanted["2"] = large
+    sound = sound and status <= 1 and b"id=%d" % number in out and set(files) == set(wanted)
+    return is_there, sound and all(holds(files[name], bytes) for name, bytes in wanted.items())
+
+
+def times_of(program, first, work, stream, large):
+    """How long a load takes, whole and behind the first sight of its draft."""
+    whole, tail = [], []
+    for place in range(3):
+        folder = os.path.join(work, f"timed-{place}")
+        shutil.copytree(first, folder)
+        load = Load(program, folder, stream)
+        load.wait_for(load.draft)
+        begun = load.age()
+        if load.child.wait(ONE_LOAD) > 1 or look(program, folder, large) != (True, True):
+            fail("a load that was not killed is wrong")
+        whole.append(load.age())
+        tail.append(load.age() - begun)
+        shutil.rmtree(folder)
+    return sorted(whole)[1], sorted(tail)[1]
+
+
+def main(program, work, kills, events, seed):
+    kills, events = min(int(kills), 10_000), min(int(events), 2_000_000)
+    chance = random.Random(int(seed))
+    stream, first, large = os.path.join(work, "stream"), os.path.join(work, "first"), recorded(events)
+    with open(stream, "wb") as file:
+        streams.write(file, streams.small(events))
+    make_repository(program, first)
+    whole, tail = times_of(program, first, work, stream, large)
+    size = os.path.getsize(stream)
+    print(f"{size} bytes; a load takes {whole:.2f} s, {tail:.3f} s of it from its draft on", flush=True)
+    counts = dict.fromkeys(("ended first", "killed", "before", "after", "damaged"), 0)
+    begun = time.monotonic()
+    for place in range(2 * kills):
+        if counts["killed"] == kills or time.monotonic() - begun > ALL_LOADS:
+            break
+        folder = os.path.join(work, "killed")
+        shutil.copytree(first, folder)
+        load = Load(program, folder, stream)
+        load.wait_at_random(place % 3, chance, whole, tail)
+        was_killed = load.kill()
+        is_there, is_sound = look(program, folder, large)
+        counts["damaged"] += not is_sound
+        counts["killed" if was_killed else "ended first"] += 1
+        if was_killed:
+            counts["after" if is_there else "before"] += 1
+        shutil.rmtree(folder)
+    print("{killed} kills: {before} before the publish (new run absent), {after} after it (new run whole);"
+          " {ended first} loads ended first; {damaged} damaged".format(**counts))
+    sys.exit(1 if counts["damaged"] else 0)
+
+
+main(*sys.argv[1:])
+PYTHON

@@ -1,0 +1,133 @@
+#!/usr/bin/env python3
+"""Subunit v2 streams, made by rule, so that equal words give equal bytes.
+
+usage: streams.py KIND COUNT >STREAM
+
+  small COUNT   COUNT events: each test is in progress and then ends, both with a time
+  texts COUNT   COUNT tests, each with a text of 4096 bytes in four pieces
+  logs COUNT    COUNT events as in small, and log lines between them, which are a third of the bytes
+  false COUNT   COUNT bytes of heads of packets that are none
+"""
+import struct
+import sys
+import zlib
+
+IN_PROGRESS, SUCCESS, SKIP, FAIL = 2, 3, 5, 6
+VERSION, ROUTE, ID, TIME, RUNNABLE, TYPE, FILE, LAST = (
+    0x2000, 0x0400, 0x0800, 0x0200, 0x0100, 0x0020, 0x0040, 0x0010,
+)
+MOST = 10_000_000
+BATCH = 1 << 20
+AREAS = (b"core", b"parser", b"network", b"storage", b"models", b"views", b"queue", b"access")
+ACTIONS = (b"creates", b"removes", b"rejects", b"parses", b"keeps", b"orders", b"renders", b"merges")
+
+
+def number(value):
+    """The shortest spelling of a number."""
+    if value < 1 << 6:
+        return bytes([value])
+    if value < 1 << 14:
+        return struct.pack(">H", value | 1 << 14)
+    if value < 1 << 22:
+        return struct.pack(">I", value | 2 << 22)[1:]
+    return struct.pack(">I", value | 3 << 30)
+
+
+def text(value):
+    return number(len(value)) + value
+
+
+def packet(flags, body):
+    """The packet of these flags and of this body, which is all that stands between its size and its checksum."""
+    for width in (1, 2, 3):
+        size = number(3 + width + len(body) + 4)
+        if len(size) == width:
+            break
+    front = b"\xb3" + struct.pack(">H", VERSION | flags) + size + body
+    return front + struct.pack(">I", zlib.crc32(front))
+
+
+def event(flags, body, route=b""):
+    """A packet, with a route behind all else where there is one."""
+    return packet(flags | ROUTE, body + text(route)) if route else packet(flags, body)
+
+
+def test_id(place):
+    """About 60 bytes, and another id for each place."""
+    return b"project.tests.test_%s.%sTests.test_%s_the_value_%07d" % (
+        AREAS[place % 8], AREAS[place // 8 % 8].title(), ACTIONS[place // 64 % 8], place)
+
+
+def time(place):
+    """One moment more for each place, with a part of a second that takes four bytes."""
+    return struct.pack(">I", 1_700_000_000 + place // 50) + number(place % 50 * 20_000_000 + 4_194_304)
+
+
+def end_of(place):
+    return FAIL if place % 997 == 7 else SKIP if place % 101 == 5 else SUCCESS
+
+
+def small(count, route=b""):
+    for place in range(count):
+        status = end_of(place // 2) if place % 2 else IN_PROGRESS
+        yield event(TIME | ID | RUNNABLE | status, time(place) + text(test_id(place // 2)), route)
+
+
+def trace(place):
+    """A text of 4096 bytes."""
+    line = b'  File "/srv/project/%s.py", line %d, in test_%s\n    self.assertEqual(%d, value)\n' % (
+        AREAS[place % 8], place % 2000, ACTIONS[place // 8 % 8], place)
+    return (b"Traceback (most recent call last):\n" + line * 64)[:4095] + b"\n"
+
+
+def texts(count, route=b""):
+    for place in range(count):
+        name, whole = text(test_id(place)), trace(place % 64)
+        yield event(TIME | ID | RUNNABLE | IN_PROGRESS, time(2 * place) + name, route)
+        for start in range(0, 4096, 1024):
+            last = LAST if start == 3072 else 0
+            file = text(b"text/plain;charset=utf8") + text(b"traceback") + text(whole[start:start + 1024])
+            yield event(ID | RUNNABLE | TYPE | FILE | last, name + file, route)
+        yield event(TIME | ID | RUNNABLE | end_of(place), time(2 * place + 1) + name, route)
+
+
+def logs(count):
+    for place, given in enumerate(small(count)):
+        yield given
+        if place % 2:
+            yield b"2026-01-02 03:04:%02d,%03d INFO [worker-%d] %s: the request %07d took %03d ms to serve\n" % (
+                place % 60, place % 1000, place % 4, AREAS[place % 8], place, place % 900)
+
+
+def false(count):
+    head = b"\xb3\x29\x03\xbf\xff\xff"
+    whole = head * (BATCH // len(head))
+    while count:
+        part = whole[:count]
+        count -= len(part)
+        yield part
+
+
+KINDS = {"small": small, "texts": texts, "logs": logs, "false": false}
+
+
+def write(file, pieces):
+    """Writes the pieces, many at a time."""
+    held, size = [], 0
+    for piece in pieces:
+        held.append(piece)
+        size += len(piece)
+        if size >= BATCH:
+            file.write(b"".join(held))
+            held, size = [], 0
+    file.write(b"".join(held))
+
+
+def main(words):
+    if len(words) != 2 or words[0] not in KINDS or not words[1].isdigit() or int(words[1]) > MOST:
+        sys.exit(__doc__.strip())
+    write(sys.stdout.buffer, KINDS[words[0]](int(words[1])))
+
+
+if __name__ == "__main__":
+    main(sys.argv[1:])

@@ -1,0 +1,32 @@
+-- The rows of a run that is read back.
+use Rattle.std.proofs.Common.{◌≡◌, List, [], ℕ, arith, All, Result, Ok, Err, IfOk, sym, ap, subst, ◌∙◌}
+use Rattle.packet_codec.specs.declared.event.Event.{Event}
+use Rattle.packet_codec.specs.Grammar.{AreBytes}
+use Rattle.packet_codec.specs.Canonical.{IsEvent, Fits}
+use Rattle.stream_reader.specs.Notes.{HasEvents, notes_of, events_of}
+use Rattle.stream_reader.proofs.CutLemmas.{one_cut}
+use Rattle.stream_reader.proofs.NotesLemmas.{are_full, are_made, packets_of, notes_of_packets, events_of_packets, cut_of_written}
+use Rattle.worker_lane.specs.Recorded.{HasRecorded}
+use Rattle.worker_lane.proofs.NoteLemmas.{notes_have_packets, HavePackets}
+use Rattle.outcome_fold.specs.declared.row.Row.{Row}
+use Rattle.outcome_fold.specs.Rows.{rows_of}
+use Rattle.run_ledger.specs.Reading.{AreRowsOf}
+use Rattle.testr_cli.specs.Load.{run_bytes}
+
+-- bytes have one list of events
+one_events : (bytes : List ℕ) (some others : List Event) → AreBytes bytes → HasEvents bytes some → HasEvents bytes others → some ≡ others
+one_events bytes some others are (notes, has, some_are) (notes', has', others_are) =
+    some_are ∙ ap events_of (has.made ∙ ap notes_of (one_cut has.pieces has'.pieces bytes are has.cut has'.cut) ∙ sym has'.made) ∙ sym others_are
+
+written : (events : List Event) → All IsEvent events → All Fits events → HasEvents (run_bytes events) events
+written events are fit = (_, record { pieces = packets_of events; cut = cut_of_written events are fit; made = sym (notes_of_packets events) }, sym (events_of_packets events))
+
+pub rows_of_written : {E : Type 0} (run : List ℕ) (events : List Event) (r : Result (List Row) E) → AreBytes run → All IsEvent events → All Fits events → run ≡ run_bytes events → IfOk r (AreRowsOf run) → IfOk r (λ rows. rows ≡ rows_of events)
+rows_of_written run events (Err e) bytes are fit is rows = tt
+rows_of_written run events (Ok x) bytes are fit is rows =
+    rows.folded ∙ ap rows_of (one_events run rows.events events bytes rows.told (subst (λ (l : List ℕ). HasEvents l events) (sym is) (written events are fit)))
+
+-- what is recorded has packets
+pub have_packets : (bytes : List ℕ) (events : List Event) → AreBytes bytes → HasRecorded 0 bytes events → HavePackets events
+have_packets bytes events are h =
+    rw (h.made) (notes_have_packets 0 h.notes bytes (omega arith) are (rw (h.are_notes.made) (are_made h.are_notes.pieces [] bytes h.are_notes.cut)) (rw (h.are_notes.made) (are_full h.are_notes.pieces [] (omega arith))))

@@ -1,0 +1,250 @@
+//! What is told of the runs of a repository.
+
+ghost use Rattle.std.specs.Prelude.{◌≡◌, ◌<◌, ◌-◌, None, length, IfSome, IfOk, IfErr};
+ghost use Rattle.edge_io.specs.Steps.{Goes, Stays};
+ghost use Rattle.run_shelf.specs.Stores.{store_kinds, store_fault, FitsUnlessBroken};
+ghost use Rattle.run_ledger.specs.Ledger.{HasRowsAt};
+ghost use Rattle.testr_cli.specs.Ask.{OfLastRun, SaysReport, SaysBytes, SaysSlowest, SaysFailing, SaysStats, stats_of, verdict_of_failing};
+ghost use Rattle.testr_cli.specs.Outside.{StandsUnless};
+ghost use Rattle.testr_cli.specs.declared.answer.Refusal.TheVariants.{ShelfFault};
+ghost use Rattle.testr_cli.specs.Told.{IsAnswer, TellsSo, HasTellCause, HasBytesAt, refusal_of_ledger};
+
+use crate::command::Question;
+use crate::reporting::{report, verdict};
+use crate::{Refusal, Verdict};
+use edge_io::Shelf;
+use itoa::Buffer;
+use outcome_fold::Rows;
+use run_ledger::{LedgerFault, failing, rows_of};
+use run_shelf::Store;
+use std::alloc::Global;
+use sub_number::{IdList, NoMemory};
+use sub_text::{failing_text, slowest_text};
+
+/// What is told.
+#[derive(Drop)]
+pub struct Told {
+    /// What is printed.
+    pub text: Vec<u8>,
+    /// What the status says.
+    pub verdict: Verdict,
+}
+
+/// The answer of the question, of the runs of the store. Where it is of the last run, there must be one.
+pub fn answer_of<H: Shelf>(
+    alloc: Global,
+    question: Question,
+    store: &mut Store<'_, H>,
+) -> Result<Told, Refusal>
+    requires some { OfLastRun question → 0 < length (store_kinds store.old) }
+    requires open { store_fault store.old ≡ None }
+    requires fits { FitsUnlessBroken (store_kinds store.old) (store_fault store.old) (H.state store.old.shelf.now) }
+    ensures same_reference { store.new.shelf.ghost_name ≡ store.old.shelf.ghost_name }
+    ensures told { IfOk result (λ told. IfSome (H.state store.old.shelf.now) (IsAnswer question told)) }
+    ensures refused { IfErr result (HasTellCause (H.faults store.old.shelf.now) (H.faults store.new.shelf.now)) }
+    ensures count { StandsUnless ShelfFault result (H.faults store.old.shelf.now) (H.faults store.new.shelf.now) }
+    ensures same { Goes (H.state store.old.shelf.now) (H.state store.new.shelf.now) Stays }
+{
+    match question {
+        Question::Last { subunit: true } => tell_bytes(alloc, store),
+        Question::Last { subunit: false } => tell_report(alloc, store),
+        Question::Failing { list } => tell_failing(alloc, list, store),
+        Question::Slowest { all } => tell_slowest(alloc, all, store),
+        Question::Stats => tell_stats(alloc, store),
+    }
+}
+
+// The bytes of the last run.
+fn last_bytes<H: Shelf>(alloc: Global, store: &mut Store<'_, H>) -> Result<Vec<u8>, Refusal>
+    requires some { 0 < length (store_kinds store.old) }
+    requires open { store_fault store.old ≡ None }
+    requires fits { FitsUnlessBroken (store_kinds store.old) (store_fault store.old) (H.state store.old.shelf.now) }
+    ensures same_reference { store.new.shelf.ghost_name ≡ store.old.shelf.ghost_name }
+    ensures bytes { IfOk result (λ bytes. IfSome (H.state store.old.shelf.now) (HasBytesAt (length (store_kinds store.old) - 1) bytes.items)) }
+    ensures refused { IfErr result (HasTellCause (H.faults store.old.shelf.now) (H.faults store.new.shelf.now)) }
+    ensures count { StandsUnless ShelfFault result (H.faults store.old.shelf.now) (H.faults store.new.shelf.now) }
+    ensures same { Goes (H.state store.old.shelf.now) (H.state store.new.shelf.now) Stays }
+{
+    let number = store.runs() - 1;
+    let Ok(size) = store.run_length(number) else {
+        return Err(Refusal::ShelfFault);
+    };
+    let Ok(mut bytes) = vec![in alloc; 0u8; size as usize] else {
+        return Err(Refusal::NoMemory);
+    };
+    let Ok(count) = store.read_run(number, 0, &mut bytes) else {
+        return Err(Refusal::ShelfFault);
+    };
+    bytes.truncate(count);
+    Ok(bytes)
+}
+
+fn tell_bytes<H: Shelf>(alloc: Global, store: &mut Store<'_, H>) -> Result<Told, Refusal>
+    requires some { 0 < length (store_kinds store.old) }
+    requires open { store_fault store.old ≡ None }
+    requires fits { FitsUnlessBroken (store_kinds store.old) (store_fault store.old) (H.state store.old.shelf.now) }
+    ensures same_reference { store.new.shelf.ghost_name ≡ store.old.shelf.ghost_name }
+    ensures told { IfOk result (λ told. IfSome (H.state store.old.shelf.now) (TellsSo SaysBytes told)) }
+    ensures refused { IfErr result (HasTellCause (H.faults store.old.shelf.now) (H.faults store.new.shelf.now)) }
+    ensures count { StandsUnless ShelfFault result (H.faults store.old.shelf.now) (H.faults store.new.shelf.now) }
+    ensures same { Goes (H.state store.old.shelf.now) (H.state store.new.shelf.now) Stays }
+{
+    match last_bytes(alloc, store) {
+        Ok(text) => Ok(Told {
+            text,
+            verdict: Verdict::Passed,
+        }),
+        Err(refusal) => Err(refusal),
+    }
+}
+
+// The rows of the last run.
+fn last_rows<H: Shelf>(alloc: Global, store: &mut Store<'_, H>) -> Result<Rows, Refusal>
+    requires some { 0 < length (store_kinds store.old) }
+    requires open { store_fault store.old ≡ None }
+    requires fits { FitsUnlessBroken (store_kinds store.old) (store_fault store.old) (H.state store.old.shelf.now) }
+    ensures same_reference { store.new.shelf.ghost_name ≡ store.old.shelf.ghost_name }
+    ensures rows { IfOk result (λ rows. IfSome (H.state store.old.shelf.now) (HasRowsAt (length (store_kinds store.old) - 1) rows)) }
+    ensures refused { IfErr result (HasTellCause (H.faults store.old.shelf.now) (H.faults store.new.shelf.now)) }
+    ensures count { StandsUnless ShelfFault result (H.faults store.old.shelf.now) (H.faults store.new.shelf.now) }
+    ensures same { Goes (H.state store.old.shelf.now) (H.state store.new.shelf.now) Stays }
+{
+    let number = store.runs() - 1;
+    match rows_of(alloc, store, number) {
+        Ok(rows) => Ok(rows),
+        Err(fault) => Err(ledger_refusal(fault)),
+    }
+}
+
+// The report of the last run.
+fn tell_report<H: Shelf>(alloc: Global, store: &mut Store<'_, H>) -> Result<Told, Refusal>
+    requires some { 0 < length (store_kinds store.old) }
+    requires open { store_fault store.old ≡ None }
+    requires fits { FitsUnlessBroken (store_kinds store.old) (store_fault store.old) (H.state store.old.shelf.now) }
+    ensures same_reference { store.new.shelf.ghost_name ≡ store.old.shelf.ghost_name }
+    ensures told { IfOk result (λ told. IfSome (H.state store.old.shelf.now) (TellsSo SaysReport told)) }
+    ensures refused { IfErr result (HasTellCause (H.faults store.old.shelf.now) (H.faults store.new.shelf.now)) }
+    ensures count { StandsUnless ShelfFault result (H.faults store.old.shelf.now) (H.faults store.new.shelf.now) }
+    ensures same { Goes (H.state store.old.shelf.now) (H.state store.new.shelf.now) Stays }
+{
+    let number = store.runs() - 1;
+    let rows = match last_rows(alloc, store) {
+        Ok(rows) => rows,
+        Err(refusal) => return Err(refusal),
+    };
+    let Ok(text) = report(alloc, &rows, number) else {
+        return Err(Refusal::NoMemory);
+    };
+    Ok(Told {
+        text,
+        verdict: verdict(&rows),
+    })
+}
+
+// The slowest tests of the last run.
+fn tell_slowest<H: Shelf>(
+    alloc: Global,
+    all: bool,
+    store: &mut Store<'_, H>,
+) -> Result<Told, Refusal>
+    requires some { 0 < length (store_kinds store.old) }
+    requires open { store_fault store.old ≡ None }
+    requires fits { FitsUnlessBroken (store_kinds store.old) (store_fault store.old) (H.state store.old.shelf.now) }
+    ensures same_reference { store.new.shelf.ghost_name ≡ store.old.shelf.ghost_name }
+    ensures told { IfOk result (λ told. IfSome (H.state store.old.shelf.now) (TellsSo (SaysSlowest all) told)) }
+    ensures refused { IfErr result (HasTellCause (H.faults store.old.shelf.now) (H.faults store.new.shelf.now)) }
+    ensures count { StandsUnless ShelfFault result (H.faults store.old.shelf.now) (H.faults store.new.shelf.now) }
+    ensures same { Goes (H.state store.old.shelf.now) (H.state store.new.shelf.now) Stays }
+{
+    let rows = match last_rows(alloc, store) {
+        Ok(rows) => rows,
+        Err(refusal) => return Err(refusal),
+    };
+    let mut text = Vec::new(alloc);
+    let Ok(()) = slowest_text(alloc, &rows, all, &mut text) else {
+        return Err(Refusal::NoMemory);
+    };
+    Ok(Told {
+        text,
+        verdict: Verdict::Passed,
+    })
+}
+
+// The tests that fail by all runs.
+fn tell_failing<H: Shelf>(
+    alloc: Global,
+    list: bool,
+    store: &mut Store<'_, H>,
+) -> Result<Told, Refusal>
+    requires open { store_fault store.old ≡ None }
+    requires fits { FitsUnlessBroken (store_kinds store.old) (store_fault store.old) (H.state store.old.shelf.now) }
+    ensures same_reference { store.new.shelf.ghost_name ≡ store.old.shelf.ghost_name }
+    ensures told { IfOk result (λ told. IfSome (H.state store.old.shelf.now) (TellsSo (SaysFailing list) told)) }
+    ensures refused { IfErr result (HasTellCause (H.faults store.old.shelf.now) (H.faults store.new.shelf.now)) }
+    ensures count { StandsUnless ShelfFault result (H.faults store.old.shelf.now) (H.faults store.new.shelf.now) }
+    ensures same { Goes (H.state store.old.shelf.now) (H.state store.new.shelf.now) Stays }
+{
+    let ids = match failing(alloc, store) {
+        Ok(ids) => ids,
+        Err(fault) => return Err(ledger_refusal(fault)),
+    };
+    let mut text = Vec::new(alloc);
+    let Ok(()) = failing_text(&ids, list, &mut text) else {
+        return Err(Refusal::NoMemory);
+    };
+    Ok(Told {
+        text,
+        verdict: failing_verdict(&ids),
+    })
+}
+
+// How many runs there are.
+fn tell_stats<H: Shelf>(alloc: Global, store: &mut Store<'_, H>) -> Result<Told, Refusal>
+    requires open { store_fault store.old ≡ None }
+    requires fits { FitsUnlessBroken (store_kinds store.old) (store_fault store.old) (H.state store.old.shelf.now) }
+    ensures same_reference { store.new.shelf.ghost_name ≡ store.old.shelf.ghost_name }
+    ensures told { IfOk result (λ told. IfSome (H.state store.old.shelf.now) (TellsSo SaysStats told)) }
+    ensures refused { IfErr result (HasTellCause (H.faults store.old.shelf.now) (H.faults store.new.shelf.now)) }
+    ensures count { StandsUnless ShelfFault result (H.faults store.old.shelf.now) (H.faults store.new.shelf.now) }
+    ensures same { Goes (H.state store.old.shelf.now) (H.state store.new.shelf.now) Stays }
+{
+    let Ok(text) = stats_text(alloc, store.runs()) else {
+        return Err(Refusal::NoMemory);
+    };
+    Ok(Told {
+        text,
+        verdict: Verdict::Passed,
+    })
+}
+
+fn stats_text(alloc: Global, runs: u32) -> Result<Vec<u8>, NoMemory>
+    ensures { IfOk result (λ text. text.items ≡ stats_of runs) }
+{
+    let mut digits = Buffer::new();
+    let mut text = Vec::new(alloc);
+    text.extend_from_slice(b"runs=")?;
+    text.extend_from_slice(digits.format(runs).as_bytes())?;
+    text.push(b'\n')?;
+    Ok(text)
+}
+
+// A set of failing tests that is not empty tells of a failure.
+fn failing_verdict(ids: &IdList) -> Verdict
+    ensures { result ≡ verdict_of_failing ids.now }
+{
+    if ids.list().is_empty() {
+        Verdict::Passed
+    } else {
+        Verdict::Failed
+    }
+}
+
+// What a store that could not be read answers.
+fn ledger_refusal(fault: LedgerFault) -> Refusal
+    ensures { result ≡ refusal_of_ledger fault }
+{
+    match fault {
+        LedgerFault::Store(_) => Refusal::ShelfFault,
+        LedgerFault::NoMemory => Refusal::NoMemory,
+    }
+}
