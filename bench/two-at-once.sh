@@ -4,15 +4,7 @@
 set -eu
 
 root=$(CDPATH='' cd -- "$(dirname -- "$0")/.." && pwd -P)
-program=$root/crates/testr_prog/out/testr_prog
-if [ ! -x "$program" ]; then
-    # The launcher builds it. Without words it then does nothing.
-    "$root/bin/testr" </dev/null >/dev/null || [ -x "$program" ]
-fi
-
-work=$(mktemp -d)
-trap 'rm -rf -- "$work"' EXIT
-trap 'exit 1' HUP INT TERM
+. "$root/bench/prepare.sh"
 
 PYTHONDONTWRITEBYTECODE=1 PYTHONPATH=$root/bench \
     python3 - "$program" "$work" "${1:-20}" <<'PYTHON'
