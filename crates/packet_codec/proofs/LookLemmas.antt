@@ -1,8 +1,8 @@
 -- What the header tells of the front of some bytes.
-use Rattle.std.proofs.Common.{◌≡◌, ℕ, ◌+◌, ◌-◌, ◌*◌, ◌/◌, ◌%◌, ◌≤◌, ◌<◌, Bool, true, false, List, [], ◌∷◌, ◌++◌, length, get_or, take, drop, refl, inl, inr, sym, ap, ◌∙◌, append_assoc, arith}
+use Rattle.std.proofs.Common.{◌≡◌, ℕ, ◌+◌, ◌-◌, ◌*◌, ◌/◌, ◌%◌, ◌≤◌, ◌<◌, Bool, false, List, [], ◌∷◌, ◌++◌, length, get_or, take, drop, refl, inl, inr, sym, ap, ◌∙◌, append_assoc, arith}
 use Rattle.std.specs.Prelude.{IsTrue, ◌↔◌}
 use Rattle.std.proofs.lemmas.Bool.{cases_lt}
-use Rattle.std.proofs.lemmas.List.{length-append, get_or_append_left, get_or-append_right, get_or-drop, append-nil}
+use Rattle.std.proofs.lemmas.List.{length-append, length-take-le, get_or_append_left, get_or-append_right, get_or-drop, append-nil}
 use Rattle.std.proofs.lemmas.List.Elements.{All-nil, All-cons}
 use Rattle.sub_number.specs.Numbers.{SpellsNumber}
 use Rattle.sub_number.proofs.NumberLemmas.{AreBytes, length_from_first}
@@ -12,6 +12,7 @@ use Rattle.packet_codec.specs.Grammar.{Found, NotFound}
 use Rattle.packet_codec.specs.Packet.{signature, IsPacket}
 use Rattle.packet_codec.specs.Header.{IsHeader, BeginsWithHeader, BeginsWithPacket, IsFrontOfHeader, NeedsMore}
 use Rattle.packet_codec.specs.Shapes.{HeaderShape, HeaderStands}
+use Rattle.packet_codec.specs.Sight.{BeginsWithThis}
 use Rattle.packet_codec.proofs.GrammarLemmas.{fits_from_are, found_same}
 use Rattle.packet_codec.proofs.HeaderLemmas.{header_free}
 use Rattle.packet_codec.proofs.PacketLemmas.{header_found}
@@ -58,16 +59,17 @@ whole_is_no_front p header are stands front =
 pub needs_more : (p : List ℕ) (header : Header) → HeaderStands p header → length p < header.size → NeedsMore p
 needs_more p header stands less = inr (header.size, header_begins p header stands, less)
 
-pub is_front_packet : (p : List ℕ) (header : Header) (answer : Bool) → HeaderStands p header → header.size ≤ length p → answer ≡ true → (IsTrue answer ↔ IsPacket (take header.size p)) → BeginsWithPacket p header.size
-is_front_packet p header answer stands in_range holds tests = record { header = header_begins p header stands; in_range = in_range; packet = tests.0 holds }
+pub is_front_packet : (p packet : List ℕ) (header : Header) → HeaderStands p header → header.size ≤ length p → packet ≡ take header.size p → IsPacket (take header.size p) → BeginsWithThis p packet
+is_front_packet p packet header stands in_range front is =
+    let size : length packet ≡ header.size = ap length front ∙ length-take-le header.size p in_range in
+    record {
+      begins = rw size (record { header = header_begins p header stands; in_range = in_range; packet = is });
+      front = rw size front;
+    }
 
-pub is_no_packet : (p : List ℕ) (header : Header) (answer : Bool) → AreBytes p → HeaderStands p header → header.size ≤ length p → answer ≡ false → (IsTrue answer ↔ IsPacket (take header.size p)) → ((size : ℕ) → BeginsWithPacket p size → ⊥) × (NeedsMore p → ⊥)
-is_no_packet p header answer are stands in_range is_not tests = (
-  λ size b.
-      let size-is = same_size p header size are stands b.header in
-      let yes_it_is : answer ≡ true = tests.1 (rw size-is at b.packet) in
-      let neither : false ≡ true = sym is_not ∙ yes_it_is in
-      absurd cc,
+pub is_no_packet : (p : List ℕ) (header : Header) → AreBytes p → HeaderStands p header → header.size ≤ length p → (IsPacket (take header.size p) → ⊥) → ((size : ℕ) → BeginsWithPacket p size → ⊥) × (NeedsMore p → ⊥)
+is_no_packet p header are stands in_range never = (
+  λ size b. let size-is = same_size p header size are stands b.header in never (rw size-is at b.packet),
   never_more,
 )
   where

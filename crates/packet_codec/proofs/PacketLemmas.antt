@@ -14,8 +14,10 @@ use Rattle.packet_codec.specs.Flags.{first_flags, second_flags}
 use Rattle.packet_codec.specs.Fields.{SpellsOptional, SpellsStamp, SpellsTexts, SpellsTags, SpellsFile, SpellsFields}
 use Rattle.packet_codec.specs.Packet.{signature, SpellsEvent, IsPacket}
 use Rattle.packet_codec.specs.Grammar.{Found, NotFound, Flagged}
-use Rattle.packet_codec.specs.Shapes.{Run, Runs, CountedRuns, NamedRun, bit, Contents, FieldShapes, HeaderShape, HeaderStands, AreTexts, status_from, file_from, event_from, contents_of, fields_at}
-use Rattle.packet_codec.proofs.GrammarLemmas.{are_front, are_rest, found_same, same_front}
+use Rattle.packet_codec.specs.Shapes.{Run, Runs, CountedRuns, NamedRun, bit, Contents, FieldShapes, HeaderShape, HeaderStands, AreTexts, status_from, file_from, event_from, contents_of, fields_at, ShowsParts}
+use Rattle.packet_codec.specs.Told.{IsTold}
+use Rattle.packet_codec.specs.declared.parts.Parts.{Parts}
+use Rattle.packet_codec.proofs.GrammarLemmas.{fits_from_are, are_front, are_rest, found_same, same_front}
 use Rattle.packet_codec.proofs.FlagLemmas.{FirstBits, SecondBits, first_bits, second_bits, first_from_bits, second_from_bits, status_from_number, number_of_status}
 use Rattle.packet_codec.proofs.PartsLemmas.{fields_free}
 use Rattle.packet_codec.proofs.HeaderLemmas.{header_free}
@@ -392,3 +394,12 @@ decoded p header c e r are stands shape s made =
 
 pub decoded_spelled : {E : Type 0} (p : List ℕ) (e : Event) (r : Result Event E) → SpellsEvent p e → IfOk r (λ event. event ≡ e) → IfOk r (SpellsEvent p)
 decoded_spelled p e r s is_e = if_ok_then (λ event. event ≡ e) (SpellsEvent p) r is_e (λ event is. rw is s)
+
+-- the event of a packet whose parts were tested
+pub told_event_of : {E : Type 0} (p : List ℕ) (header : Header) (parts : Parts) (r : Result Event E) → IsTold p header parts
+    → ((c : Contents) → ShowsParts parts c → IfOk r (λ event. event ≡ event_from header.first header.second c)) → (e : Event) → SpellsEvent p e → IfOk r (λ event. event ≡ e)
+told_event_of p header parts r is made e s = decoded p header is.contents e r (fits_from_are p is.are_bytes) is.stands is.shape s (made is.contents is.shown)
+
+pub told_spelled : {E : Type 0} (p : List ℕ) (header : Header) (parts : Parts) (r : Result Event E) → IsTold p header parts
+    → ((c : Contents) → ShowsParts parts c → IfOk r (λ event. event ≡ event_from header.first header.second c)) → IfOk r (SpellsEvent p)
+told_spelled p header parts r is made = decoded_spelled p is.packet.0 r is.packet.1 (told_event_of p header parts r is made is.packet.0 is.packet.1)

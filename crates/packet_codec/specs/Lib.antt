@@ -6,3 +6,5 @@ pub mod Routing
 pub mod Header
 pub mod Grammar
 pub mod Shapes
+pub mod Told
+pub mod Sight

@@ -8,7 +8,7 @@ ghost use Rattle.packet_codec.specs.declared.event.Event.{Event};
 
 use crate::event::{Event, FilePart};
 use crate::header::header_at;
-use crate::packet::packet_parts;
+use crate::packet::{Packet, packet_parts};
 use crate::parts::{FileBytes, Parts, RunList, run_at};
 use crate::status::Status;
 use crate::tags::Tags;
@@ -97,6 +97,18 @@ fn event_of(alloc: Global, first: u8, second: u8, parts: &Parts<'_>) -> Result<E
         eof: second / 16 % 2 == 1,
         route: optional_text(alloc, parts.route)?,
     })
+}
+
+impl<'a> Packet<'a> {
+    /// The event that the packet spells. Each part is copied once, and none is read again. The error comes for want of
+    /// memory. The event fits, since its shortest spelling is no longer than the packet.
+    pub fn event(&self, alloc: Global) -> Result<Event, NoMemory>
+        ensures spelled { IfOk result (SpellsEvent self.now) }
+        ensures only { (e : Event) → SpellsEvent self.now e → IfOk result (λ event. event ≡ e) }
+        ensures fits { IfOk result Fits }
+    {
+        event_of(alloc, self.header.first, self.header.second, &self.parts)
+    }
 }
 
 /// The event that a packet spells: all of the bytes are one packet. Each part is copied once. The error comes for want

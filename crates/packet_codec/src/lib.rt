@@ -5,7 +5,8 @@
 //!
 //! - `event`, `stamp`, `status`, `tags`: an event and its parts
 //! - `looking`: whether some bytes begin with a packet
-//! - `decoding`: the event of a packet; it stands on `packet`, `header` and `parts`, which read from the front
+//! - `packet`: a packet of which all is tested; it stands on `header` and `parts`, which read from the front
+//! - `decoding`: the event of a packet
 //! - `sizes`, `encoding`: the shortest spelling and its size
 //! - `routing`: an event under a lane's route
 //! - `laws`, `canonical_law`: what holds of all spellings
@@ -33,7 +34,8 @@ pub use encoding::encode;
 pub use event::{Event, FilePart};
 pub use front::Front;
 pub use laws::packets_are_one_event;
-pub use looking::look;
+pub use looking::{Sight, look, see};
+pub use packet::Packet;
 pub use routing::reroute;
 pub use sizes::{fits, routed_size, size};
 pub use stamp::Stamp;

@@ -2,10 +2,23 @@
 
 ghost use Rattle.std.specs.Prelude.{◌↔◌, IsTrue};
 ghost use Rattle.packet_codec.specs.Header.{IsFrontOfHeader, LooksLike};
+ghost use Rattle.packet_codec.specs.Sight.{IsSeen};
 
 use crate::front::Front;
 use crate::header::{SIGNATURE, header_at};
-use crate::packet::is_packet;
+use crate::packet::{Packet, packet_of};
+
+/// What stands at the front of some bytes, with the packet itself.
+#[derive(Drop)]
+pub enum Sight<'a> {
+    /// A packet.
+    Packet(Packet<'a>),
+    /// The front of a header, or a header whose packet is longer than the bytes at hand: with more bytes it may become
+    /// a packet.
+    More,
+    /// No packet, whatever follows.
+    No,
+}
 
 /// Whether the bytes are the front of a header, which more bytes are to end.
 fn is_front_of_header(bytes: &[u8]) -> bool
@@ -36,24 +49,36 @@ fn is_front_of_header(bytes: &[u8]) -> bool
     extra <= 2 && bytes.len() <= 3 + extra
 }
 
-/// Whether the bytes begin with a packet, may do so with more bytes behind them, or never will. It takes no memory.
+/// Whether the bytes begin with a packet, may do so with more bytes behind them, or never will. It takes no memory, and
+/// of a packet its event can be made without another look at it.
 /// What cannot be is refused at the first byte that tells it: the header first, then the lengths of the fields, then
 /// the texts, and the checksum last.
-pub fn look(bytes: &[u8]) -> Front
-    ensures { LooksLike bytes.now result }
+pub fn see(bytes: &[u8]) -> Sight<'_>
+    ensures { IsSeen bytes.now result }
 {
     let Some(header) = header_at(bytes) else {
         return if is_front_of_header(bytes) {
-            Front::More
+            Sight::More
         } else {
-            Front::No
+            Sight::No
         };
     };
     if header.size > bytes.len() {
-        return Front::More;
+        return Sight::More;
     }
-    if !is_packet(header, &bytes[..header.size]) {
-        return Front::No;
+    match packet_of(header, &bytes[..header.size]) {
+        Some(packet) => Sight::Packet(packet),
+        None => Sight::No,
     }
-    Front::Packet(header.size)
+}
+
+/// What `see` sees, without the packet itself: its size alone. It takes no memory.
+pub fn look(bytes: &[u8]) -> Front
+    ensures { LooksLike bytes.now result }
+{
+    match see(bytes) {
+        Sight::Packet(packet) => Front::Packet(packet.size()),
+        Sight::More => Front::More,
+        Sight::No => Front::No,
+    }
 }

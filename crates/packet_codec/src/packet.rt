@@ -1,4 +1,4 @@
-//! Whether some bytes are a packet.
+//! Packets, and whether some bytes are one.
 
 ghost use Rattle.std.specs.Prelude.{◌≡◌, ◌↔◌, Option, List, ℕ, length, All, IsTrue, IfSome, IfNone};
 ghost use Rattle.sub_number.specs.Texts.{IsText};
@@ -7,7 +7,36 @@ ghost use Rattle.packet_codec.specs.Shapes.{HeaderStands, FieldShapes, fields_at
 
 use crate::header::{CHECKSUM, Header};
 use crate::parts::{FileBytes, Parts, RunList, parts_of, run_at};
+use std::marker::Model;
 use sub_number::{crc_of, is_text};
+
+/// A packet where it stands among other bytes, of which all is tested. Contracts see its bytes.
+#[derive(Drop)]
+pub struct Packet<'a> {
+    bytes: &'a [u8],
+    pub(crate) header: Header,
+    pub(crate) parts: Parts<'a>,
+}
+
+impl<'a> Model for Packet<'a> {
+    ghost use Rattle.std.specs.Prelude.{List, ℕ};
+    ghost use Rattle.packet_codec.specs.Told.{IsTold};
+
+    ghost Value = { List ℕ };
+
+    ghost view = { λ p. p.bytes.now };
+
+    ghost invariant = { λ p. IsTold p.bytes.now p.header p.parts };
+}
+
+impl<'a> Packet<'a> {
+    /// Its size in bytes.
+    pub fn size(&self) -> usize
+        ensures { result ≡ length self.now }
+    {
+        self.bytes.len()
+    }
+}
 
 /// Whether a run is a text, where it is there.
 fn may_be_text(run: Option<&[u8]>) -> bool
@@ -78,16 +107,33 @@ pub fn packet_parts(header: Header, bytes: &[u8]) -> Option<Parts<'_>>
     parts_of(header.first, header.second, &body[header.start..])
 }
 
-/// Whether the bytes, which have this header and its size, are a packet. The lengths are tested first, then the
-/// texts, and the checksum last.
-pub fn is_packet(header: Header, bytes: &[u8]) -> bool
+/// Whether the bytes, which have this header, its size and these fields, are a packet. The texts are tested first, and
+/// the checksum last.
+fn is_packet(header: Header, bytes: &[u8], parts: &Parts<'_>) -> bool
     requires stands { HeaderStands bytes.now header }
     requires size { length bytes.now ≡ header.size }
+    requires shown { (contents : Contents) × FieldShapes header.first header.second (fields_at header bytes.now) contents × ShowsParts parts.now contents }
     ensures { IsTrue result ↔ IsPacket bytes.now }
 {
-    let Some(parts) = packet_parts(header, bytes) else {
-        return false;
-    };
     let (body, checksum) = bytes.split_at(bytes.len() - CHECKSUM);
-    have_texts(&parts) && checksum == crc_of(body).to_be_bytes().as_slice()
+    have_texts(parts) && checksum == crc_of(body).to_be_bytes().as_slice()
+}
+
+/// The packet that the bytes are, which have this header and its size. The lengths are tested first, then the texts,
+/// and the checksum last.
+pub fn packet_of(header: Header, bytes: &[u8]) -> Option<Packet<'_>>
+    requires stands { HeaderStands bytes.now header }
+    requires size { length bytes.now ≡ header.size }
+    ensures found { IfSome result (λ packet. (packet ≡ bytes.now) × IsPacket bytes.now) }
+    ensures none { IfNone result (IsPacket bytes.now → ⊥) }
+{
+    let parts = packet_parts(header, bytes)?;
+    if !is_packet(header, bytes, &parts) {
+        return None;
+    }
+    Some(Packet {
+        bytes,
+        header,
+        parts,
+    })
 }

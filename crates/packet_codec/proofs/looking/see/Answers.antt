@@ -1,5 +1,5 @@
 use Rattle.packet_codec.proofs.LookLemmas.{needs_more, is_front_packet, is_no_packet, is_no_header}
-use Rattle.packet_codec.proofs.looking.look.Goals as goal
+use Rattle.packet_codec.proofs.looking.see.Goals as goal
 
 pub returns-else-is_front_of_header : goal.returns-else-is_front_of_header
 returns-else-is_front_of_header c = is_no_header _ c.in_default.ensures.none (λ front. let e = c.is_front_of_header.ensures.1 front in let f = c.if-is_front_of_header.false in absurd (cc (e, f)))
@@ -7,8 +7,8 @@ returns-else-is_front_of_header c = is_no_header _ c.in_default.ensures.none (λ
 pub returns-then-header-bytes : goal.returns-then-header-bytes
 returns-then-header-bytes c = needs_more _ c.in-Some.header c.in-Some.ensures.found c.if-header-bytes.true
 
-pub returns-then-not-is_packet : goal.returns-then-not-is_packet
-returns-then-not-is_packet c = is_no_packet _ c.in-Some.header _ c.type_inv.bytes c.in-Some.ensures.found c.if-header-bytes.false c.if-not-is_packet.true c.is_packet.ensures
+pub returns-in-Some-packet_of : goal.returns-in-Some-packet_of
+returns-in-Some-packet_of c = is_front_packet _ _ c.in-Some.header c.in-Some.ensures.found c.if-header-bytes.false c.in-Some-packet_of.ensures.found.0 c.in-Some-packet_of.ensures.found.1
 
-pub returns : goal.returns
-returns c = is_front_packet _ c.in-Some.header _ c.in-Some.ensures.found c.if-header-bytes.false c.if-not-is_packet.false c.is_packet.ensures
+pub returns-in-None : goal.returns-in-None
+returns-in-None c = is_no_packet _ c.in-Some.header c.type_inv.bytes c.in-Some.ensures.found c.if-header-bytes.false c.in-None.ensures.none

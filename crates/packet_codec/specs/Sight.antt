@@ -1,0 +1,16 @@
+-- What stands at the front of some bytes, with the bytes of the packet itself.
+use Rattle.std.specs.Prelude.{◌≡◌, ℕ, List, length, take}
+use Rattle.packet_codec.specs.Header.{BeginsWithPacket, NeedsMore}
+use Rattle.packet_codec.specs.declared.looking.Sight.{Sight}
+use Rattle.packet_codec.specs.declared.looking.Sight.TheVariants.{Packet, More, No}
+
+-- the bytes begin with this packet
+pub record BeginsWithThis (bytes packet : List ℕ) : Type 0 where
+  pub begins : BeginsWithPacket bytes (length packet)
+  pub front : packet ≡ take (length packet) bytes
+
+-- where the bytes do not begin with a packet, more may make one, or none ever
+abbrev pub IsSeen : List ℕ → Sight → Type 0
+IsSeen bytes (Packet packet) = BeginsWithThis bytes packet
+IsSeen bytes More = NeedsMore bytes
+IsSeen bytes No = (((size : ℕ) → BeginsWithPacket bytes size → ⊥) × (NeedsMore bytes → ⊥))
