@@ -135,6 +135,13 @@ found_none b none size p = none p.packet.0 (drop size b) (begins_found b size p)
 pub found_longer : (b rest more : List ℕ) (e : Event) → BeginsWithPacketOf b e rest → BeginsWithPacketOf (b ++ more) e (rest ++ more)
 found_longer b rest more e f = record { front = f.front; parts = ap (λ (l : List ℕ). l ++ more) f.parts ∙ append_assoc f.front rest more; spelled = f.spelled }
 
+pub packet_longer : (b more : List ℕ) (size : ℕ) → BeginsWithPacket b size → BeginsWithPacket (b ++ more) size
+packet_longer b more size p = record {
+  header = header_longer b (b ++ more) more size refl p.header;
+  in_range = omega (arith, p.in_range, length-append b more);
+  packet = (p.packet.0, rw (take-append-le size b more p.in_range) p.packet.1);
+}
+
 -- where a packet stands, no more bytes are needed
 pub packet_needs_no_more : (b : List ℕ) (size : ℕ) → AreBytes b → BeginsWithPacket b size → NeedsMore b → ⊥
 packet_needs_no_more b size are p (inl front) = whole_is_no_front b size are p.header front

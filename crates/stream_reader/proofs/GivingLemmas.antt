@@ -1,19 +1,21 @@
 -- The first note of what is held, and that a reader's notes are those of the stream.
-use Rattle.std.proofs.Common.{◌≡◌, ◌⊎◌, ℕ, ◌+◌, ◌≤◌, ◌<◌, Bool, true, false, List, [], ◌∷◌, ◌++◌, length, take, drop, refl, inl, inr, sym, ap, ◌∙◌, append_assoc, arith}
-use Rattle.std.proofs.lemmas.List.{take-append-drop, length-take-le, drop_all, drop-drop}
+use Rattle.std.proofs.Common.{◌≡◌, ◌⊎◌, ℕ, ◌≤◌, ◌<◌, Bool, true, false, List, [], ◌∷◌, ◌++◌, length, take, drop, refl, inl, inr, sym, ap, ◌∙◌, append_assoc, arith}
+use Rattle.std.proofs.lemmas.List.{take-append-drop, length-take-le, drop_all}
 use Rattle.packet_codec.specs.declared.event.Event.{Event}
 use Rattle.packet_codec.specs.Grammar.{AreBytes}
-use Rattle.packet_codec.specs.Header.{BeginsWithPacket}
+use Rattle.packet_codec.specs.Header.{BeginsWithPacket, NeedsMore}
+use Rattle.packet_codec.specs.Packet.{SpellsEvent}
+use Rattle.packet_codec.specs.Sight.{BeginsWithThis}
 use Rattle.packet_codec.specs.declared.front.Front.{Front}
 use Rattle.packet_codec.specs.declared.front.Front.TheVariants.{Packet, More, No}
+use Rattle.packet_codec.proofs.LookLemmas.{front_of_none}
 use Rattle.stream_reader.specs.declared.note.Note.{Note}
 use Rattle.stream_reader.specs.declared.note.Note.TheVariants as note
-use Rattle.stream_reader.specs.declared.first.Cut.{Cut}
 use Rattle.stream_reader.specs.Cut.{Piece, packet, foreign, BeginsWithPacketOf, IsCut, IsOpenCut}
 use Rattle.stream_reader.specs.Notes.{foreign_note, notes_behind, notes_of}
-use Rattle.stream_reader.specs.Stream.{BeginsWithNotes, EndsWithNotes, Gives, IsSpent, GivesNote}
+use Rattle.stream_reader.specs.Stream.{Held, BeginsWithNotes, EndsWithNotes, Gives, IsSpent, GivesNote}
 use Rattle.stream_reader.specs.Run.{AreForeign, StopsBy, IsRun}
-use Rattle.stream_reader.specs.First.{IsPacketNote, IsFirst}
+use Rattle.stream_reader.specs.First.{IsFirst}
 use Rattle.stream_reader.proofs.FrontLemmas.{are_dropped, packet_some, begins_found, found_longer, found_needs_no_more, are_both}
 use Rattle.stream_reader.proofs.CutLemmas.{found_not_empty, not_empty}
 use Rattle.stream_reader.proofs.NotesLemmas.{pieces_of, run_goes_on, run_is_full, run_at_packet, run_at_end}
@@ -141,29 +143,23 @@ run_stops No ended b count run closed = stops run.stops
     stops (inl full) = inl (length-take-le count b run.in_range ∙ full)
     stops (inr (end, all)) = inr (end, drop_all count b (omega arith))
 
-pub first_is_event : (ended : Bool) (b : List ℕ) (count size : ℕ) (front : Front) (cut : Cut) → count ≡ 0 → front ≡ Packet size → IsRun ended b count front → IsPacketNote b size cut → IsFirst ended b cut
-first_is_event ended b count size front cut none front-is run made = is (rw (front-is, none) at run.stops)
-  where
-    is : BeginsWithPacket b size → IsFirst ended b cut
-    is p = record {
-      some = omega (arith, made.size_is, packet_some (take size b) made.event made.spells, length-take-le size b p.in_range);
-      in_range = omega (arith, made.size_is, p.in_range);
-      made = rw (made.note_is, made.size_is) made.spells;
-      first = rw (made.note_is, made.size_is) (gives_event ended b (drop size b) made.event (record { front = take size b; parts = sym (take-append-drop size b); spelled = made.spells }));
-    }
+pub first_is_event : (ended : Bool) (b : List ℕ) (size : ℕ) (e : Event) → size ≤ length b → SpellsEvent (take size b) e → IsFirst ended b (note.Event e) size
+first_is_event ended b size e in_range spells = record {
+  some = omega (arith, packet_some (take size b) e spells, length-take-le size b in_range);
+  in_range = in_range;
+  made = spells;
+  gives = gives_event ended b (drop size b) e (record { front = take size b; parts = sym (take-append-drop size b); spelled = spells });
+}
 
-pub first_is_run : (ended : Bool) (b : List ℕ) (count : ℕ) (front : Front) (cut : Cut) → AreBytes b → 0 < count → (front ≡ More → ⊥) → IsRun ended b count front → cut.note ≡ note.Foreign (take count b) → cut.size ≡ count → IsFirst ended b cut
-first_is_run ended b count front cut are some closed run note-is size-is =
+pub first_is_packet : (ended : Bool) (b p : List ℕ) (size : ℕ) (e : Event) → BeginsWithThis b p → size ≡ length p → SpellsEvent p e → IsFirst ended b (note.Event e) size
+first_is_packet ended b p size e this size-is spells = rw size-is (first_is_event ended b (length p) e this.begins.in_range (rw (sym this.front) spells))
+
+pub first_is_run : (ended : Bool) (b : List ℕ) (count : ℕ) (front : Front) → AreBytes b → 0 < count → (front ≡ More → ⊥) → IsRun ended b count front → IsFirst ended b (note.Foreign (take count b)) count
+first_is_run ended b count front are some closed run =
     let len : length (take count b) ≡ count = length-take-le count b run.in_range in
     let gives : Gives ended (take count b ++ drop count b) (note.Foreign (take count b) ∷ []) (drop count b) =
     gives_run front ended (take count b) (drop count b) (are_dropped count b are) (omega arith) (omega (arith, run.short)) (run_of count b ended run.in_range run.are_foreign) (run_stops front ended b count run closed) in
-    let gives' : Gives ended b (note.Foreign (take count b) ∷ []) (drop count b) = rw (take-append-drop count b) at gives in
-    record {
-      some = omega arith;
-      in_range = omega (arith, run.in_range);
-      made = rw (note-is, size-is) refl;
-      first = rw (note-is, size-is) gives';
-    }
+    record { some = some; in_range = run.in_range; made = refl; gives = rw (take-append-drop count b) at gives }
 
 -- ---- no note
 
@@ -181,25 +177,25 @@ spent_open ended b count front front-is run = is ended run.in_range run.are_fore
           made = sym (run_goes_on (take count b) (λ run. []) [] [] (omega arith));
         }
 
-pub spent_ended : (ended : Bool) (b : List ℕ) (count : ℕ) (front : Front) → front ≡ No → count ≡ 0 → IsRun ended b count front → IsSpent ended b
-spent_ended ended b count front front-is none run = is ended (rw front-is at run.stops)
+pub spent_more : (ended : Bool) (b : List ℕ) → ended ≡ false → NeedsMore b → IsSpent ended b
+spent_more true b going_on more = absurd cc
+spent_more false b going_on more = record { pieces = []; cut = more; made = refl }
+
+pub spent_empty : (ended : Bool) (b : List ℕ) → length b ≤ 0 → IsSpent ended b
+spent_empty ended [] none = empty ended
   where
-    is : (ended : Bool) → StopsBy ended b count No → IsSpent ended b
-    is ended (inl full) = absurd (omega arith)
-    is false (inr (end, all)) = absurd cc
-    is true (inr (end, all)) = no_bytes b (omega arith)
-      where
-        no_bytes : (b : List ℕ) → length b ≡ 0 → b ≡ []
-        no_bytes [] len = refl
-        no_bytes (byte ∷ b) len = absurd (omega arith)
+    empty : (ended : Bool) → IsSpent ended []
+    empty true = refl
+    empty false = spent_more false [] refl (inl (front_of_none [] none))
+spent_empty ended (byte ∷ b) none = absurd (omega arith)
 
 -- ---- a step of the reader
 
-pub gives_first : (items : List ℕ) (given : ℕ) (ended : Bool) (cut : Cut) → IsFirst ended (drop given items) cut → GivesNote (record { bytes = drop given items; ended = ended }) cut.note (record { bytes = drop (given + cut.size) items; ended = ended })
-gives_first items given ended cut first = record {
-  front = take cut.size (drop given items);
-  parts = sym (take-append-drop cut.size (drop given items)) ∙ ap (λ (l : List ℕ). take cut.size (drop given items) ++ l) (drop-drop cut.size given items);
-  some = omega (arith, first.some, length-take-le cut.size (drop given items) first.in_range);
-  made = first.made;
-  first = rw (← drop-drop cut.size given items) first.first;
-}
+pub gives_first : (before after : Held) (first : Note) (size : ℕ) → IsFirst before.ended before.bytes first size → after ≡ record { bytes = drop size before.bytes; ended = before.ended } → GivesNote before first after
+gives_first before after first size is after-is = rw after-is (record {
+  front = take size before.bytes;
+  parts = sym (take-append-drop size before.bytes);
+  some = omega (arith, is.some, length-take-le size before.bytes is.in_range);
+  made = is.made;
+  first = is.gives;
+})

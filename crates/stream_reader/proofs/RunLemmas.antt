@@ -2,15 +2,15 @@
 use Rattle.std.proofs.Common.{eq-eqb, ◌-◌, ◌≡◌, ℕ, zero, suc, ◌+◌, ◌≤◌, ◌<◌, min, Bool, true, false, List, [], ◌∷◌, ◌++◌, length, get_or, take, drop, refl, inl, inr, sym, ap, ◌∙◌, append_assoc, arith}
 use Rattle.std.proofs.lemmas.Bool.{cases_lt}
 use Rattle.std.proofs.lemmas.List.{take-append-drop, get_or-take, get_or-drop, length-drop, drop-append-le}
-use Rattle.std.specs.Prelude.{slice_index, ◌==◌}
+use Rattle.std.specs.Prelude.{slice_index, ◌==◌, Option, Some, None, IfSome}
 use Rattle.packet_codec.specs.Packet.{signature}
 use Rattle.packet_codec.specs.Grammar.{AreBytes}
-use Rattle.packet_codec.specs.Header.{NeedsMore, LooksLike}
+use Rattle.packet_codec.specs.Header.{BeginsWithPacket, NeedsMore, LooksLike}
 use Rattle.packet_codec.specs.declared.front.Front.TheVariants.{More, No}
 use Rattle.packet_codec.proofs.LookLemmas.{front_of_none}
 use Rattle.stream_reader.specs.Cut.{Piece, IsCut, IsOpenCut}
 use Rattle.stream_reader.specs.Run.{IsForeign, AreForeign, IsRun}
-use Rattle.stream_reader.proofs.FrontLemmas.{none_found, stays_none, stays_closed, packet_needs_no_more, header_first, front_first, are_dropped}
+use Rattle.stream_reader.proofs.FrontLemmas.{packet_longer, none_found, stays_none, stays_closed, packet_needs_no_more, header_first, front_first, are_dropped}
 use Rattle.stream_reader.proofs.NotesLemmas.{pieces_of}
 
 -- ---- one place
@@ -61,6 +61,11 @@ one_foreign_more ended b count before here i below = elim (cases_lt i count) [
       )
 ]
 
+pub one_foreign : (ended : Bool) (b : List ℕ) → IsForeign ended b → AreForeign ended b 1
+one_foreign ended b is i below =
+    let same : i ≡ 0 = omega arith in
+    rw same is
+
 -- the same by cases on the run
 abbrev pub IsRunOf : Bool → List ℕ → List ℕ → Type 0
 IsRunOf ended [] rest = Unit {0}
@@ -97,6 +102,13 @@ foreign_fed false items piece new given count going_on are in_range new-is befor
     let rest : drop given new ≡ drop given items ++ piece = ap (drop given) new-is ∙ drop-append-le given items piece (omega arith) in
     let place : drop i (drop given new) ≡ drop i (drop given items) ++ piece = ap (drop i) rest ∙ drop-append-le i (drop given items) piece (omega (arith, length-drop given items)) in
     rw place (foreign_longer (drop i (drop given items)) piece are (before i below))
+
+-- a packet that is known to stand there
+pub packet_fed : (packet : Option ℕ) (items piece new : List ℕ) (given : ℕ) → given ≤ length items → new ≡ items ++ piece → IfSome packet (BeginsWithPacket (drop given items)) → IfSome packet (BeginsWithPacket (drop given new))
+packet_fed None items piece new given in_range new-is known = tt
+packet_fed (Some size) items piece new given in_range new-is known =
+    let rest : drop given new ≡ drop given items ++ piece = ap (drop given) new-is ∙ drop-append-le given items piece in_range in
+    rw rest (packet_longer (drop given items) piece size known)
 
 pub foreign_ended : (ended : Bool) (b : List ℕ) (count : ℕ) → AreForeign ended b count → AreForeign true b count
 foreign_ended ended b count before i below = ends_foreign ended (drop i b) (before i below)

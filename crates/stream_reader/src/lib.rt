@@ -6,12 +6,10 @@
 //! - `note`: an event, or foreign bytes
 //! - `reader`: the bytes fed, and the notes that they decide
 //! - `run`: the foreign bytes at the front of what is held
-//! - `first`: the first note of what is held
 //! - `whole`: the notes of a whole stream
 //! - `laws`: what holds of the notes of all streams
 #![tactic(auto)]
 
-mod first;
 mod laws;
 mod note;
 mod reader;

@@ -1,14 +1,17 @@
 //! A reader of a stream.
 
-ghost use Rattle.std.specs.Prelude.{◌≡◌, ◌++◌, [], true, false, length, IfOk, OnOk, OnErr, IfSome, IfNone};
+ghost use Rattle.std.specs.Prelude.{◌≡◌, ◌<◌, ◌≤◌, ◌++◌, [], true, false, length, drop, IfOk, OnOk, OnErr, IfSome, IfNone};
+ghost use Rattle.packet_codec.specs.Header.{BeginsWithPacket};
+ghost use Rattle.stream_reader.specs.Notes.{longest_foreign};
+ghost use Rattle.stream_reader.specs.Run.{AreForeign};
 ghost use Rattle.stream_reader.specs.Stream.{GivesNote, IsSpent};
 
-use crate::first::first_note;
 use crate::note::Note;
-use crate::run::foreign_run;
+use crate::run::{are_bytes, foreign_run};
+use packet_codec::{Front, Sight, decode, see};
 use std::alloc::Global;
 use std::marker::Model;
-use sub_number::NoMemory;
+use sub_number::{Bytes, NoMemory};
 
 /// A stream that comes in pieces, and the notes that it is made of. However it is cut into pieces, the notes are those
 /// of the whole stream. Contracts see the bytes fed that belong to no note given, and whether the stream has ended.
@@ -22,11 +25,15 @@ pub struct Reader {
     given: usize,
     // So many bytes behind them are known to be foreign.
     foreign: usize,
+    // The size of a packet that is known to stand behind them: a run of foreign bytes was seen to end there. So it is
+    // not tested again.
+    packet: Option<usize>,
     ended: bool,
 }
 
 impl Model for Reader {
-    ghost use Rattle.std.specs.Prelude.{◌+◌, ◌≤◌, length, drop};
+    ghost use Rattle.std.specs.Prelude.{◌+◌, ◌≤◌, length, drop, IfSome};
+    ghost use Rattle.packet_codec.specs.Header.{BeginsWithPacket};
     ghost use Rattle.stream_reader.specs.Notes.{longest_foreign};
     ghost use Rattle.stream_reader.specs.Stream.{Held};
     ghost use Rattle.stream_reader.specs.Run.{AreForeign};
@@ -35,7 +42,7 @@ impl Model for Reader {
 
     ghost view = { λ r. record { bytes = drop r.given r.buffer.items; ended = r.ended } };
 
-    ghost invariant = { λ r. (r.given + r.foreign ≤ length r.buffer.items) × (r.foreign ≤ longest_foreign) × AreForeign r.ended (drop r.given r.buffer.items) r.foreign };
+    ghost invariant = { λ r. (r.given + r.foreign ≤ length r.buffer.items) × (r.foreign ≤ longest_foreign) × AreForeign r.ended (drop r.given r.buffer.items) r.foreign × IfSome r.packet (BeginsWithPacket (drop r.given r.buffer.items)) };
 }
 
 impl Reader {
@@ -49,6 +56,7 @@ impl Reader {
             buffer: Vec::new(alloc),
             given: 0,
             foreign: 0,
+            packet: None,
             ended: false,
         })
     }
@@ -79,16 +87,14 @@ impl Reader {
         ensures err { OnErr result (self.new ≡ self.old) }
         ensures ended { self.new.ended ≡ self.old.ended }
     {
-        let rest = &self.buffer[self.given..];
-        let run = foreign_run(rest, self.foreign, self.ended);
-        let first = first_note(*self.buffer.allocator(), rest, run)?;
-        self.foreign = run.count;
-        let Some(cut) = first else {
-            return Ok(None);
-        };
-        self.given += cut.size;
-        self.foreign = 0;
-        Ok(Some(cut.note))
+        if let Some(size) = self.packet {
+            return self.give_packet(size);
+        }
+        let known = self.foreign;
+        if known > 0 {
+            return self.give_run(known);
+        }
+        self.give_first()
     }
 
     /// The stream has ended: nothing is fed any more. A second call changes nothing.
@@ -103,6 +109,84 @@ impl Reader {
         ensures { result ≡ length self.now.bytes }
     {
         self.buffer.len() - self.given
+    }
+
+    // The note of the packet of this size that stands at the front.
+    fn give_packet(&mut self, size: usize) -> Result<Option<Note>, NoMemory>
+        requires { BeginsWithPacket self.old.bytes size }
+        ensures some { IfOk result (λ answer. IfSome answer (λ note. GivesNote self.old note self.new)) }
+        ensures none { IfOk result (λ answer. IfNone answer (IsSpent self.old.ended self.old.bytes × (self.new ≡ self.old))) }
+        ensures err { OnErr result (self.new ≡ self.old) }
+        ensures ended { self.new.ended ≡ self.old.ended }
+    {
+        let rest = &self.buffer[self.given..];
+        let event = decode(*self.buffer.allocator(), &rest[..size])?;
+        self.let_pass(size, None);
+        Ok(Some(Note::Event(event)))
+    }
+
+    // The first note, where nothing is known of the front.
+    fn give_first(&mut self) -> Result<Option<Note>, NoMemory>
+        ensures some { IfOk result (λ answer. IfSome answer (λ note. GivesNote self.old note self.new)) }
+        ensures none { IfOk result (λ answer. IfNone answer (IsSpent self.old.ended self.old.bytes × (self.new ≡ self.old))) }
+        ensures err { OnErr result (self.new ≡ self.old) }
+        ensures ended { self.new.ended ≡ self.old.ended }
+    {
+        if self.held() == 0 {
+            return Ok(None);
+        }
+        let rest = &self.buffer[self.given..];
+        are_bytes(rest);
+        match see(rest) {
+            Sight::Packet(packet) => {
+                let size = packet.size();
+                let event = packet.event(*self.buffer.allocator())?;
+                self.let_pass(size, None);
+                Ok(Some(Note::Event(event)))
+            }
+            Sight::More if self.ended => self.give_run(1),
+            Sight::More => Ok(None),
+            Sight::No => self.give_run(1),
+        }
+    }
+
+    // The note of the foreign bytes at the front, of which so many are known. The packet that is seen behind them is
+    // kept in mind.
+    fn give_run(&mut self, known: usize) -> Result<Option<Note>, NoMemory>
+        requires some { 0 < known }
+        requires in_range { known ≤ length self.old.bytes }
+        requires short { known ≤ longest_foreign }
+        requires are_foreign { AreForeign self.old.ended self.old.bytes known }
+        ensures some { IfOk result (λ answer. IfSome answer (λ note. GivesNote self.old note self.new)) }
+        ensures none { IfOk result (λ answer. IfNone answer (IsSpent self.old.ended self.old.bytes × (self.new ≡ self.old))) }
+        ensures err { OnErr result (self.new ≡ self.old) }
+        ensures ended { self.new.ended ≡ self.old.ended }
+    {
+        let rest = &self.buffer[self.given..];
+        are_bytes(rest);
+        let run = foreign_run(rest, known, self.ended);
+        let packet = match run.front {
+            Front::More => {
+                self.foreign = run.count;
+                return Ok(None);
+            }
+            Front::Packet(size) => Some(size),
+            Front::No => None,
+        };
+        let bytes = Bytes::new(*self.buffer.allocator(), &rest[..run.count])?;
+        self.let_pass(run.count, packet);
+        Ok(Some(Note::Foreign(bytes)))
+    }
+
+    // So many bytes belong to a note that is given, and what stands behind them is a packet of this size, if it is known.
+    fn let_pass(&mut self, size: usize, packet: Option<usize>)
+        requires in_range { size ≤ length self.old.bytes }
+        requires packet { IfSome packet (BeginsWithPacket (drop size self.old.bytes)) }
+        ensures { self.new ≡ record { bytes = drop size self.old.bytes; ended = self.old.ended } }
+    {
+        self.given += size;
+        self.foreign = 0;
+        self.packet = packet;
     }
 
     // Moves what is held to the front of the buffer, once at least half of it belongs to notes that were given. So no

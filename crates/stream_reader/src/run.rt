@@ -1,6 +1,7 @@
 //! The foreign bytes at the front of what is held.
 
 ghost use Rattle.std.specs.Prelude.{◌≡◌, ◌≢◌, ◌<◌, ◌≤◌, ℕ, length, get_or};
+ghost use Rattle.packet_codec.specs.Grammar.{AreBytes};
 ghost use Rattle.packet_codec.specs.Packet.{signature};
 ghost use Rattle.stream_reader.specs.Notes.{longest_foreign};
 ghost use Rattle.stream_reader.specs.Run.{AreForeign, FrontIs, IsRun};
@@ -21,8 +22,6 @@ pub(crate) struct Run {
     pub(crate) count: usize,
     /// A packet, or bytes that may become one. `No` where the run is full, or goes up to the end of the stream.
     pub(crate) front: Front,
-    /// The stream ends behind the bytes.
-    pub(crate) ended: bool,
 }
 
 /// The first place from `from` on at which a packet may begin, or `room` where that comes first.
@@ -49,13 +48,18 @@ fn front_of(bytes: &[u8], ended: bool) -> Front
     }
 }
 
+/// What holds of the bytes of each slice: the type tells it.
+pub(crate) fn are_bytes(bytes: &[u8])
+    ensures { AreBytes bytes.now }
+{}
+
 /// The foreign bytes at the front, where it is known of the first `known` bytes that they are foreign. Those are not
 /// looked at again.
 pub(crate) fn foreign_run(bytes: &[u8], known: usize, ended: bool) -> Run
     requires in_range { known ≤ length bytes.now }
     requires short { known ≤ longest_foreign }
     requires are_foreign { AreForeign ended bytes.now known }
-    ensures ended { result.ended ≡ ended }
+    ensures known { known ≤ result.count }
     ensures run { IsRun ended bytes.now result.count result.front }
 {
     let room = bytes.len().min(LONGEST_FOREIGN);
@@ -63,11 +67,7 @@ pub(crate) fn foreign_run(bytes: &[u8], known: usize, ended: bool) -> Run
     while count < room {
         match front_of(&bytes[count..], ended) {
             Front::No => count = next_signature(bytes, count + 1, room),
-            front => return Run {
-                count,
-                front,
-                ended,
-            },
+            front => return Run { count, front },
         }
     }
     let front = if ended || count == LONGEST_FOREIGN {
@@ -75,9 +75,5 @@ pub(crate) fn foreign_run(bytes: &[u8], known: usize, ended: bool) -> Run
     } else {
         Front::More
     };
-    Run {
-        count,
-        front,
-        ended,
-    }
+    Run { count, front }
 }
