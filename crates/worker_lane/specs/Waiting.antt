@@ -1,7 +1,6 @@
 -- The events that a scribe has at hand, by the form in which it keeps them.
-use Rattle.std.specs.Prelude.{◌≡◌, ℕ, ◌<◌, ◌≤◌, ⊤, true, false, None, List, [], ◌∷◌, ◌++◌, length, drop, map}
+use Rattle.std.specs.Prelude.{◌≡◌, ℕ, ◌<◌, ◌≤◌, ⊤, List, [], ◌∷◌, ◌++◌, length, drop, map}
 use Rattle.packet_codec.specs.declared.event.Event.{Event}
-use Rattle.packet_codec.specs.declared.status.Status.TheVariants.{Unset}
 use Rattle.packet_codec.specs.Canonical.{Fits, canonical}
 use Rattle.stream_reader.specs.declared.note.Note.{Note}
 use Rattle.stream_reader.specs.declared.note.Note.TheVariants as note
@@ -39,17 +38,3 @@ pub record PutsFirst (events : List Event) (old : List ℕ) (left : List Event) 
   pub event : Event
   pub events_are : events ≡ event ∷ left
   pub new_is : new ≡ old ++ canonical event
-
--- an event that says nothing, and can be run by its id
-abbrev pub bare : Event
-bare = record {
-  stamp = None;
-  id = None;
-  tags = None;
-  runnable = true;
-  status = Unset;
-  mime = None;
-  file = None;
-  eof = false;
-  route = None;
-}

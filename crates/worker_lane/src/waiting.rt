@@ -2,16 +2,15 @@
 
 ghost use Rattle.std.specs.Prelude.{◌≡◌, ◌↔◌, IsTrue, ◌<◌, ◌≤◌, ◌+◌, [], ◌++◌, ◌∷◌, true, false, length, take, drop, min, IfOk, IfErr, OnOk, OnErr};
 ghost use Rattle.packet_codec.specs.Canonical.{Fits, canonical};
-ghost use Rattle.packet_codec.specs.Routing.{under};
 ghost use Rattle.worker_lane.specs.Recorded.{longest_piece, stdout_under, recorded_event, recorded_note};
-ghost use Rattle.worker_lane.specs.Waiting.{waiting_events, bare, IsShortNote, IsSound, IsReady, PutsFirst};
+ghost use Rattle.worker_lane.specs.Waiting.{waiting_events, IsShortNote, IsSound, IsReady, PutsFirst};
 ghost use Rattle.worker_lane.specs.declared.waiting.Waiting.TheVariants.{Nothing};
 
-use packet_codec::{Event, FilePart, Status, encode, reroute, routed_size};
+use packet_codec::{Event, encode, reroute, routed_size};
 use std::alloc::Global;
 use std::mem;
-use stream_reader::Note;
-use sub_number::{Bytes, NoMemory, Text};
+use stream_reader::{Note, stdout_event};
+use sub_number::{Bytes, NoMemory};
 
 // The most bytes of one packet, and of one piece of an event that has more.
 const LARGEST_PACKET: u128 = 4_194_303;
@@ -144,45 +143,35 @@ fn prepared_foreign(alloc: Global, lane: u32, bytes: Bytes) -> Result<Waiting, B
     ensures ready { IfOk result (λ ready. IsSound ready × IsReady ready) }
     ensures err { IfErr result (λ same. same ≡ bytes) }
 {
-    match stdout_event(alloc, lane, bytes) {
+    match piece_event(alloc, lane, bytes) {
         Ok(event) => Ok(Waiting::Packet(event)),
         Err(bytes) => Err(bytes),
     }
 }
 
-// The event of a piece of the file `stdout`, under the lane. The bytes are handed back for want of memory alone.
-fn stdout_event(alloc: Global, lane: u32, bytes: Bytes) -> Result<Event, Bytes>
+// The event of a piece of the file `stdout`, under the lane. The bytes are handed back for want of memory alone: all
+// that takes memory is made before they are put in.
+fn piece_event(alloc: Global, lane: u32, bytes: Bytes) -> Result<Event, Bytes>
     requires { lane < 64 }
     ensures ok { IfOk result (λ event. event ≡ stdout_under lane bytes) }
     ensures fits { IfOk result (λ event. length bytes ≤ longest_piece → Fits event) }
     ensures err { IfErr result (λ same. same ≡ bytes) }
 {
-    let Ok(name) = Text::new(alloc, b"stdout") else {
+    let Ok(mut event) = empty_event(alloc, lane) else {
         return Err(bytes);
     };
-    let Ok(mut event) = bare_event(alloc, lane) else {
-        return Err(bytes);
-    };
-    event.file = Some(FilePart { name, bytes });
+    if let Some(file) = &mut event.file {
+        file.bytes = bytes;
+    }
     Ok(event)
 }
 
-// An event under the lane that says nothing.
-fn bare_event(alloc: Global, lane: u32) -> Result<Event, NoMemory>
+// The event of a piece of no bytes.
+fn empty_event(alloc: Global, lane: u32) -> Result<Event, NoMemory>
     requires { lane < 64 }
-    ensures { IfOk result (λ event. event ≡ under lane bare) }
+    ensures { IfOk result (λ event. event ≡ stdout_under lane []) }
 {
-    let mut event = Event {
-        stamp: None,
-        id: None,
-        tags: None,
-        runnable: true,
-        status: Status::Unset,
-        mime: None,
-        file: None,
-        eof: false,
-        route: None,
-    };
+    let mut event = stdout_event(alloc, Bytes::from_vec(Vec::new(alloc)))?;
     reroute(alloc, &mut event, lane)?;
     Ok(event)
 }
@@ -203,7 +192,7 @@ fn put_piece(
     let size = (spelling.bytes.len() - spelling.given).min(LONGEST_PIECE);
     let end = spelling.given + size;
     let piece = Bytes::new(alloc, &spelling.bytes[spelling.given..end])?;
-    let Ok(event) = stdout_event(alloc, lane, piece) else {
+    let Ok(event) = piece_event(alloc, lane, piece) else {
         return Err(NoMemory);
     };
     encode(&event, out)?;
