@@ -1,5 +1,5 @@
 -- What the runs of a repository say, run by run.
-use Rattle.std.proofs.Common.{◌≡◌, ℕ, zero, suc, ◌+◌, ◌<◌, ◌≤◌, Bool, List, [], ◌∷◌, ◌++◌, Option, Some, None, IfSome, IsSomeAnd, take, length, refl, sym, ap, ◌∙◌, subst, arith}
+use Rattle.std.proofs.Common.{◌≡◌, ◌⊎◌, inl, inr, true, false, true≢false, ℕ, zero, suc, ◌+◌, ◌<◌, ◌≤◌, Bool, List, [], ◌∷◌, ◌++◌, Option, Some, None, IfSome, IsSomeAnd, take, length, refl, sym, ap, ◌∙◌, subst, arith}
 use Rattle.std.specs.Prelude.{slice_get}
 use Rattle.std.specs.Option.{option_map}
 use Rattle.std.proofs.lemmas.List.{take_all, length-map}
@@ -14,7 +14,10 @@ use Rattle.run_shelf.specs.Holds.{Fits}
 use Rattle.run_shelf.specs.Repository.{Run, run_at, most_runs, Shows, HasKinds}
 use Rattle.run_shelf.proofs.ShowsLemmas.{shown, kinds_of_runs}
 use Rattle.run_ledger.specs.Reading.{AreRowsOf}
-use Rattle.run_ledger.specs.Ledger.{RunRows, IsRunRows, AreRunRows, ShowRows, HasRowsAt, failing_behind, failing_from, failing_after, replaced, times_from, times_after}
+use Rattle.run_shelf.proofs.RunLemmas.{past_items}
+use Rattle.run_ledger.specs.Starts.{IsStart}
+use Rattle.run_ledger.specs.Ledger.{RunRows, IsRunRows, AreRunRows, ShowRows, HasRowsAt, failing_behind, failing_from, failing_after, IsFailingSet, replaced, times_from, times_after}
+use Rattle.run_ledger.proofs.ExistLemmas.{some_each}
 
 -- the rows of as many runs of the files, from the first
 pub record ShowRowsTo (files : Files) (count : ℕ) (entries : List RunRows) : Type 0 where
@@ -111,6 +114,51 @@ failing_more earlier (e ∷ entries) entry = failing_more (failing_behind earlie
 
 pub failing_folds : (entries : List RunRows) (entry : RunRows) → failing_after (entries ++ entry ∷ []) ≡ failing_behind (failing_after entries) entry
 failing_folds entries entry = failing_more [] entries entry
+
+-- The ids are the failing set of the first runs, or the next run is full: then what is said of those before it does not count.
+abbrev pub FailsTo : List Bool → ℕ → List (List ℕ) → Folder → Type 0
+FailsTo kinds count ids s = (entries : List RunRows) × ShowRowsTo s.disk.published count entries × ((ids ≡ failing_after entries) ⊎ (slice_get kinds count ≡ Some false))
+
+-- at the first run that is read
+pub fails_none : (state : Option Folder) (kinds : List Bool) (count : ℕ) (ids : List (List ℕ)) → IsStart kinds count → ids ≡ [] → IfSome state (Fits kinds) → IfSome state (FailsTo kinds count ids)
+fails_none None kinds count ids start none fits = tt
+fails_none (Some s) kinds count ids start none fits = elim start.full [
+  | inl begin ↦ (let all = says_none failing_after (Some s) kinds count ids begin none fits in (all.0, all.1, inl all.2))
+  | inr full ↦ (
+      let all = shown s.disk.published fits.repository in
+      let entries = some_each (take count all.0) in
+      (entries.0, record { runs = all.0; shown = all.1; are = entries.1 }, inr full)
+      )
+]
+
+full_replaces : (partial : Bool) (rows : List Row) (ids others : List (List ℕ)) → partial ≡ false → failing_behind ids (record { partial = partial; rows = rows }) ≡ failing_behind others (record { partial = partial; rows = rows })
+full_replaces true rows ids others full = absurd (true≢false full)
+full_replaces false rows ids others full = refl
+
+failing_next : (kinds : List Bool) (count : ℕ) (partial : Bool) (rows : List Row) (entries : List RunRows) (old new : List (List ℕ)) → slice_get kinds count ≡ Some partial
+    → new ≡ failing_behind old (record { partial = partial; rows = rows }) → (old ≡ failing_after entries) ⊎ (slice_get kinds count ≡ Some false) → new ≡ failing_behind (failing_after entries) (record { partial = partial; rows = rows })
+failing_next kinds count partial rows entries old new kind new-is (inl known) = new-is ∙ ap (λ ids. failing_behind ids (record { partial = partial; rows = rows })) known
+failing_next kinds count partial rows entries old new kind new-is (inr full) = let is : partial ≡ false = cc in new-is ∙ full_replaces partial rows old (failing_after entries) is
+
+-- one run more
+pub fails_more : (first before : Option Folder) (kinds kinds_now : List Bool) (count next : ℕ) (partial : Bool) (rows : List Row) (old new : List (List ℕ))
+    → next ≡ count + 1 → count < length kinds → kinds_now ≡ kinds → slice_get kinds_now count ≡ Some partial
+    → IfSome first (Fits kinds) → Goes first before Stays → IfSome before (HasRowsAt count rows) → new ≡ failing_behind old (record { partial = partial; rows = rows })
+    → IfSome first (FailsTo kinds count old) → IfSome first (FailsTo kinds next new)
+fails_more None before kinds kinds_now count next partial rows old new is below same_kinds kind fits same are new-is so_far = tt
+fails_more (Some s) before kinds kinds_now count next partial rows old new is below same_kinds kind fits same are new-is so_far =
+    let kind_is : slice_get kinds count ≡ Some partial = subst (λ (l : List Bool). slice_get l count ≡ Some partial) same_kinds kind in
+    let next_is = failing_next kinds count partial rows so_far.0 old new kind_is new-is so_far.2 in
+    let all = says_more failing_after failing_behind failing_folds (Some s) before kinds kinds_now count next partial rows (failing_after so_far.0) new is below same_kinds kind fits same are next_is (so_far.0, so_far.1, refl) in
+    (all.0, all.1, inl all.2)
+
+-- all runs
+pub fails_all : (state : Option Folder) (kinds : List Bool) (count : ℕ) (ids : List (List ℕ)) → length kinds ≤ count → IfSome state (Fits kinds) → IfSome state (FailsTo kinds count ids) → IfSome state (IsFailingSet ids)
+fails_all None kinds count ids past fits so_far = tt
+fails_all (Some s) kinds count ids past fits so_far = elim so_far.2 [
+  | inl known ↦ says_all failing_after (Some s) kinds count ids past fits (so_far.0, so_far.1, known)
+  | inr full ↦ absurd (let none : slice_get kinds count ≡ None = past_items kinds count past in cc)
+]
 
 times_more : (earlier : FinMap text_cmp ℕ) (entries : List RunRows) (entry : RunRows) → times_from earlier (entries ++ entry ∷ []) ≡ replaced (times_from earlier entries) (times_of entry.rows)
 times_more earlier [] entry = refl

@@ -5,3 +5,6 @@ pub mod FailedLemmas
 pub mod LedgerLemmas
 pub mod ReplaceLemmas
 pub mod UniqueLemmas
+pub mod DecidedLemmas
+pub mod SpelledLemmas
+pub mod ExistLemmas

@@ -4,3 +4,4 @@ pub mod Pieces
 pub mod FailedSets
 pub mod Ledger
 pub mod Replacing
+pub mod Starts

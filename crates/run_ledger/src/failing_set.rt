@@ -5,6 +5,7 @@ ghost use Rattle.edge_io.specs.Steps.{Goes, Stays};
 ghost use Rattle.run_shelf.specs.Faults.{Counts};
 ghost use Rattle.run_shelf.specs.Stores.{store_kinds, store_fault, FitsUnlessBroken};
 ghost use Rattle.run_ledger.specs.Ledger.{IsFailingSet};
+ghost use Rattle.run_ledger.specs.Starts.{IsStart};
 ghost use Rattle.run_ledger.specs.Outcomes.{ledger_failed, LedgerCloses};
 
 use crate::failed_ids::FailedIds;
@@ -16,8 +17,8 @@ use std::alloc::Global;
 use sub_number::IdList;
 
 /// The ids of the failing set, in the order of their bytes, each once. A full run replaces the set by the ids that fail
-/// in it; a partial run takes the ids out that passed in it, and adds those that fail. Each run is read once, from the
-/// first on. Nothing changes in the folder.
+/// in it; a partial run takes the ids out that passed in it, and adds those that fail. So the last full run is read and
+/// those behind it, each once, and all runs where none is full. Nothing changes in the folder.
 ///
 /// `Store` comes only where a call of the folder failed, and where one had failed before, which comes first. `NoMemory`
 /// comes only for want of memory, and leaves the store open.
@@ -33,9 +34,21 @@ pub fn failing<H: Shelf>(alloc: Global, store: &mut Store<'_, H>) -> Result<IdLi
 {
     check_open(store)?;
     let mut failed = FailedIds::new(alloc);
-    for number in 0..store.runs() {
+    for number in first_to_read(store)..store.runs() {
         let rows = rows_of(alloc, store, number)?;
         failed.take_run(alloc, store.partial(number), &rows)?;
     }
     Ok(failed.ids(alloc)?)
+}
+
+// The number of the last full run, which replaces what the runs before it say, or 0 where no run is full.
+fn first_to_read<H: Shelf>(store: &Store<'_, H>) -> u32
+    ensures { IsStart (store_kinds store.now) result }
+{
+    for number in (0..store.runs()).rev() {
+        if !store.partial(number) {
+            return number;
+        }
+    }
+    0
 }

@@ -7,9 +7,9 @@
 //! - `whole`: the same of bytes that are at hand
 //! - `fault`: why nothing is said of the runs of a store
 //! - `rows`: the rows of one run of a store
-//! - `failing_set`, `failed_ids`: the ids that fail after all runs of a store
+//! - `failing_set`, `failed_ids`: the ids that fail after all runs of a store, told from the last full run on
 //! - `latest_times`: the times of the ids after all runs of a store
-//! - `laws`: a run has one list of rows
+//! - `laws`: each run has one list of rows
 #![tactic(auto)]
 
 mod failed_ids;

@@ -107,6 +107,71 @@ fn a_full_run_replaces_the_failing_set(rt: HostRuntime) -> Result<(), Fail> {
     Ok(())
 }
 
+// Keeps a run in which two tests end so.
+fn keep_ended<H: Shelf>(
+    alloc: Global,
+    shelf: &mut H,
+    name: &str,
+    a: (u8, Status),
+    b: (u8, Status),
+) -> Result<bool, Fail> {
+    let Some(run) = ended(alloc, a.0, a.1, b.0, b.1) else {
+        return Ok(false);
+    };
+    keep(shelf, name, &run)?;
+    Ok(true)
+}
+
+// Whether these ids fail behind four runs, of which the first and the third are full.
+fn behind_four(alloc: Global, names: &[u8]) -> Result<Option<bool>, Fail> {
+    let (fail, pass) = (Status::Fail, Status::Success);
+    let mut shelf = repository(alloc, &[])?;
+    let kept = keep_ended(alloc, &mut shelf, "0", (b'a', fail), (b'b', fail))?
+        && keep_ended(alloc, &mut shelf, "1.part", (b'a', pass), (b'e', fail))?
+        && keep_ended(alloc, &mut shelf, "2", (b'd', fail), (b'c', fail))?
+        && keep_ended(alloc, &mut shelf, "3.part", (b'c', pass), (b'a', fail))?;
+    if !kept {
+        return Ok(None);
+    }
+    Ok(Some(fails(alloc, &mut shelf, names)?))
+}
+
+// After the first run a and b fail, after the second b and e, after the third c and d, and after the fourth a and d.
+#[test]
+fn runs_before_the_last_full_one_do_not_count(rt: HostRuntime) -> Result<(), Fail> {
+    assert_eq!(rt; behind_four(rt.alloc(), b"ad")?, Some(true));
+    Ok(())
+}
+
+// Whether b and c fail behind two full runs, where the folder fails after the calls that read one of them.
+fn reads_one(alloc: Global) -> Result<Option<bool>, Fail> {
+    // Eighteen calls keep three files, four look at the folder, and two read a run.
+    let mut shelf = repository(alloc, &[25])?;
+    let kept = keep_ended(
+        alloc,
+        &mut shelf,
+        "0",
+        (b'a', Status::Fail),
+        (b'b', Status::Fail),
+    )? && keep_ended(
+        alloc,
+        &mut shelf,
+        "1",
+        (b'c', Status::Fail),
+        (b'b', Status::Fail),
+    )?;
+    if !kept {
+        return Ok(None);
+    }
+    Ok(Some(fails(alloc, &mut shelf, b"bc")?))
+}
+
+#[test]
+fn the_last_full_run_alone_is_read(rt: HostRuntime) -> Result<(), Fail> {
+    assert_eq!(rt; reads_one(rt.alloc())?, Some(true));
+    Ok(())
+}
+
 // The seconds of both ids behind a run of a alone, one of b alone, and a partial one of a again.
 fn seconds(alloc: Global) -> Result<Option<(Option<u64>, Option<u64>)>, Fail> {
     let (Some(first), Some(second), Some(third)) = (

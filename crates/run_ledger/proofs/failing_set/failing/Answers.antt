@@ -1,13 +1,13 @@
 use Rattle.std.proofs.Common.{◌∙◌, sym, refl, ap, arith, rules, length, List, ℕ, IfSome, subst}
-use Rattle.run_ledger.specs.Ledger.{failing_after, failing_behind}
+use Rattle.run_shelf.specs.Stores.{store_kinds}
 use Rattle.run_ledger.proofs.ClosesLemmas.{stays_then, closes_later, handed_by}
 use Rattle.run_ledger.proofs.FailedLemmas.{none_in}
-use Rattle.run_ledger.proofs.LedgerLemmas.{SaysTo, says_none, says_more, says_all, failing_folds}
+use Rattle.run_ledger.proofs.LedgerLemmas.{FailsTo, fails_none, fails_more, fails_all}
 use Rattle.run_ledger.proofs.failing_set.failing.Goals as goal
 
 pub loop-number-init : goal.loop-number-init
 loop-number-init g c = record {
-  ids = says_none failing_after _ _ _ _ refl (none_in _ c.new-failed.ensures) (c.requires.fits c.in_ok-check_open.ensures.open);
+  ids = fails_none _ _ _ _ c.first_to_read-number.ensures (none_in _ c.new-failed.ensures) (c.requires.fits c.in_ok-check_open.ensures.open);
   same_reference = refl;
   open_still = c.in_ok-check_open.ensures.open;
   kinds = refl;
@@ -27,7 +27,7 @@ loop-number-preserved g c =
     let before = c.loop-number.invariant in
     let step = c.in_ok-rows.ensures in
     record {
-      ids = says_more failing_after failing_behind failing_folds _ _ _ _ _ _ _ c.in_ok-rows.rows _ _ refl (omega (arith, c.loop-number-test.true, c.runs-number-end.ensures))
+      ids = fails_more _ _ _ _ _ _ _ c.in_ok-rows.rows _ _ refl (omega (arith, c.loop-number-test.true, c.runs-number-end.ensures))
           (step.kinds ∙ before.kinds) c.partial.ensures (c.requires.fits c.in_ok-check_open.ensures.open) before.same step.rows c.in_ok-take_run.ensures before.ids;
       same_reference = step.same_reference ∙ before.same_reference;
       open_still = step.closes.kept ∙ before.open_still;
@@ -43,5 +43,5 @@ returns-in_err-rows-clause-closes g c =
 
 pub returns-clause-ids : goal.returns-clause-ids
 returns-clause-ids g c =
-    says_all failing_after _ _ c.loop-number.number _ (omega (arith, c.loop-number-test.false, c.runs-number-end.ensures)) (c.requires.fits c.in_ok-check_open.ensures.open)
-    (subst (λ (l : List (List ℕ)). IfSome (g.H.Shelf.state c.args.store.now.shelf.now) (SaysTo failing_after c.loop-number.number l)) (sym c.in_ok-ids.ensures) c.loop-number.invariant.ids)
+    fails_all _ _ c.loop-number.number _ (omega (arith, c.loop-number-test.false, c.runs-number-end.ensures)) (c.requires.fits c.in_ok-check_open.ensures.open)
+    (subst (λ (l : List (List ℕ)). IfSome (g.H.Shelf.state c.args.store.now.shelf.now) (FailsTo (store_kinds c.args.store.now) c.loop-number.number l)) (sym c.in_ok-ids.ensures) c.loop-number.invariant.ids)
