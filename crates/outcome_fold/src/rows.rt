@@ -52,7 +52,7 @@ impl Rows {
     pub fn failing_ids(&self, alloc: Global) -> Result<IdList, NoMemory>
         ensures { IfOk result (λ ids. ids ≡ answers.failing_of self.now) }
     {
-        failing_set(alloc, &self.rows)?.ids(alloc)
+        failing_set(alloc, &self.rows)?.into_ids(alloc)
     }
 
     /// The ids of the tests that ran, where none of the id's rows fails, in the order of their bytes, each once.
@@ -79,7 +79,7 @@ impl Rows {
     pub fn seen_tags(&self, alloc: Global) -> Result<Tags, NoMemory>
         ensures { IfOk result (λ tags. tags ≡ answers.seen_tags_of self.now) }
     {
-        tag_set(alloc, &self.rows)?.tags(alloc)
+        tag_set(alloc, &self.rows)?.into_tags(alloc)
     }
 
     /// How many rows there are of tests that ran, but for those that have one of the tags and do not fail. It takes no
@@ -128,7 +128,7 @@ fn passed_list(alloc: Global, rows: &[Row]) -> Result<IdList, NoMemory>
     ensures { IfOk result (λ ids. ids ≡ answers.passed_of rows.now) }
 {
     let failing = failing_set(alloc, rows)?;
-    passed_set(alloc, &failing, rows)?.ids(alloc)
+    passed_set(alloc, &failing, rows)?.into_ids(alloc)
 }
 
 // How long the test of the row ran, in nanoseconds, where it ran and has a time.

@@ -217,21 +217,32 @@ fn the_longest_time_of_an_id_is_its_time(rt: HostRuntime) -> Result<(), Fail> {
     Ok(())
 }
 
-fn last_tags(alloc: Global) -> Option<bool> {
+// Whether these are the tags of a test whose last event with tags has those.
+fn last_tags(alloc: Global, last: &[u8], names: &[u8]) -> Option<bool> {
     let events = [
         tagged(alloc, says(alloc, b"0", b"a", Status::InProgress), b"x")?,
-        tagged(alloc, says(alloc, b"0", b"a", Status::Unset), b"cacb")?,
+        tagged(alloc, says(alloc, b"0", b"a", Status::Unset), last)?,
         says(alloc, b"0", b"a", Status::Success),
     ];
     match rows_of(alloc, &events)?.list() {
-        [row] => Some(are(row.tags.list(), b"abc")),
+        [row] => Some(are(row.tags.list(), names)),
         _ => None,
     }
 }
 
 #[test]
 fn the_last_tags_stand_in_order_and_once(rt: HostRuntime) -> Result<(), Fail> {
-    assert_eq!(rt; last_tags(rt.alloc()), Some(true));
+    let table: [(&[u8], &[u8]); 6] = [
+        (b"", b""),
+        (b"b", b"b"),
+        (b"abc", b"abc"),
+        (b"aab", b"ab"),
+        (b"acb", b"abc"),
+        (b"cacb", b"abc"),
+    ];
+    for (last, names) in table {
+        assert_eq!(rt; last_tags(rt.alloc(), last, names), Some(true));
+    }
     Ok(())
 }
 

@@ -12,4 +12,4 @@ returns c =
     let rows = c.args.rows.now in
     let fails : (id : List ℕ) → is_some (map.get (texts_in c.in_ok-failing.failing) id) ≡ has_failure rows id = λ id. ap (λ set. is_some (map.get set id)) c.in_ok-failing.ensures ∙ in_failing rows id in
     let all : map.keys (texts_in c.in_ok-passed_set.field-0) ≡ passed_of rows = ap map.keys (c.in_ok-passed_set.ensures ∙ (λ i. text_table (ids_of (filter (λ row. is_run row && not (fails row.id i)) rows)))) in
-    subst (λ (l : List (List ℕ)). IfOk c.ids.result (λ ids. ids ≡ l)) all c.ids.ensures
+    subst (λ (l : List (List ℕ)). IfOk c.into_ids.result (λ ids. ids ≡ l)) all c.into_ids.ensures
