@@ -1,15 +1,15 @@
 -- What rows say, row by row.
-use Rattle.std.proofs.Common.{◌≡◌, ℕ, ◌+◌, ◌<◌, Bool, true, false, ◌&&◌, ◌||◌, cond, List, [], ◌∷◌, ◌++◌, Option, Some, None, take, length, get_or, is_some, max, refl, sym, ◌∙◌, ap, arith, true≢false}
+use Rattle.std.proofs.Common.{◌≡◌, ℕ, ◌+◌, ◌<◌, Bool, true, false, ◌&&◌, ◌||◌, cond, List, [], ◌∷◌, ◌++◌, Option, Some, None, take, length, get_or, is_some, max, refl, sym, ◌∙◌, ap, append_assoc, arith, true≢false}
 use Rattle.std.specs.Ordering.{eq_by_cmp}
 use Rattle.std.specs.Option.{unwrap_or}
 use Rattle.std.specs.Cmp.{eq_by_cmp_equiv}
 use Rattle.std.specs.FinMap as fin
-use Rattle.std.specs.List.{filter, list_any}
+use Rattle.std.specs.List.{filter, list_any, flat_map}
 use Rattle.std.proofs.lemmas.List.Elements.{filter_more}
 use Rattle.outcome_fold.specs.declared.row.Row.{Row}
-use Rattle.outcome_fold.specs.Order.{text_cmp, text_table, table}
-use Rattle.outcome_fold.specs.Answers.{ids_of, row_fails, has_failure, is_run, longest, longest_times, times_of}
-use Rattle.outcome_fold.proofs.SetLemmas.{text_table_push}
+use Rattle.outcome_fold.specs.Order.{text_cmp, table, among, in_byte_order}
+use Rattle.outcome_fold.specs.Answers.{ids_of, row_fails, failing_of, seen_tags_of, has_failure, is_run, longest, longest_times, times_of}
+use Rattle.outcome_fold.proofs.SetLemmas.{among_order, order_push, order_append}
 use Rattle.outcome_fold.proofs.FoldLemmas.{append_none}
 use Rattle.outcome_fold.proofs.GroupLemmas.{map_push}
 use Rattle.outcome_fold.proofs.OrderLemmas.{texts_total, exact_texts}
@@ -19,26 +19,37 @@ use Rattle.outcome_fold.proofs.TableLemmas.{get-table, table_push}
 pub filter_at : (p : Row → Bool) (rows : List Row) (i : ℕ) (row : Row) → i < length rows → row ≡ get_or rows i row → filter p (take (i + 1) rows) ≡ filter p (take i rows) ++ cond (p row) (row ∷ []) []
 filter_at p rows i row below is = filter_more p rows i row below ∙ ap (λ x. filter p (take i rows) ++ cond (p x) (x ∷ []) []) (sym is)
 
-pub set_takes : (p : Row → Bool) (rows : List Row) (i : ℕ) (row : Row) → i < length rows → row ≡ get_or rows i row → p row ≡ true → text_table (ids_of (filter p (take (i + 1) rows))) ≡ fin.insert (text_table (ids_of (filter p (take i rows)))) row.id tt
+pub set_takes : (p : Row → Bool) (rows : List Row) (i : ℕ) (row : Row) → i < length rows → row ≡ get_or rows i row → p row ≡ true → in_byte_order (row.id ∷ in_byte_order (ids_of (filter p (take i rows)))) ≡ in_byte_order (ids_of (filter p (take (i + 1) rows)))
 set_takes p rows i row below is passes =
-    ap (λ l. text_table (ids_of l)) (filter_at p rows i row below is ∙ ap (λ b. filter p (take i rows) ++ cond b (row ∷ []) []) passes)
-    ∙ ap text_table (map_push (λ row. row.id) (filter p (take i rows)) row) ∙ text_table_push (ids_of (filter p (take i rows))) row.id
+    order_push (ids_of (filter p (take i rows))) row.id ∙ ap in_byte_order (sym (map_push (λ row. row.id) (filter p (take i rows)) row))
+    ∙ ap (λ l. in_byte_order (ids_of l)) (sym (filter_at p rows i row below is ∙ ap (λ b. filter p (take i rows) ++ cond b (row ∷ []) []) passes))
 
-pub set_skips : (p : Row → Bool) (rows : List Row) (i : ℕ) (row : Row) → i < length rows → row ≡ get_or rows i row → p row ≡ false → text_table (ids_of (filter p (take (i + 1) rows))) ≡ text_table (ids_of (filter p (take i rows)))
+pub set_skips : (p : Row → Bool) (rows : List Row) (i : ℕ) (row : Row) → i < length rows → row ≡ get_or rows i row → p row ≡ false → in_byte_order (ids_of (filter p (take i rows))) ≡ in_byte_order (ids_of (filter p (take (i + 1) rows)))
 set_skips p rows i row below is fails =
-    ap (λ l. text_table (ids_of l)) (filter_at p rows i row below is ∙ ap (λ b. filter p (take i rows) ++ cond b (row ∷ []) []) fails ∙ append_none (filter p (take i rows)))
+    ap (λ l. in_byte_order (ids_of l)) (sym (filter_at p rows i row below is ∙ ap (λ b. filter p (take i rows) ++ cond b (row ∷ []) []) fails ∙ append_none (filter p (take i rows))))
 
 fails_at : (rows : List Row) (id : List ℕ) → list_any (eq_by_cmp text_cmp id) (ids_of (filter row_fails rows)) ≡ has_failure rows id
 fails_at [] id = refl
 fails_at (row ∷ rows) id = elim (row_fails row) as (λ b. list_any (eq_by_cmp text_cmp id) (ids_of (cond b (row ∷ filter row_fails rows) (filter row_fails rows))) ≡ ((b && eq_by_cmp text_cmp id row.id) || has_failure rows id)) [ true ↦ ap (λ b. eq_by_cmp text_cmp id row.id || b) (fails_at rows id) | false ↦ fails_at rows id ]
 
-some_where : (b : Bool) → is_some (cond b (Some (tt {0})) None) ≡ b
-some_where true = refl
-some_where false = refl
+-- an id is among the failing ones exactly where a row of the id fails
+pub among_failing : (rows : List Row) (id : List ℕ) → among (failing_of rows) id ≡ has_failure rows id
+among_failing rows id = among_order (ids_of (filter row_fails rows)) id ∙ fails_at rows id
 
--- the set of the failing ids has an id exactly where a row of the id fails
-pub in_failing : (rows : List Row) (id : List ℕ) → is_some (fin.get (text_table (ids_of (filter row_fails rows))) id) ≡ has_failure rows id
-in_failing rows id = ap is_some (get-table texts_total exact_texts _ (ids_of (filter row_fails rows)) id) ∙ some_where _ ∙ fails_at rows id
+tags_push : (rows : List Row) (row : Row) → flat_map (λ row. row.tags) (rows ++ row ∷ []) ≡ flat_map (λ row. row.tags) rows ++ row.tags
+tags_push [] row = append_none row.tags
+tags_push (first ∷ rows) row = ap (λ l. first.tags ++ l) (tags_push rows row) ∙ sym (append_assoc first.tags (flat_map (λ row. row.tags) rows) row.tags)
+
+pub tags_take : (rows : List Row) (i : ℕ) (row : Row) (old own new : List (List ℕ)) → i < length rows → row ≡ get_or rows i row → is_run row ≡ true
+    → old ≡ seen_tags_of (take i rows) → own ≡ row.tags → new ≡ in_byte_order (old ++ own) → new ≡ seen_tags_of (take (i + 1) rows)
+tags_take rows i row old own new below is runs old-is own-is new-is =
+    new-is ∙ (λ j. in_byte_order (old-is j ++ own-is j))
+    ∙ order_append (flat_map (λ row. row.tags) (filter is_run (take i rows))) row.tags ∙ ap in_byte_order (sym (tags_push (filter is_run (take i rows)) row))
+    ∙ ap (λ l. in_byte_order (flat_map (λ row. row.tags) l)) (sym (filter_at is_run rows i row below is ∙ ap (λ b. filter is_run (take i rows) ++ cond b (row ∷ []) []) runs))
+
+pub tags_skip : (rows : List Row) (i : ℕ) (row : Row) → i < length rows → row ≡ get_or rows i row → is_run row ≡ false → seen_tags_of (take i rows) ≡ seen_tags_of (take (i + 1) rows)
+tags_skip rows i row below is stays =
+    ap (λ l. in_byte_order (flat_map (λ row. row.tags) l)) (sym (filter_at is_run rows i row below is ∙ ap (λ b. filter is_run (take i rows) ++ cond b (row ∷ []) []) stays ∙ append_none (filter is_run (take i rows))))
 
 longest_other : (ts : List Row) (row : Row) (id : List ℕ) → eq_by_cmp text_cmp id row.id ≡ false → longest (ts ++ row ∷ []) id ≡ longest ts id
 longest_other [] row id other = ap (λ b. cond b (max (unwrap_or row.nanos 0) 0) 0) other

@@ -6,4 +6,3 @@ pub mod Started
 pub mod Folded
 pub mod Grouped
 pub mod Outcome
-pub mod Sets

@@ -1,7 +1,8 @@
 -- The orders that docs/FORMATS.md, "The fold", speaks of, and tables whose keys are in order.
-use Rattle.std.specs.Prelude.{ℕ, Option, List, [], ◌∷◌}
+use Rattle.std.specs.Prelude.{ℕ, Bool, not, Option, List, [], ◌∷◌}
 use Rattle.std.specs.FinMap as map
-use Rattle.std.specs.Ordering.{nat_cmp, ordering_then}
+use Rattle.std.specs.List.{filter, list_any}
+use Rattle.std.specs.Ordering.{nat_cmp, ordering_then, eq_by_cmp}
 use Rattle.std.specs.Option.{option_cmp}
 use Rattle.std.specs.Cmp.Lexicographic.{slice_cmp}
 use Rattle.std.specs.declared.cmp.Ordering.{Ordering}
@@ -31,3 +32,11 @@ text_table texts = table {V = Unit {0}} {R = text_cmp} (λ text. tt) texts
 -- the texts in the order of their bytes, each once
 abbrev pub in_byte_order : List (List ℕ) → List (List ℕ)
 in_byte_order texts = map.keys (text_table texts)
+
+-- the text is one of these
+abbrev pub among : List (List ℕ) → List ℕ → Bool
+among texts text = list_any (eq_by_cmp text_cmp text) texts
+
+-- the texts that are not among the others
+abbrev pub without : List (List ℕ) → List (List ℕ) → List (List ℕ)
+without texts others = filter (λ text. not (among others text)) texts

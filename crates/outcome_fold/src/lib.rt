@@ -12,6 +12,7 @@ mod outcomes;
 mod part;
 mod row;
 mod rows;
+mod sorting;
 mod test_key;
 mod text_set;
 
@@ -20,6 +21,7 @@ pub use fold::Fold;
 pub use outcomes::Outcomes;
 pub use row::{Counts, Row};
 pub use rows::Rows;
+pub use text_set::TextSet;
 
 #[cfg(test)]
 mod tests;

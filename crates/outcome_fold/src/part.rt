@@ -7,7 +7,7 @@ ghost use Rattle.outcome_fold.specs.Order.{in_byte_order};
 ghost use Rattle.outcome_fold.specs.Started.{after, fresh};
 
 use crate::kept_text::KeptText;
-use crate::text_set::sorted_tags;
+use crate::sorting::sorted_tags;
 use packet_codec::{Event, Tags};
 use std::alloc::Global;
 use sub_number::NoMemory;

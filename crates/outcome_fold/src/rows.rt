@@ -1,12 +1,11 @@
 //! The rows of a run, and what they say.
 
-ghost use Rattle.std.specs.Prelude.{◌≡◌, IfOk, OnOk, None, ◌&&◌, not, is_some, max, if◌then◌else◌};
+ghost use Rattle.std.specs.Prelude.{◌≡◌, IfOk, OnOk, None, ◌&&◌, not, max, if◌then◌else◌};
 ghost use Rattle.std.specs.FinMap as map;
 ghost use Rattle.std.specs.Option.{unwrap_or};
-ghost use Rattle.std.specs.List.{filter, flat_map};
+ghost use Rattle.std.specs.List.{filter};
 ghost use Rattle.outcome_fold.specs.Answers as answers;
-ghost use Rattle.outcome_fold.specs.Order.{text_table};
-ghost use Rattle.outcome_fold.specs.Sets.{texts_in};
+ghost use Rattle.outcome_fold.specs.Order.{among, in_byte_order};
 
 use crate::counting::{count_rows, is_run};
 use crate::row::{Counts, Row};
@@ -93,35 +92,35 @@ impl Rows {
 
 // The ids of the rows that fail.
 fn failing_set(alloc: Global, rows: &[Row]) -> Result<TextSet, NoMemory>
-    ensures { IfOk result (λ set. texts_in set ≡ text_table (answers.ids_of (filter answers.row_fails rows.now))) }
+    ensures { IfOk result (λ ids. ids ≡ answers.failing_of rows.now) }
 {
-    let mut set = TextSet::new(alloc);
+    let mut ids = TextSet::new(alloc);
     for row in rows {
         if row.ended.fails() {
-            set.insert(&row.id)?;
+            ids.insert(&row.id)?;
         }
     }
-    Ok(set)
+    Ok(ids)
 }
 
 // Whether the row is of a test that ran and is not among the failing ones.
 fn has_passed(failing: &TextSet, row: &Row) -> bool
-    ensures { result ≡ (answers.is_run row.now && not (is_some (map.get (texts_in failing.now) row.now.id))) }
+    ensures { result ≡ (answers.is_run row.now && not (among failing.now row.now.id)) }
 {
     is_run(row) && !failing.contains(&row.id)
 }
 
 // The ids of the rows of tests that ran and are not among the failing ones.
 fn passed_set(alloc: Global, failing: &TextSet, rows: &[Row]) -> Result<TextSet, NoMemory>
-    ensures { IfOk result (λ set. texts_in set ≡ text_table (answers.ids_of (filter (λ row. answers.is_run row && not (is_some (map.get (texts_in failing.now) row.id))) rows.now))) }
+    ensures { IfOk result (λ ids. ids ≡ in_byte_order (answers.ids_of (filter (λ row. answers.is_run row && not (among failing.now row.id)) rows.now))) }
 {
-    let mut set = TextSet::new(alloc);
+    let mut ids = TextSet::new(alloc);
     for row in rows {
         if has_passed(failing, row) {
-            set.insert(&row.id)?;
+            ids.insert(&row.id)?;
         }
     }
-    Ok(set)
+    Ok(ids)
 }
 
 fn passed_list(alloc: Global, rows: &[Row]) -> Result<IdList, NoMemory>
@@ -161,13 +160,13 @@ fn longest_times(alloc: Global, rows: &[Row]) -> Result<TimeMap, NoMemory>
 
 // The tags of the rows of tests that ran.
 fn tag_set(alloc: Global, rows: &[Row]) -> Result<TextSet, NoMemory>
-    ensures { IfOk result (λ set. texts_in set ≡ text_table (flat_map (λ row. row.tags) (filter answers.is_run rows.now))) }
+    ensures { IfOk result (λ tags. tags ≡ answers.seen_tags_of rows.now) }
 {
-    let mut set = TextSet::new(alloc);
+    let mut tags = TextSet::new(alloc);
     for row in rows {
         if is_run(row) {
-            set.insert_all(row.tags.list())?;
+            tags.insert_all(row.tags.list())?;
         }
     }
-    Ok(set)
+    Ok(tags)
 }

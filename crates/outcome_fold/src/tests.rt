@@ -1,6 +1,6 @@
 //! Runs of a few events: which rows they give, and what the rows say.
 
-use crate::{Counts, Ended, Fold, Outcomes, Row, Rows};
+use crate::{Counts, Ended, Fold, Outcomes, Row, Rows, TextSet};
 use packet_codec::{Event, FilePart, Stamp, Status, Tags};
 use std::alloc::Global;
 use std::test::Fail;
@@ -243,6 +243,24 @@ fn the_last_tags_stand_in_order_and_once(rt: HostRuntime) -> Result<(), Fail> {
     for (last, names) in table {
         assert_eq!(rt; last_tags(rt.alloc(), last, names), Some(true));
     }
+    Ok(())
+}
+
+// What is left of b, a, c and a without c, and whether a and c are there.
+fn texts_left(alloc: Global) -> Option<(bool, bool, bool)> {
+    let named = tagged(alloc, says(alloc, b"", b"", Status::Unset), b"baca")?.tags?;
+    let (a, c) = (text(alloc, b"a")?, text(alloc, b"c")?);
+    let mut texts = TextSet::new(alloc);
+    texts.insert_all(named.list()).ok()?;
+    texts.remove(&c);
+    let (has_a, has_c) = (texts.contains(&a), texts.contains(&c));
+    let left = texts.into_ids(alloc).ok()?;
+    Some((are(left.list(), b"ab"), has_a, has_c))
+}
+
+#[test]
+fn a_set_has_each_text_once_and_in_order(rt: HostRuntime) -> Result<(), Fail> {
+    assert_eq!(rt; texts_left(rt.alloc()), Some((true, true, false)));
     Ok(())
 }
 

@@ -1,7 +1,7 @@
 pub mod FoldLemmas
 pub mod ClosesLemmas
 pub mod PieceLemmas
-pub mod FailedLemmas
+pub mod TakingLemmas
 pub mod LedgerLemmas
 pub mod ReplaceLemmas
 pub mod UniqueLemmas

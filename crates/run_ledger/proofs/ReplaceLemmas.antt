@@ -5,13 +5,16 @@ use Rattle.std.specs.FinMap.{FinMap, same_map, get-insert, contains_key-keys}
 use Rattle.std.specs.Option.{unwrap_or}
 use Rattle.std.specs.Ordering.{eq_by_cmp}
 use Rattle.std.proofs.lemmas.List.Folds.{list_any-append}
-use Rattle.outcome_fold.specs.Order.{text_cmp}
-use Rattle.outcome_fold.proofs.TableLemmas.{get-table, tied_is}
+use Rattle.outcome_fold.specs.Order.{text_cmp, among}
+use Rattle.outcome_fold.proofs.TableLemmas.{get-table, any_push, tied_is}
+use Rattle.outcome_fold.proofs.SetLemmas.{take_one_more}
 use Rattle.outcome_fold.proofs.OrderLemmas.{texts_total, exact_texts}
-use Rattle.run_ledger.specs.FailedSets.{among}
 use Rattle.run_ledger.specs.Ledger.{replaced}
 use Rattle.run_ledger.specs.Replacing.{ReplacedAt}
-use Rattle.run_ledger.proofs.FailedLemmas.{among_more}
+
+-- one id more among the first
+among_more : (ids : List (List ℕ)) (i : ℕ) (id q : List ℕ) → i < length ids → id ≡ get_or ids i id → among (take (i + 1) ids) q ≡ cond (eq_by_cmp text_cmp q id) true (among (take i ids) q)
+among_more ids i id q below is = ap (λ l. among l q) (take_one_more ids i id below is) ∙ any_push (eq_by_cmp text_cmp q) (take i ids) id
 
 put_case : (e a : Bool) (n : ℕ) (l f : Option ℕ) → (e ≡ true → l ≡ Some n) → cond e (Some n) (cond (a && is_some l) l f) ≡ cond (cond e true a && is_some l) l f
 put_case true a n l f is = subst (λ (x : Option ℕ). Some n ≡ cond (is_some x) x f) (sym (is refl)) refl

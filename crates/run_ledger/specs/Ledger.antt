@@ -1,13 +1,12 @@
 -- What the runs of a repository say together (docs/FORMATS.md, "What the runs say together").
-use Rattle.std.specs.Prelude.{◌≡◌, ⊤, ℕ, Bool, not, List, [], ◌∷◌, ◌++◌, IsSomeAnd, if◌then◌else◌}
-use Rattle.std.specs.List.{filter, list_any}
+use Rattle.std.specs.Prelude.{◌≡◌, ⊤, ℕ, Bool, List, [], ◌∷◌, ◌++◌, IsSomeAnd, if◌then◌else◌}
 use Rattle.std.specs.Option.{unwrap_or}
-use Rattle.std.specs.Ordering.{eq_by_cmp}
 use Rattle.std.specs.FinMap as fin
 use Rattle.std.specs.FinMap.{FinMap}
 use Rattle.edge_io.specs.Disk.{Files, Folder}
 use Rattle.outcome_fold.specs.declared.row.Row.{Row}
 use Rattle.outcome_fold.specs.Order.{text_cmp, in_byte_order, table}
+pub use Rattle.outcome_fold.specs.Order.{without}
 use Rattle.outcome_fold.specs.Answers.{failing_of, passed_of, times_of}
 use Rattle.run_shelf.specs.Repository.{Run, run_at, Shows}
 use Rattle.run_ledger.specs.Reading.{AreRowsOf}
@@ -38,10 +37,6 @@ pub record ShowRows (files : Files) (entries : List RunRows) : Type 0 where
 -- the rows of the run of this number, which there is
 abbrev pub HasRowsAt : ℕ → List Row → Folder → Type 0
 HasRowsAt number rows s = IsSomeAnd (run_at s.disk.published number) (λ run. AreRowsOf run.bytes rows)
-
--- the ids that are not among the others
-abbrev pub without : List (List ℕ) → List (List ℕ) → List (List ℕ)
-without ids others = filter (λ id. not (list_any (eq_by_cmp text_cmp id) others)) ids
 
 -- The failing set after one run more. A full run replaces it by the ids that fail in it. A partial run takes the ids out
 -- that passed in it, and adds those that fail.

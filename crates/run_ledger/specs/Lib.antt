@@ -1,7 +1,6 @@
 pub mod Reading
 pub mod Outcomes
 pub mod Pieces
-pub mod FailedSets
 pub mod Ledger
 pub mod Replacing
 pub mod Starts

@@ -2,8 +2,7 @@
 use Rattle.std.specs.Prelude.{◌≡◌, ℕ, ◌&&◌, List, is_some, if◌then◌else◌}
 use Rattle.std.specs.FinMap as fin
 use Rattle.std.specs.FinMap.{FinMap}
-use Rattle.outcome_fold.specs.Order.{text_cmp}
-use Rattle.run_ledger.specs.FailedSets.{among}
+use Rattle.outcome_fold.specs.Order.{text_cmp, among}
 
 -- each of these ids has its later time, where it has one, and else its earlier one; all other ids are as before
 abbrev pub ReplacedAt : List (List ℕ) → FinMap text_cmp ℕ → FinMap text_cmp ℕ → FinMap text_cmp ℕ → Type 0

@@ -8,10 +8,11 @@ ghost use Rattle.run_ledger.specs.Ledger.{IsFailingSet};
 ghost use Rattle.run_ledger.specs.Starts.{IsStart};
 ghost use Rattle.run_ledger.specs.Outcomes.{ledger_failed, LedgerCloses};
 
-use crate::failed_ids::FailedIds;
 use crate::fault::{LedgerFault, check_open};
 use crate::rows::rows_of;
+use crate::taking::take_run;
 use edge_io::Shelf;
+use outcome_fold::TextSet;
 use run_shelf::Store;
 use std::alloc::Global;
 use sub_number::IdList;
@@ -33,12 +34,12 @@ pub fn failing<H: Shelf>(alloc: Global, store: &mut Store<'_, H>) -> Result<IdLi
     ensures cause { Counts (H.faults store.old.shelf.now) (H.faults store.new.shelf.now) (ledger_failed result) }
 {
     check_open(store)?;
-    let mut failed = FailedIds::new(alloc);
+    let mut failed = TextSet::new(alloc);
     for number in first_to_read(store)..store.runs() {
         let rows = rows_of(alloc, store, number)?;
-        failed.take_run(alloc, store.partial(number), &rows)?;
+        take_run(alloc, &mut failed, store.partial(number), &rows)?;
     }
-    Ok(failed.ids(alloc)?)
+    Ok(failed.into_ids(alloc)?)
 }
 
 // The number of the last full run, which replaces what the runs before it say, or 0 where no run is full.

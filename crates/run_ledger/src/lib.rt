@@ -7,12 +7,11 @@
 //! - `whole`: the same of bytes that are at hand
 //! - `fault`: why nothing is said of the runs of a store
 //! - `rows`: the rows of one run of a store
-//! - `failing_set`, `failed_ids`: the ids that fail after all runs of a store, told from the last full run on
+//! - `failing_set`, `taking`: the ids that fail after all runs of a store, told from the last full run on
 //! - `latest_times`: the times of the ids after all runs of a store
 //! - `laws`: each run has one list of rows
 #![tactic(auto)]
 
-mod failed_ids;
 mod failing_set;
 mod fault;
 mod folding;
@@ -20,6 +19,7 @@ mod latest_times;
 mod laws;
 mod rows;
 mod run_reader;
+mod taking;
 mod whole;
 
 pub use failing_set::failing;

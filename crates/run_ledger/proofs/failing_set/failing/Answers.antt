@@ -1,13 +1,12 @@
 use Rattle.std.proofs.Common.{◌∙◌, sym, refl, ap, arith, rules, length, List, ℕ, IfSome, subst}
 use Rattle.run_shelf.specs.Stores.{store_kinds}
 use Rattle.run_ledger.proofs.ClosesLemmas.{stays_then, closes_later, handed_by}
-use Rattle.run_ledger.proofs.FailedLemmas.{none_in}
 use Rattle.run_ledger.proofs.LedgerLemmas.{FailsTo, fails_none, fails_more, fails_all}
 use Rattle.run_ledger.proofs.failing_set.failing.Goals as goal
 
 pub loop-number-init : goal.loop-number-init
 loop-number-init g c = record {
-  ids = fails_none _ _ _ _ c.first_to_read-number.ensures (none_in _ c.new-failed.ensures) (c.requires.fits c.in_ok-check_open.ensures.open);
+  ids = fails_none _ _ _ _ c.first_to_read-number.ensures c.new-failed.ensures (c.requires.fits c.in_ok-check_open.ensures.open);
   same_reference = refl;
   open_still = c.in_ok-check_open.ensures.open;
   kinds = refl;
@@ -44,4 +43,4 @@ returns-in_err-rows-clause-closes g c =
 pub returns-clause-ids : goal.returns-clause-ids
 returns-clause-ids g c =
     fails_all _ _ c.loop-number.number _ (omega (arith, c.loop-number-test.false, c.runs-number-end.ensures)) (c.requires.fits c.in_ok-check_open.ensures.open)
-    (subst (λ (l : List (List ℕ)). IfSome (g.H.Shelf.state c.args.store.now.shelf.now) (FailsTo (store_kinds c.args.store.now) c.loop-number.number l)) (sym c.in_ok-ids.ensures) c.loop-number.invariant.ids)
+    (subst (λ (l : List (List ℕ)). IfSome (g.H.Shelf.state c.args.store.now.shelf.now) (FailsTo (store_kinds c.args.store.now) c.loop-number.number l)) (sym c.in_ok-into_ids.ensures) c.loop-number.invariant.ids)

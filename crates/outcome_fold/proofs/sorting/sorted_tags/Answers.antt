@@ -2,7 +2,7 @@ use Rattle.std.proofs.Common.{◌≡◌, ℕ, List, IfOk, sym, subst}
 use Rattle.std.specs.List.Sorted.{IsStrictlySortedBy}
 use Rattle.outcome_fold.specs.Order.{text_cmp}
 use Rattle.outcome_fold.proofs.SetLemmas.{ordered_already}
-use Rattle.outcome_fold.proofs.text_set.sorted_tags.Goals as goal
+use Rattle.outcome_fold.proofs.sorting.sorted_tags.Goals as goal
 
 pub returns-then-are_in_order : goal.returns-then-are_in_order
 returns-then-are_in_order c =
