@@ -1,6 +1,6 @@
 -- What rows say of a run (docs/FORMATS.md, "What the rows say").
-use Rattle.std.specs.Prelude.{ℕ, ◌+◌, Bool, true, false, ◌&&◌, ◌||◌, not, Option, Some, None, List, [], ◌∷◌, map, max, length, nat_eq, is_some, if◌then◌else◌}
-use Rattle.std.specs.List.{filter, list_any, flat_map, count_by}
+use Rattle.std.specs.Prelude.{ℕ, Bool, true, false, ◌&&◌, ◌||◌, not, Option, Some, None, List, [], ◌∷◌, map, max, length, nat_eq, is_some, if◌then◌else◌}
+use Rattle.std.specs.List.{filter, list_any, flat_map, count_by, sum_by}
 use Rattle.std.specs.FinMap.{FinMap}
 use Rattle.std.specs.Option.{unwrap_or}
 use Rattle.std.specs.Ordering.{eq_by_cmp}
@@ -86,14 +86,9 @@ is_counted filter_tags row = is_run row && (row_fails row || not (has_one_of fil
 abbrev pub counted_rows : List (List ℕ) → List Row → List Row
 counted_rows filter_tags rows = filter (is_counted filter_tags) rows
 
-abbrev pub with_time : Option ℕ → Option ℕ → Option ℕ
-with_time None total = total
-with_time (Some nanos) total = Some (nanos + unwrap_or total 0)
-
 -- the sum of the times, where one of the rows has a time
 abbrev pub total_time : List Row → Option ℕ
-total_time [] = None
-total_time (row ∷ rows) = with_time row.nanos (total_time rows)
+total_time rows = if list_any (λ row. is_some row.nanos) rows then Some (sum_by (λ row. unwrap_or row.nanos 0) rows) else None
 
 abbrev pub is_skipped : Row → Bool
 is_skipped row = is_skip row.ended
@@ -112,19 +107,3 @@ counts_in rows = record {
 
 abbrev pub counts_of : List (List ℕ) → List Row → Counts
 counts_of filter_tags rows = counts_in (counted_rows filter_tags rows)
-
-abbrev pub sum_time : Option ℕ → Option ℕ → Option ℕ
-sum_time None None = None
-sum_time None (Some nanos) = Some nanos
-sum_time (Some total) None = Some total
-sum_time (Some total) (Some nanos) = Some (total + nanos)
-
--- the counts with one row more
-abbrev pub counted : Counts → Row → Counts
-counted c row = record {
-  total = c.total + 1;
-  passed = c.passed + (if passes row then 1 else 0);
-  failed = c.failed + (if row_fails row then 1 else 0);
-  skipped = c.skipped + (if is_skipped row then 1 else 0);
-  nanos = sum_time c.nanos row.nanos;
-}

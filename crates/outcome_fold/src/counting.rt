@@ -1,8 +1,9 @@
 //! How many rows there are.
 
-ghost use Rattle.std.specs.Prelude.{◌≡◌, ◌+◌, ◌≤◌, ◌<◌, ◌^◌};
+ghost use Rattle.std.specs.Prelude.{◌≡◌, ◌+◌, ◌≤◌, ◌<◌, ◌^◌, ◌||◌, Some, None, is_some, List, [], ◌∷◌, ◌++◌, if◌then◌else◌};
 ghost use Rattle.std.specs.Option.{unwrap_or};
 ghost use Rattle.outcome_fold.specs.Answers as answers;
+ghost use Rattle.outcome_fold.specs.declared.row.Row.{Row as ARow};
 
 use crate::ended::Ended;
 use crate::row::{Counts, Row};
@@ -32,7 +33,7 @@ fn is_counted(filter_tags: &[Text], row: &Row) -> bool
 // The sum of the times that there are.
 fn sum_time(total: Option<u128>, nanos: Option<u64>) -> Option<u128>
     requires { unwrap_or total 0 + 2 ^ 64 ≤ 2 ^ 128 }
-    ensures sum { result ≡ answers.sum_time total nanos }
+    ensures sum { result ≡ (if is_some total || is_some nanos then Some (unwrap_or total 0 + unwrap_or nanos 0) else None) }
     ensures bound { unwrap_or result 0 ≤ unwrap_or total 0 + 2 ^ 64 }
 {
     match (total, nanos) {
@@ -50,7 +51,7 @@ fn with(counts: Counts, row: &Row) -> Counts
     requires failed { counts.failed + 1 < 2 ^ 64 }
     requires skipped { counts.skipped + 1 < 2 ^ 64 }
     requires nanos { unwrap_or counts.nanos 0 + 2 ^ 64 ≤ 2 ^ 128 }
-    ensures counted { result ≡ answers.counted counts row.now }
+    ensures counted { (rows : List ARow) → counts ≡ answers.counts_in rows → result ≡ answers.counts_in (rows ++ row.now ∷ []) }
     ensures total { result.total ≤ counts.total + 1 }
     ensures passed { result.passed ≤ counts.passed + 1 }
     ensures failed { result.failed ≤ counts.failed + 1 }

@@ -1,16 +1,16 @@
-use Rattle.std.proofs.Common.{◌≡◌, ◌+◌, ◌≤◌, ◌<◌, ◌^◌, ℕ, List, true, false, length, get_or, ◌∙◌, sym, ap, arith}
+use Rattle.std.proofs.Common.{◌≡◌, ◌+◌, ◌≤◌, ◌<◌, ◌^◌, ℕ, List, [], ◌∷◌, ◌++◌, take, true, false, length, get_or, ◌∙◌, sym, arith}
 use Rattle.std.specs.Option.{unwrap_or}
 use Rattle.outcome_fold.specs.declared.row.Row.{Row}
 use Rattle.outcome_fold.specs.declared.row.Counts.{Counts}
-use Rattle.outcome_fold.specs.Answers.{is_counted, counted}
-use Rattle.outcome_fold.proofs.CountLemmas.{counts_take, counts_skip}
+use Rattle.outcome_fold.specs.Answers.{is_counted, counted_rows, counts_in}
+use Rattle.outcome_fold.proofs.CountLemmas.{rows_take, counts_skip}
 use Rattle.outcome_fold.proofs.counting.count_rows.Invariants.{IsCounted}
 use Rattle.outcome_fold.proofs.counting.count_rows.Goals.{then-is_counted, else-is_counted}
 use Rattle.outcome_fold.proofs.counting.count_rows.Goals as goal
 
 -- what one row more leaves
 record Grown (old next : Counts) (row : Row) : Type 0 where
-  pub counted : next ≡ counted old row
+  pub counted : (rows : List Row) → old ≡ counts_in rows → next ≡ counts_in (rows ++ row ∷ [])
   pub total : next.total ≤ old.total + 1
   pub passed : next.passed ≤ old.passed + 1
   pub failed : next.failed ≤ old.failed + 1
@@ -19,7 +19,7 @@ record Grown (old next : Counts) (row : Row) : Type 0 where
 
 takes : (old next : Counts) (tags : List (List ℕ)) (rows : List Row) (i : ℕ) (row : Row) → IsCounted old tags rows i → i < length rows → row ≡ get_or rows i row → is_counted tags row ≡ true → Grown old next row → IsCounted next tags rows (i + 1)
 takes old next tags rows i row h below is counts grown = record {
-  counted = grown.counted ∙ ap (λ (c : Counts). counted c row) h.counted ∙ sym (counts_take tags rows i row below is counts);
+  counted = grown.counted (counted_rows tags (take i rows)) h.counted ∙ rows_take tags rows i row below is counts;
   total = omega (arith, h.total, grown.total);
   passed = omega (arith, h.passed, grown.passed);
   failed = omega (arith, h.failed, grown.failed);
