@@ -1,3 +1,4 @@
+pub mod Resting
 pub mod NameLemmas
 pub mod RunLemmas
 pub mod ShowsLemmas

@@ -8,3 +8,4 @@ pub mod Holds
 pub mod Looking
 pub mod Outcomes
 pub mod Stores
+pub mod Openings

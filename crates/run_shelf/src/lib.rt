@@ -11,6 +11,7 @@
 //! - `reading`: reads the bytes of a run
 //! - `laws`: the runs that a repository shows
 //! - `store`, `recorder`: the same over a folder that is held
+//! - `opening`: what came of opening a folder, which is held or handed back
 //! - `gathering`: what is recorded of a run
 //!
 //! The calls over a folder that is lent for the call alone say what it is at each exit. `Store` and `Recorder` hold the
@@ -25,6 +26,7 @@ mod laws;
 mod making;
 mod marks;
 mod names;
+mod opening;
 mod reading;
 mod recorder;
 mod recording;

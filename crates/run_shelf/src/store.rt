@@ -1,20 +1,23 @@
 //! A repository that holds its folder.
 
 ghost use Rattle.std.specs.Prelude.{◌≡◌, ◌<◌, None, Some, length, slice_get, IfSome, IfOk, IfErr, OnOk};
+ghost use Rattle.std.specs.Borrow.{sem, RestsIfErr};
 ghost use Rattle.std.specs.Io.{ReadsAtMost};
 ghost use Rattle.edge_io.specs.Steps.{Goes, Stays};
 ghost use Rattle.run_shelf.specs.Faults.{Counts, init_failed};
 ghost use Rattle.run_shelf.specs.Holds.{kinds_of};
 ghost use Rattle.run_shelf.specs.Images.{MakesRepository, PassesFormat, PassesOld};
+ghost use Rattle.run_shelf.specs.Openings.{IsNotOpened};
 ghost use Rattle.run_shelf.specs.Outcomes.{InitFails, Surveys, IsRunLength, IsRunPart, TicksAtMost};
 ghost use Rattle.run_shelf.specs.declared.faults.StoreFault.TheVariants.{Shelf as ShelfFailed};
 ghost use Rattle.run_shelf.specs.Stores.{store_kinds, store_fault, store_failed, FitsUnlessBroken, Closes, HasOpenCause, HasStartCause, StartsFrom};
 
 use crate::gathering::Recording;
+use crate::opening::open_or_hand_back;
 use crate::recorder::Recorder;
 use crate::{
     Found, InitFault, MOST_RUNS, OpenFault, ShelfCall, StartFault, StoreFault, make_repository,
-    read_run, run_length, survey,
+    read_run, run_length,
 };
 use edge_io::Shelf;
 use std::alloc::Global;
@@ -41,7 +44,10 @@ impl<'h, H: Shelf> Store<'h, H> {
     }
 
     /// Opens the repository of the folder, as `survey` looks at it, and holds the folder.
+    ///
+    /// Each error comes as from `survey`, and so does what the folder is then.
     pub fn open(alloc: Global, shelf: &'h mut H) -> Result<Store<'h, H>, OpenFault>
+        ensures* not_opened { sem 𝓛 (RestsIfErr H.row shelf.entry (λ store. store.shelf.ghost_name) result (λ last. IfErr result (λ fault. IsNotOpened fault (H.state shelf.entry.now) (H.faults shelf.entry.now) (H.state last) (H.faults last)))) }
         ensures same_reference { IfOk result (λ store. store.shelf.ghost_name ≡ shelf.entry.ghost_name) }
         ensures opened { IfOk result (λ store. Goes (H.state shelf.entry.now) (H.state store.shelf.now) (Surveys (store_kinds store))) }
         ensures any_moment { IfOk result (λ store. Goes (H.state shelf.entry.now) (H.state store.shelf.now) PassesOld) }
@@ -49,8 +55,7 @@ impl<'h, H: Shelf> Store<'h, H> {
         ensures count { IfOk result (λ store. H.faults store.shelf.now ≡ H.faults shelf.entry.now) }
         ensures refused { IfErr result (λ fault. IfSome (H.state shelf.entry.now) (HasOpenCause fault)) }
     {
-        let found = survey(alloc, shelf)?;
-        Ok(Store::attach(shelf, found))
+        open_or_hand_back(alloc, shelf).opened
     }
 
     /// A store over a folder of which this is known.
