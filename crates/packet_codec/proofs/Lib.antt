@@ -1,3 +1,4 @@
+pub mod DecidedLemmas
 pub mod FlagLemmas
 pub mod GrammarLemmas
 pub mod HeaderLemmas
@@ -10,5 +11,6 @@ pub mod RoutingLemmas
 pub mod RunsLeft
 pub mod ShapeLemmas
 pub mod ShortestLemmas
+pub mod SpelledLemmas
 pub mod SpellingLemmas
 pub mod WritingLemmas

@@ -5,6 +5,4 @@ pub mod TakingLemmas
 pub mod LedgerLemmas
 pub mod ReplaceLemmas
 pub mod UniqueLemmas
-pub mod DecidedLemmas
-pub mod SpelledLemmas
 pub mod ExistLemmas

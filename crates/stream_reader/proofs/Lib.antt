@@ -4,3 +4,4 @@ pub mod NotesLemmas
 pub mod RunLemmas
 pub mod GivingLemmas
 pub mod TurnLemmas
+pub mod ExistLemmas

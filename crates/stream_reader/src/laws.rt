@@ -12,7 +12,9 @@ ghost use Rattle.stream_reader.specs.Stream.{BeginsWithNotes, EndsWithNotes, Are
 
 /// Laws of the notes of all streams.
 pub fn notes_of_streams()
-    // A stream has one list of notes.
+    // Each stream has notes.
+    ensures some { (bytes : List ℕ) → (notes : List Note) × HasNotes bytes notes }
+    // And it has one list of them.
     ensures one_list { (bytes : List ℕ) (notes others : List Note) → AreBytes bytes → HasNotes bytes notes → HasNotes bytes others → notes ≡ others }
     // Its first bytes decide one list of notes.
     ensures one_decided { (bytes : List ℕ) (notes others : List Note) → AreBytes bytes → HasDecided bytes notes → HasDecided bytes others → notes ≡ others }

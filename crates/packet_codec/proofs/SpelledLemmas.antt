@@ -17,7 +17,7 @@ use Rattle.packet_codec.specs.Flags.{flag, status_number}
 use Rattle.packet_codec.specs.Fields.{SpellsOptional, SpellsStamp, SpellsTexts, SpellsTags, SpellsFile, SpellsFields}
 use Rattle.packet_codec.specs.Packet.{signature, SpellsEvent}
 use Rattle.packet_codec.proofs.ShapeLemmas.{number_below}
-use Rattle.run_ledger.proofs.DecidedLemmas.{Decided, decided_as, decided_both, decided_not, decided_less, decided_most, decided_true, decided_all, decided_lists, CanSearch, search_flags, search_both, Parted, decided_parts}
+use Rattle.packet_codec.proofs.DecidedLemmas.{Decided, decided_as, decided_both, decided_not, decided_less, decided_most, decided_true, decided_all, decided_lists, CanSearch, search_flags, search_both, Parted, decided_parts}
 
 -- whether a list spells some value
 abbrev CanRead : {A : Type 0} → (List ℕ → A → Type 0) → Type 0
