@@ -21,6 +21,7 @@ pub enum Sight<'a> {
 }
 
 /// Whether the bytes are the front of a header, which more bytes are to end.
+#[inline]
 fn is_front_of_header(bytes: &[u8]) -> bool
     ensures { IsTrue result ↔ IsFrontOfHeader bytes.now }
 {
@@ -53,6 +54,7 @@ fn is_front_of_header(bytes: &[u8]) -> bool
 /// of a packet its event can be made without another look at it.
 /// What cannot be is refused at the first byte that tells it: the header first, then the lengths of the fields, then
 /// the texts, and the checksum last.
+#[inline(always)]
 pub fn see(bytes: &[u8]) -> Sight<'_>
     ensures { IsSeen bytes.now result }
 {

@@ -121,6 +121,7 @@ fn is_packet(header: Header, bytes: &[u8], parts: &Parts<'_>) -> bool
 
 /// The packet that the bytes are, which have this header and its size. The lengths are tested first, then the texts,
 /// and the checksum last.
+#[inline(always)]
 pub fn packet_of(header: Header, bytes: &[u8]) -> Option<Packet<'_>>
     requires stands { HeaderStands bytes.now header }
     requires size { length bytes.now ≡ header.size }

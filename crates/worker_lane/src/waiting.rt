@@ -44,6 +44,7 @@ pub(crate) fn is_nothing(waiting: &Waiting) -> bool
 }
 
 /// What was waiting is let go of.
+#[inline(always)]
 pub(crate) fn wait_for(waiting: &mut Waiting, next: Waiting)
     ensures { waiting.new ≡ next }
 {
