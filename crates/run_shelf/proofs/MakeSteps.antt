@@ -10,7 +10,7 @@ use Rattle.run_shelf.specs.declared.faults.ShelfCall.{ShelfCall}
 use Rattle.run_shelf.specs.declared.faults.ShelfCall.TheVariants.{Names, Length, ReadAt, StartDraft, Append, SyncDraft, Publish, SyncFolder}
 use Rattle.run_shelf.specs.declared.faults.InitFault.TheVariants.{Shelf}
 use Rattle.run_shelf.specs.Images.{MakesRepository, KeepsFile, ReadsFile, HasFormatBeside, PassesFile, PassesFormat}
-use Rattle.run_shelf.specs.Outcomes.{KeepFails, InitFails}
+use Rattle.run_shelf.specs.Outcomes.{KeepFails, InitFails, StillLacksFormat, ReadsFormat}
 use Rattle.run_shelf.specs.Repository.{format_name, format_bytes}
 use Rattle.run_shelf.proofs.Joining.{rest_images, goes_with}
 
@@ -37,22 +37,22 @@ module _ (s m : Folder) (settled : Settled s m) where
         lasts = λ image left. record { absent = absent_before none; is = rest_images (put s.disk.published format_name format_bytes) image (subst (λ (d : Disk). IsImage d image) same left) };
       }
 
-  same_fails : (t : Folder) → t.disk ≡ m.disk → t.disk.published ≡ s.disk.published
-  same_fails t is = ap (λ (d : Disk). d.published) is ∙ before
+  still_lacks : (t : Folder) → m.disk.published format_name ≡ None → t.disk ≡ m.disk → StillLacksFormat s t
+  still_lacks t none is = record { absent = absent_before none; disk = is ∙ disk }
 
-  reads_fails : (t : Folder) → ReadsFile format_name format_bytes m t → ReadsFile format_name format_bytes s t
-  reads_fails t is = is ∙ ap (λ (f : Files). put f format_name format_bytes) before
+  reads : (t : Folder) → m.disk.published format_name ≡ None → ReadsFile format_name format_bytes m t → ReadsFormat s t
+  reads t none is = record { absent = absent_before none; reads = is ∙ ap (λ (f : Files). put f format_name format_bytes) before }
 
   fails : (call : ShelfCall) (t : Folder) → m.disk.published format_name ≡ None → KeepFails format_name format_bytes call m t → InitFails (Shelf call) s t
   fails Names t none is = absurd is
   fails Length t none is = absurd is
   fails ReadAt t none is = absurd is
-  fails StartDraft t none is = inl (same_fails t is)
-  fails Append t none is = inl (same_fails t is)
-  fails SyncDraft t none is = inl (same_fails t is)
-  fails Publish t none (inl is) = inl (same_fails t is)
-  fails Publish t none (inr is) = inr (absent_before none, reads_fails t is)
-  fails SyncFolder t none is = inr (absent_before none, reads_fails t is)
+  fails StartDraft t none is = still_lacks t none is
+  fails Append t none is = still_lacks t none is
+  fails SyncDraft t none is = still_lacks t none is
+  fails Publish t none (inl is) = inl (still_lacks t none is)
+  fails Publish t none (inr is) = inr (reads t none is)
+  fails SyncFolder t none is = inr (reads t none is)
 
 module _ (a b c : Option Folder) (settled : Goes a b Settled) (found : Option ℕ) (finds : FindsLength b format_name found) (absent : is_some found ≡ false) where
   pub goes_makes : Goes b c (KeepsFile format_name format_bytes) → Goes a c MakesRepository

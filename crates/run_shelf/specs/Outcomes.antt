@@ -1,7 +1,7 @@
 -- What the calls of a store do to the folder, by what they answer (docs/FORMATS.md, "Files of a store").
 use Rattle.std.specs.Prelude.{◌≡◌, ◌⊎◌, ℕ, Bool, None, IsSome, IsSomeAnd, List, length}
 use Rattle.edge_io.specs.Causes.{one_more}
-use Rattle.edge_io.specs.Disk.{Folder}
+use Rattle.edge_io.specs.Disk.{Folder, at_rest}
 use Rattle.edge_io.specs.Steps.{Stays, Settled, IsPart}
 use Rattle.run_shelf.specs.declared.faults.ShelfCall.{ShelfCall}
 use Rattle.run_shelf.specs.declared.faults.ShelfCall.TheVariants.{Names, Length, ReadAt, StartDraft, Append, SyncDraft, Publish, SyncFolder}
@@ -25,11 +25,32 @@ KeepFails name bytes SyncDraft s t = SameDisk s t
 KeepFails name bytes Publish s t = SameDisk s t ⊎ ReadsFile name bytes s t
 KeepFails name bytes SyncFolder s t = ReadsFile name bytes s t
 
--- A repository was not made, or not surely: there was one, or reads give the files as they were or, where there was
--- none, with `format` beside them.
+-- there was no `format`, and the files are on the disk for good as they were read
+pub record StillLacksFormat (s t : Folder) : Type 0 where
+  pub absent : s.disk.published format_name ≡ None
+  pub disk : t.disk ≡ at_rest s.disk.published
+
+-- there was no `format`, and reads give it beside the files as they were
+pub record ReadsFormat (s t : Folder) : Type 0 where
+  pub absent : s.disk.published format_name ≡ None
+  pub reads : ReadsFile format_name format_bytes s t
+
+-- A repository was not made, or not surely, and this call failed: the first barrier, the look whether there is one, or a
+-- call that was to keep `format`.
+abbrev pub InitFailsAt : ShelfCall → Folder → Folder → Type 0
+InitFailsAt Names s t = ⊥
+InitFailsAt Length s t = Settled s t
+InitFailsAt ReadAt s t = ⊥
+InitFailsAt StartDraft s t = StillLacksFormat s t
+InitFailsAt Append s t = StillLacksFormat s t
+InitFailsAt SyncDraft s t = StillLacksFormat s t
+InitFailsAt Publish s t = StillLacksFormat s t ⊎ ReadsFormat s t
+InitFailsAt SyncFolder s t = Stays s t ⊎ ReadsFormat s t
+
+-- there was a repository, or this call failed
 abbrev pub InitFails : InitFault → Folder → Folder → Type 0
 InitFails init_fault.Exists s t = IsSome (s.disk.published format_name) × Settled s t
-InitFails (init_fault.Shelf call) s t = (t.disk.published ≡ s.disk.published) ⊎ ((s.disk.published format_name ≡ None) × ReadsFile format_name format_bytes s t)
+InitFails (init_fault.Shelf call) s t = InitFailsAt call s t
 
 -- the files are a repository with runs of these kinds, and all is on the disk for good
 pub record Surveys (kinds : List Bool) (s t : Folder) : Type 0 where

@@ -79,3 +79,8 @@ pub record StartsFrom {H : Type 0} (kinds : List Bool) (fault : Option ShelfCall
 abbrev pub StoreKeepFails : List ℕ → List ℕ → StoreFault → Folder → Folder → Type 0
 StoreKeepFails name bytes (Shelf call) s t = KeepFails name bytes call s t
 StoreKeepFails name bytes (Closed call) s t = ⊥
+
+-- a fault of the folder is told with this call, which is the only one that is made
+abbrev pub TellsOf : ShelfCall → StoreFault → Type 0
+TellsOf only (Shelf call) = call ≡ only
+TellsOf only (Closed call) = ⊤

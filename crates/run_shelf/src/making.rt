@@ -19,8 +19,9 @@ pub const FORMAT_BYTES: &[u8] = b"subunit-store 1\n";
 /// Makes the folder a repository: brings what is pending to the disk, and keeps the file `format` there. It takes no
 /// memory.
 ///
-/// `Exists` comes exactly where the file `format` is there, and `Shelf` only where a call of the folder failed. A stop at
-/// any moment leaves what one before the call might have left, or the files as read before it with `format` beside them;
+/// `Exists` comes exactly where the file `format` is there, and `Shelf` only where a call of the folder failed. Before the
+/// publish the files are then as they were, at it `format` is there or not, after it `format` is there. A stop at any
+/// moment leaves what one before the call might have left, or the files as read before it with `format` beside them;
 /// after `Ok` each later stop leaves `format`.
 pub fn make_repository<H: Shelf>(shelf: &mut H) -> Result<(), InitFault>
     ensures made { OnOk result (Goes (H.state shelf.old) (H.state shelf.new) MakesRepository) }

@@ -9,8 +9,9 @@ ghost use Rattle.run_shelf.specs.Holds.{kinds_of};
 ghost use Rattle.run_shelf.specs.Images.{MakesRepository, PassesFormat, PassesOld};
 ghost use Rattle.run_shelf.specs.Openings.{IsNotOpened};
 ghost use Rattle.run_shelf.specs.Outcomes.{InitFails, Surveys, IsRunLength, IsRunPart, TicksAtMost};
+ghost use Rattle.run_shelf.specs.declared.faults.ShelfCall.TheVariants.{Length, ReadAt};
 ghost use Rattle.run_shelf.specs.declared.faults.StoreFault.TheVariants.{Shelf as ShelfFailed};
-ghost use Rattle.run_shelf.specs.Stores.{store_kinds, store_fault, store_failed, FitsUnlessBroken, Closes, HasOpenCause, HasStartCause, StartsFrom};
+ghost use Rattle.run_shelf.specs.Stores.{store_kinds, store_fault, store_failed, FitsUnlessBroken, Closes, TellsOf, HasOpenCause, HasStartCause, StartsFrom};
 
 use crate::gathering::Recording;
 use crate::opening::open_or_hand_back;
@@ -100,6 +101,7 @@ impl<'h, H: Shelf> Store<'h, H> {
         requires fits { FitsUnlessBroken (store_kinds self.old) (store_fault self.old) (H.state self.old.shelf.now) }
         ensures same_reference { self.new.shelf.ghost_name ≡ self.old.shelf.ghost_name }
         ensures size { IfOk result (λ size. IfSome (H.state self.old.shelf.now) (IsRunLength number size)) }
+        ensures failed { IfErr result (TellsOf Length) }
         ensures closes { Closes (store_fault self.old) (store_fault self.new) result }
         ensures kinds { store_kinds self.new ≡ store_kinds self.old }
         ensures same { Goes (H.state self.old.shelf.now) (H.state self.new.shelf.now) Stays }
@@ -124,6 +126,7 @@ impl<'h, H: Shelf> Store<'h, H> {
         ensures same_reference { self.new.shelf.ghost_name ≡ self.old.shelf.ghost_name }
         ensures bound { ReadsAtMost result buf.new }
         ensures part { IfOk result (λ count. IfSome (H.state self.old.shelf.now) (IsRunPart number place buf.new count)) }
+        ensures failed { IfErr result (TellsOf ReadAt) }
         ensures closes { Closes (store_fault self.old) (store_fault self.new) result }
         ensures kinds { store_kinds self.new ≡ store_kinds self.old }
         ensures same { Goes (H.state self.old.shelf.now) (H.state self.new.shelf.now) Stays }
