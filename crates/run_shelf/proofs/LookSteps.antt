@@ -16,7 +16,7 @@ use Rattle.edge_io.specs.Steps.{Goes, Stays, FindsLength, ReadsPart, IsPart}
 use Rattle.edge_io.proofs.Going.{goes_then, goes_from, goes_weaker}
 use Rattle.run_shelf.specs.declared.faults.OpenFault.{OpenFault}
 use Rattle.run_shelf.specs.declared.faults.OpenFault.TheVariants.{NoStore, UnknownFormat, Gap, Shelf, NoMemory}
-use Rattle.run_shelf.specs.Looking.{LooksLike, LookFails, FormatFails}
+use Rattle.run_shelf.specs.Looking.{LooksLike, LookFails}
 use Rattle.run_shelf.specs.Marks.{IsKindIn, HasRunIn, HaveKinds, HaveGap, NamesFail}
 use Rattle.run_shelf.specs.Repository.{Run, run_of_files, run_at, kind_at, full_name, partial_name, run_name, most_runs, HasKinds, IsRepository, IsGap, HasFormat, HasOtherFormat, format_name, format_bytes}
 use Rattle.run_shelf.proofs.RunLemmas.{past_items, taken_before, none_is_not_some}
@@ -163,33 +163,19 @@ module _ (a : Option Folder) (names : List (List ℕ)) (format : IfSome a (λ s.
 some_same : (a b : ℕ) → Some a ≡ Some b → a ≡ b
 some_same a b e = cc
 
--- a `format` of another length
-other_size : (files : Files) (size : ℕ) → Some size ≡ option_map length (files format_name) → (size ≡ 16 → ⊥) → HasOtherFormat files
-other_size files size is differs = found_size (files format_name) refl is
-  where
-    found_size : (o : Option (List ℕ)) → files format_name ≡ o → Some size ≡ option_map length o → HasOtherFormat files
-    found_size None here is = cc
-    found_size (Some bytes) here is = (bytes, here, λ e. differs (some_same size (length bytes) is ∙ ap length e))
+-- the file `format` by its size and the bytes that were read of it
+module _ (files : Files) (size : ℕ) (buf : List ℕ) (count : ℕ) (room : length buf ≡ 16) where
+  whole : (bytes : List ℕ) → IsPart bytes 0 buf count → length bytes ≡ 16 → take count buf ≡ bytes
+  whole bytes part long = part.same ∙ take_all (length buf) (drop 0 bytes) (omega (arith, room, long))
 
--- a `format` of other bytes
-other_bytes : (files : Files) (buf : List ℕ) (count : ℕ) → length buf ≡ 16 → Some 16 ≡ option_map length (files format_name) → IfSome (files format_name) (λ bytes. IsPart bytes 0 buf count) → (take count buf ≡ format_bytes → ⊥) → HasOtherFormat files
-other_bytes files buf count room is part differs = found_bytes (files format_name) refl is part
-  where
-    found_bytes : (o : Option (List ℕ)) → files format_name ≡ o → Some 16 ≡ option_map length o → IfSome o (λ bytes. IsPart bytes 0 buf count) → HasOtherFormat files
-    found_bytes None here is part = cc
-    found_bytes (Some bytes) here is part =
-        (bytes, here, λ e. differs (part.same ∙ take_all (length buf) (drop 0 bytes) (omega (arith, room, some_same 16 (length bytes) is)) ∙ e))
+  other_by : (o : Option (List ℕ)) → files format_name ≡ o → Some size ≡ option_map length o → IfSome o (λ bytes. IsPart bytes 0 buf count) → ((size ≡ 16) × (take count buf ≡ format_bytes) → ⊥) → HasOtherFormat files
+  other_by None here is part wrong = cc
+  other_by (Some bytes) here is part wrong =
+      (bytes, here, λ e. wrong (some_same size (length bytes) is ∙ ap length e, whole bytes part (ap length e) ∙ e))
 
 -- where the folder is told or not
-module _ (a b : Option Folder) (same : Goes a b Stays) where
-  pub wrong_size : (size : ℕ) → FindsLength a format_name (Some size) → (size ≡ 16 → ⊥) → Goes a b (FormatFails UnknownFormat)
-  wrong_size size finds differs =
-      goes_known a b same (λ s. HasOtherFormat s.disk.published)
-      (both_some a (λ s. Some size ≡ option_map length (s.disk.published format_name)) (λ s. Some size ≡ option_map length (s.disk.published format_name)) (λ s. HasOtherFormat s.disk.published) finds finds
-      (λ s is also. other_size s.disk.published size is differs))
-
-  pub wrong_bytes : (buf : List ℕ) (count : ℕ) → length buf ≡ 16 → FindsLength a format_name (Some 16) → ReadsPart a format_name 0 buf count → (take count buf ≡ format_bytes → ⊥) → Goes a b (FormatFails UnknownFormat)
-  wrong_bytes buf count room finds part differs =
-      goes_known a b same (λ s. HasOtherFormat s.disk.published)
-      (both_some a (λ s. Some 16 ≡ option_map length (s.disk.published format_name)) (λ s. IfSome (s.disk.published format_name) (λ bytes. IsPart bytes 0 buf count)) (λ s. HasOtherFormat s.disk.published) finds part
-      (λ s is read. other_bytes s.disk.published buf count room is read differs))
+module _ (a : Option Folder) (size : ℕ) (buf : List ℕ) (count : ℕ) (room : length buf ≡ 16) (finds : FindsLength a format_name (Some size)) (part : ReadsPart a format_name 0 buf count) where
+  pub other_format : ((size ≡ 16) × (take count buf ≡ format_bytes) → ⊥) → IfSome a (λ s. HasOtherFormat s.disk.published)
+  other_format wrong =
+      both_some a (λ s. Some size ≡ option_map length (s.disk.published format_name)) (λ s. IfSome (s.disk.published format_name) (λ bytes. IsPart bytes 0 buf count)) (λ s. HasOtherFormat s.disk.published) finds part
+      (λ s is read. other_by s.disk.published size buf count room (s.disk.published format_name) refl is read wrong)

@@ -1,13 +1,13 @@
 //! Looks which runs a folder has.
 
-ghost use Rattle.std.specs.Prelude.{IfSome, IfOk, IfErr, OnOk};
+ghost use Rattle.std.specs.Prelude.{◌≡◌, ◌↔◌, IsTrue, length, IfSome, IfOk, IfErr, OnOk};
 ghost use Rattle.edge_io.specs.Steps.{Goes, Stays};
 ghost use Rattle.run_shelf.specs.Faults.{Counts, open_failed};
 ghost use Rattle.run_shelf.specs.Holds.{kinds_of, HasRoom};
 ghost use Rattle.run_shelf.specs.Images.{PassesOld};
 ghost use Rattle.run_shelf.specs.Looking.{LooksLike, LookFails, FormatFails};
 ghost use Rattle.run_shelf.specs.Outcomes.{Surveys, OpenFails};
-ghost use Rattle.run_shelf.specs.Repository.{HasFormat};
+ghost use Rattle.run_shelf.specs.Repository.{HasFormat, format_bytes};
 
 use crate::making::{FORMAT_BYTES, FORMAT_NAME};
 use crate::marks::runs_of;
@@ -72,9 +72,16 @@ fn check_format<H: Shelf>(shelf: &mut H) -> Result<(), OpenFault>
     let Ok(count) = shelf.read_at(FORMAT_NAME, 0, &mut buf) else {
         return Err(OpenFault::Shelf(ShelfCall::ReadAt));
     };
-    if size == FORMAT_SIZE as u64 && &buf[..count] == FORMAT_BYTES {
+    if is_format(size, &buf[..count]) {
         Ok(())
     } else {
         Err(OpenFault::UnknownFormat)
     }
+}
+
+// Whether a file of this size, which begins with these bytes, is the right `format`.
+fn is_format(size: u64, front: &[u8]) -> bool
+    ensures { IsTrue result ↔ (size ≡ length format_bytes) × (front.now ≡ format_bytes) }
+{
+    size == FORMAT_SIZE as u64 && front == FORMAT_BYTES
 }
