@@ -10,6 +10,10 @@ use std::test::Fail;
 
 const FORMAT: &[u8] = b"subunit-store 1\n";
 
+const OLDER: &[u8] = b"1\n";
+
+const LONGER: &[u8] = b"subunit-store 1\n\n";
+
 const NOTHING: &[u64] = &[];
 
 // Keeps a file over any stop, in six calls.
@@ -115,48 +119,53 @@ fn a_stop_leaves_a_run_wholly_or_not_at_all(rt: HostRuntime) -> Result<(), Fail>
     Ok(())
 }
 
-#[test]
-fn runs_have_their_numbers_and_bytes(rt: HostRuntime) -> Result<(), Fail> {
-    let alloc = rt.alloc();
+// A repository of the full run `abcdef` and the partial run `g`, and the numbers that they were given.
+fn two_runs(alloc: Global) -> Result<(MemShelf, [u32; 2]), Fail> {
     let mut shelf = empty(alloc, NOTHING)?;
-    assert_eq!(rt; record(alloc, &mut shelf, false, b"ab", b"cdef")?, 0);
-    assert_eq!(rt; record(alloc, &mut shelf, true, b"g", b"")?, 1);
+    let full = record(alloc, &mut shelf, false, b"ab", b"cdef")?;
+    let partial = record(alloc, &mut shelf, true, b"g", b"")?;
+    Ok((shelf, [full, partial]))
+}
+
+#[test]
+fn runs_have_their_numbers(rt: HostRuntime) -> Result<(), Fail> {
+    let alloc = rt.alloc();
+    let (mut shelf, numbers) = two_runs(alloc)?;
+    assert_eq!(rt; numbers, [0, 1]);
     assert_eq!(rt; shelf.length("0")?, Some(6));
     assert_eq!(rt; shelf.length("1.part")?, Some(1));
+    assert_eq!(rt; count(alloc, &mut shelf)?, 2);
+    Ok(())
+}
+
+#[test]
+fn runs_have_their_bytes(rt: HostRuntime) -> Result<(), Fail> {
+    let alloc = rt.alloc();
+    let (mut shelf, _) = two_runs(alloc)?;
     let mut buf = [0u8; 3];
-    assert_eq!(rt; part(alloc, &mut shelf, 0, 2, &mut buf)?, 3);
-    assert_eq!(rt; buf.as_slice(), b"cde".as_slice());
-    assert_eq!(rt; part(alloc, &mut shelf, 0, 5, &mut buf)?, 1);
-    assert_eq!(rt; buf.as_slice(), b"fde".as_slice());
-    assert_eq!(rt; part(alloc, &mut shelf, 1, 1, &mut buf)?, 0);
+    for (number, place, count, left) in [(0, 2, 3, b"cde"), (0, 5, 1, b"fde"), (1, 1, 0, b"fde")] {
+        assert_eq!(rt; part(alloc, &mut shelf, number, place, &mut buf)?, count);
+        assert_eq!(rt; &buf, left);
+    }
     assert_eq!(rt; part(alloc, &mut shelf, 1, 0, &mut [])?, 0);
-    let found = survey(alloc, &mut shelf)?;
-    assert_eq!(rt; found.runs(), 2);
     Ok(())
 }
 
 #[test]
 fn names_tell_the_runs(rt: HostRuntime) -> Result<(), Fail> {
     let alloc = rt.alloc();
-    assert_eq!(rt; looked(alloc, FORMAT, "0", "2")?, Some(OpenFault::Gap(1)));
-    assert_eq!(rt;
-        looked(alloc, FORMAT, "999999", "0.part")?,
-        Some(OpenFault::Gap(1))
-    );
-    assert_eq!(rt;
-        looked(alloc, FORMAT, "1.part", "2")?,
-        Some(OpenFault::Gap(0))
-    );
-    assert_eq!(rt; looked(alloc, FORMAT, "00", "1000000")?, None);
-    assert_eq!(rt; looked(alloc, FORMAT, "draft", "0.parts")?, None);
-    assert_eq!(rt;
-        looked(alloc, b"1\n", "0", "1")?,
-        Some(OpenFault::UnknownFormat)
-    );
-    assert_eq!(rt;
-        looked(alloc, b"subunit-store 1\n\n", "0", "2")?,
-        Some(OpenFault::UnknownFormat)
-    );
+    let looks = [
+        (FORMAT, "0", "2", Some(OpenFault::Gap(1))),
+        (FORMAT, "999999", "0.part", Some(OpenFault::Gap(1))),
+        (FORMAT, "1.part", "2", Some(OpenFault::Gap(0))),
+        (FORMAT, "00", "1000000", None),
+        (FORMAT, "draft", "0.parts", None),
+        (OLDER, "0", "1", Some(OpenFault::UnknownFormat)),
+        (LONGER, "0", "2", Some(OpenFault::UnknownFormat)),
+    ];
+    for (format, first, second, answer) in looks {
+        assert_eq!(rt; looked(alloc, format, first, second)?, answer);
+    }
     Ok(())
 }
 
