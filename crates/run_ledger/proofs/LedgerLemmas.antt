@@ -10,7 +10,7 @@ use Rattle.std.specs.FinMap.{FinMap}
 use Rattle.outcome_fold.specs.declared.row.Row.{Row}
 use Rattle.outcome_fold.specs.Order.{text_cmp}
 use Rattle.outcome_fold.specs.Answers.{times_of}
-use Rattle.run_shelf.specs.Holds.{Fits}
+use Rattle.run_shelf.specs.Holds.{FitsFolder}
 use Rattle.run_shelf.specs.Repository.{Run, run_at, most_runs, Shows, HasKinds}
 use Rattle.run_shelf.proofs.ShowsLemmas.{shown, kinds_of_runs}
 use Rattle.run_ledger.specs.Reading.{AreRowsOf}
@@ -29,7 +29,7 @@ pub record ShowRowsTo (files : Files) (count : ℕ) (entries : List RunRows) : T
 abbrev pub SaysTo : {X : Type 0} → (List RunRows → X) → ℕ → X → Folder → Type 0
 SaysTo says count x s = (entries : List RunRows) × ShowRowsTo s.disk.published count entries × (x ≡ says entries)
 
-pub says_none : {X : Type 0} (says : List RunRows → X) (state : Option Folder) (kinds : List Bool) (count : ℕ) (x : X) → count ≡ 0 → x ≡ says [] → IfSome state (Fits kinds) → IfSome state (SaysTo says count x)
+pub says_none : {X : Type 0} (says : List RunRows → X) (state : Option Folder) (kinds : List Bool) (count : ℕ) (x : X) → count ≡ 0 → x ≡ says [] → IfSome state (FitsFolder kinds) → IfSome state (SaysTo says count x)
 says_none says None kinds count x begin is fits = tt
 says_none says (Some s) kinds count x begin is fits =
     let all = shown s.disk.published fits.repository in
@@ -88,7 +88,7 @@ module _ {X : Type 0} (says : List RunRows → X) (step : X → RunRows → X) (
   -- one run more
   pub says_more : (first before : Option Folder) (kinds kinds_now : List Bool) (count next : ℕ) (partial : Bool) (rows : List Row) (old new : X)
       → next ≡ count + 1 → count < length kinds → kinds_now ≡ kinds → slice_get kinds_now count ≡ Some partial
-      → IfSome first (Fits kinds) → Goes first before Stays → IfSome before (HasRowsAt count rows) → new ≡ step old (record { partial = partial; rows = rows })
+      → IfSome first (FitsFolder kinds) → Goes first before Stays → IfSome before (HasRowsAt count rows) → new ≡ step old (record { partial = partial; rows = rows })
       → IfSome first (SaysTo says count old) → IfSome first (SaysTo says next new)
   says_more None before kinds kinds_now count next partial rows old new is below same_kinds kind fits same are new-is so_far = tt
   says_more (Some s) None kinds kinds_now count next partial rows old new is below same_kinds kind fits same are new-is so_far = absurd same
@@ -103,7 +103,7 @@ module _ {X : Type 0} (says : List RunRows → X) (step : X → RunRows → X) (
       )
 
 -- all runs
-pub says_all : {X : Type 0} (says : List RunRows → X) (state : Option Folder) (kinds : List Bool) (count : ℕ) (x : X) → length kinds ≤ count → IfSome state (Fits kinds)
+pub says_all : {X : Type 0} (says : List RunRows → X) (state : Option Folder) (kinds : List Bool) (count : ℕ) (x : X) → length kinds ≤ count → IfSome state (FitsFolder kinds)
     → IfSome state (SaysTo says count x) → IfSome state (λ s. (entries : List RunRows) × ShowRows s.disk.published entries × (x ≡ says entries))
 says_all says None kinds count x past fits so_far = tt
 says_all says (Some s) kinds count x past fits so_far = (so_far.0, rows_all s.disk.published kinds fits.kinds_are count so_far.0 past so_far.1, so_far.2)
@@ -120,7 +120,7 @@ abbrev pub FailsTo : List Bool → ℕ → List (List ℕ) → Folder → Type 0
 FailsTo kinds count ids s = (entries : List RunRows) × ShowRowsTo s.disk.published count entries × ((ids ≡ failing_after entries) ⊎ (slice_get kinds count ≡ Some false))
 
 -- at the first run that is read
-pub fails_none : (state : Option Folder) (kinds : List Bool) (count : ℕ) (ids : List (List ℕ)) → IsStart kinds count → ids ≡ [] → IfSome state (Fits kinds) → IfSome state (FailsTo kinds count ids)
+pub fails_none : (state : Option Folder) (kinds : List Bool) (count : ℕ) (ids : List (List ℕ)) → IsStart kinds count → ids ≡ [] → IfSome state (FitsFolder kinds) → IfSome state (FailsTo kinds count ids)
 fails_none None kinds count ids start none fits = tt
 fails_none (Some s) kinds count ids start none fits = elim start.full [
   | inl begin ↦ (let all = says_none failing_after (Some s) kinds count ids begin none fits in (all.0, all.1, inl all.2))
@@ -143,7 +143,7 @@ failing_next kinds count partial rows entries old new kind new-is (inr full) = l
 -- one run more
 pub fails_more : (first before : Option Folder) (kinds kinds_now : List Bool) (count next : ℕ) (partial : Bool) (rows : List Row) (old new : List (List ℕ))
     → next ≡ count + 1 → count < length kinds → kinds_now ≡ kinds → slice_get kinds_now count ≡ Some partial
-    → IfSome first (Fits kinds) → Goes first before Stays → IfSome before (HasRowsAt count rows) → new ≡ failing_behind old (record { partial = partial; rows = rows })
+    → IfSome first (FitsFolder kinds) → Goes first before Stays → IfSome before (HasRowsAt count rows) → new ≡ failing_behind old (record { partial = partial; rows = rows })
     → IfSome first (FailsTo kinds count old) → IfSome first (FailsTo kinds next new)
 fails_more None before kinds kinds_now count next partial rows old new is below same_kinds kind fits same are new-is so_far = tt
 fails_more (Some s) before kinds kinds_now count next partial rows old new is below same_kinds kind fits same are new-is so_far =
@@ -153,7 +153,7 @@ fails_more (Some s) before kinds kinds_now count next partial rows old new is be
     (all.0, all.1, inl all.2)
 
 -- all runs
-pub fails_all : (state : Option Folder) (kinds : List Bool) (count : ℕ) (ids : List (List ℕ)) → length kinds ≤ count → IfSome state (Fits kinds) → IfSome state (FailsTo kinds count ids) → IfSome state (IsFailingSet ids)
+pub fails_all : (state : Option Folder) (kinds : List Bool) (count : ℕ) (ids : List (List ℕ)) → length kinds ≤ count → IfSome state (FitsFolder kinds) → IfSome state (FailsTo kinds count ids) → IfSome state (IsFailingSet ids)
 fails_all None kinds count ids past fits so_far = tt
 fails_all (Some s) kinds count ids past fits so_far = elim so_far.2 [
   | inl known ↦ says_all failing_after (Some s) kinds count ids past fits (so_far.0, so_far.1, known)

@@ -2,7 +2,7 @@
 
 ghost use Rattle.std.specs.Prelude.{◌≡◌, IfSome, IfOk};
 ghost use Rattle.edge_io.specs.Steps.{Goes, Stays};
-ghost use Rattle.run_shelf.specs.Faults.{Counts};
+ghost use Rattle.run_shelf.specs.Faults.{RisesExactlyIf};
 ghost use Rattle.run_shelf.specs.Stores.{store_kinds, store_fault, FitsUnlessBroken};
 ghost use Rattle.run_ledger.specs.Ledger.{IsFailingSet};
 ghost use Rattle.run_ledger.specs.Starts.{IsStart};
@@ -31,7 +31,7 @@ pub fn failing<H: Shelf>(alloc: Global, store: &mut Store<'_, H>) -> Result<IdLi
     ensures kinds { store_kinds store.new ≡ store_kinds store.old }
     ensures same { Goes (H.state store.old.shelf.now) (H.state store.new.shelf.now) Stays }
     ensures fits { FitsUnlessBroken (store_kinds store.new) (store_fault store.new) (H.state store.new.shelf.now) }
-    ensures cause { Counts (H.faults store.old.shelf.now) (H.faults store.new.shelf.now) (ledger_failed result) }
+    ensures cause { RisesExactlyIf (H.faults store.old.shelf.now) (H.faults store.new.shelf.now) (ledger_failed result) }
 {
     check_open(store)?;
     let mut failed = TextSet::new(alloc);

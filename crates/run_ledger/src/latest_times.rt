@@ -2,7 +2,7 @@
 
 ghost use Rattle.std.specs.Prelude.{◌≡◌, IfSome, IfOk, OnOk};
 ghost use Rattle.edge_io.specs.Steps.{Goes, Stays};
-ghost use Rattle.run_shelf.specs.Faults.{Counts};
+ghost use Rattle.run_shelf.specs.Faults.{RisesExactlyIf};
 ghost use Rattle.run_shelf.specs.Stores.{store_kinds, store_fault, FitsUnlessBroken};
 ghost use Rattle.outcome_fold.specs.Answers.{times_of};
 ghost use Rattle.run_ledger.specs.Ledger.{AreTimes, replaced};
@@ -30,7 +30,7 @@ pub fn times<H: Shelf>(alloc: Global, store: &mut Store<'_, H>) -> Result<TimeMa
     ensures kinds { store_kinds store.new ≡ store_kinds store.old }
     ensures same { Goes (H.state store.old.shelf.now) (H.state store.new.shelf.now) Stays }
     ensures fits { FitsUnlessBroken (store_kinds store.new) (store_fault store.new) (H.state store.new.shelf.now) }
-    ensures cause { Counts (H.faults store.old.shelf.now) (H.faults store.new.shelf.now) (ledger_failed result) }
+    ensures cause { RisesExactlyIf (H.faults store.old.shelf.now) (H.faults store.new.shelf.now) (ledger_failed result) }
 {
     check_open(store)?;
     let mut latest = TimeMap::new(alloc);

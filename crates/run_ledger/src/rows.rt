@@ -2,7 +2,7 @@
 
 ghost use Rattle.std.specs.Prelude.{◌≡◌, ◌<◌, [], None, length, vec_len, IfSome, IfOk, OnOk};
 ghost use Rattle.edge_io.specs.Steps.{Goes, Stays};
-ghost use Rattle.run_shelf.specs.Faults.{Counts};
+ghost use Rattle.run_shelf.specs.Faults.{RisesExactlyIf};
 ghost use Rattle.run_shelf.specs.Stores.{store_kinds, store_fault, FitsUnlessBroken};
 ghost use Rattle.run_shelf.specs.Outcomes.{IsRunLength};
 ghost use Rattle.run_ledger.specs.Reading.{HasRead};
@@ -36,7 +36,7 @@ pub fn rows_of<H: Shelf>(
     ensures kinds { store_kinds store.new ≡ store_kinds store.old }
     ensures same { Goes (H.state store.old.shelf.now) (H.state store.new.shelf.now) Stays }
     ensures fits { FitsUnlessBroken (store_kinds store.new) (store_fault store.new) (H.state store.new.shelf.now) }
-    ensures cause { Counts (H.faults store.old.shelf.now) (H.faults store.new.shelf.now) (ledger_failed result) }
+    ensures cause { RisesExactlyIf (H.faults store.old.shelf.now) (H.faults store.new.shelf.now) (ledger_failed result) }
 {
     let size = store.run_length(number)?;
     let mut run = RunReader::new(alloc)?;
@@ -75,7 +75,7 @@ fn read_pieces<H: Shelf>(
     ensures kinds { store_kinds store.new ≡ store_kinds store.old }
     ensures same { Goes (H.state store.old.shelf.now) (H.state store.new.shelf.now) Stays }
     ensures fits { FitsUnlessBroken (store_kinds store.new) (store_fault store.new) (H.state store.new.shelf.now) }
-    ensures cause { Counts (H.faults store.old.shelf.now) (H.faults store.new.shelf.now) (ledger_failed result) }
+    ensures cause { RisesExactlyIf (H.faults store.old.shelf.now) (H.faults store.new.shelf.now) (ledger_failed result) }
 {
     for piece in 0..size.div_ceil(PIECE) {
         read_piece(store, number, piece * PIECE, buf, run)?;
@@ -99,7 +99,7 @@ fn read_piece<H: Shelf>(
     ensures kinds { store_kinds store.new ≡ store_kinds store.old }
     ensures same { Goes (H.state store.old.shelf.now) (H.state store.new.shelf.now) Stays }
     ensures fits { FitsUnlessBroken (store_kinds store.new) (store_fault store.new) (H.state store.new.shelf.now) }
-    ensures cause { Counts (H.faults store.old.shelf.now) (H.faults store.new.shelf.now) (ledger_failed result) }
+    ensures cause { RisesExactlyIf (H.faults store.old.shelf.now) (H.faults store.new.shelf.now) (ledger_failed result) }
 {
     let count = store.read_run(number, place, buf)?;
     run.feed(&buf[..count])?;

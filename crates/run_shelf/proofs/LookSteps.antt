@@ -17,7 +17,7 @@ use Rattle.edge_io.proofs.Going.{goes_then, goes_from, goes_weaker}
 use Rattle.run_shelf.specs.declared.faults.OpenFault.{OpenFault}
 use Rattle.run_shelf.specs.declared.faults.OpenFault.TheVariants.{NoStore, UnknownFormat, Gap, Shelf, NoMemory}
 use Rattle.run_shelf.specs.Looking.{LooksLike, LookFails}
-use Rattle.run_shelf.specs.Marks.{IsKindIn, HasRunIn, HaveKinds, HaveGap, NamesFail}
+use Rattle.run_shelf.specs.Marks.{IsKindIn, HasRunIn, NamesTellKinds, NamesTellGap, NamesFail}
 use Rattle.run_shelf.specs.Repository.{Run, run_of_files, run_at, kind_at, full_name, partial_name, run_name, most_runs, HasKinds, IsRepository, IsGap, HasFormat, HasOtherFormat, format_name, format_bytes}
 use Rattle.run_shelf.proofs.RunLemmas.{past_items, taken_before, none_is_not_some}
 
@@ -91,13 +91,13 @@ module _ (files : Files) (names : List (List ℕ)) (are : AreNamesOf files names
   kind_is number few (Some false) is = full_kind (files (full_name number)) (files (partial_name number)) (there (full_name number) is)
   kind_is number few (Some true) is = partial_kind (files (full_name number)) (files (partial_name number)) (not_there number false few is.0) (there (partial_name number) is.1)
 
-  pub kinds_are : (kinds : List Bool) → HaveKinds names kinds → HasKinds files kinds
+  pub kinds_are : (kinds : List Bool) → NamesTellKinds names kinds → HasKinds files kinds
   kinds_are kinds have = record { few = have.few; each = λ number few. kind_is number few (slice_get kinds number) (have.each number few) }
 
   run_there : (number : ℕ) → number < most_runs → HasRunIn names number → IsSome (run_at files number)
   run_there number few has = kind_some (run_at files number) has.0 (kind_is number few (Some has.0) has.1)
 
-  pub gap_is : (number : ℕ) → HaveGap names number → IsGap files number
+  pub gap_is : (number : ℕ) → NamesTellGap names number → IsGap files number
   gap_is number gap = record {
     first = record {
       few = gap.few;
@@ -141,14 +141,14 @@ both_some None P Q R p q f = tt
 both_some (Some s) P Q R p q f = f s p q
 
 module _ (a : Option Folder) (names : List (List ℕ)) (format : IfSome a (λ s. HasFormat s.disk.published)) (lists : ListsNames a names) where
-  pub looks_like : (kinds : List Bool) → HaveKinds names kinds → IfSome a (LooksLike kinds)
+  pub looks_like : (kinds : List Bool) → NamesTellKinds names kinds → IfSome a (LooksLike kinds)
   looks_like kinds have =
       both_some a (λ s. HasFormat s.disk.published) (λ s. AreNamesOf s.disk.published names) (LooksLike kinds) format lists
       (λ s right are.
       let has = kinds_are s.disk.published names are kinds have in
       record { repository = repository_is s.disk.published kinds right has; kinds_are = has })
 
-  pub gap_known : (number : ℕ) → HaveGap names number → IfSome a (λ s. HasFormat s.disk.published × IsGap s.disk.published number)
+  pub gap_known : (number : ℕ) → NamesTellGap names number → IfSome a (λ s. HasFormat s.disk.published × IsGap s.disk.published number)
   gap_known number gap =
       both_some a (λ s. HasFormat s.disk.published) (λ s. AreNamesOf s.disk.published names) (λ s. HasFormat s.disk.published × IsGap s.disk.published number) format lists
       (λ s right are. (right, gap_is s.disk.published names are number gap))

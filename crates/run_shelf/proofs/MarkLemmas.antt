@@ -4,7 +4,7 @@ use Rattle.std.specs.Prelude.{Contains, slice_get}
 use Rattle.std.proofs.lemmas.Bool.{cond-true, cond-false, cases_eq, eq-eqb, ne_eqb}
 use Rattle.std.proofs.lemmas.List.{get_or-take, take_all}
 use Rattle.std.proofs.lemmas.List.Elements.{Contains-append_left, Contains-push, Contains-push_cases}
-use Rattle.run_shelf.specs.Marks.{IsKindIn, HasRunIn, HaveKinds, HaveGap, mark_at, AreMarksOf, joined, Adds}
+use Rattle.run_shelf.specs.Marks.{IsKindIn, HasRunIn, NamesTellKinds, NamesTellGap, mark_at, AreMarksOf, joined, Adds}
 use Rattle.run_shelf.specs.Names.{SpellsRun, SpellsNoRun}
 use Rattle.run_shelf.specs.Repository.{full_name, partial_name, run_name, most_runs}
 use Rattle.run_shelf.proofs.NameLemmas.{partial_differs, full_same, partial_same}
@@ -124,7 +124,7 @@ module _ (names : List (List ℕ)) (marks : List (Option Bool)) (are : AreMarksO
   before few k less = some_kind names k (mark_at marks k) (subst IsSome (sym (mark_is k less)) (kind_there kinds k (omega (arith, count)))) (are.each k (omega arith))
 
   -- no mark at this place, before the end
-  pub have_gap : i < length marks → mark_at marks i ≡ None → HaveGap names (length kinds)
+  pub have_gap : i < length marks → mark_at marks i ≡ None → NamesTellGap names (length kinds)
   have_gap within none =
       let few : i < most_runs = omega (arith, are.few) in
       let end = length marks - 1 in
@@ -134,7 +134,7 @@ module _ (names : List (List ℕ)) (marks : List (Option Bool)) (are : AreMarksO
         | inl same ↦ absurd (none_not_some (mark_at marks end) (ap (mark_at marks) (sym same) ∙ none) last)
         | inr differs ↦ omega (arith, differs, ends, within)
       ] in
-      subst (HaveGap names) (sym count) (record {
+      subst (NamesTellGap names) (sym count) (record {
         few = few;
         free = subst (λ (o : Option Bool). IsKindIn names i o) none (are.each i few);
         before = before (omega arith);
@@ -145,7 +145,7 @@ module _ (names : List (List ℕ)) (marks : List (Option Bool)) (are : AreMarksO
       })
 
   -- each number up to the end has a mark
-  pub have_kinds : length marks ≤ i → i ≤ length marks → HaveKinds names kinds
+  pub have_kinds : length marks ≤ i → i ≤ length marks → NamesTellKinds names kinds
   have_kinds end within = record {
     few = omega (arith, are.few, count);
     each = λ k few.

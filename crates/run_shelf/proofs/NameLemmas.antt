@@ -4,7 +4,7 @@ use Rattle.std.specs.Prelude.{codes}
 use Rattle.std.specs.Fmt.{decimal}
 use Rattle.std.specs.Str.{bytes_eq}
 use Rattle.std.proofs.lemmas.Slice.Eq.{bytes_eq-Decides}
-use Rattle.run_shelf.specs.Names.{SpellsRun, SpellsNoRun, SpellsNumber, SpellsNoNumber}
+use Rattle.run_shelf.specs.Names.{SpellsRun, SpellsNoRun, SpellsRunNumber, SpellsNoRunNumber}
 use Rattle.std.proofs.lemmas.Bool.{cases_lt}
 use Rattle.std.proofs.lemmas.List.{append_cancel_right, take-append-drop}
 use Rattle.std.proofs.lemmas.Fmt.{decimal_injective, decimal_digit, decimal_step, decimal_by_steps}
@@ -86,9 +86,9 @@ module _ (name digits : List ℕ) (ends : bytes_eq (drop (length name - length (
       sym (take-append-drop (length name - length (codes ".part")) name)
       ∙ (λ i. sym front i ++ (bytes_eq-Decides (drop (length name - length (codes ".part")) name) (codes ".part")).0 ends i)
 
-  pub spells_partial : (number : ℕ) → SpellsNumber digits number → SpellsRun name number true
+  pub spells_partial : (number : ℕ) → SpellsRunNumber digits number → SpellsRun name number true
   spells_partial number spells = record { few = spells.few; is = joined ∙ ap (λ (l : List ℕ). l ++ codes ".part") spells.is }
 
-  pub spells_none : SpellsNoNumber digits → SpellsNoRun name
+  pub spells_none : SpellsNoRunNumber digits → SpellsNoRun name
   spells_none none number true spells = none number (record { few = spells.few; is = append_cancel_right digits (decimal number) (codes ".part") (sym joined ∙ spells.is) })
   spells_none none number false spells = part_differs digits number (omega (arith, spells.few)) (sym joined ∙ spells.is)

@@ -9,7 +9,7 @@ use Rattle.edge_io.specs.Disk.{Files, put, Disk, Folder, IsImage, at_rest}
 use Rattle.edge_io.specs.Steps.{Goes}
 use Rattle.edge_io.proofs.Going.{goes_from}
 use Rattle.edge_io.proofs.Passing.{passes_weaker}
-use Rattle.run_shelf.specs.Holds.{Fits, FitsWhereTold}
+use Rattle.run_shelf.specs.Holds.{FitsFolder, FitsWhereTold}
 use Rattle.run_shelf.specs.Images.{KeepsFile, PassesFile, KeepsRun, PassesRun, HasRunBeside}
 use Rattle.run_shelf.specs.Repository.{Run, run_of, run_of_files, run_at, full_name, partial_name, run_name, most_runs, Shows, HasKinds, IsFirstFree, IsRepository, format_name}
 use Rattle.run_shelf.proofs.NameLemmas.{partial_differs, full_same, partial_same, format_differs}
@@ -179,7 +179,7 @@ module _ (kinds : List Bool) (room : length kinds < most_runs) (partial : Bool) 
   image_is : (files : Files) → put files name bytes ≡ put files (run_name (length kinds) partial) bytes
   image_is files = ap (λ (n : List ℕ). put files n bytes) is
 
-  keeps : (s t : Folder) → Fits kinds s → KeepsFile name bytes s t → KeepsRun (length kinds) (run_of partial bytes) s t
+  keeps : (s t : Folder) → FitsFolder kinds s → KeepsFile name bytes s t → KeepsRun (length kinds) (run_of partial bytes) s t
   keeps s t fit kept =
       let disk : t.disk ≡ at_rest (put s.disk.published (run_name (length kinds) partial) bytes) = kept ∙ ap at_rest (image_is s.disk.published) in
       record {
@@ -190,9 +190,9 @@ module _ (kinds : List Bool) (room : length kinds < most_runs) (partial : Bool) 
       }
 
   pub goes_keeps : Goes a b (KeepsFile name bytes) → Goes a b (KeepsRun (length kinds) (run_of partial bytes))
-  goes_keeps kept = goes_from a b (Fits kinds) (KeepsFile name bytes) (KeepsRun (length kinds) (run_of partial bytes)) fits kept keeps
+  goes_keeps kept = goes_from a b (FitsFolder kinds) (KeepsFile name bytes) (KeepsRun (length kinds) (run_of partial bytes)) fits kept keeps
 
-  fits_more : (s t : Folder) → Fits kinds s × KeepsFile name bytes s t → Fits (kinds ++ partial ∷ []) t
+  fits_more : (s t : Folder) → FitsFolder kinds s × KeepsFile name bytes s t → FitsFolder (kinds ++ partial ∷ []) t
   fits_more s t both =
       let published : t.disk.published ≡ put s.disk.published (run_name (length kinds) partial) bytes = ap (λ (d : Disk). d.published) both.1 ∙ image_is s.disk.published in
       record {
@@ -202,16 +202,16 @@ module _ (kinds : List Bool) (room : length kinds < most_runs) (partial : Bool) 
       }
 
   pub goes_fits : Goes a b (KeepsFile name bytes) → FitsWhereTold (kinds ++ partial ∷ []) b
-  goes_fits kept = some_after a b (λ s t. Fits kinds s × KeepsFile name bytes s t) (Fits (kinds ++ partial ∷ [])) (goes_with a b (Fits kinds) (KeepsFile name bytes) fits kept) fits_more
+  goes_fits kept = some_after a b (λ s t. FitsFolder kinds s × KeepsFile name bytes s t) (FitsFolder (kinds ++ partial ∷ [])) (goes_with a b (FitsFolder kinds) (KeepsFile name bytes) fits kept) fits_more
 
-  passes : (s t : Folder) → Fits kinds s → PassesFile name bytes s t → PassesRun (length kinds) (run_of partial bytes) s t
+  passes : (s t : Folder) → FitsFolder kinds s → PassesFile name bytes s t → PassesRun (length kinds) (run_of partial bytes) s t
   passes s t fit through =
       passes_weaker (λ image. IsImage s.disk image ⊎ (image ≡ put s.disk.published name bytes)) (λ image. IsImage s.disk image ⊎ HasRunBeside s.disk.published (length kinds) (run_of partial bytes) image)
       (allowed s fit) s t through
     where
-      allowed : (s : Folder) → Fits kinds s → (image : Files) → IsImage s.disk image ⊎ (image ≡ put s.disk.published name bytes) → IsImage s.disk image ⊎ HasRunBeside s.disk.published (length kinds) (run_of partial bytes) image
+      allowed : (s : Folder) → FitsFolder kinds s → (image : Files) → IsImage s.disk image ⊎ (image ≡ put s.disk.published name bytes) → IsImage s.disk image ⊎ HasRunBeside s.disk.published (length kinds) (run_of partial bytes) image
       allowed s fit left (inl old) = inl old
       allowed s fit left (inr new) = inr (beside s.disk.published kinds fit.repository fit.kinds_are room partial bytes left (new ∙ image_is s.disk.published))
 
   pub goes_passes : Goes a b (PassesFile name bytes) → Goes a b (PassesRun (length kinds) (run_of partial bytes))
-  goes_passes through = goes_from a b (Fits kinds) (PassesFile name bytes) (PassesRun (length kinds) (run_of partial bytes)) fits through passes
+  goes_passes through = goes_from a b (FitsFolder kinds) (PassesFile name bytes) (PassesRun (length kinds) (run_of partial bytes)) fits through passes

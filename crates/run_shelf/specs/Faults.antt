@@ -6,8 +6,8 @@ use Rattle.run_shelf.specs.declared.faults.InitFault.TheVariants.{Exists, Shelf}
 use Rattle.run_shelf.specs.declared.faults.OpenFault.{OpenFault}
 use Rattle.run_shelf.specs.declared.faults.OpenFault.TheVariants as open_fault
 
--- the count never falls, where a call of the shelf failed it rose, and else it stands
-pub record Counts (before now : ℕ) (failed : Bool) : Type 0 where
+-- the count of faults rises where a call of the shelf failed, and else it stands
+pub record RisesExactlyIf (before now : ℕ) (failed : Bool) : Type 0 where
   pub later : before ≤ now
   pub rose : failed ≡ true → Rose before now
   pub stands : failed ≡ false → now ≡ before

@@ -15,10 +15,10 @@ abbrev pub HasRoom : Found → Type 0
 HasRoom found = vec_len found.kinds < vec_capacity found.kinds
 
 -- the folder is a repository of runs of these kinds, and nothing is pending
-pub record Fits (kinds : List Bool) (s : Folder) : Type 0 where
+pub record FitsFolder (kinds : List Bool) (s : Folder) : Type 0 where
   pub rest : AtRest s
   pub repository : IsRepository s.disk.published
   pub kinds_are : HasKinds s.disk.published kinds
 
 abbrev pub FitsWhereTold : List Bool → Option Folder → Type 0
-FitsWhereTold kinds state = IfSome state (Fits kinds)
+FitsWhereTold kinds state = IfSome state (FitsFolder kinds)

@@ -13,13 +13,14 @@ IsKindIn names number (Some true) = (Contains names (full_name number) → ⊥) 
 abbrev pub HasRunIn : List (List ℕ) → ℕ → Type 0
 HasRunIn names number = (kind : Bool) × IsKindIn names number (Some kind)
 
--- each run of the names is of its kind, and there is no other
-pub record HaveKinds (names : List (List ℕ)) (kinds : List Bool) : Type 0 where
+-- what a list of names tells of the runs, as `HasKinds` says it of the files: each is of its kind, and there is no other
+pub record NamesTellKinds (names : List (List ℕ)) (kinds : List Bool) : Type 0 where
   pub few : length kinds ≤ most_runs
   pub each : (number : ℕ) → number < most_runs → IsKindIn names number (slice_get kinds number)
 
--- the least number without a run, and a greater number has one
-pub record HaveGap (names : List (List ℕ)) (number : ℕ) : Type 0 where
+-- what a list of names tells of a gap, as `IsGap` says it of the files: the least number without a run, and a greater
+-- number has one
+pub record NamesTellGap (names : List (List ℕ)) (number : ℕ) : Type 0 where
   pub few : number < most_runs
   pub free : IsKindIn names number None
   pub before : (other : ℕ) → other < number → HasRunIn names other
@@ -32,7 +33,7 @@ pub record HaveGap (names : List (List ℕ)) (number : ℕ) : Type 0 where
 abbrev pub NamesFail : List (List ℕ) → OpenFault → Type 0
 NamesFail names NoStore = ⊥
 NamesFail names UnknownFormat = ⊥
-NamesFail names (Gap number) = HaveGap names number
+NamesFail names (Gap number) = NamesTellGap names number
 NamesFail names (Shelf call) = ⊥
 NamesFail names NoMemory = ⊤
 

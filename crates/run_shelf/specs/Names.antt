@@ -11,10 +11,10 @@ pub record SpellsRun (name : List ℕ) (number : ℕ) (partial : Bool) : Type 0 
 abbrev pub SpellsNoRun : List ℕ → Type 0
 SpellsNoRun name = (number : ℕ) (partial : Bool) → SpellsRun name number partial → ⊥
 
--- the digits are those of this number
-pub record SpellsNumber (digits : List ℕ) (number : ℕ) : Type 0 where
+-- the digits are those of this number, which a run can have
+pub record SpellsRunNumber (digits : List ℕ) (number : ℕ) : Type 0 where
   pub few : number < most_runs
   pub is : digits ≡ decimal number
 
-abbrev pub SpellsNoNumber : List ℕ → Type 0
-SpellsNoNumber digits = (number : ℕ) → SpellsNumber digits number → ⊥
+abbrev pub SpellsNoRunNumber : List ℕ → Type 0
+SpellsNoRunNumber digits = (number : ℕ) → SpellsRunNumber digits number → ⊥

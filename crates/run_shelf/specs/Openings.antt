@@ -5,7 +5,7 @@ use Rattle.edge_io.specs.Disk.{Folder}
 use Rattle.edge_io.specs.Steps.{Goes}
 use Rattle.run_shelf.specs.declared.faults.OpenFault.{OpenFault}
 use Rattle.run_shelf.specs.declared.opening.Opening.{Opening}
-use Rattle.run_shelf.specs.Faults.{Counts, open_failed}
+use Rattle.run_shelf.specs.Faults.{RisesExactlyIf, open_failed}
 use Rattle.run_shelf.specs.Images.{PassesOld}
 use Rattle.run_shelf.specs.Outcomes.{OpenFails}
 
@@ -13,7 +13,7 @@ use Rattle.run_shelf.specs.Outcomes.{OpenFails}
 pub record IsNotOpened (fault : OpenFault) (before : Option Folder) (faults : ℕ) (after : Option Folder) (faults_after : ℕ) : Type 0 where
   pub refused : Goes before after (OpenFails fault)
   pub any_moment : Goes before after PassesOld
-  pub count : Counts faults faults_after (open_failed {T = ⊤} (Err fault))
+  pub count : RisesExactlyIf faults faults_after (open_failed {T = ⊤} (Err fault))
 
 -- The store holds the folder of this name; or that folder is handed back, and of it this is so.
 abbrev pub HandsBack : {H : Type 0} → (name : GName) → Opening H → (Why : OpenFault → H → Type 0) → Type 0

@@ -9,7 +9,7 @@ use Rattle.run_shelf.specs.declared.faults.InitFault.{InitFault}
 use Rattle.run_shelf.specs.declared.faults.InitFault.TheVariants as init_fault
 use Rattle.run_shelf.specs.declared.faults.OpenFault.{OpenFault}
 use Rattle.run_shelf.specs.declared.faults.OpenFault.TheVariants as open_fault
-use Rattle.run_shelf.specs.Holds.{Fits}
+use Rattle.run_shelf.specs.Holds.{FitsFolder}
 use Rattle.run_shelf.specs.Images.{SameDisk, ReadsFile}
 use Rattle.run_shelf.specs.Repository.{run_at, format_name, format_bytes, HasFormat, HasOtherFormat, IsGap}
 
@@ -55,7 +55,7 @@ InitFails (init_fault.Shelf call) s t = InitFailsAt call s t
 -- the files are a repository with runs of these kinds, and all is on the disk for good
 pub record Surveys (kinds : List Bool) (s t : Folder) : Type 0 where
   pub settled : Settled s t
-  pub fits : Fits kinds t
+  pub fits : FitsFolder kinds t
 
 -- the first barrier failed, or it brought all to the disk
 abbrev pub FailsAt : ShelfCall → Folder → Folder → Type 0

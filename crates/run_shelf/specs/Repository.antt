@@ -44,6 +44,7 @@ pub record Shows (files : Files) (runs : List Run) : Type 0 where
 abbrev pub kind_at : Files → ℕ → Option Bool
 kind_at files number = option_map (λ run. run.partial) (run_at files number)
 
+-- of the files themselves; `NamesTellKinds` says it of a list of their names
 pub record HasKinds (files : Files) (kinds : List Bool) : Type 0 where
   pub few : length kinds ≤ most_runs
   pub each : (number : ℕ) → number < most_runs → kind_at files number ≡ slice_get kinds number
@@ -67,7 +68,8 @@ pub record IsFirstFree (files : Files) (number : ℕ) : Type 0 where
   pub free : run_at files number ≡ None
   pub before : (other : ℕ) → other < number → IsSome (run_at files other)
 
--- the least number without a run, and a greater number has one
+-- The least number without a run, and a greater number has one: of the files themselves. `NamesTellGap` says it of a list
+-- of their names.
 pub record IsGap (files : Files) (number : ℕ) : Type 0 where
   pub first : IsFirstFree files number
   pub other : ℕ

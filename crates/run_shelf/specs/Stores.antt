@@ -10,7 +10,7 @@ use Rattle.run_shelf.specs.declared.faults.StartFault.{StartFault}
 use Rattle.run_shelf.specs.declared.faults.StartFault.TheVariants as start_fault
 use Rattle.run_shelf.specs.declared.store.Store.{Store}
 use Rattle.run_shelf.specs.declared.recorder.Recorder.{Recorder}
-use Rattle.run_shelf.specs.Holds.{Fits, kinds_of}
+use Rattle.run_shelf.specs.Holds.{FitsFolder, kinds_of}
 use Rattle.run_shelf.specs.Outcomes.{KeepFails}
 use Rattle.run_shelf.specs.Repository.{HasFormat, HasOtherFormat, IsGap, format_name, most_runs}
 
@@ -34,7 +34,7 @@ recorder_partial recorder = recorder.recording.partial
 
 -- until a call of the folder has failed, what the store knows fits the folder
 abbrev pub FitsUnlessBroken : List Bool → Option ShelfCall → Option Folder → Type 0
-FitsUnlessBroken kinds fault state = fault ≡ None → IfSome state (Fits kinds)
+FitsUnlessBroken kinds fault state = fault ≡ None → IfSome state (FitsFolder kinds)
 
 -- the call failed that is kept, or the one before it
 abbrev pub fault_after : {T : Type 0} → Option ShelfCall → Result T StoreFault → Option ShelfCall

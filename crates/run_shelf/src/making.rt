@@ -2,7 +2,7 @@
 
 ghost use Rattle.std.specs.Prelude.{IfErr, OnOk};
 ghost use Rattle.edge_io.specs.Steps.{Goes};
-ghost use Rattle.run_shelf.specs.Faults.{Counts, init_failed};
+ghost use Rattle.run_shelf.specs.Faults.{RisesExactlyIf, init_failed};
 ghost use Rattle.run_shelf.specs.Images.{MakesRepository, PassesFormat};
 ghost use Rattle.run_shelf.specs.Outcomes.{InitFails};
 
@@ -27,7 +27,7 @@ pub fn make_repository<H: Shelf>(shelf: &mut H) -> Result<(), InitFault>
     ensures made { OnOk result (Goes (H.state shelf.old) (H.state shelf.new) MakesRepository) }
     ensures refused { IfErr result (λ fault. Goes (H.state shelf.old) (H.state shelf.new) (InitFails fault)) }
     ensures any_moment { Goes (H.state shelf.old) (H.state shelf.new) PassesFormat }
-    ensures cause { Counts (H.faults shelf.old) (H.faults shelf.new) (init_failed result) }
+    ensures cause { RisesExactlyIf (H.faults shelf.old) (H.faults shelf.new) (init_failed result) }
 {
     let Ok(()) = shelf.sync_folder() else {
         return Err(InitFault::Shelf(ShelfCall::SyncFolder));

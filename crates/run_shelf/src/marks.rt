@@ -2,7 +2,7 @@
 
 ghost use Rattle.std.specs.Prelude.{◌≡◌, ◌<◌, IfOk, IfErr, OnOk, length};
 ghost use Rattle.run_shelf.specs.Holds.{kinds_of, HasRoom};
-ghost use Rattle.run_shelf.specs.Marks.{HaveKinds, NamesFail, AreMarksOf, Adds, joined};
+ghost use Rattle.run_shelf.specs.Marks.{NamesTellKinds, NamesFail, AreMarksOf, Adds, joined};
 ghost use Rattle.run_shelf.specs.Repository.{most_runs};
 
 use crate::names::read_name;
@@ -12,7 +12,7 @@ use sub_number::Text;
 
 /// The runs of these names, with room for one more. Each name is read once.
 pub fn runs_of(alloc: Global, names: &[Text]) -> Result<Found, OpenFault>
-    ensures found { IfOk result (λ found. HaveKinds names.now (kinds_of found)) }
+    ensures found { IfOk result (λ found. NamesTellKinds names.now (kinds_of found)) }
     ensures room { IfOk result HasRoom }
     ensures refused { IfErr result (NamesFail names.now) }
 {
@@ -59,7 +59,7 @@ fn join(earlier: Option<bool>, partial: bool) -> bool
 // The kinds that are marked, up to the end; a number without a mark before it is a gap.
 fn kinds_in(alloc: Global, marks: &[Option<bool>], names: &[Text]) -> Result<Found, OpenFault>
     requires { AreMarksOf names.now marks.now }
-    ensures found { IfOk result (λ found. HaveKinds names.now (kinds_of found)) }
+    ensures found { IfOk result (λ found. NamesTellKinds names.now (kinds_of found)) }
     ensures room { IfOk result HasRoom }
     ensures refused { IfErr result (NamesFail names.now) }
 {

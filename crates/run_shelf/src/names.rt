@@ -1,7 +1,7 @@
 //! The names of the files of runs.
 
 ghost use Rattle.std.specs.Prelude.{◌≡◌, ◌<◌, IfSome, IfNone};
-ghost use Rattle.run_shelf.specs.Names.{SpellsRun, SpellsNoRun, SpellsNumber, SpellsNoNumber};
+ghost use Rattle.run_shelf.specs.Names.{SpellsRun, SpellsNoRun, SpellsRunNumber, SpellsNoRunNumber};
 ghost use Rattle.run_shelf.specs.Repository.{most_runs};
 ghost use Rattle.run_shelf.specs.Repository.{run_name as name_of};
 
@@ -38,8 +38,8 @@ pub fn read_name(name: &[u8]) -> Option<(u32, bool)>
 
 // The number below 1,000,000 that these digits spell, without leading zeros.
 fn read_number(digits: &[u8]) -> Option<u32>
-    ensures some { IfSome result (SpellsNumber digits.now) }
-    ensures none { IfNone result (SpellsNoNumber digits.now) }
+    ensures some { IfSome result (SpellsRunNumber digits.now) }
+    ensures none { IfNone result (SpellsNoRunNumber digits.now) }
 {
     let Ok(text) = str::from_utf8(digits) else {
         return None;

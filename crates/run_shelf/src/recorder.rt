@@ -2,7 +2,7 @@
 
 ghost use Rattle.std.specs.Prelude.{◌≡◌, ◌++◌, ◌∷◌, [], None, length, IfOk, IfErr, OnOk, OnErr};
 ghost use Rattle.edge_io.specs.Steps.{Goes};
-ghost use Rattle.run_shelf.specs.Faults.{Counts};
+ghost use Rattle.run_shelf.specs.Faults.{RisesExactlyIf};
 ghost use Rattle.run_shelf.specs.Holds.{FitsWhereTold};
 ghost use Rattle.run_shelf.specs.Images.{KeepsRun, PassesRun};
 ghost use Rattle.run_shelf.specs.Outcomes.{KeepFails};
@@ -62,7 +62,7 @@ impl<'h, H: Shelf> Recorder<'h, H> {
         ensures failed { IfErr result.1 (λ fault. Goes (H.state self.entry.shelf.now) (H.state result.0.shelf.now) (StoreKeepFails (run_name (length (recorder_kinds self.entry)) (recorder_partial self.entry)) (recorded self.entry) fault)) }
         ensures fault { store_fault result.0 ≡ fault_after None result.1 }
         ensures any_moment { Goes (H.state self.entry.shelf.now) (H.state result.0.shelf.now) (PassesRun (length (recorder_kinds self.entry)) (run_of (recorder_partial self.entry) (recorded self.entry))) }
-        ensures cause { Counts (H.faults self.entry.shelf.now) (H.faults result.0.shelf.now) (store_failed result.1) }
+        ensures cause { RisesExactlyIf (H.faults self.entry.shelf.now) (H.faults result.0.shelf.now) (store_failed result.1) }
     {
         let Recorder { shelf, recording } = self;
         let Recording {

@@ -3,7 +3,7 @@
 ghost use Rattle.std.specs.Prelude.{◌≡◌, ◌<◌, ◌++◌, ◌∷◌, [], length, IfSome, IfOk, IfErr, OnOk, OnErr};
 ghost use Rattle.edge_io.specs.Causes.{HasCause};
 ghost use Rattle.edge_io.specs.Steps.{Goes};
-ghost use Rattle.run_shelf.specs.Holds.{kinds_of, HasRoom, Fits, FitsWhereTold};
+ghost use Rattle.run_shelf.specs.Holds.{kinds_of, HasRoom, FitsFolder, FitsWhereTold};
 ghost use Rattle.run_shelf.specs.Images.{KeepsRun, PassesRun};
 ghost use Rattle.run_shelf.specs.Outcomes.{KeepFails};
 ghost use Rattle.run_shelf.specs.Repository.{run_of, run_name, most_runs};

@@ -4,7 +4,7 @@ ghost use Rattle.std.specs.Prelude.{◌≡◌, ◌<◌, None, Some, length, slic
 ghost use Rattle.std.specs.Borrow.{sem, RestsIfErr};
 ghost use Rattle.std.specs.Io.{ReadsAtMost};
 ghost use Rattle.edge_io.specs.Steps.{Goes, Stays};
-ghost use Rattle.run_shelf.specs.Faults.{Counts, init_failed};
+ghost use Rattle.run_shelf.specs.Faults.{RisesExactlyIf, init_failed};
 ghost use Rattle.run_shelf.specs.Holds.{kinds_of};
 ghost use Rattle.run_shelf.specs.Images.{MakesRepository, PassesFormat, PassesOld};
 ghost use Rattle.run_shelf.specs.Openings.{IsNotOpened};
@@ -39,7 +39,7 @@ impl<'h, H: Shelf> Store<'h, H> {
         ensures made { OnOk result (Goes (H.state shelf.old) (H.state shelf.new) MakesRepository) }
         ensures refused { IfErr result (λ fault. Goes (H.state shelf.old) (H.state shelf.new) (InitFails fault)) }
         ensures any_moment { Goes (H.state shelf.old) (H.state shelf.new) PassesFormat }
-        ensures cause { Counts (H.faults shelf.old) (H.faults shelf.new) (init_failed result) }
+        ensures cause { RisesExactlyIf (H.faults shelf.old) (H.faults shelf.new) (init_failed result) }
     {
         make_repository(shelf)
     }
@@ -107,7 +107,7 @@ impl<'h, H: Shelf> Store<'h, H> {
         ensures same { Goes (H.state self.old.shelf.now) (H.state self.new.shelf.now) Stays }
         ensures fits { FitsUnlessBroken (store_kinds self.new) (store_fault self.new) (H.state self.new.shelf.now) }
         ensures time { TicksAtMost (H.clock self.old.shelf.now) (H.clock self.new.shelf.now) }
-        ensures cause { Counts (H.faults self.old.shelf.now) (H.faults self.new.shelf.now) (store_failed result) }
+        ensures cause { RisesExactlyIf (H.faults self.old.shelf.now) (H.faults self.new.shelf.now) (store_failed result) }
     {
         if let Some(call) = self.fault {
             return Err(StoreFault::Closed(call));
@@ -132,7 +132,7 @@ impl<'h, H: Shelf> Store<'h, H> {
         ensures same { Goes (H.state self.old.shelf.now) (H.state self.new.shelf.now) Stays }
         ensures fits { FitsUnlessBroken (store_kinds self.new) (store_fault self.new) (H.state self.new.shelf.now) }
         ensures time { TicksAtMost (H.clock self.old.shelf.now) (H.clock self.new.shelf.now) }
-        ensures cause { Counts (H.faults self.old.shelf.now) (H.faults self.new.shelf.now) (store_failed result) }
+        ensures cause { RisesExactlyIf (H.faults self.old.shelf.now) (H.faults self.new.shelf.now) (store_failed result) }
     {
         if let Some(call) = self.fault {
             return Err(StoreFault::Closed(call));

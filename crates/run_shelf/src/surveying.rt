@@ -2,7 +2,7 @@
 
 ghost use Rattle.std.specs.Prelude.{◌≡◌, ◌↔◌, IsTrue, length, IfSome, IfOk, IfErr, OnOk};
 ghost use Rattle.edge_io.specs.Steps.{Goes, Stays};
-ghost use Rattle.run_shelf.specs.Faults.{Counts, open_failed};
+ghost use Rattle.run_shelf.specs.Faults.{RisesExactlyIf, open_failed};
 ghost use Rattle.run_shelf.specs.Holds.{kinds_of, HasRoom};
 ghost use Rattle.run_shelf.specs.Images.{PassesOld};
 ghost use Rattle.run_shelf.specs.Looking.{LooksLike, LookFails, FormatFails};
@@ -30,7 +30,7 @@ pub fn survey<H: Shelf>(alloc: Global, shelf: &mut H) -> Result<Found, OpenFault
     ensures room { IfOk result HasRoom }
     ensures refused { IfErr result (λ fault. Goes (H.state shelf.old) (H.state shelf.new) (OpenFails fault)) }
     ensures any_moment { Goes (H.state shelf.old) (H.state shelf.new) PassesOld }
-    ensures cause { Counts (H.faults shelf.old) (H.faults shelf.new) (open_failed result) }
+    ensures cause { RisesExactlyIf (H.faults shelf.old) (H.faults shelf.new) (open_failed result) }
 {
     let Ok(()) = shelf.sync_folder() else {
         return Err(OpenFault::Shelf(ShelfCall::SyncFolder));
@@ -44,7 +44,7 @@ fn look<H: Shelf>(alloc: Global, shelf: &mut H) -> Result<Found, OpenFault>
     ensures room { IfOk result HasRoom }
     ensures refused { IfErr result (λ fault. Goes (H.state shelf.old) (H.state shelf.new) (LookFails fault)) }
     ensures same { Goes (H.state shelf.old) (H.state shelf.new) Stays }
-    ensures cause { Counts (H.faults shelf.old) (H.faults shelf.new) (open_failed result) }
+    ensures cause { RisesExactlyIf (H.faults shelf.old) (H.faults shelf.new) (open_failed result) }
 {
     check_format(shelf)?;
     let names = match shelf.names(alloc) {
@@ -60,7 +60,7 @@ fn check_format<H: Shelf>(shelf: &mut H) -> Result<(), OpenFault>
     ensures right { OnOk result (IfSome (H.state shelf.old) (λ s. HasFormat s.disk.published)) }
     ensures refused { IfErr result (λ fault. Goes (H.state shelf.old) (H.state shelf.new) (FormatFails fault)) }
     ensures same { Goes (H.state shelf.old) (H.state shelf.new) Stays }
-    ensures cause { Counts (H.faults shelf.old) (H.faults shelf.new) (open_failed result) }
+    ensures cause { RisesExactlyIf (H.faults shelf.old) (H.faults shelf.new) (open_failed result) }
 {
     let Ok(found) = shelf.length(FORMAT_NAME) else {
         return Err(OpenFault::Shelf(ShelfCall::Length));

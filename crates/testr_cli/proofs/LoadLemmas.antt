@@ -14,7 +14,7 @@ use Rattle.run_shelf.specs.declared.found.Found.{Found}
 use Rattle.run_shelf.specs.Repository.{run_of, run_name, most_runs, HasFormat, HasOtherFormat, IsGap, format_name}
 use Rattle.run_shelf.specs.Holds.{kinds_of}
 use Rattle.run_shelf.specs.Images.{KeepsRun}
-use Rattle.run_shelf.specs.Faults.{Counts, open_failed}
+use Rattle.run_shelf.specs.Faults.{RisesExactlyIf, open_failed}
 use Rattle.run_shelf.specs.Outcomes.{OpenFails, KeepFails, Surveys, FailsAt}
 use Rattle.testr_cli.specs.Outside.{Outside, outside, KeepsFiles, ChangesNothing}
 use Rattle.testr_cli.specs.Reading.{HasReadCause}
@@ -37,7 +37,7 @@ module _ (partial : Bool) (a b : Option Folder) (n m : ℕ) (left after printed 
     same = record { printed = Keeps-refl printed; kept = goes_weaker a b (λ s t. Why s × Settled s t) KeepsFiles step (λ s t w. settled_keeps s t w.1) };
   }
 
-  pub open_causes : (fault : OpenFault) → Goes a b (OpenFails fault) → Counts n m (open_failed {T = Found} (Err fault)) → HasLoadCause partial (outside a n left i printed o) (outside b m left i printed o) (refusal_of_open fault)
+  pub open_causes : (fault : OpenFault) → Goes a b (OpenFails fault) → RisesExactlyIf n m (open_failed {T = Found} (Err fault)) → HasLoadCause partial (outside a n left i printed o) (outside b m left i printed o) (refusal_of_open fault)
   open_causes open_fault.NoStore step counts = refuses (λ s. s.disk.published format_name ≡ None) step
   open_causes open_fault.UnknownFormat step counts = refuses (λ s. HasOtherFormat s.disk.published) step
   open_causes (open_fault.Gap number) step counts = refuses (λ s. HasFormat s.disk.published × IsGap s.disk.published number) step

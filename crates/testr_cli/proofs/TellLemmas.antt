@@ -7,11 +7,11 @@ use Rattle.edge_io.specs.Steps.{Goes, Settled, Stays, IsPart}
 use Rattle.run_shelf.specs.declared.faults.ShelfCall.{ShelfCall}
 use Rattle.run_shelf.specs.declared.faults.StoreFault.{StoreFault}
 use Rattle.run_shelf.specs.declared.faults.StoreFault.TheVariants as store_fault
-use Rattle.run_shelf.specs.Faults.{Counts}
+use Rattle.run_shelf.specs.Faults.{RisesExactlyIf}
 use Rattle.run_shelf.specs.Stores.{Closes, store_failed}
 use Rattle.run_shelf.specs.Outcomes.{IsRunLength, IsRunPart, Surveys}
 use Rattle.run_shelf.specs.Repository.{Run, run_at, IsRepository}
-use Rattle.run_shelf.specs.Holds.{Fits}
+use Rattle.run_shelf.specs.Holds.{FitsFolder}
 use Rattle.run_ledger.specs.declared.fault.LedgerFault.{LedgerFault}
 use Rattle.run_ledger.specs.declared.fault.LedgerFault.TheVariants as ledger_fault
 use Rattle.run_ledger.specs.Outcomes.{LedgerCloses, ledger_failed}
@@ -30,19 +30,19 @@ use Rattle.testr_cli.specs.declared.answer.Refusal.{Refusal}
 use Rattle.testr_cli.specs.declared.answer.Refusal.TheVariants.{Usage, Exists, NoStore, UnknownFormat, Gap, NoRuns, Full, TooLong, ShelfFault, InputFault, SinkFault, NoMemory}
 
 -- an open store answers only where a call of the folder failed
-pub store_rose : {T : Type 0} (n m : ℕ) (before after : Option ShelfCall) (result : Result T StoreFault) → before ≡ None → Closes before after result → Counts n m (store_failed result) → OnErr result (Rose n m)
+pub store_rose : {T : Type 0} (n m : ℕ) (before after : Option ShelfCall) (result : Result T StoreFault) → before ≡ None → Closes before after result → RisesExactlyIf n m (store_failed result) → OnErr result (Rose n m)
 store_rose n m before after (Ok done) unbroken closes counts = tt
 store_rose n m before after (Err (store_fault.Shelf call)) unbroken closes counts = counts.rose refl
 store_rose n m before after (Err (store_fault.Closed call)) unbroken closes counts =
     let closed : before ≡ Some call = (closes.closed call).0 refl in
     cc
 
-pub store_stands : {T : Type 0} (n m : ℕ) (result : Result T StoreFault) → Counts n m (store_failed result) → OnOk result (m ≡ n)
+pub store_stands : {T : Type 0} (n m : ℕ) (result : Result T StoreFault) → RisesExactlyIf n m (store_failed result) → OnOk result (m ≡ n)
 store_stands n m (Ok done) counts = counts.stands refl
 store_stands n m (Err fault) counts = tt
 
 -- and so does a call that reads its runs
-pub ledger_cause : {T : Type 0} (n m : ℕ) (before after : Option ShelfCall) (result : Result T LedgerFault) → before ≡ None → LedgerCloses before after result → Counts n m (ledger_failed result) → IfErr result (λ fault. HasTellCause n m (refusal_of_ledger fault))
+pub ledger_cause : {T : Type 0} (n m : ℕ) (before after : Option ShelfCall) (result : Result T LedgerFault) → before ≡ None → LedgerCloses before after result → RisesExactlyIf n m (ledger_failed result) → IfErr result (λ fault. HasTellCause n m (refusal_of_ledger fault))
 ledger_cause n m before after (Ok done) unbroken closes counts = tt
 ledger_cause n m before after (Err (ledger_fault.Store (store_fault.Shelf call))) unbroken closes counts = counts.rose refl
 ledger_cause n m before after (Err (ledger_fault.Store (store_fault.Closed call))) unbroken closes counts =
@@ -50,7 +50,7 @@ ledger_cause n m before after (Err (ledger_fault.Store (store_fault.Closed call)
     cc
 ledger_cause n m before after (Err ledger_fault.NoMemory) unbroken closes counts = tt
 
-pub ledger_stands : {T : Type 0} (n m : ℕ) (result : Result T LedgerFault) → Counts n m (ledger_failed result) → OnOk result (m ≡ n)
+pub ledger_stands : {T : Type 0} (n m : ℕ) (result : Result T LedgerFault) → RisesExactlyIf n m (ledger_failed result) → OnOk result (m ≡ n)
 ledger_stands n m (Ok done) counts = counts.stands refl
 ledger_stands n m (Err fault) counts = tt
 
@@ -64,10 +64,10 @@ whole_run number size count buf bytes (Some s) sized fits part is = at (run_at s
     at (Some run) sized part = is ∙ part.same ∙ take_all (length buf) run.bytes (omega (arith, fits, sized))
 
 -- the same where the answer is known
-pub store_rose_at : {T : Type 0} (n m : ℕ) (before after : Option ShelfCall) (result : Result T StoreFault) (fault : StoreFault) → result ≡ Err fault → before ≡ None → Closes before after result → Counts n m (store_failed result) → Rose n m
+pub store_rose_at : {T : Type 0} (n m : ℕ) (before after : Option ShelfCall) (result : Result T StoreFault) (fault : StoreFault) → result ≡ Err fault → before ≡ None → Closes before after result → RisesExactlyIf n m (store_failed result) → Rose n m
 store_rose_at n m before after result fault is unbroken closes counts = subst (λ r. OnErr r (Rose n m)) is (store_rose n m before after result unbroken closes counts)
 
-pub ledger_cause_at : {T : Type 0} (n m : ℕ) (before after : Option ShelfCall) (result : Result T LedgerFault) (fault : LedgerFault) (refusal : Refusal) → result ≡ Err fault → refusal ≡ refusal_of_ledger fault → before ≡ None → LedgerCloses before after result → Counts n m (ledger_failed result) → HasTellCause n m refusal
+pub ledger_cause_at : {T : Type 0} (n m : ℕ) (before after : Option ShelfCall) (result : Result T LedgerFault) (fault : LedgerFault) (refusal : Refusal) → result ≡ Err fault → refusal ≡ refusal_of_ledger fault → before ≡ None → LedgerCloses before after result → RisesExactlyIf n m (ledger_failed result) → HasTellCause n m refusal
 ledger_cause_at n m before after result fault refusal is refusal_is unbroken closes counts =
     subst (HasTellCause n m) (sym refusal_is) (subst (λ r. IfErr r (λ fault. HasTellCause n m (refusal_of_ledger fault))) is (ledger_cause n m before after result unbroken closes counts))
 
@@ -79,12 +79,12 @@ if_err_then : {A E : Type 0} (P Q : E → Type 0) (r : Result A E) → IfErr r P
 if_err_then P Q (Ok a) holds each = tt
 if_err_then P Q (Err e) holds each = each e holds
 
-some_both : (kinds : List Bool) (question : Question) (told : Told) (state : Option Folder) → IfSome state (Fits kinds) → IfSome state (TellsSo (Says question) told) → IfSome state (IsAnswer question told)
+some_both : (kinds : List Bool) (question : Question) (told : Told) (state : Option Folder) → IfSome state (FitsFolder kinds) → IfSome state (TellsSo (Says question) told) → IfSome state (IsAnswer question told)
 some_both kinds question told None fits says = tt
 some_both kinds question told (Some s) fits says = record { repository = fits.repository; says = says }
 
 -- what is told of a repository is the answer of the question
-pub answers_so : {E : Type 0} (question asked : Question) (kinds : List Bool) (state : Option Folder) (r : Result Told E) → asked ≡ question → IfSome state (Fits kinds) → IfOk r (λ told. IfSome state (TellsSo (Says question) told)) → IfOk r (λ told. IfSome state (IsAnswer asked told))
+pub answers_so : {E : Type 0} (question asked : Question) (kinds : List Bool) (state : Option Folder) (r : Result Told E) → asked ≡ question → IfSome state (FitsFolder kinds) → IfOk r (λ told. IfSome state (TellsSo (Says question) told)) → IfOk r (λ told. IfSome state (IsAnswer asked told))
 answers_so question asked kinds state r is fits says =
     subst (λ (q : Question). IfOk r (λ told. IfSome state (IsAnswer q told))) (sym is)
     (if_ok_then (λ told. IfSome state (TellsSo (Says question) told)) (λ told. IfSome state (IsAnswer question told)) r says (λ told. some_both kinds question told state fits))

@@ -1,5 +1,5 @@
 use Rattle.std.proofs.Common.{◌≡◌, sym, subst, length, arith, rules}
-use Rattle.run_shelf.specs.Marks.{HaveKinds}
+use Rattle.run_shelf.specs.Marks.{NamesTellKinds}
 use Rattle.run_shelf.proofs.MarkLemmas.{have_gap, have_kinds}
 use Rattle.run_shelf.proofs.marks.kinds_in.Goals as goal
 
@@ -12,5 +12,5 @@ returns-in_default-clause-refused c =
 pub returns-clause-found : goal.returns-clause-found
 returns-clause-found c =
     let i = c.loop-mark.mark-index in
-    subst (HaveKinds c.args.names.now) (sym c.in_ok-of.ensures.same)
+    subst (NamesTellKinds c.args.names.now) (sym c.in_ok-of.ensures.same)
     (have_kinds c.args.names.now c.args.marks.now c.requires c.loop-mark.kinds.items i c.loop-mark.invariant.front c.loop-mark.invariant.count (omega (arith, c.loop-mark-test.false)) c.loop-mark.auto.mark-index-end)
