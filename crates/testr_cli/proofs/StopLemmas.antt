@@ -4,7 +4,6 @@ use Rattle.edge_io.specs.Disk.{Files, Disk, Folder, IsImage, at_rest}
 use Rattle.edge_io.specs.Steps.{Goes, Settled, Stays}
 use Rattle.edge_io.proofs.Going.{goes_weaker}
 use Rattle.edge_io.proofs.Passing.{passes_then, passes_weaker}
-use Rattle.worker_lane.specs.Recorded.{HasRecorded}
 use Rattle.run_shelf.specs.Repository.{run_of}
 use Rattle.run_shelf.specs.Holds.{kinds_of}
 use Rattle.run_shelf.specs.Images.{HasRunBeside, PassesOld, PassesRun}

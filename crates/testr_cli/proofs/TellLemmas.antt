@@ -1,5 +1,5 @@
 -- What is told of a store, and why it may be refused.
-use Rattle.std.proofs.Common.{◌≡◌, ◌⊎◌, inl, inr, ℕ, ◌+◌, ◌-◌, ◌≤◌, ◌<◌, Bool, true, false, Option, None, Some, IfSome, IsSomeAnd, List, [], take, drop, length, Result, Ok, Err, IfOk, IfErr, OnErr, OnOk, refl, sym, ap, subst, ◌∙◌, arith}
+use Rattle.std.proofs.Common.{◌≡◌, ℕ, Bool, Option, None, Some, IfSome, IsSomeAnd, List, take, length, Result, Ok, Err, IfOk, IfErr, OnErr, OnOk, refl, sym, subst, ◌∙◌, arith}
 use Rattle.std.proofs.lemmas.List.{take_all}
 use Rattle.edge_io.specs.Causes.{Rose}
 use Rattle.edge_io.specs.Disk.{Folder}
@@ -10,7 +10,7 @@ use Rattle.run_shelf.specs.declared.faults.StoreFault.TheVariants as store_fault
 use Rattle.run_shelf.specs.Faults.{RisesExactlyIf}
 use Rattle.run_shelf.specs.Stores.{Closes, store_failed}
 use Rattle.run_shelf.specs.Outcomes.{IsRunLength, IsRunPart, Surveys}
-use Rattle.run_shelf.specs.Repository.{Run, run_at, IsRepository}
+use Rattle.run_shelf.specs.Repository.{Run, run_at}
 use Rattle.run_shelf.specs.Holds.{FitsFolder}
 use Rattle.run_ledger.specs.declared.fault.LedgerFault.{LedgerFault}
 use Rattle.run_ledger.specs.declared.fault.LedgerFault.TheVariants as ledger_fault
@@ -25,7 +25,6 @@ use Rattle.run_shelf.proofs.Joining.{stays_some}
 use Rattle.edge_io.proofs.Going.{goes_then}
 use Rattle.std.proofs.KnownBytes.{Keeps-refl}
 use Rattle.testr_cli.specs.Told.{HasTellCause, HasBytesAt, TellsSo, IsAnswer, Finds, refusal_of_ledger}
-use Rattle.testr_cli.specs.Load.{HasRuns}
 use Rattle.testr_cli.specs.declared.answer.Refusal.{Refusal}
 use Rattle.testr_cli.specs.declared.answer.Refusal.TheVariants.{Usage, Exists, NoStore, UnknownFormat, Gap, NoRuns, Full, TooLong, ShelfFault, InputFault, SinkFault, NoMemory}
 

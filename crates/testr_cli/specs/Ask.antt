@@ -1,5 +1,5 @@
 -- What the commands that tell of a repository print, and why they may refuse.
-use Rattle.std.specs.Prelude.{◌≡◌, ◌⊎◌, ℕ, ◌+◌, Bool, true, false, None, Some, IfSome, List, [], ◌∷◌, ◌++◌, codes}
+use Rattle.std.specs.Prelude.{◌≡◌, ℕ, ◌+◌, Bool, true, false, None, Some, IfSome, List, [], ◌∷◌, ◌++◌, codes}
 use Rattle.std.specs.Fmt.{decimal}
 use Rattle.std.specs.Io.KnownBytes.{Appends}
 use Rattle.edge_io.specs.Bytes.{AppendsPrefix}
@@ -11,7 +11,7 @@ use Rattle.run_shelf.specs.Repository.{Run, run_at, IsRepository, HasFormat, Has
 use Rattle.run_ledger.specs.Reading.{AreRowsOf}
 use Rattle.run_ledger.specs.Ledger.{IsFailingSet}
 use Rattle.sub_text.specs.Texts.{report_of, slowest_of, failing_text_of}
-use Rattle.testr_cli.specs.Outside.{Outside, ReadsNothing, PrintsNothing, KeepsFiles, ChangesNothing}
+use Rattle.testr_cli.specs.Outside.{Outside, ReadsNothing, KeepsFiles, ChangesNothing}
 use Rattle.testr_cli.specs.Answer.{verdict_of}
 use Rattle.testr_cli.specs.Load.{HasRuns, RefusesFolder}
 use Rattle.testr_cli.specs.declared.command.Question.{Question}
