@@ -6,5 +6,6 @@ pub mod Disk
 pub mod Names
 pub mod Moments
 pub mod Steps
+pub mod Seen
 pub mod Kept
 pub mod MemState

@@ -38,11 +38,9 @@ impl Shelf for MemShelf {
     ghost use Rattle.edge_io.specs.Plans.{FailsAsListed, NamesAsListed};
     ghost use Rattle.edge_io.specs.MemState.{folder_of, folder_counts, shelf_course, shelf_calls, shelf_faults, Remembers};
 
-    ghost state = { λ s. Some (folder_of s) };
+    ghost seen = { λ s. record { told = Some (folder_of s); faults = s.plan.faults } };
 
     ghost clock = { λ s. s.plan.calls };
-
-    ghost faults = { λ s. s.plan.faults };
 
     ghost published_counts = { λ s. folder_counts s };
 

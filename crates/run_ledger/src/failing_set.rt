@@ -24,14 +24,14 @@ use sub_number::IdList;
 /// `Store` comes only where a call of the folder failed, and where one had failed before, which comes first. `NoMemory`
 /// comes only for want of memory, and leaves the store open.
 pub fn failing<H: Shelf>(alloc: Global, store: &mut Store<'_, H>) -> Result<IdList, LedgerFault>
-    requires fits { FitsUnlessBroken (store_kinds store.old) (store_fault store.old) (H.state store.old.shelf.now) }
+    requires fits { FitsUnlessBroken (store_kinds store.old) (store_fault store.old) (H.seen store.old.shelf.now).told }
     ensures same_reference { store.new.shelf.ghost_name ≡ store.old.shelf.ghost_name }
-    ensures ids { IfOk result (λ ids. IfSome (H.state store.old.shelf.now) (IsFailingSet ids)) }
+    ensures ids { IfOk result (λ ids. IfSome (H.seen store.old.shelf.now).told (IsFailingSet ids)) }
     ensures closes { LedgerCloses (store_fault store.old) (store_fault store.new) result }
     ensures kinds { store_kinds store.new ≡ store_kinds store.old }
-    ensures same { Goes (H.state store.old.shelf.now) (H.state store.new.shelf.now) Stays }
-    ensures fits { FitsUnlessBroken (store_kinds store.new) (store_fault store.new) (H.state store.new.shelf.now) }
-    ensures cause { RisesExactlyIf (H.faults store.old.shelf.now) (H.faults store.new.shelf.now) (ledger_failed result) }
+    ensures same { Goes (H.seen store.old.shelf.now).told (H.seen store.new.shelf.now).told Stays }
+    ensures fits { FitsUnlessBroken (store_kinds store.new) (store_fault store.new) (H.seen store.new.shelf.now).told }
+    ensures cause { RisesExactlyIf (H.seen store.old.shelf.now).faults (H.seen store.new.shelf.now).faults (ledger_failed result) }
 {
     check_open(store)?;
     let mut failed = TextSet::new(alloc);

@@ -23,14 +23,14 @@ use sub_number::{NoMemory, Text, TimeMap};
 /// `Store` comes only where a call of the folder failed, and where one had failed before, which comes first. `NoMemory`
 /// comes only for want of memory, and leaves the store open.
 pub fn times<H: Shelf>(alloc: Global, store: &mut Store<'_, H>) -> Result<TimeMap, LedgerFault>
-    requires fits { FitsUnlessBroken (store_kinds store.old) (store_fault store.old) (H.state store.old.shelf.now) }
+    requires fits { FitsUnlessBroken (store_kinds store.old) (store_fault store.old) (H.seen store.old.shelf.now).told }
     ensures same_reference { store.new.shelf.ghost_name ≡ store.old.shelf.ghost_name }
-    ensures times { IfOk result (λ times. IfSome (H.state store.old.shelf.now) (AreTimes times)) }
+    ensures times { IfOk result (λ times. IfSome (H.seen store.old.shelf.now).told (AreTimes times)) }
     ensures closes { LedgerCloses (store_fault store.old) (store_fault store.new) result }
     ensures kinds { store_kinds store.new ≡ store_kinds store.old }
-    ensures same { Goes (H.state store.old.shelf.now) (H.state store.new.shelf.now) Stays }
-    ensures fits { FitsUnlessBroken (store_kinds store.new) (store_fault store.new) (H.state store.new.shelf.now) }
-    ensures cause { RisesExactlyIf (H.faults store.old.shelf.now) (H.faults store.new.shelf.now) (ledger_failed result) }
+    ensures same { Goes (H.seen store.old.shelf.now).told (H.seen store.new.shelf.now).told Stays }
+    ensures fits { FitsUnlessBroken (store_kinds store.new) (store_fault store.new) (H.seen store.new.shelf.now).told }
+    ensures cause { RisesExactlyIf (H.seen store.old.shelf.now).faults (H.seen store.new.shelf.now).faults (ledger_failed result) }
 {
     check_open(store)?;
     let mut latest = TimeMap::new(alloc);

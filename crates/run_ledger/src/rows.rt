@@ -29,14 +29,14 @@ pub fn rows_of<H: Shelf>(
     number: u32,
 ) -> Result<Rows, LedgerFault>
     requires known { number < length (store_kinds store.old) }
-    requires fits { FitsUnlessBroken (store_kinds store.old) (store_fault store.old) (H.state store.old.shelf.now) }
+    requires fits { FitsUnlessBroken (store_kinds store.old) (store_fault store.old) (H.seen store.old.shelf.now).told }
     ensures same_reference { store.new.shelf.ghost_name ≡ store.old.shelf.ghost_name }
-    ensures rows { IfOk result (λ rows. IfSome (H.state store.old.shelf.now) (HasRowsAt number rows)) }
+    ensures rows { IfOk result (λ rows. IfSome (H.seen store.old.shelf.now).told (HasRowsAt number rows)) }
     ensures closes { LedgerCloses (store_fault store.old) (store_fault store.new) result }
     ensures kinds { store_kinds store.new ≡ store_kinds store.old }
-    ensures same { Goes (H.state store.old.shelf.now) (H.state store.new.shelf.now) Stays }
-    ensures fits { FitsUnlessBroken (store_kinds store.new) (store_fault store.new) (H.state store.new.shelf.now) }
-    ensures cause { RisesExactlyIf (H.faults store.old.shelf.now) (H.faults store.new.shelf.now) (ledger_failed result) }
+    ensures same { Goes (H.seen store.old.shelf.now).told (H.seen store.new.shelf.now).told Stays }
+    ensures fits { FitsUnlessBroken (store_kinds store.new) (store_fault store.new) (H.seen store.new.shelf.now).told }
+    ensures cause { RisesExactlyIf (H.seen store.old.shelf.now).faults (H.seen store.new.shelf.now).faults (ledger_failed result) }
 {
     let size = store.run_length(number)?;
     let mut run = RunReader::new(alloc)?;
@@ -65,17 +65,17 @@ fn read_pieces<H: Shelf>(
 ) -> Result<(), LedgerFault>
     requires room { length buf.old ≡ 65536 }
     requires known { number < length (store_kinds store.old) }
-    requires fits { FitsUnlessBroken (store_kinds store.old) (store_fault store.old) (H.state store.old.shelf.now) }
+    requires fits { FitsUnlessBroken (store_kinds store.old) (store_fault store.old) (H.seen store.old.shelf.now).told }
     requires open { store_fault store.old ≡ None }
-    requires size { IfSome (H.state store.old.shelf.now) (IsRunLength number size) }
+    requires size { IfSome (H.seen store.old.shelf.now).told (IsRunLength number size) }
     requires fresh { HasRead run.old [] }
     ensures same_reference { store.new.shelf.ghost_name ≡ store.old.shelf.ghost_name }
-    ensures read { OnOk result (IfSome (H.state store.old.shelf.now) (HasReadWhole number run.new)) }
+    ensures read { OnOk result (IfSome (H.seen store.old.shelf.now).told (HasReadWhole number run.new)) }
     ensures closes { LedgerCloses (store_fault store.old) (store_fault store.new) result }
     ensures kinds { store_kinds store.new ≡ store_kinds store.old }
-    ensures same { Goes (H.state store.old.shelf.now) (H.state store.new.shelf.now) Stays }
-    ensures fits { FitsUnlessBroken (store_kinds store.new) (store_fault store.new) (H.state store.new.shelf.now) }
-    ensures cause { RisesExactlyIf (H.faults store.old.shelf.now) (H.faults store.new.shelf.now) (ledger_failed result) }
+    ensures same { Goes (H.seen store.old.shelf.now).told (H.seen store.new.shelf.now).told Stays }
+    ensures fits { FitsUnlessBroken (store_kinds store.new) (store_fault store.new) (H.seen store.new.shelf.now).told }
+    ensures cause { RisesExactlyIf (H.seen store.old.shelf.now).faults (H.seen store.new.shelf.now).faults (ledger_failed result) }
 {
     for piece in 0..size.div_ceil(PIECE) {
         read_piece(store, number, piece * PIECE, buf, run)?;
@@ -92,14 +92,14 @@ fn read_piece<H: Shelf>(
     run: &mut RunReader,
 ) -> Result<(), LedgerFault>
     requires known { number < length (store_kinds store.old) }
-    requires fits { FitsUnlessBroken (store_kinds store.old) (store_fault store.old) (H.state store.old.shelf.now) }
+    requires fits { FitsUnlessBroken (store_kinds store.old) (store_fault store.old) (H.seen store.old.shelf.now).told }
     ensures same_reference { store.new.shelf.ghost_name ≡ store.old.shelf.ghost_name }
-    ensures read { OnOk result (IfSome (H.state store.old.shelf.now) (ReadsOn number place (length buf.old) run.old run.new)) }
+    ensures read { OnOk result (IfSome (H.seen store.old.shelf.now).told (ReadsOn number place (length buf.old) run.old run.new)) }
     ensures closes { LedgerCloses (store_fault store.old) (store_fault store.new) result }
     ensures kinds { store_kinds store.new ≡ store_kinds store.old }
-    ensures same { Goes (H.state store.old.shelf.now) (H.state store.new.shelf.now) Stays }
-    ensures fits { FitsUnlessBroken (store_kinds store.new) (store_fault store.new) (H.state store.new.shelf.now) }
-    ensures cause { RisesExactlyIf (H.faults store.old.shelf.now) (H.faults store.new.shelf.now) (ledger_failed result) }
+    ensures same { Goes (H.seen store.old.shelf.now).told (H.seen store.new.shelf.now).told Stays }
+    ensures fits { FitsUnlessBroken (store_kinds store.new) (store_fault store.new) (H.seen store.new.shelf.now).told }
+    ensures cause { RisesExactlyIf (H.seen store.old.shelf.now).faults (H.seen store.new.shelf.now).faults (ledger_failed result) }
 {
     let count = store.read_run(number, place, buf)?;
     run.feed(&buf[..count])?;

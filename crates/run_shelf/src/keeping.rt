@@ -12,11 +12,11 @@ use edge_io::Shelf;
 
 /// The bytes become the file of this name, in a folder in which nothing is pending. At `Ok` each later stop leaves it.
 pub fn keep_file<H: Shelf>(shelf: &mut H, name: &str, bytes: &[u8]) -> Result<(), ShelfCall>
-    requires { IfSome (H.state shelf.old) AtRest }
-    ensures kept { OnOk result (Goes (H.state shelf.old) (H.state shelf.new) (KeepsFile name.now bytes.now)) }
-    ensures failed { IfErr result (λ call. Goes (H.state shelf.old) (H.state shelf.new) (KeepFails name.now bytes.now call)) }
-    ensures any_moment { Goes (H.state shelf.old) (H.state shelf.new) (PassesFile name.now bytes.now) }
-    ensures cause { HasCause (H.faults shelf.old) (H.faults shelf.new) result }
+    requires { IfSome (H.seen shelf.old).told AtRest }
+    ensures kept { OnOk result (Goes (H.seen shelf.old).told (H.seen shelf.new).told (KeepsFile name.now bytes.now)) }
+    ensures failed { IfErr result (λ call. Goes (H.seen shelf.old).told (H.seen shelf.new).told (KeepFails name.now bytes.now call)) }
+    ensures any_moment { Goes (H.seen shelf.old).told (H.seen shelf.new).told (PassesFile name.now bytes.now) }
+    ensures cause { HasCause (H.seen shelf.old).faults (H.seen shelf.new).faults result }
 {
     write_draft(shelf, bytes)?;
     let Ok(()) = shelf.publish(name) else {
@@ -30,9 +30,9 @@ pub fn keep_file<H: Shelf>(shelf: &mut H, name: &str, bytes: &[u8]) -> Result<()
 
 // A draft of these bytes, all of them on the disk.
 fn write_draft<H: Shelf>(shelf: &mut H, bytes: &[u8]) -> Result<(), ShelfCall>
-    ensures drafted { OnOk result (Goes (H.state shelf.old) (H.state shelf.new) (Drafts bytes.now)) }
-    ensures failed { IfErr result (λ call. Goes (H.state shelf.old) (H.state shelf.new) (DraftFails call)) }
-    ensures cause { HasCause (H.faults shelf.old) (H.faults shelf.new) result }
+    ensures drafted { OnOk result (Goes (H.seen shelf.old).told (H.seen shelf.new).told (Drafts bytes.now)) }
+    ensures failed { IfErr result (λ call. Goes (H.seen shelf.old).told (H.seen shelf.new).told (DraftFails call)) }
+    ensures cause { HasCause (H.seen shelf.old).faults (H.seen shelf.new).faults result }
 {
     let Ok(()) = shelf.start_draft() else {
         return Err(ShelfCall::StartDraft);

@@ -24,10 +24,10 @@ pub const FORMAT_BYTES: &[u8] = b"subunit-store 1\n";
 /// moment leaves what one before the call might have left, or the files as read before it with `format` beside them;
 /// after `Ok` each later stop leaves `format`.
 pub fn make_repository<H: Shelf>(shelf: &mut H) -> Result<(), InitFault>
-    ensures made { OnOk result (Goes (H.state shelf.old) (H.state shelf.new) MakesRepository) }
-    ensures refused { IfErr result (λ fault. Goes (H.state shelf.old) (H.state shelf.new) (InitFails fault)) }
-    ensures any_moment { Goes (H.state shelf.old) (H.state shelf.new) PassesFormat }
-    ensures cause { RisesExactlyIf (H.faults shelf.old) (H.faults shelf.new) (init_failed result) }
+    ensures made { OnOk result (Goes (H.seen shelf.old).told (H.seen shelf.new).told MakesRepository) }
+    ensures refused { IfErr result (λ fault. Goes (H.seen shelf.old).told (H.seen shelf.new).told (InitFails fault)) }
+    ensures any_moment { Goes (H.seen shelf.old).told (H.seen shelf.new).told PassesFormat }
+    ensures cause { RisesExactlyIf (H.seen shelf.old).faults (H.seen shelf.new).faults (init_failed result) }
 {
     let Ok(()) = shelf.sync_folder() else {
         return Err(InitFault::Shelf(ShelfCall::SyncFolder));

@@ -21,13 +21,13 @@ pub(crate) struct Opening<'h, H: Shelf> {
 
 /// Opens the repository of the folder, or hands the folder back.
 pub(crate) fn open_or_hand_back<'h, H: Shelf>(alloc: Global, shelf: &'h mut H) -> Opening<'h, H>
-    ensures back { HandsBack shelf.entry.ghost_name result (λ fault last. IsNotOpened fault (H.state shelf.entry.now) (H.faults shelf.entry.now) (H.state last) (H.faults last)) }
+    ensures back { HandsBack shelf.entry.ghost_name result (λ fault last. IsNotOpened fault (H.seen shelf.entry.now).told (H.seen shelf.entry.now).faults (H.seen last).told (H.seen last).faults) }
     ensures same_reference { IfOk result.opened (λ store. store.shelf.ghost_name ≡ shelf.entry.ghost_name) }
-    ensures opened { IfOk result.opened (λ store. Goes (H.state shelf.entry.now) (H.state store.shelf.now) (Surveys (store_kinds store))) }
-    ensures any_moment { IfOk result.opened (λ store. Goes (H.state shelf.entry.now) (H.state store.shelf.now) PassesOld) }
+    ensures opened { IfOk result.opened (λ store. Goes (H.seen shelf.entry.now).told (H.seen store.shelf.now).told (Surveys (store_kinds store))) }
+    ensures any_moment { IfOk result.opened (λ store. Goes (H.seen shelf.entry.now).told (H.seen store.shelf.now).told PassesOld) }
     ensures fault { IfOk result.opened (λ store. store_fault store ≡ None) }
-    ensures count { IfOk result.opened (λ store. H.faults store.shelf.now ≡ H.faults shelf.entry.now) }
-    ensures refused { IfErr result.opened (λ fault. IfSome (H.state shelf.entry.now) (HasOpenCause fault)) }
+    ensures count { IfOk result.opened (λ store. (H.seen store.shelf.now).faults ≡ (H.seen shelf.entry.now).faults) }
+    ensures refused { IfErr result.opened (λ fault. IfSome (H.seen shelf.entry.now).told (HasOpenCause fault)) }
 {
     match survey(alloc, shelf) {
         Ok(found) => Opening {

@@ -16,12 +16,12 @@ use edge_io::Shelf;
 /// the folder, in which nothing changes. The error is that call, where it failed.
 pub fn run_length<H: Shelf>(shelf: &mut H, found: &Found, number: u32) -> Result<u64, ShelfCall>
     requires known { number < length (kinds_of found.now) }
-    requires fits { FitsWhereTold (kinds_of found.now) (H.state shelf.old) }
-    ensures size { IfOk result (λ size. IfSome (H.state shelf.old) (IsRunLength number size)) }
+    requires fits { FitsWhereTold (kinds_of found.now) (H.seen shelf.old).told }
+    ensures size { IfOk result (λ size. IfSome (H.seen shelf.old).told (IsRunLength number size)) }
     ensures failed { IfErr result (λ call. call ≡ Length) }
-    ensures same { Goes (H.state shelf.old) (H.state shelf.new) Stays }
+    ensures same { Goes (H.seen shelf.old).told (H.seen shelf.new).told Stays }
     ensures time { Ticks (H.clock shelf.old) (H.clock shelf.new) }
-    ensures cause { HasCause (H.faults shelf.old) (H.faults shelf.new) result }
+    ensures cause { HasCause (H.seen shelf.old).faults (H.seen shelf.new).faults result }
 {
     let name = run_name(number, found.partial(number));
     let Ok(size) = shelf.length(name.as_str()) else {
@@ -41,13 +41,13 @@ pub fn read_run<H: Shelf>(
     buf: &mut [u8],
 ) -> Result<usize, ShelfCall>
     requires known { number < length (kinds_of found.now) }
-    requires fits { FitsWhereTold (kinds_of found.now) (H.state shelf.old) }
+    requires fits { FitsWhereTold (kinds_of found.now) (H.seen shelf.old).told }
     ensures bound { ReadsAtMost result buf.new }
-    ensures part { IfOk result (λ count. IfSome (H.state shelf.old) (IsRunPart number place buf.new count)) }
+    ensures part { IfOk result (λ count. IfSome (H.seen shelf.old).told (IsRunPart number place buf.new count)) }
     ensures failed { IfErr result (λ call. call ≡ ReadAt) }
-    ensures same { Goes (H.state shelf.old) (H.state shelf.new) Stays }
+    ensures same { Goes (H.seen shelf.old).told (H.seen shelf.new).told Stays }
     ensures time { TicksAtMost (H.clock shelf.old) (H.clock shelf.new) }
-    ensures cause { HasCause (H.faults shelf.old) (H.faults shelf.new) result }
+    ensures cause { HasCause (H.seen shelf.old).faults (H.seen shelf.new).faults result }
 {
     if buf.is_empty() {
         return Ok(0);

@@ -52,17 +52,17 @@ impl<'h, H: Shelf> Recorder<'h, H> {
     /// Keeps what was added as the run behind all others, and answers its number, as `keep_run`. It takes no memory.
     /// After a fault the store is closed.
     pub fn commit(self) -> (Store<'h, H>, Result<u32, StoreFault>)
-        requires fits { FitsWhereTold (recorder_kinds self) (H.state self.shelf.now) }
+        requires fits { FitsWhereTold (recorder_kinds self) (H.seen self.shelf.now).told }
         ensures same_reference { result.0.shelf.ghost_name ≡ self.entry.shelf.ghost_name }
         ensures number { IfOk result.1 (λ number. number ≡ length (recorder_kinds self.entry)) }
-        ensures kept { OnOk result.1 (Goes (H.state self.entry.shelf.now) (H.state result.0.shelf.now) (KeepsRun (length (recorder_kinds self.entry)) (run_of (recorder_partial self.entry) (recorded self.entry)))) }
-        ensures fits { OnOk result.1 (FitsWhereTold (store_kinds result.0) (H.state result.0.shelf.now)) }
+        ensures kept { OnOk result.1 (Goes (H.seen self.entry.shelf.now).told (H.seen result.0.shelf.now).told (KeepsRun (length (recorder_kinds self.entry)) (run_of (recorder_partial self.entry) (recorded self.entry)))) }
+        ensures fits { OnOk result.1 (FitsWhereTold (store_kinds result.0) (H.seen result.0.shelf.now).told) }
         ensures kinds { OnOk result.1 (store_kinds result.0 ≡ recorder_kinds self.entry ++ recorder_partial self.entry ∷ []) }
         ensures kinds_err { OnErr result.1 (store_kinds result.0 ≡ recorder_kinds self.entry) }
-        ensures failed { IfErr result.1 (λ fault. Goes (H.state self.entry.shelf.now) (H.state result.0.shelf.now) (StoreKeepFails (run_name (length (recorder_kinds self.entry)) (recorder_partial self.entry)) (recorded self.entry) fault)) }
+        ensures failed { IfErr result.1 (λ fault. Goes (H.seen self.entry.shelf.now).told (H.seen result.0.shelf.now).told (StoreKeepFails (run_name (length (recorder_kinds self.entry)) (recorder_partial self.entry)) (recorded self.entry) fault)) }
         ensures fault { store_fault result.0 ≡ fault_after None result.1 }
-        ensures any_moment { Goes (H.state self.entry.shelf.now) (H.state result.0.shelf.now) (PassesRun (length (recorder_kinds self.entry)) (run_of (recorder_partial self.entry) (recorded self.entry))) }
-        ensures cause { RisesExactlyIf (H.faults self.entry.shelf.now) (H.faults result.0.shelf.now) (store_failed result.1) }
+        ensures any_moment { Goes (H.seen self.entry.shelf.now).told (H.seen result.0.shelf.now).told (PassesRun (length (recorder_kinds self.entry)) (run_of (recorder_partial self.entry) (recorded self.entry))) }
+        ensures cause { RisesExactlyIf (H.seen self.entry.shelf.now).faults (H.seen result.0.shelf.now).faults (store_failed result.1) }
     {
         let Recorder { shelf, recording } = self;
         let Recording {

@@ -26,15 +26,15 @@ pub fn keep_run<H: Shelf>(
 ) -> Result<u32, ShelfCall>
     requires few { length (kinds_of found.old) < most_runs }
     requires room { HasRoom found.old }
-    requires fits { FitsWhereTold (kinds_of found.old) (H.state shelf.old) }
+    requires fits { FitsWhereTold (kinds_of found.old) (H.seen shelf.old).told }
     ensures number { IfOk result (λ number. number ≡ length (kinds_of found.old)) }
-    ensures kept { OnOk result (Goes (H.state shelf.old) (H.state shelf.new) (KeepsRun (length (kinds_of found.old)) (run_of partial bytes.now))) }
-    ensures fits { OnOk result (FitsWhereTold (kinds_of found.new) (H.state shelf.new)) }
+    ensures kept { OnOk result (Goes (H.seen shelf.old).told (H.seen shelf.new).told (KeepsRun (length (kinds_of found.old)) (run_of partial bytes.now))) }
+    ensures fits { OnOk result (FitsWhereTold (kinds_of found.new) (H.seen shelf.new).told) }
     ensures kinds { OnOk result (kinds_of found.new ≡ kinds_of found.old ++ partial ∷ []) }
     ensures kinds_err { OnErr result (kinds_of found.new ≡ kinds_of found.old) }
-    ensures failed { IfErr result (λ call. Goes (H.state shelf.old) (H.state shelf.new) (KeepFails (run_name (length (kinds_of found.old)) partial) bytes.now call)) }
-    ensures any_moment { Goes (H.state shelf.old) (H.state shelf.new) (PassesRun (length (kinds_of found.old)) (run_of partial bytes.now)) }
-    ensures cause { HasCause (H.faults shelf.old) (H.faults shelf.new) result }
+    ensures failed { IfErr result (λ call. Goes (H.seen shelf.old).told (H.seen shelf.new).told (KeepFails (run_name (length (kinds_of found.old)) partial) bytes.now call)) }
+    ensures any_moment { Goes (H.seen shelf.old).told (H.seen shelf.new).told (PassesRun (length (kinds_of found.old)) (run_of partial bytes.now)) }
+    ensures cause { HasCause (H.seen shelf.old).faults (H.seen shelf.new).faults result }
 {
     let number = found.runs();
     let name = names::run_name(number, partial);

@@ -36,10 +36,10 @@ pub struct Store<'h, H: Shelf> {
 impl<'h, H: Shelf> Store<'h, H> {
     /// Makes the folder a repository, as `make_repository`.
     pub fn init(shelf: &mut H) -> Result<(), InitFault>
-        ensures made { OnOk result (Goes (H.state shelf.old) (H.state shelf.new) MakesRepository) }
-        ensures refused { IfErr result (λ fault. Goes (H.state shelf.old) (H.state shelf.new) (InitFails fault)) }
-        ensures any_moment { Goes (H.state shelf.old) (H.state shelf.new) PassesFormat }
-        ensures cause { RisesExactlyIf (H.faults shelf.old) (H.faults shelf.new) (init_failed result) }
+        ensures made { OnOk result (Goes (H.seen shelf.old).told (H.seen shelf.new).told MakesRepository) }
+        ensures refused { IfErr result (λ fault. Goes (H.seen shelf.old).told (H.seen shelf.new).told (InitFails fault)) }
+        ensures any_moment { Goes (H.seen shelf.old).told (H.seen shelf.new).told PassesFormat }
+        ensures cause { RisesExactlyIf (H.seen shelf.old).faults (H.seen shelf.new).faults (init_failed result) }
     {
         make_repository(shelf)
     }
@@ -48,13 +48,13 @@ impl<'h, H: Shelf> Store<'h, H> {
     ///
     /// Each error comes as from `survey`, and so does what the folder is then.
     pub fn open(alloc: Global, shelf: &'h mut H) -> Result<Store<'h, H>, OpenFault>
-        ensures* not_opened { sem 𝓛 (RestsIfErr H.row shelf.entry (λ store. store.shelf.ghost_name) result (λ last. IfErr result (λ fault. IsNotOpened fault (H.state shelf.entry.now) (H.faults shelf.entry.now) (H.state last) (H.faults last)))) }
+        ensures* not_opened { sem 𝓛 (RestsIfErr H.row shelf.entry (λ store. store.shelf.ghost_name) result (λ last. IfErr result (λ fault. IsNotOpened fault (H.seen shelf.entry.now).told (H.seen shelf.entry.now).faults (H.seen last).told (H.seen last).faults))) }
         ensures same_reference { IfOk result (λ store. store.shelf.ghost_name ≡ shelf.entry.ghost_name) }
-        ensures opened { IfOk result (λ store. Goes (H.state shelf.entry.now) (H.state store.shelf.now) (Surveys (store_kinds store))) }
-        ensures any_moment { IfOk result (λ store. Goes (H.state shelf.entry.now) (H.state store.shelf.now) PassesOld) }
+        ensures opened { IfOk result (λ store. Goes (H.seen shelf.entry.now).told (H.seen store.shelf.now).told (Surveys (store_kinds store))) }
+        ensures any_moment { IfOk result (λ store. Goes (H.seen shelf.entry.now).told (H.seen store.shelf.now).told PassesOld) }
         ensures fault { IfOk result (λ store. store_fault store ≡ None) }
-        ensures count { IfOk result (λ store. H.faults store.shelf.now ≡ H.faults shelf.entry.now) }
-        ensures refused { IfErr result (λ fault. IfSome (H.state shelf.entry.now) (HasOpenCause fault)) }
+        ensures count { IfOk result (λ store. (H.seen store.shelf.now).faults ≡ (H.seen shelf.entry.now).faults) }
+        ensures refused { IfErr result (λ fault. IfSome (H.seen shelf.entry.now).told (HasOpenCause fault)) }
     {
         open_or_hand_back(alloc, shelf).opened
     }
@@ -98,16 +98,16 @@ impl<'h, H: Shelf> Store<'h, H> {
     /// How many bytes the run of this number has, which there must be. It takes no memory.
     pub fn run_length(&mut self, number: u32) -> Result<u64, StoreFault>
         requires known { number < length (store_kinds self.old) }
-        requires fits { FitsUnlessBroken (store_kinds self.old) (store_fault self.old) (H.state self.old.shelf.now) }
+        requires fits { FitsUnlessBroken (store_kinds self.old) (store_fault self.old) (H.seen self.old.shelf.now).told }
         ensures same_reference { self.new.shelf.ghost_name ≡ self.old.shelf.ghost_name }
-        ensures size { IfOk result (λ size. IfSome (H.state self.old.shelf.now) (IsRunLength number size)) }
+        ensures size { IfOk result (λ size. IfSome (H.seen self.old.shelf.now).told (IsRunLength number size)) }
         ensures failed { IfErr result (TellsOf Length) }
         ensures closes { Closes (store_fault self.old) (store_fault self.new) result }
         ensures kinds { store_kinds self.new ≡ store_kinds self.old }
-        ensures same { Goes (H.state self.old.shelf.now) (H.state self.new.shelf.now) Stays }
-        ensures fits { FitsUnlessBroken (store_kinds self.new) (store_fault self.new) (H.state self.new.shelf.now) }
+        ensures same { Goes (H.seen self.old.shelf.now).told (H.seen self.new.shelf.now).told Stays }
+        ensures fits { FitsUnlessBroken (store_kinds self.new) (store_fault self.new) (H.seen self.new.shelf.now).told }
         ensures time { TicksAtMost (H.clock self.old.shelf.now) (H.clock self.new.shelf.now) }
-        ensures cause { RisesExactlyIf (H.faults self.old.shelf.now) (H.faults self.new.shelf.now) (store_failed result) }
+        ensures cause { RisesExactlyIf (H.seen self.old.shelf.now).faults (H.seen self.new.shelf.now).faults (store_failed result) }
     {
         if let Some(call) = self.fault {
             return Err(StoreFault::Closed(call));
@@ -122,17 +122,17 @@ impl<'h, H: Shelf> Store<'h, H> {
     /// on as many as are there and fit. It answers how many, and takes no memory.
     pub fn read_run(&mut self, number: u32, place: u64, buf: &mut [u8]) -> Result<usize, StoreFault>
         requires known { number < length (store_kinds self.old) }
-        requires fits { FitsUnlessBroken (store_kinds self.old) (store_fault self.old) (H.state self.old.shelf.now) }
+        requires fits { FitsUnlessBroken (store_kinds self.old) (store_fault self.old) (H.seen self.old.shelf.now).told }
         ensures same_reference { self.new.shelf.ghost_name ≡ self.old.shelf.ghost_name }
         ensures bound { ReadsAtMost result buf.new }
-        ensures part { IfOk result (λ count. IfSome (H.state self.old.shelf.now) (IsRunPart number place buf.new count)) }
+        ensures part { IfOk result (λ count. IfSome (H.seen self.old.shelf.now).told (IsRunPart number place buf.new count)) }
         ensures failed { IfErr result (TellsOf ReadAt) }
         ensures closes { Closes (store_fault self.old) (store_fault self.new) result }
         ensures kinds { store_kinds self.new ≡ store_kinds self.old }
-        ensures same { Goes (H.state self.old.shelf.now) (H.state self.new.shelf.now) Stays }
-        ensures fits { FitsUnlessBroken (store_kinds self.new) (store_fault self.new) (H.state self.new.shelf.now) }
+        ensures same { Goes (H.seen self.old.shelf.now).told (H.seen self.new.shelf.now).told Stays }
+        ensures fits { FitsUnlessBroken (store_kinds self.new) (store_fault self.new) (H.seen self.new.shelf.now).told }
         ensures time { TicksAtMost (H.clock self.old.shelf.now) (H.clock self.new.shelf.now) }
-        ensures cause { RisesExactlyIf (H.faults self.old.shelf.now) (H.faults self.new.shelf.now) (store_failed result) }
+        ensures cause { RisesExactlyIf (H.seen self.old.shelf.now).faults (H.seen self.new.shelf.now).faults (store_failed result) }
     {
         if let Some(call) = self.fault {
             return Err(StoreFault::Closed(call));

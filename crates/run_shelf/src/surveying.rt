@@ -26,11 +26,11 @@ const FORMAT_SIZE: usize = 16;
 /// only where a call of the folder failed, and `NoMemory` only for want of memory. The files are as before at each exit,
 /// and but for a failed `SyncFolder` nothing is pending.
 pub fn survey<H: Shelf>(alloc: Global, shelf: &mut H) -> Result<Found, OpenFault>
-    ensures found { IfOk result (λ found. Goes (H.state shelf.old) (H.state shelf.new) (Surveys (kinds_of found))) }
+    ensures found { IfOk result (λ found. Goes (H.seen shelf.old).told (H.seen shelf.new).told (Surveys (kinds_of found))) }
     ensures room { IfOk result HasRoom }
-    ensures refused { IfErr result (λ fault. Goes (H.state shelf.old) (H.state shelf.new) (OpenFails fault)) }
-    ensures any_moment { Goes (H.state shelf.old) (H.state shelf.new) PassesOld }
-    ensures cause { RisesExactlyIf (H.faults shelf.old) (H.faults shelf.new) (open_failed result) }
+    ensures refused { IfErr result (λ fault. Goes (H.seen shelf.old).told (H.seen shelf.new).told (OpenFails fault)) }
+    ensures any_moment { Goes (H.seen shelf.old).told (H.seen shelf.new).told PassesOld }
+    ensures cause { RisesExactlyIf (H.seen shelf.old).faults (H.seen shelf.new).faults (open_failed result) }
 {
     let Ok(()) = shelf.sync_folder() else {
         return Err(OpenFault::Shelf(ShelfCall::SyncFolder));
@@ -40,11 +40,11 @@ pub fn survey<H: Shelf>(alloc: Global, shelf: &mut H) -> Result<Found, OpenFault
 
 // Looks which runs the folder has.
 fn look<H: Shelf>(alloc: Global, shelf: &mut H) -> Result<Found, OpenFault>
-    ensures found { IfOk result (λ found. IfSome (H.state shelf.old) (LooksLike (kinds_of found))) }
+    ensures found { IfOk result (λ found. IfSome (H.seen shelf.old).told (LooksLike (kinds_of found))) }
     ensures room { IfOk result HasRoom }
-    ensures refused { IfErr result (λ fault. Goes (H.state shelf.old) (H.state shelf.new) (LookFails fault)) }
-    ensures same { Goes (H.state shelf.old) (H.state shelf.new) Stays }
-    ensures cause { RisesExactlyIf (H.faults shelf.old) (H.faults shelf.new) (open_failed result) }
+    ensures refused { IfErr result (λ fault. Goes (H.seen shelf.old).told (H.seen shelf.new).told (LookFails fault)) }
+    ensures same { Goes (H.seen shelf.old).told (H.seen shelf.new).told Stays }
+    ensures cause { RisesExactlyIf (H.seen shelf.old).faults (H.seen shelf.new).faults (open_failed result) }
 {
     check_format(shelf)?;
     let names = match shelf.names(alloc) {
@@ -57,10 +57,10 @@ fn look<H: Shelf>(alloc: Global, shelf: &mut H) -> Result<Found, OpenFault>
 
 // Whether the file `format` has the right bytes.
 fn check_format<H: Shelf>(shelf: &mut H) -> Result<(), OpenFault>
-    ensures right { OnOk result (IfSome (H.state shelf.old) (λ s. HasFormat s.disk.published)) }
-    ensures refused { IfErr result (λ fault. Goes (H.state shelf.old) (H.state shelf.new) (FormatFails fault)) }
-    ensures same { Goes (H.state shelf.old) (H.state shelf.new) Stays }
-    ensures cause { RisesExactlyIf (H.faults shelf.old) (H.faults shelf.new) (open_failed result) }
+    ensures right { OnOk result (IfSome (H.seen shelf.old).told (λ s. HasFormat s.disk.published)) }
+    ensures refused { IfErr result (λ fault. Goes (H.seen shelf.old).told (H.seen shelf.new).told (FormatFails fault)) }
+    ensures same { Goes (H.seen shelf.old).told (H.seen shelf.new).told Stays }
+    ensures cause { RisesExactlyIf (H.seen shelf.old).faults (H.seen shelf.new).faults (open_failed result) }
 {
     let Ok(found) = shelf.length(FORMAT_NAME) else {
         return Err(OpenFault::Shelf(ShelfCall::Length));

@@ -24,14 +24,14 @@ pub fn ask<H: Shelf, O: Sink>(
     out: &mut O,
 ) -> Result<Verdict, Refusal>
     ensures done { (left : Option (List ℕ)) (input_faults : ℕ) → IfOk result (Asks question
-        (outside (H.state shelf.old) (H.faults shelf.old) left input_faults (O.taken out.old) (O.faults out.old))
-        (outside (H.state shelf.new) (H.faults shelf.new) left input_faults (O.taken out.new) (O.faults out.new))) }
+        (outside (H.seen shelf.old).told (H.seen shelf.old).faults left input_faults (O.seen out.old).told (O.seen out.old).faults)
+        (outside (H.seen shelf.new).told (H.seen shelf.new).faults left input_faults (O.seen out.new).told (O.seen out.new).faults)) }
     ensures refused { (left : Option (List ℕ)) (input_faults : ℕ) → IfErr result (HasAskCause question
-        (outside (H.state shelf.old) (H.faults shelf.old) left input_faults (O.taken out.old) (O.faults out.old))
-        (outside (H.state shelf.new) (H.faults shelf.new) left input_faults (O.taken out.new) (O.faults out.new))) }
-    ensures folder_count { StandsUnless ShelfFault result (H.faults shelf.old) (H.faults shelf.new) }
-    ensures out_count { StandsUnless SinkFault result (O.faults out.old) (O.faults out.new) }
-    ensures any_moment { Goes (H.state shelf.old) (H.state shelf.new) PassesOld }
+        (outside (H.seen shelf.old).told (H.seen shelf.old).faults left input_faults (O.seen out.old).told (O.seen out.old).faults)
+        (outside (H.seen shelf.new).told (H.seen shelf.new).faults left input_faults (O.seen out.new).told (O.seen out.new).faults)) }
+    ensures folder_count { StandsUnless ShelfFault result (H.seen shelf.old).faults (H.seen shelf.new).faults }
+    ensures out_count { StandsUnless SinkFault result (O.seen out.old).faults (O.seen out.new).faults }
+    ensures any_moment { Goes (H.seen shelf.old).told (H.seen shelf.new).told PassesOld }
 {
     let told = match find(alloc, question, shelf) {
         Ok(told) => told,
@@ -45,12 +45,12 @@ pub fn ask<H: Shelf, O: Sink>(
 
 // Finds the answer of the question.
 fn find<H: Shelf>(alloc: Global, question: Question, shelf: &mut H) -> Result<Told, Refusal>
-    ensures done { IfOk result (Finds question (H.state shelf.old) (H.state shelf.new)) }
+    ensures done { IfOk result (Finds question (H.seen shelf.old).told (H.seen shelf.new).told) }
     ensures refused { (left printed : Option (List ℕ)) (input_faults out_faults : ℕ) → IfErr result (HasAskCause question
-        (outside (H.state shelf.old) (H.faults shelf.old) left input_faults printed out_faults)
-        (outside (H.state shelf.new) (H.faults shelf.new) left input_faults printed out_faults)) }
-    ensures folder_count { StandsUnless ShelfFault result (H.faults shelf.old) (H.faults shelf.new) }
-    ensures any_moment { Goes (H.state shelf.old) (H.state shelf.new) PassesOld }
+        (outside (H.seen shelf.old).told (H.seen shelf.old).faults left input_faults printed out_faults)
+        (outside (H.seen shelf.new).told (H.seen shelf.new).faults left input_faults printed out_faults)) }
+    ensures folder_count { StandsUnless ShelfFault result (H.seen shelf.old).faults (H.seen shelf.new).faults }
+    ensures any_moment { Goes (H.seen shelf.old).told (H.seen shelf.new).told PassesOld }
 {
     let found = match survey(alloc, shelf) {
         Ok(found) => found,

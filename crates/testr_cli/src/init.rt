@@ -15,12 +15,12 @@ use run_shelf::{InitFault, make_repository};
 /// Makes a repository. It takes no memory.
 pub fn init<H: Shelf>(shelf: &mut H) -> Result<Verdict, Refusal>
     ensures passed { IfOk result (λ verdict. verdict ≡ Passed) }
-    ensures made { OnOk result (Goes (H.state shelf.old) (H.state shelf.new) MakesRepository) }
+    ensures made { OnOk result (Goes (H.seen shelf.old).told (H.seen shelf.new).told MakesRepository) }
     ensures refused { (left printed : Option (List ℕ)) (input_faults out_faults : ℕ) → IfErr result (HasInitCause
-        (outside (H.state shelf.old) (H.faults shelf.old) left input_faults printed out_faults)
-        (outside (H.state shelf.new) (H.faults shelf.new) left input_faults printed out_faults)) }
-    ensures folder_count { StandsUnless ShelfFault result (H.faults shelf.old) (H.faults shelf.new) }
-    ensures any_moment { Goes (H.state shelf.old) (H.state shelf.new) PassesFormat }
+        (outside (H.seen shelf.old).told (H.seen shelf.old).faults left input_faults printed out_faults)
+        (outside (H.seen shelf.new).told (H.seen shelf.new).faults left input_faults printed out_faults)) }
+    ensures folder_count { StandsUnless ShelfFault result (H.seen shelf.old).faults (H.seen shelf.new).faults }
+    ensures any_moment { Goes (H.seen shelf.old).told (H.seen shelf.new).told PassesFormat }
 {
     match make_repository(shelf) {
         Ok(()) => Ok(Verdict::Passed),

@@ -38,15 +38,15 @@ pub fn load<H: Shelf, I: Source, O: Sink>(
     out: &mut O,
 ) -> Result<Verdict, Refusal>
     ensures done { IfOk result (Loads partial
-        (outside (H.state shelf.old) (H.faults shelf.old) (I.left input.old) (I.faults input.old) (O.taken out.old) (O.faults out.old))
-        (outside (H.state shelf.new) (H.faults shelf.new) (I.left input.new) (I.faults input.new) (O.taken out.new) (O.faults out.new))) }
+        (outside (H.seen shelf.old).told (H.seen shelf.old).faults (I.seen input.old).told (I.seen input.old).faults (O.seen out.old).told (O.seen out.old).faults)
+        (outside (H.seen shelf.new).told (H.seen shelf.new).faults (I.seen input.new).told (I.seen input.new).faults (O.seen out.new).told (O.seen out.new).faults)) }
     ensures refused { IfErr result (HasLoadCause partial
-        (outside (H.state shelf.old) (H.faults shelf.old) (I.left input.old) (I.faults input.old) (O.taken out.old) (O.faults out.old))
-        (outside (H.state shelf.new) (H.faults shelf.new) (I.left input.new) (I.faults input.new) (O.taken out.new) (O.faults out.new))) }
-    ensures folder_count { StandsUnless ShelfFault result (H.faults shelf.old) (H.faults shelf.new) }
-    ensures input_count { StandsUnless InputFault result (I.faults input.old) (I.faults input.new) }
-    ensures out_count { StandsUnless SinkFault result (O.faults out.old) (O.faults out.new) }
-    ensures any_moment { Goes (H.state shelf.old) (H.state shelf.new) (PassesLoad partial (I.left input.old)) }
+        (outside (H.seen shelf.old).told (H.seen shelf.old).faults (I.seen input.old).told (I.seen input.old).faults (O.seen out.old).told (O.seen out.old).faults)
+        (outside (H.seen shelf.new).told (H.seen shelf.new).faults (I.seen input.new).told (I.seen input.new).faults (O.seen out.new).told (O.seen out.new).faults)) }
+    ensures folder_count { StandsUnless ShelfFault result (H.seen shelf.old).faults (H.seen shelf.new).faults }
+    ensures input_count { StandsUnless InputFault result (I.seen input.old).faults (I.seen input.new).faults }
+    ensures out_count { StandsUnless SinkFault result (O.seen out.old).faults (O.seen out.new).faults }
+    ensures any_moment { Goes (H.seen shelf.old).told (H.seen shelf.new).told (PassesLoad partial (I.seen input.old).told) }
 {
     let mut prepared = match prepare(alloc, shelf, input) {
         Ok(prepared) => prepared,
@@ -67,13 +67,13 @@ fn prepare<H: Shelf, I: Source>(
     shelf: &mut H,
     input: &mut I,
 ) -> Result<Prepared, Refusal>
-    ensures done { IfOk result (Prepares (H.state shelf.old) (H.state shelf.new) (I.left input.old) (I.left input.new)) }
+    ensures done { IfOk result (Prepares (H.seen shelf.old).told (H.seen shelf.new).told (I.seen input.old).told (I.seen input.new).told) }
     ensures refused { (partial : Bool) (printed : Option (List ℕ)) (out_faults : ℕ) → IfErr result (HasLoadCause partial
-        (outside (H.state shelf.old) (H.faults shelf.old) (I.left input.old) (I.faults input.old) printed out_faults)
-        (outside (H.state shelf.new) (H.faults shelf.new) (I.left input.new) (I.faults input.new) printed out_faults)) }
-    ensures any_moment { Goes (H.state shelf.old) (H.state shelf.new) PassesOld }
-    ensures folder_count { StandsUnless ShelfFault result (H.faults shelf.old) (H.faults shelf.new) }
-    ensures input_count { StandsUnless InputFault result (I.faults input.old) (I.faults input.new) }
+        (outside (H.seen shelf.old).told (H.seen shelf.old).faults (I.seen input.old).told (I.seen input.old).faults printed out_faults)
+        (outside (H.seen shelf.new).told (H.seen shelf.new).faults (I.seen input.new).told (I.seen input.new).faults printed out_faults)) }
+    ensures any_moment { Goes (H.seen shelf.old).told (H.seen shelf.new).told PassesOld }
+    ensures folder_count { StandsUnless ShelfFault result (H.seen shelf.old).faults (H.seen shelf.new).faults }
+    ensures input_count { StandsUnless InputFault result (I.seen input.old).faults (I.seen input.new).faults }
 {
     let found = match survey(alloc, shelf) {
         Ok(found) => found,

@@ -45,9 +45,9 @@ impl From<sub_number::NoMemory> for ReadRefusal {
 
 /// The packets that are recorded of the input under lane 0. It is read in pieces, to its end.
 pub fn record_input<I: Source>(alloc: Global, input: &mut I) -> Result<Vec<u8>, ReadRefusal>
-    ensures recorded { IfOk result (λ run. RecordsInput (I.left input.old) (I.left input.new) run.items) }
-    ensures refused { IfErr result (HasReadCause (I.left input.old) (I.faults input.old) (I.faults input.new)) }
-    ensures count { ReadCounts (I.faults input.old) (I.faults input.new) result }
+    ensures recorded { IfOk result (λ run. RecordsInput (I.seen input.old).told (I.seen input.new).told run.items) }
+    ensures refused { IfErr result (HasReadCause (I.seen input.old).told (I.seen input.old).faults (I.seen input.new).faults) }
+    ensures count { ReadCounts (I.seen input.old).faults (I.seen input.new).faults result }
 {
     let mut run = Vec::new(alloc);
     let mut scribe = Scribe::new(alloc, 0)?;
@@ -64,11 +64,11 @@ fn record_pieces<I: Source>(
     run: &mut Vec<u8>,
 ) -> Result<(), ReadRefusal>
     requires { scribe.old.held.ended ≡ false }
-    ensures recorded { Recording [] scribe.old run.old.items → OnOk result (RecordsPieces (I.left input.old) (I.left input.new) scribe.new run.new.items) }
+    ensures recorded { Recording [] scribe.old run.old.items → OnOk result (RecordsPieces (I.seen input.old).told (I.seen input.new).told scribe.new run.new.items) }
     ensures lane { OnOk result (scribe.new.lane ≡ scribe.old.lane) }
-    ensures at_end { OnOk result (IsAtEnd (I.left input.new)) }
-    ensures refused { IfErr result (HasReadCause (I.left input.old) (I.faults input.old) (I.faults input.new)) }
-    ensures count { ReadCounts (I.faults input.old) (I.faults input.new) result }
+    ensures at_end { OnOk result (IsAtEnd (I.seen input.new).told) }
+    ensures refused { IfErr result (HasReadCause (I.seen input.old).told (I.seen input.old).faults (I.seen input.new).faults) }
+    ensures count { ReadCounts (I.seen input.old).faults (I.seen input.new).faults result }
 {
     let mut piece = [0u8; PIECE];
     let mut total = 0;

@@ -12,9 +12,9 @@ use itoa::Buffer;
 
 /// Writes the refusal's line.
 pub fn tell<E: Sink>(err: &mut E, refusal: Refusal) -> Result<(), Failed>
-    ensures whole { OnOk result (Appends (E.taken err.old) (E.taken err.new) (testr_line refusal)) }
-    ensures prefix { AppendsPrefix (E.taken err.old) (E.taken err.new) (testr_line refusal) }
-    ensures cause { HasCause (E.faults err.old) (E.faults err.new) result }
+    ensures whole { OnOk result (Appends (E.seen err.old).told (E.seen err.new).told (testr_line refusal)) }
+    ensures prefix { AppendsPrefix (E.seen err.old).told (E.seen err.new).told (testr_line refusal) }
+    ensures cause { HasCause (E.seen err.old).faults (E.seen err.new).faults result }
 {
     write_whole(err, refusal.front().as_bytes())?;
     tell_rest(err, refusal)
@@ -22,9 +22,9 @@ pub fn tell<E: Sink>(err: &mut E, refusal: Refusal) -> Result<(), Failed>
 
 // Writes what stands behind the front, where a number does.
 fn tell_rest<E: Sink>(err: &mut E, refusal: Refusal) -> Result<(), Failed>
-    ensures whole { OnOk result (Appends (E.taken err.old) (E.taken err.new) (refusal_rest refusal)) }
-    ensures prefix { AppendsPrefix (E.taken err.old) (E.taken err.new) (refusal_rest refusal) }
-    ensures cause { HasCause (E.faults err.old) (E.faults err.new) result }
+    ensures whole { OnOk result (Appends (E.seen err.old).told (E.seen err.new).told (refusal_rest refusal)) }
+    ensures prefix { AppendsPrefix (E.seen err.old).told (E.seen err.new).told (refusal_rest refusal) }
+    ensures cause { HasCause (E.seen err.old).faults (E.seen err.new).faults result }
 {
     let Refusal::Gap(number) = refusal else {
         return Ok(());

@@ -38,12 +38,12 @@ pub fn answer_of<H: Shelf>(
 ) -> Result<Told, Refusal>
     requires some { OfLastRun question → 0 < length (store_kinds store.old) }
     requires open { store_fault store.old ≡ None }
-    requires fits { FitsUnlessBroken (store_kinds store.old) (store_fault store.old) (H.state store.old.shelf.now) }
+    requires fits { FitsUnlessBroken (store_kinds store.old) (store_fault store.old) (H.seen store.old.shelf.now).told }
     ensures same_reference { store.new.shelf.ghost_name ≡ store.old.shelf.ghost_name }
-    ensures told { IfOk result (λ told. IfSome (H.state store.old.shelf.now) (IsAnswer question told)) }
-    ensures refused { IfErr result (HasTellCause (H.faults store.old.shelf.now) (H.faults store.new.shelf.now)) }
-    ensures count { StandsUnless ShelfFault result (H.faults store.old.shelf.now) (H.faults store.new.shelf.now) }
-    ensures same { Goes (H.state store.old.shelf.now) (H.state store.new.shelf.now) Stays }
+    ensures told { IfOk result (λ told. IfSome (H.seen store.old.shelf.now).told (IsAnswer question told)) }
+    ensures refused { IfErr result (HasTellCause (H.seen store.old.shelf.now).faults (H.seen store.new.shelf.now).faults) }
+    ensures count { StandsUnless ShelfFault result (H.seen store.old.shelf.now).faults (H.seen store.new.shelf.now).faults }
+    ensures same { Goes (H.seen store.old.shelf.now).told (H.seen store.new.shelf.now).told Stays }
 {
     match question {
         Question::Last { subunit: true } => tell_bytes(alloc, store),
@@ -58,12 +58,12 @@ pub fn answer_of<H: Shelf>(
 fn last_bytes<H: Shelf>(alloc: Global, store: &mut Store<'_, H>) -> Result<Vec<u8>, Refusal>
     requires some { 0 < length (store_kinds store.old) }
     requires open { store_fault store.old ≡ None }
-    requires fits { FitsUnlessBroken (store_kinds store.old) (store_fault store.old) (H.state store.old.shelf.now) }
+    requires fits { FitsUnlessBroken (store_kinds store.old) (store_fault store.old) (H.seen store.old.shelf.now).told }
     ensures same_reference { store.new.shelf.ghost_name ≡ store.old.shelf.ghost_name }
-    ensures bytes { IfOk result (λ bytes. IfSome (H.state store.old.shelf.now) (HasBytesAt (length (store_kinds store.old) - 1) bytes.items)) }
-    ensures refused { IfErr result (HasTellCause (H.faults store.old.shelf.now) (H.faults store.new.shelf.now)) }
-    ensures count { StandsUnless ShelfFault result (H.faults store.old.shelf.now) (H.faults store.new.shelf.now) }
-    ensures same { Goes (H.state store.old.shelf.now) (H.state store.new.shelf.now) Stays }
+    ensures bytes { IfOk result (λ bytes. IfSome (H.seen store.old.shelf.now).told (HasBytesAt (length (store_kinds store.old) - 1) bytes.items)) }
+    ensures refused { IfErr result (HasTellCause (H.seen store.old.shelf.now).faults (H.seen store.new.shelf.now).faults) }
+    ensures count { StandsUnless ShelfFault result (H.seen store.old.shelf.now).faults (H.seen store.new.shelf.now).faults }
+    ensures same { Goes (H.seen store.old.shelf.now).told (H.seen store.new.shelf.now).told Stays }
 {
     let number = store.runs() - 1;
     let Ok(size) = store.run_length(number) else {
@@ -82,12 +82,12 @@ fn last_bytes<H: Shelf>(alloc: Global, store: &mut Store<'_, H>) -> Result<Vec<u
 fn tell_bytes<H: Shelf>(alloc: Global, store: &mut Store<'_, H>) -> Result<Told, Refusal>
     requires some { 0 < length (store_kinds store.old) }
     requires open { store_fault store.old ≡ None }
-    requires fits { FitsUnlessBroken (store_kinds store.old) (store_fault store.old) (H.state store.old.shelf.now) }
+    requires fits { FitsUnlessBroken (store_kinds store.old) (store_fault store.old) (H.seen store.old.shelf.now).told }
     ensures same_reference { store.new.shelf.ghost_name ≡ store.old.shelf.ghost_name }
-    ensures told { IfOk result (λ told. IfSome (H.state store.old.shelf.now) (TellsSo SaysBytes told)) }
-    ensures refused { IfErr result (HasTellCause (H.faults store.old.shelf.now) (H.faults store.new.shelf.now)) }
-    ensures count { StandsUnless ShelfFault result (H.faults store.old.shelf.now) (H.faults store.new.shelf.now) }
-    ensures same { Goes (H.state store.old.shelf.now) (H.state store.new.shelf.now) Stays }
+    ensures told { IfOk result (λ told. IfSome (H.seen store.old.shelf.now).told (TellsSo SaysBytes told)) }
+    ensures refused { IfErr result (HasTellCause (H.seen store.old.shelf.now).faults (H.seen store.new.shelf.now).faults) }
+    ensures count { StandsUnless ShelfFault result (H.seen store.old.shelf.now).faults (H.seen store.new.shelf.now).faults }
+    ensures same { Goes (H.seen store.old.shelf.now).told (H.seen store.new.shelf.now).told Stays }
 {
     match last_bytes(alloc, store) {
         Ok(text) => Ok(Told {
@@ -102,12 +102,12 @@ fn tell_bytes<H: Shelf>(alloc: Global, store: &mut Store<'_, H>) -> Result<Told,
 fn last_rows<H: Shelf>(alloc: Global, store: &mut Store<'_, H>) -> Result<Rows, Refusal>
     requires some { 0 < length (store_kinds store.old) }
     requires open { store_fault store.old ≡ None }
-    requires fits { FitsUnlessBroken (store_kinds store.old) (store_fault store.old) (H.state store.old.shelf.now) }
+    requires fits { FitsUnlessBroken (store_kinds store.old) (store_fault store.old) (H.seen store.old.shelf.now).told }
     ensures same_reference { store.new.shelf.ghost_name ≡ store.old.shelf.ghost_name }
-    ensures rows { IfOk result (λ rows. IfSome (H.state store.old.shelf.now) (HasRowsAt (length (store_kinds store.old) - 1) rows)) }
-    ensures refused { IfErr result (HasTellCause (H.faults store.old.shelf.now) (H.faults store.new.shelf.now)) }
-    ensures count { StandsUnless ShelfFault result (H.faults store.old.shelf.now) (H.faults store.new.shelf.now) }
-    ensures same { Goes (H.state store.old.shelf.now) (H.state store.new.shelf.now) Stays }
+    ensures rows { IfOk result (λ rows. IfSome (H.seen store.old.shelf.now).told (HasRowsAt (length (store_kinds store.old) - 1) rows)) }
+    ensures refused { IfErr result (HasTellCause (H.seen store.old.shelf.now).faults (H.seen store.new.shelf.now).faults) }
+    ensures count { StandsUnless ShelfFault result (H.seen store.old.shelf.now).faults (H.seen store.new.shelf.now).faults }
+    ensures same { Goes (H.seen store.old.shelf.now).told (H.seen store.new.shelf.now).told Stays }
 {
     let number = store.runs() - 1;
     match rows_of(alloc, store, number) {
@@ -120,12 +120,12 @@ fn last_rows<H: Shelf>(alloc: Global, store: &mut Store<'_, H>) -> Result<Rows, 
 fn tell_report<H: Shelf>(alloc: Global, store: &mut Store<'_, H>) -> Result<Told, Refusal>
     requires some { 0 < length (store_kinds store.old) }
     requires open { store_fault store.old ≡ None }
-    requires fits { FitsUnlessBroken (store_kinds store.old) (store_fault store.old) (H.state store.old.shelf.now) }
+    requires fits { FitsUnlessBroken (store_kinds store.old) (store_fault store.old) (H.seen store.old.shelf.now).told }
     ensures same_reference { store.new.shelf.ghost_name ≡ store.old.shelf.ghost_name }
-    ensures told { IfOk result (λ told. IfSome (H.state store.old.shelf.now) (TellsSo SaysReport told)) }
-    ensures refused { IfErr result (HasTellCause (H.faults store.old.shelf.now) (H.faults store.new.shelf.now)) }
-    ensures count { StandsUnless ShelfFault result (H.faults store.old.shelf.now) (H.faults store.new.shelf.now) }
-    ensures same { Goes (H.state store.old.shelf.now) (H.state store.new.shelf.now) Stays }
+    ensures told { IfOk result (λ told. IfSome (H.seen store.old.shelf.now).told (TellsSo SaysReport told)) }
+    ensures refused { IfErr result (HasTellCause (H.seen store.old.shelf.now).faults (H.seen store.new.shelf.now).faults) }
+    ensures count { StandsUnless ShelfFault result (H.seen store.old.shelf.now).faults (H.seen store.new.shelf.now).faults }
+    ensures same { Goes (H.seen store.old.shelf.now).told (H.seen store.new.shelf.now).told Stays }
 {
     let number = store.runs() - 1;
     let rows = match last_rows(alloc, store) {
@@ -149,12 +149,12 @@ fn tell_slowest<H: Shelf>(
 ) -> Result<Told, Refusal>
     requires some { 0 < length (store_kinds store.old) }
     requires open { store_fault store.old ≡ None }
-    requires fits { FitsUnlessBroken (store_kinds store.old) (store_fault store.old) (H.state store.old.shelf.now) }
+    requires fits { FitsUnlessBroken (store_kinds store.old) (store_fault store.old) (H.seen store.old.shelf.now).told }
     ensures same_reference { store.new.shelf.ghost_name ≡ store.old.shelf.ghost_name }
-    ensures told { IfOk result (λ told. IfSome (H.state store.old.shelf.now) (TellsSo (SaysSlowest all) told)) }
-    ensures refused { IfErr result (HasTellCause (H.faults store.old.shelf.now) (H.faults store.new.shelf.now)) }
-    ensures count { StandsUnless ShelfFault result (H.faults store.old.shelf.now) (H.faults store.new.shelf.now) }
-    ensures same { Goes (H.state store.old.shelf.now) (H.state store.new.shelf.now) Stays }
+    ensures told { IfOk result (λ told. IfSome (H.seen store.old.shelf.now).told (TellsSo (SaysSlowest all) told)) }
+    ensures refused { IfErr result (HasTellCause (H.seen store.old.shelf.now).faults (H.seen store.new.shelf.now).faults) }
+    ensures count { StandsUnless ShelfFault result (H.seen store.old.shelf.now).faults (H.seen store.new.shelf.now).faults }
+    ensures same { Goes (H.seen store.old.shelf.now).told (H.seen store.new.shelf.now).told Stays }
 {
     let rows = match last_rows(alloc, store) {
         Ok(rows) => rows,
@@ -177,12 +177,12 @@ fn tell_failing<H: Shelf>(
     store: &mut Store<'_, H>,
 ) -> Result<Told, Refusal>
     requires open { store_fault store.old ≡ None }
-    requires fits { FitsUnlessBroken (store_kinds store.old) (store_fault store.old) (H.state store.old.shelf.now) }
+    requires fits { FitsUnlessBroken (store_kinds store.old) (store_fault store.old) (H.seen store.old.shelf.now).told }
     ensures same_reference { store.new.shelf.ghost_name ≡ store.old.shelf.ghost_name }
-    ensures told { IfOk result (λ told. IfSome (H.state store.old.shelf.now) (TellsSo (SaysFailing list) told)) }
-    ensures refused { IfErr result (HasTellCause (H.faults store.old.shelf.now) (H.faults store.new.shelf.now)) }
-    ensures count { StandsUnless ShelfFault result (H.faults store.old.shelf.now) (H.faults store.new.shelf.now) }
-    ensures same { Goes (H.state store.old.shelf.now) (H.state store.new.shelf.now) Stays }
+    ensures told { IfOk result (λ told. IfSome (H.seen store.old.shelf.now).told (TellsSo (SaysFailing list) told)) }
+    ensures refused { IfErr result (HasTellCause (H.seen store.old.shelf.now).faults (H.seen store.new.shelf.now).faults) }
+    ensures count { StandsUnless ShelfFault result (H.seen store.old.shelf.now).faults (H.seen store.new.shelf.now).faults }
+    ensures same { Goes (H.seen store.old.shelf.now).told (H.seen store.new.shelf.now).told Stays }
 {
     let ids = match failing(alloc, store) {
         Ok(ids) => ids,
@@ -201,12 +201,12 @@ fn tell_failing<H: Shelf>(
 // How many runs there are.
 fn tell_stats<H: Shelf>(alloc: Global, store: &mut Store<'_, H>) -> Result<Told, Refusal>
     requires open { store_fault store.old ≡ None }
-    requires fits { FitsUnlessBroken (store_kinds store.old) (store_fault store.old) (H.state store.old.shelf.now) }
+    requires fits { FitsUnlessBroken (store_kinds store.old) (store_fault store.old) (H.seen store.old.shelf.now).told }
     ensures same_reference { store.new.shelf.ghost_name ≡ store.old.shelf.ghost_name }
-    ensures told { IfOk result (λ told. IfSome (H.state store.old.shelf.now) (TellsSo SaysStats told)) }
-    ensures refused { IfErr result (HasTellCause (H.faults store.old.shelf.now) (H.faults store.new.shelf.now)) }
-    ensures count { StandsUnless ShelfFault result (H.faults store.old.shelf.now) (H.faults store.new.shelf.now) }
-    ensures same { Goes (H.state store.old.shelf.now) (H.state store.new.shelf.now) Stays }
+    ensures told { IfOk result (λ told. IfSome (H.seen store.old.shelf.now).told (TellsSo SaysStats told)) }
+    ensures refused { IfErr result (HasTellCause (H.seen store.old.shelf.now).faults (H.seen store.new.shelf.now).faults) }
+    ensures count { StandsUnless ShelfFault result (H.seen store.old.shelf.now).faults (H.seen store.new.shelf.now).faults }
+    ensures same { Goes (H.seen store.old.shelf.now).told (H.seen store.new.shelf.now).told Stays }
 {
     let Ok(text) = stats_text(alloc, store.runs()) else {
         return Err(Refusal::NoMemory);

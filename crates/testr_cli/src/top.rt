@@ -38,54 +38,54 @@ pub fn program<H: Shelf, I: Source, O: Sink, E: Sink>(
 ) -> u8
     // There is one outcome, and the status and the line on `err` are its own.
     ensures outcome { Answers (texts words.now)
-        (outside (H.state shelf.old) (H.faults shelf.old) (I.left input.old) (I.faults input.old) (O.taken out.old) (O.faults out.old))
-        (outside (H.state shelf.new) (H.faults shelf.new) (I.left input.new) (I.faults input.new) (O.taken out.new) (O.faults out.new))
-        (E.taken err.old) (E.taken err.new) (E.faults err.old) (E.faults err.new)
+        (outside (H.seen shelf.old).told (H.seen shelf.old).faults (I.seen input.old).told (I.seen input.old).faults (O.seen out.old).told (O.seen out.old).faults)
+        (outside (H.seen shelf.new).told (H.seen shelf.new).faults (I.seen input.new).told (I.seen input.new).faults (O.seen out.new).told (O.seen out.new).faults)
+        (E.seen err.old).told (E.seen err.new).told (E.seen err.old).faults (E.seen err.new).faults
         result }
 
     ensures usage { (result ≡ 2) ↔ (command_of (texts words.now) ≡ None) }
-    ensures fault { result ≡ 4 → Rose (H.faults shelf.old) (H.faults shelf.new) ⊎ (Rose (I.faults input.old) (I.faults input.new) ⊎ Rose (O.faults out.old) (O.faults out.new)) }
+    ensures fault { result ≡ 4 → Rose (H.seen shelf.old).faults (H.seen shelf.new).faults ⊎ (Rose (I.seen input.old).faults (I.seen input.new).faults ⊎ Rose (O.seen out.old).faults (O.seen out.new).faults) }
 
     // What is refused leaves the runs that the folder shows. Only a fault may leave one more.
-    ensures kept { 2 ≤ result → (result ≡ 4 → ⊥) → KeepsRuns (H.state shelf.old) (H.state shelf.new) }
+    ensures kept { 2 ≤ result → (result ≡ 4 → ⊥) → KeepsRuns (H.seen shelf.old).told (H.seen shelf.new).told }
 
     // A stop at each moment leaves what one before the call might have left, or the files as reads gave them before the
     // call with all that the command adds.
-    ensures any_moment { Goes (H.state shelf.old) (H.state shelf.new) (PassesCommand (command_of (texts words.now)) (I.left input.old)) }
+    ensures any_moment { Goes (H.seen shelf.old).told (H.seen shelf.new).told (PassesCommand (command_of (texts words.now)) (I.seen input.old).told) }
 
-    ensures made { command_of (texts words.now) ≡ Some Init → result ≡ 0 → Goes (H.state shelf.old) (H.state shelf.new) MakesRepository }
+    ensures made { command_of (texts words.now) ≡ Some Init → result ≡ 0 → Goes (H.seen shelf.old).told (H.seen shelf.new).told MakesRepository }
 
     // Over an input that is told: it was read to its end, what is recorded of it is one run more, and its report was
     // printed.
     ensures loaded { (partial : Bool) → command_of (texts words.now) ≡ Some (Load partial) → result ≤ 1 → LoadsTold partial
-        (outside (H.state shelf.old) (H.faults shelf.old) (I.left input.old) (I.faults input.old) (O.taken out.old) (O.faults out.old))
-        (outside (H.state shelf.new) (H.faults shelf.new) (I.left input.new) (I.faults input.new) (O.taken out.new) (O.faults out.new))
+        (outside (H.seen shelf.old).told (H.seen shelf.old).faults (I.seen input.old).told (I.seen input.old).faults (O.seen out.old).told (O.seen out.old).faults)
+        (outside (H.seen shelf.new).told (H.seen shelf.new).faults (I.seen input.new).told (I.seen input.new).faults (O.seen out.new).told (O.seen out.new).faults)
         result }
 
     // The answer of a question was printed, the status is its own, and nothing else happened.
     ensures asked { (question : AQuestion) → command_of (texts words.now) ≡ Some (Ask question) → result ≤ 1 → AnswersQuestion question
-        (outside (H.state shelf.old) (H.faults shelf.old) (I.left input.old) (I.faults input.old) (O.taken out.old) (O.faults out.old))
-        (outside (H.state shelf.new) (H.faults shelf.new) (I.left input.new) (I.faults input.new) (O.taken out.new) (O.faults out.new))
+        (outside (H.seen shelf.old).told (H.seen shelf.old).faults (I.seen input.old).told (I.seen input.old).faults (O.seen out.old).told (O.seen out.old).faults)
+        (outside (H.seen shelf.new).told (H.seen shelf.new).faults (I.seen input.new).told (I.seen input.new).faults (O.seen out.new).told (O.seen out.new).faults)
         result }
 
     // It does not give up without a cause.
     ensures can_init { command_of (texts words.now) ≡ Some Init
-        → CanInit (outside (H.state shelf.old) (H.faults shelf.old) (I.left input.old) (I.faults input.old) (O.taken out.old) (O.faults out.old))
+        → CanInit (outside (H.seen shelf.old).told (H.seen shelf.old).faults (I.seen input.old).told (I.seen input.old).faults (O.seen out.old).told (O.seen out.old).faults)
         → HasNoFault
-        (outside (H.state shelf.old) (H.faults shelf.old) (I.left input.old) (I.faults input.old) (O.taken out.old) (O.faults out.old))
-        (outside (H.state shelf.new) (H.faults shelf.new) (I.left input.new) (I.faults input.new) (O.taken out.new) (O.faults out.new))
+        (outside (H.seen shelf.old).told (H.seen shelf.old).faults (I.seen input.old).told (I.seen input.old).faults (O.seen out.old).told (O.seen out.old).faults)
+        (outside (H.seen shelf.new).told (H.seen shelf.new).faults (I.seen input.new).told (I.seen input.new).faults (O.seen out.new).told (O.seen out.new).faults)
         → result ≡ 0 }
     ensures can_load { (partial : Bool) → command_of (texts words.now) ≡ Some (Load partial)
-        → CanLoad (outside (H.state shelf.old) (H.faults shelf.old) (I.left input.old) (I.faults input.old) (O.taken out.old) (O.faults out.old))
+        → CanLoad (outside (H.seen shelf.old).told (H.seen shelf.old).faults (I.seen input.old).told (I.seen input.old).faults (O.seen out.old).told (O.seen out.old).faults)
         → HasNoFault
-        (outside (H.state shelf.old) (H.faults shelf.old) (I.left input.old) (I.faults input.old) (O.taken out.old) (O.faults out.old))
-        (outside (H.state shelf.new) (H.faults shelf.new) (I.left input.new) (I.faults input.new) (O.taken out.new) (O.faults out.new))
+        (outside (H.seen shelf.old).told (H.seen shelf.old).faults (I.seen input.old).told (I.seen input.old).faults (O.seen out.old).told (O.seen out.old).faults)
+        (outside (H.seen shelf.new).told (H.seen shelf.new).faults (I.seen input.new).told (I.seen input.new).faults (O.seen out.new).told (O.seen out.new).faults)
         → (result ≤ 1) ⊎ (result ≡ 5) }
     ensures can_ask { (question : AQuestion) → command_of (texts words.now) ≡ Some (Ask question)
-        → CanAsk question (outside (H.state shelf.old) (H.faults shelf.old) (I.left input.old) (I.faults input.old) (O.taken out.old) (O.faults out.old))
+        → CanAsk question (outside (H.seen shelf.old).told (H.seen shelf.old).faults (I.seen input.old).told (I.seen input.old).faults (O.seen out.old).told (O.seen out.old).faults)
         → HasNoFault
-        (outside (H.state shelf.old) (H.faults shelf.old) (I.left input.old) (I.faults input.old) (O.taken out.old) (O.faults out.old))
-        (outside (H.state shelf.new) (H.faults shelf.new) (I.left input.new) (I.faults input.new) (O.taken out.new) (O.faults out.new))
+        (outside (H.seen shelf.old).told (H.seen shelf.old).faults (I.seen input.old).told (I.seen input.old).faults (O.seen out.old).told (O.seen out.old).faults)
+        (outside (H.seen shelf.new).told (H.seen shelf.new).faults (I.seen input.new).told (I.seen input.new).faults (O.seen out.new).told (O.seen out.new).faults)
         → (result ≤ 1) ⊎ (result ≡ 5) }
 {
     dispatch(alloc, words, shelf, input, out, err)
@@ -109,54 +109,54 @@ pub fn testr<H: Shelf, I: Source, O: Sink, E: Sink>(
 ) -> u8
     // There is one outcome, and the status and the line on `err` are its own.
     ensures outcome { Answers (testr_word ∷ texts words.now)
-        (outside (H.state shelf.old) (H.faults shelf.old) (I.left input.old) (I.faults input.old) (O.taken out.old) (O.faults out.old))
-        (outside (H.state shelf.new) (H.faults shelf.new) (I.left input.new) (I.faults input.new) (O.taken out.new) (O.faults out.new))
-        (E.taken err.old) (E.taken err.new) (E.faults err.old) (E.faults err.new)
+        (outside (H.seen shelf.old).told (H.seen shelf.old).faults (I.seen input.old).told (I.seen input.old).faults (O.seen out.old).told (O.seen out.old).faults)
+        (outside (H.seen shelf.new).told (H.seen shelf.new).faults (I.seen input.new).told (I.seen input.new).faults (O.seen out.new).told (O.seen out.new).faults)
+        (E.seen err.old).told (E.seen err.new).told (E.seen err.old).faults (E.seen err.new).faults
         result }
 
     ensures usage { (result ≡ 2) ↔ (command_of (testr_word ∷ texts words.now) ≡ None) }
-    ensures fault { result ≡ 4 → Rose (H.faults shelf.old) (H.faults shelf.new) ⊎ (Rose (I.faults input.old) (I.faults input.new) ⊎ Rose (O.faults out.old) (O.faults out.new)) }
+    ensures fault { result ≡ 4 → Rose (H.seen shelf.old).faults (H.seen shelf.new).faults ⊎ (Rose (I.seen input.old).faults (I.seen input.new).faults ⊎ Rose (O.seen out.old).faults (O.seen out.new).faults) }
 
     // What is refused leaves the runs that the folder shows. Only a fault may leave one more.
-    ensures kept { 2 ≤ result → (result ≡ 4 → ⊥) → KeepsRuns (H.state shelf.old) (H.state shelf.new) }
+    ensures kept { 2 ≤ result → (result ≡ 4 → ⊥) → KeepsRuns (H.seen shelf.old).told (H.seen shelf.new).told }
 
     // A stop at each moment leaves what one before the call might have left, or the files as reads gave them before the
     // call with all that the command adds.
-    ensures any_moment { Goes (H.state shelf.old) (H.state shelf.new) (PassesCommand (command_of (testr_word ∷ texts words.now)) (I.left input.old)) }
+    ensures any_moment { Goes (H.seen shelf.old).told (H.seen shelf.new).told (PassesCommand (command_of (testr_word ∷ texts words.now)) (I.seen input.old).told) }
 
-    ensures made { command_of (testr_word ∷ texts words.now) ≡ Some Init → result ≡ 0 → Goes (H.state shelf.old) (H.state shelf.new) MakesRepository }
+    ensures made { command_of (testr_word ∷ texts words.now) ≡ Some Init → result ≡ 0 → Goes (H.seen shelf.old).told (H.seen shelf.new).told MakesRepository }
 
     // Over an input that is told: it was read to its end, what is recorded of it is one run more, and its report was
     // printed.
     ensures loaded { (partial : Bool) → command_of (testr_word ∷ texts words.now) ≡ Some (Load partial) → result ≤ 1 → LoadsTold partial
-        (outside (H.state shelf.old) (H.faults shelf.old) (I.left input.old) (I.faults input.old) (O.taken out.old) (O.faults out.old))
-        (outside (H.state shelf.new) (H.faults shelf.new) (I.left input.new) (I.faults input.new) (O.taken out.new) (O.faults out.new))
+        (outside (H.seen shelf.old).told (H.seen shelf.old).faults (I.seen input.old).told (I.seen input.old).faults (O.seen out.old).told (O.seen out.old).faults)
+        (outside (H.seen shelf.new).told (H.seen shelf.new).faults (I.seen input.new).told (I.seen input.new).faults (O.seen out.new).told (O.seen out.new).faults)
         result }
 
     // The answer of a question was printed, the status is its own, and nothing else happened.
     ensures asked { (question : AQuestion) → command_of (testr_word ∷ texts words.now) ≡ Some (Ask question) → result ≤ 1 → AnswersQuestion question
-        (outside (H.state shelf.old) (H.faults shelf.old) (I.left input.old) (I.faults input.old) (O.taken out.old) (O.faults out.old))
-        (outside (H.state shelf.new) (H.faults shelf.new) (I.left input.new) (I.faults input.new) (O.taken out.new) (O.faults out.new))
+        (outside (H.seen shelf.old).told (H.seen shelf.old).faults (I.seen input.old).told (I.seen input.old).faults (O.seen out.old).told (O.seen out.old).faults)
+        (outside (H.seen shelf.new).told (H.seen shelf.new).faults (I.seen input.new).told (I.seen input.new).faults (O.seen out.new).told (O.seen out.new).faults)
         result }
 
     // It does not give up without a cause.
     ensures can_init { command_of (testr_word ∷ texts words.now) ≡ Some Init
-        → CanInit (outside (H.state shelf.old) (H.faults shelf.old) (I.left input.old) (I.faults input.old) (O.taken out.old) (O.faults out.old))
+        → CanInit (outside (H.seen shelf.old).told (H.seen shelf.old).faults (I.seen input.old).told (I.seen input.old).faults (O.seen out.old).told (O.seen out.old).faults)
         → HasNoFault
-        (outside (H.state shelf.old) (H.faults shelf.old) (I.left input.old) (I.faults input.old) (O.taken out.old) (O.faults out.old))
-        (outside (H.state shelf.new) (H.faults shelf.new) (I.left input.new) (I.faults input.new) (O.taken out.new) (O.faults out.new))
+        (outside (H.seen shelf.old).told (H.seen shelf.old).faults (I.seen input.old).told (I.seen input.old).faults (O.seen out.old).told (O.seen out.old).faults)
+        (outside (H.seen shelf.new).told (H.seen shelf.new).faults (I.seen input.new).told (I.seen input.new).faults (O.seen out.new).told (O.seen out.new).faults)
         → result ≡ 0 }
     ensures can_load { (partial : Bool) → command_of (testr_word ∷ texts words.now) ≡ Some (Load partial)
-        → CanLoad (outside (H.state shelf.old) (H.faults shelf.old) (I.left input.old) (I.faults input.old) (O.taken out.old) (O.faults out.old))
+        → CanLoad (outside (H.seen shelf.old).told (H.seen shelf.old).faults (I.seen input.old).told (I.seen input.old).faults (O.seen out.old).told (O.seen out.old).faults)
         → HasNoFault
-        (outside (H.state shelf.old) (H.faults shelf.old) (I.left input.old) (I.faults input.old) (O.taken out.old) (O.faults out.old))
-        (outside (H.state shelf.new) (H.faults shelf.new) (I.left input.new) (I.faults input.new) (O.taken out.new) (O.faults out.new))
+        (outside (H.seen shelf.old).told (H.seen shelf.old).faults (I.seen input.old).told (I.seen input.old).faults (O.seen out.old).told (O.seen out.old).faults)
+        (outside (H.seen shelf.new).told (H.seen shelf.new).faults (I.seen input.new).told (I.seen input.new).faults (O.seen out.new).told (O.seen out.new).faults)
         → (result ≤ 1) ⊎ (result ≡ 5) }
     ensures can_ask { (question : AQuestion) → command_of (testr_word ∷ texts words.now) ≡ Some (Ask question)
-        → CanAsk question (outside (H.state shelf.old) (H.faults shelf.old) (I.left input.old) (I.faults input.old) (O.taken out.old) (O.faults out.old))
+        → CanAsk question (outside (H.seen shelf.old).told (H.seen shelf.old).faults (I.seen input.old).told (I.seen input.old).faults (O.seen out.old).told (O.seen out.old).faults)
         → HasNoFault
-        (outside (H.state shelf.old) (H.faults shelf.old) (I.left input.old) (I.faults input.old) (O.taken out.old) (O.faults out.old))
-        (outside (H.state shelf.new) (H.faults shelf.new) (I.left input.new) (I.faults input.new) (O.taken out.new) (O.faults out.new))
+        (outside (H.seen shelf.old).told (H.seen shelf.old).faults (I.seen input.old).told (I.seen input.old).faults (O.seen out.old).told (O.seen out.old).faults)
+        (outside (H.seen shelf.new).told (H.seen shelf.new).faults (I.seen input.new).told (I.seen input.new).faults (O.seen out.new).told (O.seen out.new).faults)
         → (result ≤ 1) ⊎ (result ≡ 5) }
 {
     answer(alloc, words, shelf, input, out, err)
@@ -172,11 +172,11 @@ fn dispatch<H: Shelf, I: Source, O: Sink, E: Sink>(
     err: &mut E,
 ) -> u8
     ensures outcome { Answers (texts words.now)
-        (outside (H.state shelf.old) (H.faults shelf.old) (I.left input.old) (I.faults input.old) (O.taken out.old) (O.faults out.old))
-        (outside (H.state shelf.new) (H.faults shelf.new) (I.left input.new) (I.faults input.new) (O.taken out.new) (O.faults out.new))
-        (E.taken err.old) (E.taken err.new) (E.faults err.old) (E.faults err.new)
+        (outside (H.seen shelf.old).told (H.seen shelf.old).faults (I.seen input.old).told (I.seen input.old).faults (O.seen out.old).told (O.seen out.old).faults)
+        (outside (H.seen shelf.new).told (H.seen shelf.new).faults (I.seen input.new).told (I.seen input.new).faults (O.seen out.new).told (O.seen out.new).faults)
+        (E.seen err.old).told (E.seen err.new).told (E.seen err.old).faults (E.seen err.new).faults
         result }
-    ensures any_moment { Goes (H.state shelf.old) (H.state shelf.new) (PassesCommand (command_of (texts words.now)) (I.left input.old)) }
+    ensures any_moment { Goes (H.seen shelf.old).told (H.seen shelf.new).told (PassesCommand (command_of (texts words.now)) (I.seen input.old).told) }
 {
     if !is_testr(words) {
         return tell_usage(err);
@@ -187,8 +187,8 @@ fn dispatch<H: Shelf, I: Source, O: Sink, E: Sink>(
 // Words that name no face of the program.
 fn tell_usage<E: Sink>(err: &mut E) -> u8
     ensures status { result ≡ 2 }
-    ensures line { AppendsPrefix (E.taken err.old) (E.taken err.new) usage_line }
-    ensures whole { Appends (E.taken err.old) (E.taken err.new) usage_line ⊎ Rose (E.faults err.old) (E.faults err.new) }
+    ensures line { AppendsPrefix (E.seen err.old).told (E.seen err.new).told usage_line }
+    ensures whole { Appends (E.seen err.old).told (E.seen err.new).told usage_line ⊎ Rose (E.seen err.old).faults (E.seen err.new).faults }
 {
     let _ = write_whole(err, b"usage: testr COMMAND or a subunit filter\n");
     2
@@ -204,11 +204,11 @@ fn answer<H: Shelf, I: Source, O: Sink, E: Sink>(
     err: &mut E,
 ) -> u8
     ensures outcome { Answers (testr_word ∷ texts words.now)
-        (outside (H.state shelf.old) (H.faults shelf.old) (I.left input.old) (I.faults input.old) (O.taken out.old) (O.faults out.old))
-        (outside (H.state shelf.new) (H.faults shelf.new) (I.left input.new) (I.faults input.new) (O.taken out.new) (O.faults out.new))
-        (E.taken err.old) (E.taken err.new) (E.faults err.old) (E.faults err.new)
+        (outside (H.seen shelf.old).told (H.seen shelf.old).faults (I.seen input.old).told (I.seen input.old).faults (O.seen out.old).told (O.seen out.old).faults)
+        (outside (H.seen shelf.new).told (H.seen shelf.new).faults (I.seen input.new).told (I.seen input.new).faults (O.seen out.new).told (O.seen out.new).faults)
+        (E.seen err.old).told (E.seen err.new).told (E.seen err.old).faults (E.seen err.new).faults
         result }
-    ensures any_moment { Goes (H.state shelf.old) (H.state shelf.new) (PassesCommand (command_of (testr_word ∷ texts words.now)) (I.left input.old)) }
+    ensures any_moment { Goes (H.seen shelf.old).told (H.seen shelf.new).told (PassesCommand (command_of (testr_word ∷ texts words.now)) (I.seen input.old).told) }
 {
     match perform(alloc, words, shelf, input, out) {
         Ok(verdict) => verdict.code(),
@@ -228,16 +228,16 @@ fn perform<H: Shelf, I: Source, O: Sink>(
     out: &mut O,
 ) -> Result<Verdict, Refusal>
     ensures done { IfOk result (Performs (command_behind (texts words.now))
-        (outside (H.state shelf.old) (H.faults shelf.old) (I.left input.old) (I.faults input.old) (O.taken out.old) (O.faults out.old))
-        (outside (H.state shelf.new) (H.faults shelf.new) (I.left input.new) (I.faults input.new) (O.taken out.new) (O.faults out.new))) }
+        (outside (H.seen shelf.old).told (H.seen shelf.old).faults (I.seen input.old).told (I.seen input.old).faults (O.seen out.old).told (O.seen out.old).faults)
+        (outside (H.seen shelf.new).told (H.seen shelf.new).faults (I.seen input.new).told (I.seen input.new).faults (O.seen out.new).told (O.seen out.new).faults)) }
     ensures refused { IfErr result (HasRefusalCause (command_behind (texts words.now))
-        (outside (H.state shelf.old) (H.faults shelf.old) (I.left input.old) (I.faults input.old) (O.taken out.old) (O.faults out.old))
-        (outside (H.state shelf.new) (H.faults shelf.new) (I.left input.new) (I.faults input.new) (O.taken out.new) (O.faults out.new))) }
+        (outside (H.seen shelf.old).told (H.seen shelf.old).faults (I.seen input.old).told (I.seen input.old).faults (O.seen out.old).told (O.seen out.old).faults)
+        (outside (H.seen shelf.new).told (H.seen shelf.new).faults (I.seen input.new).told (I.seen input.new).faults (O.seen out.new).told (O.seen out.new).faults)) }
     ensures counts { RisesOnlyAt
-        (outside (H.state shelf.old) (H.faults shelf.old) (I.left input.old) (I.faults input.old) (O.taken out.old) (O.faults out.old))
-        (outside (H.state shelf.new) (H.faults shelf.new) (I.left input.new) (I.faults input.new) (O.taken out.new) (O.faults out.new))
+        (outside (H.seen shelf.old).told (H.seen shelf.old).faults (I.seen input.old).told (I.seen input.old).faults (O.seen out.old).told (O.seen out.old).faults)
+        (outside (H.seen shelf.new).told (H.seen shelf.new).faults (I.seen input.new).told (I.seen input.new).faults (O.seen out.new).told (O.seen out.new).faults)
         result }
-    ensures any_moment { Goes (H.state shelf.old) (H.state shelf.new) (PassesCommand (command_behind (texts words.now)) (I.left input.old)) }
+    ensures any_moment { Goes (H.seen shelf.old).told (H.seen shelf.new).told (PassesCommand (command_behind (texts words.now)) (I.seen input.old).told) }
 {
     match command(words) {
         None => Err(Refusal::Usage),

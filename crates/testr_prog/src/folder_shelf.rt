@@ -30,11 +30,9 @@ impl<'r, R: Files<File = File>> FolderShelf<'r, R> {
 }
 
 impl<R: Files<File = File> + AllocGlobal + Clone + Drop> Shelf for FolderShelf<'_, R> {
-    ghost state = { λ _. None };
+    ghost seen = { λ s. record { told = None; faults = s.faults } };
 
     ghost clock = { λ s. s.calls };
-
-    ghost faults = { λ s. s.faults };
 
     ghost published_counts = { λ _. tt };
 

@@ -23,9 +23,7 @@ impl<W: Write> StreamSink<W> {
 }
 
 impl<W: Write> Sink for StreamSink<W> {
-    ghost taken = { λ s. W.contents s.stream };
-
-    ghost faults = { λ s. s.faults };
+    ghost seen = { λ s. record { told = W.contents s.stream; faults = s.faults } };
 
     /// One write of the whole piece, of which the writer may take a part.
     fn write(&mut self, piece: &[u8]) -> Result<usize, Failed> {

@@ -22,9 +22,7 @@ impl<R: Read> StreamSource<R> {
 }
 
 impl<R: Read> Source for StreamSource<R> {
-    ghost left = { λ s. R.remaining s.stream };
-
-    ghost faults = { λ s. s.faults };
+    ghost seen = { λ s. record { told = R.remaining s.stream; faults = s.faults } };
 
     /// One read straight into `buf`.
     fn read(&mut self, buf: &mut [u8]) -> Result<usize, Failed> {

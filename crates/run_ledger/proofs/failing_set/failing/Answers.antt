@@ -43,4 +43,4 @@ returns-in_err-rows-clause-closes g c =
 pub returns-clause-ids : goal.returns-clause-ids
 returns-clause-ids g c =
     fails_all _ _ c.loop-number.number _ (omega (arith, c.loop-number-test.false, c.runs-number-end.ensures)) (c.requires.fits c.in_ok-check_open.ensures.open)
-    (subst (λ (l : List (List ℕ)). IfSome (g.H.Shelf.state c.args.store.now.shelf.now) (FailsTo (store_kinds c.args.store.now) c.loop-number.number l)) (sym c.in_ok-into_ids.ensures) c.loop-number.invariant.ids)
+    (subst (λ (l : List (List ℕ)). IfSome (g.H.Shelf.seen c.args.store.now.shelf.now).told (FailsTo (store_kinds c.args.store.now) c.loop-number.number l)) (sym c.in_ok-into_ids.ensures) c.loop-number.invariant.ids)

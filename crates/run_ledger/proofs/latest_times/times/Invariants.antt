@@ -8,11 +8,11 @@ use Rattle.run_ledger.proofs.latest_times.times.Given as goal
 -- the times are those of the runs so far, and the store is as it was
 abbrev pub invariant-loop-number : goal.invariant-loop-number
 invariant-loop-number g l = record {
-  times : IfSome (g.H.Shelf.state l.fn.store.shelf.now) (SaysTo times_after l.number l.latest);
+  times : IfSome (g.H.Shelf.seen l.fn.store.shelf.now).told (SaysTo times_after l.number l.latest);
   same_reference : l.store.shelf.ghost_name ≡ l.fn.store.shelf.ghost_name;
   open_still : store_fault l.store ≡ None;
   kinds : store_kinds l.store ≡ store_kinds l.fn.store;
-  same : Goes (g.H.Shelf.state l.fn.store.shelf.now) (g.H.Shelf.state l.store.shelf.now) Stays;
-  fits : FitsUnlessBroken (store_kinds l.store) (store_fault l.store) (g.H.Shelf.state l.store.shelf.now);
-  faults : g.H.Shelf.faults l.store.shelf.now ≡ g.H.Shelf.faults l.fn.store.shelf.now;
+  same : Goes (g.H.Shelf.seen l.fn.store.shelf.now).told (g.H.Shelf.seen l.store.shelf.now).told Stays;
+  fits : FitsUnlessBroken (store_kinds l.store) (store_fault l.store) (g.H.Shelf.seen l.store.shelf.now).told;
+  faults : (g.H.Shelf.seen l.store.shelf.now).faults ≡ (g.H.Shelf.seen l.fn.store.shelf.now).faults;
 }

@@ -8,11 +8,11 @@ use Rattle.run_ledger.proofs.rows.read_pieces.Given as goal
 abbrev pub invariant-loop-piece : goal.invariant-loop-piece
 invariant-loop-piece g l = record {
   room : length l.buf ≡ 65536;
-  read : IfSome (g.H.Shelf.state l.fn.store.shelf.now) (HasReadTo l.number (l.piece * 65536) l.run);
+  read : IfSome (g.H.Shelf.seen l.fn.store.shelf.now).told (HasReadTo l.number (l.piece * 65536) l.run);
   same_reference : l.store.shelf.ghost_name ≡ l.fn.store.shelf.ghost_name;
   open_still : store_fault l.store ≡ None;
   kinds : store_kinds l.store ≡ store_kinds l.fn.store;
-  same : Goes (g.H.Shelf.state l.fn.store.shelf.now) (g.H.Shelf.state l.store.shelf.now) Stays;
-  fits : FitsUnlessBroken (store_kinds l.store) (store_fault l.store) (g.H.Shelf.state l.store.shelf.now);
-  faults : g.H.Shelf.faults l.store.shelf.now ≡ g.H.Shelf.faults l.fn.store.shelf.now;
+  same : Goes (g.H.Shelf.seen l.fn.store.shelf.now).told (g.H.Shelf.seen l.store.shelf.now).told Stays;
+  fits : FitsUnlessBroken (store_kinds l.store) (store_fault l.store) (g.H.Shelf.seen l.store.shelf.now).told;
+  faults : (g.H.Shelf.seen l.store.shelf.now).faults ≡ (g.H.Shelf.seen l.fn.store.shelf.now).faults;
 }

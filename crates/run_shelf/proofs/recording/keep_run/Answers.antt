@@ -20,7 +20,7 @@ pub returns-clause-fits : goal.returns-clause-fits
 returns-clause-fits g c =
     let kinds = kinds_of c.args.found.now in
     let name : c.as_str.result.now ≡ run_name (length kinds) c.args.partial = c.as_str.ensures.value ∙ c.run_name-name.ensures ∙ ap (λ n. run_name n c.args.partial) c.runs-number.ensures in
-    subst (λ (l : List Bool). FitsWhereTold l (g.H.Shelf.state c.keep_file.new.shelf)) (sym c.add.ensures)
+    subst (λ (l : List Bool). FitsWhereTold l (g.H.Shelf.seen c.keep_file.new.shelf).told) (sym c.add.ensures)
     (goes_fits kinds c.requires.few c.args.partial c.args.bytes.now c.as_str.result.now name _ _ c.requires.fits c.in_ok-keep_file.ensures.kept)
 
 pub returns-clause-any_moment : goal.returns-clause-any_moment

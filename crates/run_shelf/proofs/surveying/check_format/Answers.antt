@@ -9,7 +9,7 @@ use Rattle.run_shelf.proofs.surveying.check_format.Goals as goal
 
 pub returns-else-is_format-clause-refused : goal.returns-else-is_format-clause-refused
 returns-else-is_format-clause-refused g c =
-    let state = g.H.Shelf.state c.args.shelf.now in
+    let state = (g.H.Shelf.seen c.args.shelf.now).told in
     let buf = c.read_at.new.buf in
     let count = c.in-Ok-read_at.count in
     let same = stays_then state _ _ c.in-Ok.ensures.same c.in-Ok-read_at.ensures.same in

@@ -11,7 +11,7 @@ use Rattle.run_shelf.proofs.surveying.look.Goals as goal
 
 pub returns-clause-found : goal.returns-clause-found
 returns-clause-found g c =
-    let state = g.H.Shelf.state c.args.shelf.now in
+    let state = (g.H.Shelf.seen c.args.shelf.now).told in
     let names = c.deref.result.now in
     let lists = stays_back state _ c.check_format.ensures.same (λ (s : Folder). AreNamesOf s.disk.published c.in-Ok.names.items) c.in-Ok.ensures.found in
     let listed = subst (λ (l : List (List ℕ)). IfSome state (λ s. AreNamesOf s.disk.published l)) (sym c.deref.ensures.value) lists in
@@ -20,8 +20,8 @@ returns-clause-found g c =
 
 pub returns-clause-refused : goal.returns-clause-refused
 returns-clause-refused g c =
-    let state = g.H.Shelf.state c.args.shelf.now in
-    let later = g.H.Shelf.state c.names.new.self in
+    let state = (g.H.Shelf.seen c.args.shelf.now).told in
+    let later = (g.H.Shelf.seen c.names.new.self).told in
     let names = c.deref.result.now in
     let lists = stays_back state _ c.check_format.ensures.same (λ (s : Folder). AreNamesOf s.disk.published c.in-Ok.names.items) c.in-Ok.ensures.found in
     let listed = subst (λ (l : List (List ℕ)). IfSome state (λ s. AreNamesOf s.disk.published l)) (sym c.deref.ensures.value) lists in

@@ -4,7 +4,7 @@ use Rattle.testr_cli.proofs.StopLemmas.{load_moments}
 use Rattle.testr_cli.proofs.load.load.Goals as goal
 
 pub returns-in-Err-clause-refused : goal.returns-in-Err-clause-refused
-returns-in-Err-clause-refused g c = c.in-Err.ensures.refused c.args.partial (g.O.Sink.taken c.args.out.now) (g.O.Sink.faults c.args.out.now)
+returns-in-Err-clause-refused g c = c.in-Err.ensures.refused c.args.partial (g.O.Sink.seen c.args.out.now).told (g.O.Sink.seen c.args.out.now).faults
 
 pub returns-in_default-clause-refused : goal.returns-in_default-clause-refused
 returns-in_default-clause-refused g c =

@@ -7,11 +7,11 @@ use Rattle.testr_cli.proofs.reading.record_pieces.Given as goal
 -- the bytes read so far were recorded
 abbrev pub invariant-loop-count : goal.invariant-loop-count
 invariant-loop-count g l = record {
-  read : (bytes : List ℕ) × Consumes (g.I.Source.left l.initial.input) (g.I.Source.left l.input) bytes × (length bytes ≡ l.total) × (Recording [] l.fn.scribe l.fn.run.items → Recording bytes l.scribe l.run.items);
+  read : (bytes : List ℕ) × Consumes (g.I.Source.seen l.initial.input).told (g.I.Source.seen l.input).told bytes × (length bytes ≡ l.total) × (Recording [] l.fn.scribe l.fn.run.items → Recording bytes l.scribe l.run.items);
   few : l.total ≤ most_bytes;
   going_on : l.scribe.held.ended ≡ false;
   lane : l.scribe.lane ≡ l.fn.scribe.lane;
-  stands : g.I.Source.faults l.input ≡ g.I.Source.faults l.initial.input;
+  stands : (g.I.Source.seen l.input).faults ≡ (g.I.Source.seen l.initial.input).faults;
 }
 
 abbrev pub decreases-loop-count : goal.decreases-loop-count

@@ -12,7 +12,7 @@ returns-then-not-is_testr g c =
     let unnamed : names_testr (texts c.args.words.now) ≡ false = sym c.is_testr.ensures ∙ c.if-not-is_testr.true in
     record {
       outcome = subst (Answers _ _ _ _ _ _ _) (sym c.tell_usage.ensures.status) (unnamed_answers _ _ _ _ _ _ unnamed c.tell_usage.ensures.line c.tell_usage.ensures.whole);
-      any_moment = no_moments (command_of (texts c.args.words.now)) (g.I.Source.left c.args.input.now) (g.H.Shelf.state c.args.shelf.now) (names_no_command (texts c.args.words.now) unnamed);
+      any_moment = no_moments (command_of (texts c.args.words.now)) (g.I.Source.seen c.args.input.now).told (g.H.Shelf.seen c.args.shelf.now).told (names_no_command (texts c.args.words.now) unnamed);
     }
 
 pub returns : goal.returns
@@ -21,5 +21,5 @@ returns g c =
     let rest = ap (λ l. testr_word ∷ texts l) (take_rest c.args.words.now 1) ∙ sym (names_first c.args.words.now named) in
     record {
       outcome = same_words _ _ _ _ _ _ _ _ _ rest c.answer.ensures.outcome;
-      any_moment = same_moments _ _ (g.I.Source.left c.args.input.now) (g.H.Shelf.state c.args.shelf.now) (g.H.Shelf.state c.answer.new.shelf) rest c.answer.ensures.any_moment;
+      any_moment = same_moments _ _ (g.I.Source.seen c.args.input.now).told (g.H.Shelf.seen c.args.shelf.now).told (g.H.Shelf.seen c.answer.new.shelf).told rest c.answer.ensures.any_moment;
     }

@@ -76,14 +76,14 @@ open_spec 𝓤 𝓛 𝓜 𝓡 wired T L ghosts dict bound =
     let α : NamedLft = named_lft 2 0 tt κs in let D : RattleType = store.the_row α R in let Op : RattleType = opening.the_row α R in let Res : RattleType = result.the_row D open_fault.the_row in
     let LR = param_laws 0 T L in let typed = (opening_laws.the_row_laws α R LR).lawful 𝓛 in let typed_result = (result_laws.the_row_laws D open_fault.the_row (store_laws.the_row_laws α R LR) open_fault_laws.the_row_laws).lawful 𝓛 in
     let toks = ‵ (flft κs.0 qs.0) ⊛ ‵ (flft κs.1.0 qs.1.0) ⊛ ‵ ftrue in
-    let before : Option Folder = ghosts.state shelf.now in let faults : ℕ = ghosts.faults shelf.now in
-    let Why : OpenFault → T.Denot → Type 0 = λ fault last. IsNotOpened fault before faults (ghosts.state last) (ghosts.faults last) in
+    let before : Option Folder = (ghosts.seen shelf.now).told in let faults : ℕ = (ghosts.seen shelf.now).faults in
+    let Why : OpenFault → T.Denot → Type 0 = λ fault last. IsNotOpened fault before faults (ghosts.seen last).told (ghosts.seen last).faults in
     let Tied : Op.Denot → Type 0 = λ u. HandsBack shelf.ghost_name u Why in
     let Rest : Op.Denot → SProp 𝓤 = λ u. sep 𝓤 (fact 𝓤 (IfOk u.opened (λ store. store.shelf.ghost_name ≡ shelf.ghost_name)))
-    (sep 𝓤 (fact 𝓤 (IfOk u.opened (λ store. Goes before (ghosts.state store.shelf.now) (Surveys (store_kinds store)))))
-    (sep 𝓤 (fact 𝓤 (IfOk u.opened (λ store. Goes before (ghosts.state store.shelf.now) PassesOld)))
+    (sep 𝓤 (fact 𝓤 (IfOk u.opened (λ store. Goes before (ghosts.seen store.shelf.now).told (Surveys (store_kinds store)))))
+    (sep 𝓤 (fact 𝓤 (IfOk u.opened (λ store. Goes before (ghosts.seen store.shelf.now).told PassesOld)))
     (sep 𝓤 (fact 𝓤 (IfOk u.opened (λ store. store_fault store ≡ None)))
-    (sep 𝓤 (fact 𝓤 (IfOk u.opened (λ store. ghosts.faults store.shelf.now ≡ faults)))
+    (sep 𝓤 (fact 𝓤 (IfOk u.opened (λ store. (ghosts.seen store.shelf.now).faults ≡ faults)))
     (fact 𝓤 (IfErr u.opened (λ fault. IfSome before (HasOpenCause fault)))))))) in
     use1 𝓛 (later (some (λ (u : Op.Denot). (toks ⊛ ‵ (Op.own_val u (v ∷ []))) ⊛ some (λ (ws : Lasts (g.ended T ghosts dict) κs a). ‵ (lasts (g.ended T ghosts dict) κs a ws) ⊛ raw (fact 𝓤 (Tied u)) ⊛ raw (Rest u))))) (id⊢ 𝓤 (k.post z v)) $
     await ! tt $ pick ! (λ u. split ! $ move ! (1 ∷ []) $ pick ! (λ ws. split3 ! $ drop ! $ heard ! (Tied u) (λ tied. move ! (1 ∷ []) $ split ! $ move ! (1 ∷ []) $
