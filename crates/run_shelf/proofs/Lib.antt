@@ -4,6 +4,7 @@ pub mod RunLemmas
 pub mod ShowsLemmas
 pub mod MarkLemmas
 pub mod LookSteps
+pub mod DraftLemmas
 pub mod Joining
 pub mod KeepSteps
 pub mod MakeSteps

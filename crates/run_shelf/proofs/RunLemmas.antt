@@ -9,6 +9,7 @@ use Rattle.edge_io.specs.Disk.{Files, put, Disk, Folder, IsImage, at_rest}
 use Rattle.edge_io.specs.Steps.{Goes}
 use Rattle.edge_io.proofs.Going.{goes_from}
 use Rattle.edge_io.proofs.Passing.{passes_weaker}
+use Rattle.run_shelf.specs.Drafts.{OfDraft}
 use Rattle.run_shelf.specs.Holds.{FitsFolder, FitsWhereTold}
 use Rattle.run_shelf.specs.Images.{KeepsFile, PassesFile, KeepsRun, PassesRun, HasRunBeside}
 use Rattle.run_shelf.specs.Repository.{Run, run_of, run_of_files, run_at, full_name, partial_name, run_name, most_runs, Shows, HasKinds, IsFirstFree, IsRepository, format_name}
@@ -215,3 +216,21 @@ module _ (kinds : List Bool) (room : length kinds < most_runs) (partial : Bool) 
 
   pub goes_passes : Goes a b (PassesFile name bytes) → Goes a b (PassesRun (length kinds) (run_of partial bytes))
   goes_passes through = goes_from a b (FitsFolder kinds) (PassesFile name bytes) (PassesRun (length kinds) (run_of partial bytes)) fits through passes
+
+-- the same of a draft
+module _ (kinds : List Bool) (room : length kinds < most_runs) (partial : Bool) (name : List ℕ) (is : name ≡ run_name (length kinds) partial) (a b : Option Folder) (fits : FitsWhereTold kinds a) where
+  pub draft_keeps : Goes a b (OfDraft (KeepsFile name)) → Goes a b (OfDraft (λ bytes. KeepsRun (length kinds) (run_of partial bytes)))
+  draft_keeps kept =
+      goes_from a b (FitsFolder kinds) (OfDraft (KeepsFile name)) (OfDraft (λ bytes. KeepsRun (length kinds) (run_of partial bytes))) fits kept
+      (λ s t fit of. record { bytes = of.bytes; are = of.are; does = keeps kinds room partial of.bytes name is a b fits s t fit of.does })
+
+  pub draft_fits : Goes a b (OfDraft (KeepsFile name)) → FitsWhereTold (kinds ++ partial ∷ []) b
+  draft_fits kept =
+      some_after a b (λ s t. FitsFolder kinds s × OfDraft (KeepsFile name) s t) (FitsFolder (kinds ++ partial ∷ []))
+      (goes_with a b (FitsFolder kinds) (OfDraft (KeepsFile name)) fits kept)
+      (λ s t both. fits_more kinds room partial both.1.bytes name is a b fits s t (both.0, both.1.does))
+
+  pub draft_passes : Goes a b (OfDraft (PassesFile name)) → Goes a b (OfDraft (λ bytes. PassesRun (length kinds) (run_of partial bytes)))
+  draft_passes through =
+      goes_from a b (FitsFolder kinds) (OfDraft (PassesFile name)) (OfDraft (λ bytes. PassesRun (length kinds) (run_of partial bytes))) fits through
+      (λ s t fit of. record { bytes = of.bytes; are = of.are; does = passes kinds room partial of.bytes name is a b fits s t fit of.does })

@@ -1,7 +1,9 @@
 -- What is seen of a store and of its recorder.
-use Rattle.std.specs.Prelude.{◌≡◌, ◌↔◌, ⊤, ℕ, ◌<◌, Bool, true, false, Option, Some, None, IfSome, List, [], length, Result, Ok, Err}
+use Rattle.std.specs.Prelude.{◌≡◌, ◌⊎◌, ◌↔◌, ⊤, ℕ, ◌<◌, Bool, true, false, Option, Some, None, IfSome, IsSome, List, length, Result, Ok, Err}
 use Rattle.edge_io.specs.Disk.{Folder}
+use Rattle.edge_io.specs.Steps.{Stays, Dropped, GrownInPart}
 use Rattle.run_shelf.specs.declared.faults.ShelfCall.{ShelfCall}
+use Rattle.run_shelf.specs.declared.faults.ShelfCall.TheVariants.{StartDraft, Append}
 use Rattle.run_shelf.specs.declared.faults.StoreFault.{StoreFault}
 use Rattle.run_shelf.specs.declared.faults.StoreFault.TheVariants.{Shelf, Closed}
 use Rattle.run_shelf.specs.declared.faults.OpenFault.{OpenFault}
@@ -10,9 +12,10 @@ use Rattle.run_shelf.specs.declared.faults.StartFault.{StartFault}
 use Rattle.run_shelf.specs.declared.faults.StartFault.TheVariants as start_fault
 use Rattle.run_shelf.specs.declared.store.Store.{Store}
 use Rattle.run_shelf.specs.declared.recorder.Recorder.{Recorder}
+use Rattle.run_shelf.specs.Drafts.{OfDraft, PlaceFails}
 use Rattle.run_shelf.specs.Holds.{FitsFolder, kinds_of}
-use Rattle.run_shelf.specs.Outcomes.{KeepFails}
-use Rattle.run_shelf.specs.Repository.{HasFormat, HasOtherFormat, IsGap, format_name, most_runs}
+use Rattle.run_shelf.specs.Images.{PassesOld, PassesRun}
+use Rattle.run_shelf.specs.Repository.{run_of, HasFormat, HasOtherFormat, IsGap, format_name, most_runs}
 
 -- whether each run is partial, in the order of their numbers
 abbrev pub store_kinds : {H : Type 0} → Store H → List Bool
@@ -25,16 +28,24 @@ store_fault store = store.fault
 abbrev pub recorder_kinds : {H : Type 0} → Recorder H → List Bool
 recorder_kinds recorder = kinds_of recorder.recording.found
 
--- what was added, in order
-abbrev pub recorded : {H : Type 0} → Recorder H → List ℕ
-recorded recorder = recorder.recording.bytes.items
-
 abbrev pub recorder_partial : {H : Type 0} → Recorder H → Bool
 recorder_partial recorder = recorder.recording.partial
+
+-- the call that failed, after which the recorder is closed
+abbrev pub recorder_fault : {H : Type 0} → Recorder H → Option ShelfCall
+recorder_fault recorder = recorder.recording.fault
 
 -- until a call of the folder has failed, what the store knows fits the folder
 abbrev pub FitsUnlessBroken : List Bool → Option ShelfCall → Option Folder → Type 0
 FitsUnlessBroken kinds fault state = fault ≡ None → IfSome state (FitsFolder kinds)
+
+-- a repository of runs of these kinds, at rest, and a run that was begun
+pub record IsRecording (kinds : List Bool) (s : Folder) : Type 0 where
+  pub fits : FitsFolder kinds s
+  pub draft : IsSome s.draft
+
+abbrev pub RecordsUnlessBroken : List Bool → Option ShelfCall → Option Folder → Type 0
+RecordsUnlessBroken kinds fault state = fault ≡ None → IfSome state (IsRecording kinds)
 
 -- the call failed that is kept, or the one before it
 abbrev pub fault_after : {T : Type 0} → Option ShelfCall → Result T StoreFault → Option ShelfCall
@@ -60,25 +71,55 @@ HasOpenCause (open_fault.Gap number) s = HasFormat s.disk.published × IsGap s.d
 HasOpenCause (open_fault.Shelf call) s = ⊤
 HasOpenCause open_fault.NoMemory s = ⊤
 
--- why no recording was started, by the number of runs and the fault that is kept
+-- why no recording was started, by the number of runs and the fault that was kept before
 abbrev pub HasStartCause : ℕ → Option ShelfCall → StartFault → Type 0
 HasStartCause runs fault start_fault.Full = (fault ≡ None) × (runs ≡ most_runs)
-HasStartCause runs fault (start_fault.Store (Shelf call)) = ⊥
+HasStartCause runs fault (start_fault.Store (Shelf call)) = (fault ≡ None) × (runs < most_runs) × (call ≡ StartDraft)
 HasStartCause runs fault (start_fault.Store (Closed call)) = fault ≡ Some call
 HasStartCause runs fault start_fault.NoMemory = (fault ≡ None) × (runs < most_runs)
 
--- a recording of a run of this kind, to which nothing was added yet, of a store that had this
+-- what is kept of it
+abbrev pub fault_after_start : Option ShelfCall → StartFault → Option ShelfCall
+fault_after_start before start_fault.Full = before
+fault_after_start before (start_fault.Store (Shelf call)) = Some call
+fault_after_start before (start_fault.Store (Closed call)) = before
+fault_after_start before start_fault.NoMemory = before
+
+abbrev pub start_failed : StartFault → Bool
+start_failed start_fault.Full = false
+start_failed (start_fault.Store (Shelf call)) = true
+start_failed (start_fault.Store (Closed call)) = false
+start_failed start_fault.NoMemory = false
+
+-- what the folder is then
+abbrev pub StartFails : StartFault → Folder → Folder → Type 0
+StartFails start_fault.Full s t = Stays s t
+StartFails (start_fault.Store (Shelf call)) s t = Dropped s t
+StartFails (start_fault.Store (Closed call)) s t = Stays s t
+StartFails start_fault.NoMemory s t = Stays s t
+
+-- a recording of a run of this kind, of a store that had this
 pub record StartsFrom {H : Type 0} (kinds : List Bool) (fault : Option ShelfCall) (partial : Bool) (recorder : Recorder H) : Type 0 where
   pub kinds_are : recorder_kinds recorder ≡ kinds
   pub partial_is : recorder_partial recorder ≡ partial
-  pub nothing : recorded recorder ≡ []
+  pub open_still : recorder_fault recorder ≡ None
   pub unbroken : fault ≡ None
   pub few : length kinds < most_runs
 
--- a run was to be kept, and this call failed; a recorder's store is never closed
-abbrev pub StoreKeepFails : List ℕ → List ℕ → StoreFault → Folder → Folder → Type 0
-StoreKeepFails name bytes (Shelf call) s t = KeepFails name bytes call s t
-StoreKeepFails name bytes (Closed call) s t = ⊥
+-- A packet was not added: the call failed and may have added some of its first bytes, or the recorder was closed and
+-- nothing was added.
+abbrev pub AddFails : List ℕ → StoreFault → Folder → Folder → Type 0
+AddFails packet (Shelf call) s t = (call ≡ Append) × GrownInPart packet s t
+AddFails packet (Closed call) s t = Stays s t
+
+-- a run was not kept: this call failed, or the recorder was closed and nothing was done
+abbrev pub FinishFails : List ℕ → StoreFault → Folder → Folder → Type 0
+FinishFails name (Shelf call) s t = OfDraft (λ bytes. PlaceFails name bytes call) s t
+FinishFails name (Closed call) s t = Stays s t
+
+-- a stop leaves what one before might have left, or the run that was recorded beside the files as they were
+abbrev pub PassesRecorded : ℕ → Bool → Folder → Folder → Type 0
+PassesRecorded number partial s t = PassesOld s t ⊎ OfDraft (λ bytes. PassesRun number (run_of partial bytes)) s t
 
 -- a fault of the folder is told with this call, which is the only one that is made
 abbrev pub TellsOf : ShelfCall → StoreFault → Type 0

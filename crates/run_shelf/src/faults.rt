@@ -80,17 +80,6 @@ pub enum StartFault {
     NoMemory,
 }
 
-/// Why a packet was not added.
-#[derive(Clone, Copy, Debug, PartialEq, Eq, Error)]
-pub enum AddFault {
-    /// A call of the folder failed, or had failed before.
-    #[error("{0}")]
-    Store(StoreFault),
-    /// There is not enough memory.
-    #[error("out of memory")]
-    NoMemory,
-}
-
 impl From<AllocError> for OpenFault {
     ghost use Rattle.std.specs.Prelude.{◌≡◌};
     ghost use Rattle.run_shelf.specs.declared.faults.OpenFault.TheVariants.{NoMemory};

@@ -3,43 +3,40 @@
 //! - `faults`: which call of the folder failed, and why a call of this crate was refused
 //! - `found`: what is known of a folder that was looked at
 //! - `names`: the names of the files of runs
-//! - `keeping`: one file more, wholly or not at all
+//! - `file`: one file more, wholly or not at all
 //! - `marks`: which runs a list of names has
 //! - `making`: makes an empty repository
 //! - `surveying`: looks which runs a folder has
-//! - `recording`: keeps one run more
-//! - `reading`: reads the bytes of a run
+//! - `run`: one run, begun, added to and finished, and read
 //! - `laws`: the runs that a repository shows
 //! - `store`, `recorder`: the same over a folder that is held
+//! - `recording`: what a recorder knows of its run
 //! - `opening`: what came of opening a folder, which is held or handed back
-//! - `gathering`: what is recorded of a run
 //!
 //! The calls over a folder that is lent for the call alone say what it is at each exit. `Store` and `Recorder` hold the
 //! folder in between.
 #![tactic(auto)]
 
 mod faults;
+mod file;
 mod found;
-mod gathering;
-mod keeping;
 mod laws;
 mod making;
 mod marks;
 mod names;
 mod opening;
-mod reading;
 mod recorder;
 mod recording;
+mod run;
 mod store;
 mod surveying;
 
-pub use faults::{AddFault, InitFault, OpenFault, ShelfCall, StartFault, StoreFault};
+pub use faults::{InitFault, OpenFault, ShelfCall, StartFault, StoreFault};
 pub use found::{Found, MOST_RUNS};
 pub use laws::repositories_show_runs;
 pub use making::make_repository;
-pub use reading::{read_run, run_length};
 pub use recorder::Recorder;
-pub use recording::keep_run;
+pub use run::{add_packet, begin_run, finish_run, keep_run, read_run, run_length};
 pub use store::Store;
 pub use surveying::survey;
 

@@ -6,7 +6,7 @@ ghost use Rattle.run_shelf.specs.Faults.{RisesExactlyIf, init_failed};
 ghost use Rattle.run_shelf.specs.Images.{MakesRepository, PassesFormat};
 ghost use Rattle.run_shelf.specs.Outcomes.{InitFails};
 
-use crate::keeping::keep_file;
+use crate::file::keep_file;
 use crate::{InitFault, ShelfCall};
 use edge_io::Shelf;
 

@@ -1,21 +1,22 @@
-//! The recording of one run.
+//! The recording of one run over a folder that is held.
 
-ghost use Rattle.std.specs.Prelude.{◌≡◌, ◌++◌, ◌∷◌, [], None, length, IfOk, IfErr, OnOk, OnErr};
-ghost use Rattle.edge_io.specs.Steps.{Goes};
+ghost use Rattle.std.specs.Prelude.{◌≡◌, ◌++◌, ◌∷◌, [], length, IfOk, IfErr, OnOk, OnErr};
+ghost use Rattle.edge_io.specs.Steps.{Goes, Grown};
+ghost use Rattle.run_shelf.specs.Drafts.{OfDraft};
 ghost use Rattle.run_shelf.specs.Faults.{RisesExactlyIf};
 ghost use Rattle.run_shelf.specs.Holds.{FitsWhereTold};
-ghost use Rattle.run_shelf.specs.Images.{KeepsRun, PassesRun};
-ghost use Rattle.run_shelf.specs.Outcomes.{KeepFails};
+ghost use Rattle.run_shelf.specs.Images.{KeepsRun, PassesOld};
 ghost use Rattle.run_shelf.specs.Repository.{run_of, run_name};
-ghost use Rattle.run_shelf.specs.declared.faults.StoreFault.TheVariants.{Shelf as ShelfFailed};
-ghost use Rattle.run_shelf.specs.declared.faults.AddFault.TheVariants.{NoMemory};
-ghost use Rattle.run_shelf.specs.Stores.{store_kinds, store_fault, store_failed, fault_after, recorder_kinds, recorder_partial, recorded, StoreKeepFails};
+ghost use Rattle.run_shelf.specs.Stores.{store_kinds, store_fault, store_failed, recorder_kinds, recorder_partial, recorder_fault, RecordsUnlessBroken, Closes, AddFails, FinishFails, PassesRecorded};
 
-use crate::gathering::Recording;
-use crate::{AddFault, Found, Store, StoreFault, keep_run};
+use crate::recording::Recording;
+use crate::{Store, StoreFault, add_packet, finish_run};
 use edge_io::Shelf;
 
-/// The recording of one run. It gathers what is added, and writes it at the commit.
+/// The recording of one run. Each packet is written as it is added, behind those added before, and the run becomes one of
+/// the repository's at the commit. After a fault of the folder it is closed, and so is the store that it gives back.
+///
+/// A run that is dropped, or whose recorder is let go, leaves the runs as they were, and so does a stop before the commit.
 #[derive(Drop)]
 pub struct Recorder<'h, H: Shelf> {
     shelf: &'h mut H,
@@ -32,45 +33,61 @@ impl<'h, H: Shelf> Recorder<'h, H> {
         Recorder { shelf, recording }
     }
 
-    /// Adds the packet behind those added before. Nothing is written yet, so no fault of the folder can come, and
-    /// `NoMemory` comes only for want of memory, with all as before.
-    pub fn add(&mut self, packet: &[u8]) -> Result<(), AddFault>
+    /// Adds the packet behind those added before, as `add_packet`. It takes no memory. After a fault further calls answer
+    /// `Closed`, and add nothing.
+    pub fn add(&mut self, packet: &[u8]) -> Result<(), StoreFault>
+        requires fits { RecordsUnlessBroken (recorder_kinds self.old) (recorder_fault self.old) (H.seen self.old.shelf.now).told }
         ensures same_reference { self.new.shelf.ghost_name ≡ self.old.shelf.ghost_name }
-        ensures same { self.new.shelf.now ≡ self.old.shelf.now }
-        ensures added { OnOk result (recorded self.new ≡ recorded self.old ++ packet.now) }
-        ensures not_added { OnErr result (recorded self.new ≡ recorded self.old) }
-        ensures fault { IfErr result (λ fault. fault ≡ NoMemory) }
+        ensures added { OnOk result (Goes (H.seen self.old.shelf.now).told (H.seen self.new.shelf.now).told (Grown packet.now)) }
+        ensures not_added { IfErr result (λ fault. Goes (H.seen self.old.shelf.now).told (H.seen self.new.shelf.now).told (AddFails packet.now fault)) }
+        ensures any_moment { Goes (H.seen self.old.shelf.now).told (H.seen self.new.shelf.now).told PassesOld }
+        ensures closes { Closes (recorder_fault self.old) (recorder_fault self.new) result }
         ensures kinds { recorder_kinds self.new ≡ recorder_kinds self.old }
         ensures partial { recorder_partial self.new ≡ recorder_partial self.old }
+        ensures fits { RecordsUnlessBroken (recorder_kinds self.new) (recorder_fault self.new) (H.seen self.new.shelf.now).told }
+        ensures cause { RisesExactlyIf (H.seen self.old.shelf.now).faults (H.seen self.new.shelf.now).faults (store_failed result) }
     {
-        match self.recording.add(packet) {
+        if let Some(call) = self.recording.fault {
+            return Err(StoreFault::Closed(call));
+        }
+        match add_packet(self.shelf, packet) {
             Ok(()) => Ok(()),
-            Err(_) => Err(AddFault::NoMemory),
+            Err(call) => {
+                self.recording.fault = Some(call);
+                Err(StoreFault::Shelf(call))
+            }
         }
     }
 
-    /// Keeps what was added as the run behind all others, and answers its number, as `keep_run`. It takes no memory.
-    /// After a fault the store is closed.
+    /// Keeps what was added as the run behind all others, and answers its number, as `finish_run`. It takes no memory.
+    /// Where a call of the folder had failed before, it answers `Closed` and does nothing. After a fault the store is
+    /// closed.
     pub fn commit(self) -> (Store<'h, H>, Result<u32, StoreFault>)
-        requires fits { FitsWhereTold (recorder_kinds self) (H.seen self.shelf.now).told }
+        requires fits { RecordsUnlessBroken (recorder_kinds self) (recorder_fault self) (H.seen self.shelf.now).told }
         ensures same_reference { result.0.shelf.ghost_name ≡ self.entry.shelf.ghost_name }
         ensures number { IfOk result.1 (λ number. number ≡ length (recorder_kinds self.entry)) }
-        ensures kept { OnOk result.1 (Goes (H.seen self.entry.shelf.now).told (H.seen result.0.shelf.now).told (KeepsRun (length (recorder_kinds self.entry)) (run_of (recorder_partial self.entry) (recorded self.entry)))) }
+        ensures kept { OnOk result.1 (Goes (H.seen self.entry.shelf.now).told (H.seen result.0.shelf.now).told (OfDraft (λ bytes. KeepsRun (length (recorder_kinds self.entry)) (run_of (recorder_partial self.entry) bytes)))) }
         ensures fits { OnOk result.1 (FitsWhereTold (store_kinds result.0) (H.seen result.0.shelf.now).told) }
         ensures kinds { OnOk result.1 (store_kinds result.0 ≡ recorder_kinds self.entry ++ recorder_partial self.entry ∷ []) }
         ensures kinds_err { OnErr result.1 (store_kinds result.0 ≡ recorder_kinds self.entry) }
-        ensures failed { IfErr result.1 (λ fault. Goes (H.seen self.entry.shelf.now).told (H.seen result.0.shelf.now).told (StoreKeepFails (run_name (length (recorder_kinds self.entry)) (recorder_partial self.entry)) (recorded self.entry) fault)) }
-        ensures fault { store_fault result.0 ≡ fault_after None result.1 }
-        ensures any_moment { Goes (H.seen self.entry.shelf.now).told (H.seen result.0.shelf.now).told (PassesRun (length (recorder_kinds self.entry)) (run_of (recorder_partial self.entry) (recorded self.entry))) }
+        ensures failed { IfErr result.1 (λ fault. Goes (H.seen self.entry.shelf.now).told (H.seen result.0.shelf.now).told (FinishFails (run_name (length (recorder_kinds self.entry)) (recorder_partial self.entry)) fault)) }
+        ensures closes { Closes (recorder_fault self.entry) (store_fault result.0) result.1 }
+        ensures any_moment { Goes (H.seen self.entry.shelf.now).told (H.seen result.0.shelf.now).told (PassesRecorded (length (recorder_kinds self.entry)) (recorder_partial self.entry)) }
         ensures cause { RisesExactlyIf (H.seen self.entry.shelf.now).faults (H.seen result.0.shelf.now).faults (store_failed result.1) }
     {
         let Recorder { shelf, recording } = self;
         let Recording {
             mut found,
             partial,
-            bytes,
+            fault,
         } = recording;
-        match keep_run(shelf, &mut found, partial, &bytes) {
+        if let Some(call) = fault {
+            return (
+                Store::broken(shelf, found, call),
+                Err(StoreFault::Closed(call)),
+            );
+        }
+        match finish_run(shelf, &mut found, partial) {
             Ok(number) => (Store::attach(shelf, found), Ok(number)),
             Err(call) => (
                 Store::broken(shelf, found, call),
@@ -79,19 +96,19 @@ impl<'h, H: Shelf> Recorder<'h, H> {
         }
     }
 
-    /// Drops what was recorded. The runs are as before.
+    /// Gives the run up. The runs are as before, and the folder is not called.
     pub fn drop_run(self) -> Store<'h, H>
         ensures same_reference { result.shelf.ghost_name ≡ self.entry.shelf.ghost_name }
         ensures same { result.shelf.now ≡ self.entry.shelf.now }
         ensures kinds { store_kinds result ≡ recorder_kinds self.entry }
-        ensures fault { store_fault result ≡ None }
+        ensures fault { store_fault result ≡ recorder_fault self.entry }
     {
         let Recorder { shelf, recording } = self;
         let Recording {
             found,
             partial: _,
-            bytes: _,
+            fault,
         } = recording;
-        Store::attach(shelf, found)
+        Store::with_fault(shelf, found, fault)
     }
 }

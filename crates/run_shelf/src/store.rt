@@ -3,7 +3,7 @@
 ghost use Rattle.std.specs.Prelude.{◌≡◌, ◌<◌, None, Some, length, slice_get, IfSome, IfOk, IfErr, OnOk};
 ghost use Rattle.std.specs.Borrow.{sem, RestsIfErr};
 ghost use Rattle.std.specs.Io.{ReadsAtMost};
-ghost use Rattle.edge_io.specs.Steps.{Goes, Stays};
+ghost use Rattle.edge_io.specs.Steps.{Goes, Stays, Opened};
 ghost use Rattle.run_shelf.specs.Faults.{RisesExactlyIf, init_failed};
 ghost use Rattle.run_shelf.specs.Holds.{kinds_of};
 ghost use Rattle.run_shelf.specs.Images.{MakesRepository, PassesFormat, PassesOld};
@@ -11,14 +11,14 @@ ghost use Rattle.run_shelf.specs.Openings.{IsNotOpened};
 ghost use Rattle.run_shelf.specs.Outcomes.{InitFails, Surveys, IsRunLength, IsRunPart, TicksAtMost};
 ghost use Rattle.run_shelf.specs.declared.faults.ShelfCall.TheVariants.{Length, ReadAt};
 ghost use Rattle.run_shelf.specs.declared.faults.StoreFault.TheVariants.{Shelf as ShelfFailed};
-ghost use Rattle.run_shelf.specs.Stores.{store_kinds, store_fault, store_failed, FitsUnlessBroken, Closes, TellsOf, HasOpenCause, HasStartCause, StartsFrom};
+ghost use Rattle.run_shelf.specs.Stores.{store_kinds, store_fault, store_failed, FitsUnlessBroken, Closes, TellsOf, HasOpenCause, HasStartCause, StartsFrom, StartFails, start_failed, fault_after_start, recorder_kinds, recorder_fault, RecordsUnlessBroken};
 
-use crate::gathering::Recording;
 use crate::opening::open_or_hand_back;
 use crate::recorder::Recorder;
+use crate::recording::Recording;
 use crate::{
-    Found, InitFault, MOST_RUNS, OpenFault, ShelfCall, StartFault, StoreFault, make_repository,
-    read_run, run_length,
+    Found, InitFault, MOST_RUNS, OpenFault, ShelfCall, StartFault, StoreFault, begin_run,
+    make_repository, read_run, run_length,
 };
 use edge_io::Shelf;
 use std::alloc::Global;
@@ -155,21 +155,28 @@ impl<'h, H: Shelf> Store<'h, H> {
         StoreFault::Shelf(call)
     }
 
-    /// Starts the recording of one run more, and takes the memory that the commit needs. On each refusal the store is
-    /// handed back as it was: `Full` comes exactly where there are 1,000,000 runs, `Store` where the store is closed,
-    /// which comes first, and `NoMemory` only for want of memory.
+    /// Starts the recording of one run more: takes the memory that it needs, and begins its draft. On each refusal the
+    /// store is handed back with its runs as they were. `Store` comes first, where the store is closed; then `Full` exactly
+    /// where there are 1,000,000 runs; `NoMemory` only for want of memory; and `Store` where the draft was not begun, after
+    /// which the store is closed.
     pub fn start_run(
         self,
         alloc: Global,
         partial: bool,
     ) -> Result<Recorder<'h, H>, (Store<'h, H>, StartFault)>
         ensures same_reference { IfOk result (λ recorder. recorder.shelf.ghost_name ≡ self.entry.shelf.ghost_name) }
-        ensures same { IfOk result (λ recorder. recorder.shelf.now ≡ self.entry.shelf.now) }
+        ensures begun { IfOk result (λ recorder. Goes (H.seen self.entry.shelf.now).told (H.seen recorder.shelf.now).told Opened) }
         ensures started { IfOk result (λ recorder. StartsFrom (store_kinds self.entry) (store_fault self.entry) partial recorder) }
+        ensures fits { FitsUnlessBroken (store_kinds self.entry) (store_fault self.entry) (H.seen self.entry.shelf.now).told → IfOk result (λ recorder. RecordsUnlessBroken (recorder_kinds recorder) (recorder_fault recorder) (H.seen recorder.shelf.now).told) }
+        ensures any_moment { IfOk result (λ recorder. Goes (H.seen self.entry.shelf.now).told (H.seen recorder.shelf.now).told PassesOld) }
+        ensures count { IfOk result (λ recorder. (H.seen recorder.shelf.now).faults ≡ (H.seen self.entry.shelf.now).faults) }
         ensures same_reference_err { IfErr result (λ e. e.0.shelf.ghost_name ≡ self.entry.shelf.ghost_name) }
-        ensures same_err { IfErr result (λ e. e.0.shelf.now ≡ self.entry.shelf.now) }
-        ensures kept { IfErr result (λ e. (store_kinds e.0 ≡ store_kinds self.entry) × (store_fault e.0 ≡ store_fault self.entry)) }
+        ensures not_begun { IfErr result (λ e. Goes (H.seen self.entry.shelf.now).told (H.seen e.0.shelf.now).told (StartFails e.1)) }
+        ensures kept { IfErr result (λ e. store_kinds e.0 ≡ store_kinds self.entry) }
+        ensures closes { IfErr result (λ e. store_fault e.0 ≡ fault_after_start (store_fault self.entry) e.1) }
         ensures refused { IfErr result (λ e. HasStartCause (length (store_kinds self.entry)) (store_fault self.entry) e.1) }
+        ensures any_moment_err { IfErr result (λ e. Goes (H.seen self.entry.shelf.now).told (H.seen e.0.shelf.now).told PassesOld) }
+        ensures cause { IfErr result (λ e. RisesExactlyIf (H.seen self.entry.shelf.now).faults (H.seen e.0.shelf.now).faults (start_failed e.1)) }
     {
         let mut store = self;
         if let Some(call) = store.fault {
@@ -186,7 +193,20 @@ impl<'h, H: Shelf> Store<'h, H> {
             found,
             fault: _,
         } = store;
-        Ok(Recorder::over(shelf, Recording::start(alloc, found, partial)))
+        match begin_run(shelf) {
+            Ok(()) => Ok(Recorder::over(
+                shelf,
+                Recording {
+                    found,
+                    partial,
+                    fault: None,
+                },
+            )),
+            Err(call) => Err((
+                Store::broken(shelf, found, call),
+                StartFault::Store(StoreFault::Shelf(call)),
+            )),
+        }
     }
 
     // A store over a folder of which a call failed.
@@ -196,10 +216,24 @@ impl<'h, H: Shelf> Store<'h, H> {
         ensures kinds { store_kinds result ≡ kinds_of found }
         ensures fault { store_fault result ≡ Some call }
     {
+        Store::with_fault(shelf, found, Some(call))
+    }
+
+    // A store over a folder of which this call failed, or none.
+    pub(crate) fn with_fault(
+        shelf: &'h mut H,
+        found: Found,
+        fault: Option<ShelfCall>,
+    ) -> Store<'h, H>
+        ensures same_reference { result.shelf.ghost_name ≡ shelf.entry.ghost_name }
+        ensures same { result.shelf.now ≡ shelf.entry.now }
+        ensures kinds { store_kinds result ≡ kinds_of found }
+        ensures fault { store_fault result ≡ fault }
+    {
         Store {
             shelf,
             found,
-            fault: Some(call),
+            fault,
         }
     }
 

@@ -2,7 +2,7 @@ use Rattle.std.proofs.Common.{◌≡◌, ◌∙◌, ap, sym, subst, List, Bool, 
 use Rattle.run_shelf.specs.Holds.{kinds_of, FitsWhereTold}
 use Rattle.run_shelf.specs.Repository.{run_name}
 use Rattle.run_shelf.proofs.RunLemmas.{goes_keeps, goes_fits, goes_passes}
-use Rattle.run_shelf.proofs.recording.keep_run.Goals as goal
+use Rattle.run_shelf.proofs.run.keep_run.Goals as goal
 
 pub returns-in_err-keep_file-clause-any_moment : goal.returns-in_err-keep_file-clause-any_moment
 returns-in_err-keep_file-clause-any_moment g c =

@@ -2,8 +2,8 @@
 
 ghost use Rattle.std.specs.Prelude.{IfSome, IfErr, OnOk};
 ghost use Rattle.edge_io.specs.Causes.{HasCause};
-ghost use Rattle.edge_io.specs.Steps.{Goes};
-ghost use Rattle.run_shelf.specs.Drafts.{Drafts, DraftFails};
+ghost use Rattle.edge_io.specs.Steps.{Goes, HasDraft};
+ghost use Rattle.run_shelf.specs.Drafts.{OfDraft, Writes, DraftFails, PlaceFails};
 ghost use Rattle.run_shelf.specs.Images.{AtRest, KeepsFile, PassesFile};
 ghost use Rattle.run_shelf.specs.Outcomes.{KeepFails};
 
@@ -19,18 +19,12 @@ pub fn keep_file<H: Shelf>(shelf: &mut H, name: &str, bytes: &[u8]) -> Result<()
     ensures cause { HasCause (H.seen shelf.old).faults (H.seen shelf.new).faults result }
 {
     write_draft(shelf, bytes)?;
-    let Ok(()) = shelf.publish(name) else {
-        return Err(ShelfCall::Publish);
-    };
-    let Ok(()) = shelf.sync_folder() else {
-        return Err(ShelfCall::SyncFolder);
-    };
-    Ok(())
+    place_draft(shelf, name)
 }
 
-// A draft of these bytes, all of them on the disk.
+// A draft of these bytes.
 fn write_draft<H: Shelf>(shelf: &mut H, bytes: &[u8]) -> Result<(), ShelfCall>
-    ensures drafted { OnOk result (Goes (H.seen shelf.old).told (H.seen shelf.new).told (Drafts bytes.now)) }
+    ensures written { OnOk result (Goes (H.seen shelf.old).told (H.seen shelf.new).told (Writes bytes.now)) }
     ensures failed { IfErr result (λ call. Goes (H.seen shelf.old).told (H.seen shelf.new).told (DraftFails call)) }
     ensures cause { HasCause (H.seen shelf.old).faults (H.seen shelf.new).faults result }
 {
@@ -40,8 +34,27 @@ fn write_draft<H: Shelf>(shelf: &mut H, bytes: &[u8]) -> Result<(), ShelfCall>
     let Ok(()) = shelf.append(bytes) else {
         return Err(ShelfCall::Append);
     };
+    Ok(())
+}
+
+/// The draft, which there must be, becomes the file of this name, in a folder in which nothing is pending: it is brought
+/// to the disk, gets its name, and the name is brought to the disk. At `Ok` each later stop leaves the file.
+pub fn place_draft<H: Shelf>(shelf: &mut H, name: &str) -> Result<(), ShelfCall>
+    requires rest { IfSome (H.seen shelf.old).told AtRest }
+    requires draft { HasDraft (H.seen shelf.old).told }
+    ensures kept { OnOk result (Goes (H.seen shelf.old).told (H.seen shelf.new).told (OfDraft (KeepsFile name.now))) }
+    ensures failed { IfErr result (λ call. Goes (H.seen shelf.old).told (H.seen shelf.new).told (OfDraft (λ bytes. PlaceFails name.now bytes call))) }
+    ensures any_moment { Goes (H.seen shelf.old).told (H.seen shelf.new).told (OfDraft (PassesFile name.now)) }
+    ensures cause { HasCause (H.seen shelf.old).faults (H.seen shelf.new).faults result }
+{
     let Ok(()) = shelf.sync_draft() else {
         return Err(ShelfCall::SyncDraft);
+    };
+    let Ok(()) = shelf.publish(name) else {
+        return Err(ShelfCall::Publish);
+    };
+    let Ok(()) = shelf.sync_folder() else {
+        return Err(ShelfCall::SyncFolder);
     };
     Ok(())
 }

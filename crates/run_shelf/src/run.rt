@@ -1,0 +1,160 @@
+//! One run: begun, added to and finished, or kept at once, and read.
+
+ghost use Rattle.std.specs.Prelude.{◌≡◌, ◌<◌, ◌++◌, ◌∷◌, [], length, IfSome, IfOk, IfErr, OnOk, OnErr};
+ghost use Rattle.std.specs.Io.{ReadsAtMost};
+ghost use Rattle.edge_io.specs.Causes.{HasCause};
+ghost use Rattle.edge_io.specs.Steps.{Goes, Stays, Ticks, HasDraft, Opened, Dropped, Grown, GrownInPart};
+ghost use Rattle.run_shelf.specs.Drafts.{OfDraft, PlaceFails};
+ghost use Rattle.run_shelf.specs.Holds.{kinds_of, HasRoom, FitsWhereTold};
+ghost use Rattle.run_shelf.specs.Images.{KeepsRun, PassesRun, PassesOld};
+ghost use Rattle.run_shelf.specs.Outcomes.{KeepFails, IsRunLength, IsRunPart, TicksAtMost};
+ghost use Rattle.run_shelf.specs.Repository.{run_of, run_name, most_runs};
+ghost use Rattle.run_shelf.specs.declared.faults.ShelfCall.TheVariants.{Length, ReadAt, StartDraft, Append};
+
+use crate::file::{keep_file, place_draft};
+use crate::{Found, ShelfCall, names};
+use edge_io::Shelf;
+
+/// Begins a run: an empty draft, in place of any other. It takes no memory and makes one call of the folder. The error is
+/// that call, where it failed; there is no draft then. The files are as before at each exit.
+///
+/// A run that was begun and is not finished is in no image that a stop may leave, so it needs no call to give it up.
+pub fn begin_run<H: Shelf>(shelf: &mut H) -> Result<(), ShelfCall>
+    ensures begun { OnOk result (Goes (H.seen shelf.old).told (H.seen shelf.new).told Opened) }
+    ensures not_begun { OnErr result (Goes (H.seen shelf.old).told (H.seen shelf.new).told Dropped) }
+    ensures failed { IfErr result (λ call. call ≡ StartDraft) }
+    ensures any_moment { Goes (H.seen shelf.old).told (H.seen shelf.new).told PassesOld }
+    ensures time { Ticks (H.clock shelf.old) (H.clock shelf.new) }
+    ensures cause { HasCause (H.seen shelf.old).faults (H.seen shelf.new).faults result }
+{
+    let Ok(()) = shelf.start_draft() else {
+        return Err(ShelfCall::StartDraft);
+    };
+    Ok(())
+}
+
+/// Adds the packet to the run that was begun, behind those added before. It takes no memory and makes one call of the
+/// folder. The error is that call, where it failed; some of the packet's first bytes may then have been added, so that the
+/// run is not to be finished. The files are as before at each exit.
+pub fn add_packet<H: Shelf>(shelf: &mut H, packet: &[u8]) -> Result<(), ShelfCall>
+    requires { HasDraft (H.seen shelf.old).told }
+    ensures added { OnOk result (Goes (H.seen shelf.old).told (H.seen shelf.new).told (Grown packet.now)) }
+    ensures not_added { OnErr result (Goes (H.seen shelf.old).told (H.seen shelf.new).told (GrownInPart packet.now)) }
+    ensures failed { IfErr result (λ call. call ≡ Append) }
+    ensures any_moment { Goes (H.seen shelf.old).told (H.seen shelf.new).told PassesOld }
+    ensures time { Ticks (H.clock shelf.old) (H.clock shelf.new) }
+    ensures cause { HasCause (H.seen shelf.old).faults (H.seen shelf.new).faults result }
+{
+    let Ok(()) = shelf.append(packet) else {
+        return Err(ShelfCall::Append);
+    };
+    Ok(())
+}
+
+/// Keeps what was added as the run behind all others, and answers its number, which is how many runs there were. It takes
+/// no memory: there must be room for it in what was found, which must fit the folder, and fewer than 1,000,000 runs.
+///
+/// At `Ok` each later stop leaves the run and those before it. The error is the call of the folder that failed: before
+/// the publish the files are as they were, at it the run is there or not, after it the run is there. A stop at any moment
+/// leaves what one before the call might have left, or the files as read before it with the run beside them.
+pub fn finish_run<H: Shelf>(
+    shelf: &mut H,
+    found: &mut Found,
+    partial: bool,
+) -> Result<u32, ShelfCall>
+    requires few { length (kinds_of found.old) < most_runs }
+    requires room { HasRoom found.old }
+    requires fits { FitsWhereTold (kinds_of found.old) (H.seen shelf.old).told }
+    requires draft { HasDraft (H.seen shelf.old).told }
+    ensures number { IfOk result (λ number. number ≡ length (kinds_of found.old)) }
+    ensures kept { OnOk result (Goes (H.seen shelf.old).told (H.seen shelf.new).told (OfDraft (λ bytes. KeepsRun (length (kinds_of found.old)) (run_of partial bytes)))) }
+    ensures fits { OnOk result (FitsWhereTold (kinds_of found.new) (H.seen shelf.new).told) }
+    ensures kinds { OnOk result (kinds_of found.new ≡ kinds_of found.old ++ partial ∷ []) }
+    ensures kinds_err { OnErr result (kinds_of found.new ≡ kinds_of found.old) }
+    ensures failed { IfErr result (λ call. Goes (H.seen shelf.old).told (H.seen shelf.new).told (OfDraft (λ bytes. PlaceFails (run_name (length (kinds_of found.old)) partial) bytes call))) }
+    ensures any_moment { Goes (H.seen shelf.old).told (H.seen shelf.new).told (OfDraft (λ bytes. PassesRun (length (kinds_of found.old)) (run_of partial bytes))) }
+    ensures cause { HasCause (H.seen shelf.old).faults (H.seen shelf.new).faults result }
+{
+    let number = found.runs();
+    let name = names::run_name(number, partial);
+    place_draft(shelf, name.as_str())?;
+    found.add(partial);
+    Ok(number)
+}
+
+/// Keeps the bytes as the run behind all others, and answers its number, which is how many runs there were. It takes no
+/// memory: there must be room for it in what was found, which must fit the folder, and fewer than 1,000,000 runs.
+///
+/// At `Ok` each later stop leaves the run and those before it. The error is the call of the folder that failed: before
+/// the publish the files are as they were, at it the run is there or not, after it the run is there. A stop at any moment
+/// leaves what one before the call might have left, or the files as read before it with the run beside them.
+pub fn keep_run<H: Shelf>(
+    shelf: &mut H,
+    found: &mut Found,
+    partial: bool,
+    bytes: &[u8],
+) -> Result<u32, ShelfCall>
+    requires few { length (kinds_of found.old) < most_runs }
+    requires room { HasRoom found.old }
+    requires fits { FitsWhereTold (kinds_of found.old) (H.seen shelf.old).told }
+    ensures number { IfOk result (λ number. number ≡ length (kinds_of found.old)) }
+    ensures kept { OnOk result (Goes (H.seen shelf.old).told (H.seen shelf.new).told (KeepsRun (length (kinds_of found.old)) (run_of partial bytes.now))) }
+    ensures fits { OnOk result (FitsWhereTold (kinds_of found.new) (H.seen shelf.new).told) }
+    ensures kinds { OnOk result (kinds_of found.new ≡ kinds_of found.old ++ partial ∷ []) }
+    ensures kinds_err { OnErr result (kinds_of found.new ≡ kinds_of found.old) }
+    ensures failed { IfErr result (λ call. Goes (H.seen shelf.old).told (H.seen shelf.new).told (KeepFails (run_name (length (kinds_of found.old)) partial) bytes.now call)) }
+    ensures any_moment { Goes (H.seen shelf.old).told (H.seen shelf.new).told (PassesRun (length (kinds_of found.old)) (run_of partial bytes.now)) }
+    ensures cause { HasCause (H.seen shelf.old).faults (H.seen shelf.new).faults result }
+{
+    let number = found.runs();
+    let name = names::run_name(number, partial);
+    keep_file(shelf, name.as_str(), bytes)?;
+    found.add(partial);
+    Ok(number)
+}
+/// How many bytes the run of this number has, which must be one of those found. It takes no memory and makes one call of
+/// the folder, in which nothing changes. The error is that call, where it failed.
+pub fn run_length<H: Shelf>(shelf: &mut H, found: &Found, number: u32) -> Result<u64, ShelfCall>
+    requires known { number < length (kinds_of found.now) }
+    requires fits { FitsWhereTold (kinds_of found.now) (H.seen shelf.old).told }
+    ensures size { IfOk result (λ size. IfSome (H.seen shelf.old).told (IsRunLength number size)) }
+    ensures failed { IfErr result (λ call. call ≡ Length) }
+    ensures same { Goes (H.seen shelf.old).told (H.seen shelf.new).told Stays }
+    ensures time { Ticks (H.clock shelf.old) (H.clock shelf.new) }
+    ensures cause { HasCause (H.seen shelf.old).faults (H.seen shelf.new).faults result }
+{
+    let name = names::run_name(number, found.partial(number));
+    let Ok(size) = shelf.length(name.as_str()) else {
+        return Err(ShelfCall::Length);
+    };
+    Ok(size.unwrap_or(0))
+}
+
+/// Moves bytes of the run of this number, which must be one of those found, into the front of `buf`: from the byte number
+/// `place` on as many as are there and fit. It answers how many. It takes no memory and makes at most one call of the
+/// folder, in which nothing changes. The error is that call, where it failed.
+pub fn read_run<H: Shelf>(
+    shelf: &mut H,
+    found: &Found,
+    number: u32,
+    place: u64,
+    buf: &mut [u8],
+) -> Result<usize, ShelfCall>
+    requires known { number < length (kinds_of found.now) }
+    requires fits { FitsWhereTold (kinds_of found.now) (H.seen shelf.old).told }
+    ensures bound { ReadsAtMost result buf.new }
+    ensures part { IfOk result (λ count. IfSome (H.seen shelf.old).told (IsRunPart number place buf.new count)) }
+    ensures failed { IfErr result (λ call. call ≡ ReadAt) }
+    ensures same { Goes (H.seen shelf.old).told (H.seen shelf.new).told Stays }
+    ensures time { TicksAtMost (H.clock shelf.old) (H.clock shelf.new) }
+    ensures cause { HasCause (H.seen shelf.old).faults (H.seen shelf.new).faults result }
+{
+    if buf.is_empty() {
+        return Ok(0);
+    }
+    let name = names::run_name(number, found.partial(number));
+    let Ok(count) = shelf.read_at(name.as_str(), place, buf) else {
+        return Err(ShelfCall::ReadAt);
+    };
+    Ok(count)
+}
