@@ -1,5 +1,5 @@
 -- What the calls of a shelf do to its folder (docs/FORMATS.md, the table of the shelf's calls).
-use Rattle.std.specs.Prelude.{◌≡◌, ◌⊎◌, ℕ, ◌≤◌, ⊤, Option, Some, None, IfSome, IsSome, List, [], ◌∷◌, ◌++◌, length, take, drop, ◌==◌}
+use Rattle.std.specs.Prelude.{◌≡◌, ◌⊎◌, ℕ, ◌<◌, ◌≤◌, ◌^◌, ⊤, Option, Some, None, IfSome, IsSome, List, [], ◌∷◌, ◌++◌, length, take, drop, ◌==◌}
 use Rattle.std.specs.Option.{option_map}
 use Rattle.edge_io.specs.Causes.{one_more}
 use Rattle.edge_io.specs.Disk.{put, Disk, Draft, Folder, at_rest}
@@ -20,6 +20,10 @@ Ticks before now = now ≡ one_more before
 
 abbrev pub HasDraft : Option Folder → Type 0
 HasDraft state = IfSome state (λ s. IsSome s.draft)
+
+-- a draft has fewer than 2^63 bytes
+abbrev pub DraftFits : Option Folder → Type 0
+DraftFits state = IfSome state (λ s. IfSome s.draft (λ draft. length draft.bytes < 2 ^ 63))
 
 -- there is a draft, and nothing is pending
 pub record CanPublish (s : Folder) : Type 0 where

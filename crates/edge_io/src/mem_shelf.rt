@@ -33,7 +33,7 @@ impl Shelf for MemShelf {
     ghost use Rattle.std.specs.Prelude.{◌<◌};
     ghost use Rattle.std.specs.Io.{ReadsAtMost};
     ghost use Rattle.edge_io.specs.Causes.{HasCause};
-    ghost use Rattle.edge_io.specs.Steps.{Goes, Stays, Ticks, HasDraft, HasFile, IsReady, FindsLength, ReadsPart, Opened, Dropped, Grown, GrownInPart, Synced, Placed, PlacedOrNot, Settled};
+    ghost use Rattle.edge_io.specs.Steps.{Goes, Stays, Ticks, HasDraft, DraftFits, HasFile, IsReady, FindsLength, ReadsPart, Opened, Dropped, Grown, GrownInPart, Synced, Placed, PlacedOrNot, Settled};
     ghost use Rattle.edge_io.specs.Names.{ListsNames, HasNamesCause};
     ghost use Rattle.edge_io.specs.Plans.{FailsAsListed, NamesAsListed};
     ghost use Rattle.edge_io.specs.MemState.{folder_of, folder_counts, shelf_course, shelf_calls, shelf_faults, Remembers};
@@ -110,6 +110,7 @@ impl Shelf for MemShelf {
     fn append(&mut self, piece: &[u8]) -> Result<(), Failed>
         requires { HasDraft (Some (folder_of self.old)) }
         ensures ok { OnOk result (Goes (Some (folder_of self.old)) (Some (folder_of self.new)) (Grown piece.now)) }
+        ensures small { OnOk result (DraftFits (Some (folder_of self.new))) }
         ensures err { OnErr result (Goes (Some (folder_of self.old)) (Some (folder_of self.new)) Stays) }
         ensures time { Ticks (shelf_calls self.old) (shelf_calls self.new) }
         ensures cause { HasCause (shelf_faults self.old) (shelf_faults self.new) result }

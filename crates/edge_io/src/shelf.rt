@@ -5,7 +5,7 @@ ghost use Rattle.edge_io.specs.Causes.{HasCause};
 ghost use Rattle.edge_io.specs.Disk.{Folder, IsImage};
 ghost use Rattle.edge_io.specs.Names.{ListsNames, HasNamesCause};
 ghost use Rattle.edge_io.specs.Seen.{Seen};
-ghost use Rattle.edge_io.specs.Steps.{Goes, Stays, Ticks, HasDraft, HasFile, IsReady, FindsLength, ReadsPart, Opened, Dropped, Grown, GrownInPart, Synced, Placed, PlacedOrNot, Settled};
+ghost use Rattle.edge_io.specs.Steps.{Goes, Stays, Ticks, HasDraft, DraftFits, HasFile, IsReady, FindsLength, ReadsPart, Opened, Dropped, Grown, GrownInPart, Synced, Placed, PlacedOrNot, Settled};
 
 use crate::{Failed, NamesFault};
 use std::alloc::Global;
@@ -55,11 +55,12 @@ pub trait Shelf {
         ensures time { Ticks (clock self.old) (clock self.new) }
         ensures cause { HasCause (seen self.old).faults (seen self.new).faults result };
 
-    /// Adds the piece at the end of the draft, which there must be. After `Failed` the draft has grown by some of the
-    /// piece's first bytes, or by none.
+    /// Adds the piece at the end of the draft, which there must be. A file has fewer than 2^63 bytes, so it fails where the
+    /// draft would have as many. After `Failed` the draft has grown by some of the piece's first bytes, or by none.
     fn append(&mut self, piece: &[u8]) -> Result<(), Failed>
         requires { HasDraft (seen self.old).told }
         ensures ok { OnOk result (Goes (seen self.old).told (seen self.new).told (Grown piece.now)) }
+        ensures small { OnOk result (DraftFits (seen self.new).told) }
         ensures err { OnErr result (Goes (seen self.old).told (seen self.new).told (GrownInPart piece.now)) }
         ensures time { Ticks (clock self.old) (clock self.new) }
         ensures cause { HasCause (seen self.old).faults (seen self.new).faults result };

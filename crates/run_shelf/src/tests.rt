@@ -75,14 +75,29 @@ fn record<H: Shelf>(
     match store.start_run(alloc, partial) {
         Ok(recorder) => {
             let mut recorder = recorder;
-            if recorder.add(first).is_err() || recorder.add(second).is_err() {
-                return Ok(9);
-            }
+            recorder.add(first)?;
+            recorder.add(second)?;
             let (_, answer) = recorder.commit();
             answer
         }
+        Err((_, StartFault::Store(fault))) => Err(fault),
         Err(_) => Ok(9),
     }
+}
+
+// Records a run of five packets over a folder that is lent for each call, and answers its number.
+fn record_five<H: Shelf>(alloc: Global, shelf: &mut H) -> Result<u32, OpenFault> {
+    let mut found = survey(alloc, shelf)?;
+    if found.runs() == MOST_RUNS {
+        return Ok(9);
+    }
+    begin_run(shelf).map_err(OpenFault::Shelf)?;
+    add_packet(shelf, b"ab").map_err(OpenFault::Shelf)?;
+    add_packet(shelf, b"cd").map_err(OpenFault::Shelf)?;
+    add_packet(shelf, b"ef").map_err(OpenFault::Shelf)?;
+    add_packet(shelf, b"gh").map_err(OpenFault::Shelf)?;
+    add_packet(shelf, b"ij").map_err(OpenFault::Shelf)?;
+    finish_run(shelf, &mut found, false).map_err(OpenFault::Shelf)
 }
 
 // The first bytes of a run, from a place on.
@@ -104,18 +119,18 @@ fn part<H: Shelf>(
 fn a_stop_leaves_a_run_wholly_or_not_at_all(rt: HostRuntime) -> Result<(), Fail> {
     let alloc = rt.alloc();
     let mut shelf = empty(alloc, NOTHING)?;
-    // Calls 7 to 10 look, 11 to 15 start, append, sync, publish and settle.
+    // Calls 7 to 10 look, 11 starts, 12 and 13 append, 14 syncs, 15 publishes and 16 settles.
     assert_eq!(rt; record(alloc, &mut shelf, false, b"ab", b"c")?, 0);
     for choice in [false, true] {
-        for moment in 7..15 {
+        for moment in 7..16 {
             assert_eq!(rt; count_after(alloc, &shelf, moment, choice)?, 0);
         }
-        for moment in 16..18 {
+        for moment in 17..19 {
             assert_eq!(rt; count_after(alloc, &shelf, moment, choice)?, 1);
         }
     }
-    assert_eq!(rt; count_after(alloc, &shelf, 15, false)?, 0);
-    assert_eq!(rt; count_after(alloc, &shelf, 15, true)?, 1);
+    assert_eq!(rt; count_after(alloc, &shelf, 16, false)?, 0);
+    assert_eq!(rt; count_after(alloc, &shelf, 16, true)?, 1);
     Ok(())
 }
 
@@ -205,18 +220,65 @@ fn each_call_of_the_folder_fails_in_turn(rt: HostRuntime) -> Result<(), Fail> {
         (16, ShelfCall::Names, 1),
         (17, ShelfCall::StartDraft, 1),
         (18, ShelfCall::Append, 1),
-        (19, ShelfCall::SyncDraft, 1),
-        (20, ShelfCall::Publish, 1),
-        (21, ShelfCall::SyncFolder, 2),
+        (19, ShelfCall::Append, 1),
+        (20, ShelfCall::Append, 1),
+        (21, ShelfCall::Append, 1),
+        (22, ShelfCall::Append, 1),
+        (23, ShelfCall::SyncDraft, 1),
+        (24, ShelfCall::Publish, 1),
+        (25, ShelfCall::SyncFolder, 2),
     ];
     for (number, call, runs) in calls {
         let mut shelf = empty(alloc, &[number])?;
         keep(&mut shelf, "0", b"x")?;
-        let answer = record(alloc, &mut shelf, false, b"ab", b"c");
-        assert_eq!(rt; answer, Err(StoreFault::Shelf(call)));
+        assert_eq!(rt; record_five(alloc, &mut shelf), Err(OpenFault::Shelf(call)));
         assert_eq!(rt; count(alloc, &mut shelf)?, runs);
         assert_eq!(rt; count_after(alloc, &shelf, 100, false)?, runs);
     }
+    Ok(())
+}
+
+#[test]
+fn packets_stand_in_the_order_in_which_they_were_added(rt: HostRuntime) -> Result<(), Fail> {
+    let alloc = rt.alloc();
+    let mut shelf = empty(alloc, NOTHING)?;
+    assert_eq!(rt; record_five(alloc, &mut shelf)?, 0);
+    let mut buf = [0u8; 10];
+    assert_eq!(rt; part(alloc, &mut shelf, 0, 0, &mut buf)?, 10);
+    assert_eq!(rt; &buf, b"abcdefghij");
+    Ok(())
+}
+
+// The answers of a recorder, the third of whose packets cannot be added, and of its store.
+fn add_after_a_fault<H: Shelf>(alloc: Global, shelf: &mut H) -> Result<bool, Fail> {
+    let store = Store::open(alloc, shelf)?;
+    let Ok(recorder) = store.start_run(alloc, false) else {
+        return Ok(false);
+    };
+    let mut recorder = recorder;
+    recorder.add(b"ab")?;
+    recorder.add(b"cd")?;
+    let third = recorder.add(b"ef");
+    let fourth = recorder.add(b"gh");
+    let (store, answer) = recorder.commit();
+    Ok(
+        third == Err(StoreFault::Shelf(ShelfCall::Append))
+            && fourth == Err(StoreFault::Closed(ShelfCall::Append))
+            && answer == Err(StoreFault::Closed(ShelfCall::Append))
+            && store.fault() == Some(ShelfCall::Append)
+            && store.runs() == 1,
+    )
+}
+
+#[test]
+fn a_recorder_is_closed_after_a_fault(rt: HostRuntime) -> Result<(), Fail> {
+    let alloc = rt.alloc();
+    let mut shelf = empty(alloc, &[20])?;
+    keep(&mut shelf, "0", b"x")?;
+    assert!(rt; add_after_a_fault(alloc, &mut shelf)?);
+    assert_eq!(rt; count(alloc, &mut shelf)?, 1);
+    assert_eq!(rt; record(alloc, &mut shelf, false, b"ab", b"c")?, 1);
+    assert_eq!(rt; shelf.length("1")?, Some(3));
     Ok(())
 }
 
