@@ -1,81 +1,48 @@
--- Steps of the folder that leave its files, and what is known of them before.
-use Rattle.std.proofs.Common.{◌≡◌, ◌⊎◌, inl, inr, ℕ, Option, None, Some, IfSome, Bool, List, length, refl, ap, subst, ◌∙◌}
-use Rattle.edge_io.specs.Disk.{Files, Disk, Folder, IsImage, at_rest, put}
-use Rattle.edge_io.specs.Steps.{Goes, Settled, Stays}
-use Rattle.edge_io.proofs.Going.{goes_then, goes_weaker}
-use Rattle.run_shelf.specs.declared.faults.ShelfCall.{ShelfCall}
-use Rattle.run_shelf.specs.declared.faults.ShelfCall.TheVariants.{Names, Length, ReadAt, StartDraft, Append, SyncDraft, Publish, SyncFolder}
-use Rattle.run_shelf.specs.Repository.{Run, run_name, HasKinds, IsRepository}
-use Rattle.run_shelf.specs.Images.{KeepsRun, ReadsFile, SameDisk, HasRunBeside}
-use Rattle.run_shelf.specs.Outcomes.{FailsAt, KeepFails, Surveys}
-use Rattle.testr_cli.specs.Outside.{KeepsFiles}
-use Rattle.testr_cli.specs.Load.{HasRuns}
+-- How a chain goes on, and how it stops.
+use Rattle.std.proofs.Common.{◌≡◌, ℕ, Bool, List, Result, Ok, Err, refl, sym, ap, subst, ◌∙◌}
+use Rattle.std.specs.Prelude.{IsErrAnd}
+use Rattle.std.proofs.lemmas.Result.{err_from_is_err_and}
+use Rattle.edge_io.specs.Disk.{Folder}
+use Rattle.edge_io.specs.Seen.{Seen}
+use Rattle.sub_number.specs.declared.memory.NoMemory.{NoMemory}
+use Rattle.testr_cli.specs.Steps.{Step, Then, stops, goes_on, Still, Gives, Part, At}
+use Rattle.testr_cli.specs.Store.{Keeps}
+use Rattle.testr_cli.specs.Reporting.{Reports, Prints}
+use Rattle.testr_cli.specs.declared.store.KeepFault.{KeepFault}
+use Rattle.testr_cli.specs.declared.reporting.PrintFault.{PrintFault}
+use Rattle.testr_cli.specs.declared.told.Told.{Told}
 
-pub goes_before : {S : Type 0} (a b : Option S) (R : S → S → Type 0) (P : S → Type 0) → Goes a b R → ((s t : S) → R s t → P s) → IfSome a P
-goes_before None b R P step f = tt
-goes_before (Some s) None R P step f = absurd step
-goes_before (Some s) (Some t) R P step f = f s t step
+module _ {W A B E R : Type 0} {name : E → R} {second : A → Step W B R} {before after : W} {result : Result B R} where
+  -- an exit by `?`
+  pub stopped : {first : Step W A E} (fault : E) → IsErrAnd result (λ refusal. refusal ≡ name fault) → first before after (Err fault) → Then name first second before after result
+  stopped fault refused step =
+      let p = err_from_is_err_and result refused in
+      stops fault (p.1 ∙ ap Err p.2) step
 
-pub settled_keeps : (s t : Folder) → Settled s t → KeepsFiles s t
-settled_keeps s t is = ap (λ (f : Folder). f.disk.published) is
+  pub still_stops : {Says : Result A E → Type 0} (fault : E) → IsErrAnd result (λ refusal. refusal ≡ name fault) → Says (Err fault) → after ≡ before → Then name (Still Says) second before after result
+  still_stops fault refused says same = stopped fault refused (record { says = says; same = same })
 
-pub stays_keeps : (s t : Folder) → Stays s t → KeepsFiles s t
-stays_keeps s t is = ap (λ (f : Folder). f.disk.published) is
+  pub part_stops : {P : Type 0} {part : Part W P} {step : Step P A E} (fault : E) → IsErrAnd result (λ refusal. refusal ≡ name fault) → step (part.of before) (part.of after) (Err fault) → after ≡ part.put before (part.of after) → Then name (At part step) second before after result
+  part_stops fault refused step same = stopped fault refused (record { at = step; rest = same })
 
-pub disk_keeps : (s t : Folder) → SameDisk s t → KeepsFiles s t
-disk_keeps s t is = ap (λ (d : Disk). d.published) is
+  pub still_done : {Says : Result A E → Type 0} (value : A) → Says (Ok value) → second value before after result → Then name (Still Says) second before after result
+  still_done value says next = goes_on value before (record { says = says; same = refl }) next
 
-pub fails_keeps : (call : ShelfCall) (s t : Folder) → FailsAt call s t → KeepsFiles s t
-fails_keeps Names s t fails = settled_keeps s t fails
-fails_keeps Length s t fails = settled_keeps s t fails
-fails_keeps ReadAt s t fails = settled_keeps s t fails
-fails_keeps StartDraft s t fails = absurd fails
-fails_keeps Append s t fails = absurd fails
-fails_keeps SyncDraft s t fails = absurd fails
-fails_keeps Publish s t fails = absurd fails
-fails_keeps SyncFolder s t fails = stays_keeps s t fails
+  pub part_done : {P : Type 0} {part : Part W P} {step : Step P A E} (value : A) (left : P) → step (part.of before) left (Ok value) → second value (part.put before left) after result → Then name (At part step) second before after result
+  part_done {part = part} {step = step} value left done next =
+      let same = sym (part.of_put before left) in
+      goes_on value (part.put before left) (record { at = subst (λ p. step (part.of before) p (Ok value)) same done; rest = ap (part.put before) same }) next
 
-abbrev pub KeepsOrReads : List ℕ → List ℕ → Folder → Folder → Type 0
-KeepsOrReads name bytes s t = KeepsFiles s t ⊎ ReadsFile name bytes s t
+pub gives : {W A R : Type 0} {value : A} {after : W} → Gives {R = R} value after after (Ok value)
+gives = record { answer = refl; same = refl }
 
-keep_fails : (name bytes : List ℕ) (call : ShelfCall) (s t : Folder) → KeepFails name bytes call s t → KeepsOrReads name bytes s t
-keep_fails name bytes Names s t fails = absurd fails
-keep_fails name bytes Length s t fails = absurd fails
-keep_fails name bytes ReadAt s t fails = absurd fails
-keep_fails name bytes StartDraft s t fails = inl (disk_keeps s t fails)
-keep_fails name bytes Append s t fails = inl (disk_keeps s t fails)
-keep_fails name bytes SyncDraft s t fails = inl (disk_keeps s t fails)
-keep_fails name bytes Publish s t (inl same) = inl (disk_keeps s t same)
-keep_fails name bytes Publish s t (inr reads) = inr reads
-keep_fails name bytes SyncFolder s t fails = inr fails
+-- ---- what a step is given may be another term of the same value
 
-keeps_then : (name bytes : List ℕ) (s m t : Folder) → KeepsFiles s m → KeepsOrReads name bytes m t → KeepsOrReads name bytes s t
-keeps_then name bytes s m t same (inl keeps) = inl (keeps ∙ same)
-keeps_then name bytes s m t same (inr puts) = inr (puts ∙ ap (λ files. put files name bytes) same)
+pub prints_as : {given text : List ℕ} {before after : Seen (List ℕ)} {result : Result (Unit {0}) PrintFault} → given ≡ text → Prints given before after result → Prints text before after result
+prints_as {before = before} {after = after} {result = result} same prints = subst (λ (l : List ℕ). Prints l before after result) same prints
 
-module _ (kinds : List Bool) (a b : Option Folder) (surveyed : Goes a b (Surveys kinds)) where
-  pub surveyed_keeps : Goes a b KeepsFiles
-  surveyed_keeps = goes_weaker a b (Surveys kinds) KeepsFiles surveyed (λ s t survey. settled_keeps s t survey.settled)
+pub keeps_as : {partial : Bool} {number : ℕ} {given bytes : List ℕ} {before after : Seen Folder} {result : Result (Unit {0}) KeepFault} → given ≡ bytes → Keeps partial number given before after result → Keeps partial number bytes before after result
+keeps_as {partial = partial} {number = number} {before = before} {after = after} {result = result} same keeps = subst (λ (l : List ℕ). Keeps partial number l before after result) same keeps
 
-  pub has_runs : IfSome a (HasRuns (length kinds))
-  has_runs = goes_before a b (Surveys kinds) (HasRuns (length kinds)) surveyed (λ s t survey.
-      let same : t.disk.published ≡ s.disk.published = settled_keeps s t survey.settled in
-      record {
-        repository = subst IsRepository same survey.fits.repository;
-        kinds = kinds;
-        kinds_are = subst (λ (files : Files). HasKinds files kinds) same survey.fits.kinds_are;
-        count = refl;
-      })
-
-  -- a run that is kept then is kept beside the files of before
-  pub kept_through : (number : ℕ) (run : Run) (c : Option Folder) → Goes b c (KeepsRun number run) → Goes a c (KeepsRun number run)
-  kept_through number run c kept = goes_then a b c (Surveys kinds) (KeepsRun number run) (KeepsRun number run) surveyed kept (λ s m t survey keeps.
-      let same : m.disk.published ≡ s.disk.published = settled_keeps s m survey.settled in
-      record {
-        disk = subst (λ (files : Files). t.disk ≡ at_rest (put files (run_name number run.partial) run.bytes)) same keeps.disk;
-        lasts = subst (λ (files : Files). (image : Files) → IsImage t.disk image → HasRunBeside files number run image) same keeps.lasts;
-      })
-
-  pub kept_or_not : (name bytes : List ℕ) (call : ShelfCall) (c : Option Folder) → Goes b c (KeepFails name bytes call) → Goes a c (KeepsOrReads name bytes)
-  kept_or_not name bytes call c fails = goes_then a b c (Surveys kinds) (KeepFails name bytes call) (KeepsOrReads name bytes) surveyed fails (λ s m t survey fails.
-      keeps_then name bytes s m t (settled_keeps s m survey.settled) (keep_fails name bytes call m t fails))
+pub reports_as : {given number : ℕ} {run bytes : List ℕ} {result : Result Told NoMemory} → given ≡ number → run ≡ bytes → Reports given run result → Reports number bytes result
+reports_as {number = number} {run = run} {result = result} same are reports = subst (λ (l : List ℕ). Reports number l result) are (subst (λ (n : ℕ). Reports n run result) same reports)

@@ -7,7 +7,8 @@ use Rattle.std.specs.List.{list_all}
 use Rattle.std.proofs.lemmas.List.Folds.{list_all-map}
 use Rattle.std.proofs.lemmas.Bool.{cond-true, cond-false}
 use Rattle.std.proofs.lemmas.Slice.Eq.{bytes_eq-Decides}
-use Rattle.testr_cli.specs.Words.{texts, testr_word, names_testr, command_of, command_behind, has_words, flag_in}
+use Rattle.testr_cli.specs.Words.{texts, testr_word, names_testr, command_of, command_behind, has_words, flag_in, usage_fault}
+use Rattle.testr_cli.specs.declared.words.UsageFault.TheVariants.{Verb, Tool}
 
 -- words that name this program are its name and the words behind it
 pub names_first : (words : List (String Global)) → names_testr (texts words) ≡ true → texts words ≡ testr_word ∷ texts (drop 1 words)
@@ -22,6 +23,14 @@ names_no_command (word ∷ words) unnamed = cond-false (bytes_eq word testr_word
 -- behind the name, the words decide
 pub named_command : (words : List (List ℕ)) → command_of (testr_word ∷ words) ≡ command_behind words
 named_command words = cond-true (bytes_eq testr_word testr_word) (command_behind words) None ((bytes_eq-Decides testr_word testr_word).1 refl)
+
+-- words behind the name of `testr` are those of a verb
+pub named_fault : (words : List (List ℕ)) → usage_fault (testr_word ∷ words) ≡ Verb
+named_fault words = cond-true (bytes_eq testr_word testr_word) Verb Tool ((bytes_eq-Decides testr_word testr_word).1 refl)
+
+-- words that name no tool tell of that
+pub unnamed_fault : (words : List (List ℕ)) → names_testr words ≡ false → usage_fault words ≡ Tool
+unnamed_fault words unnamed = cond-false (names_testr words) Verb Tool unnamed
 
 -- whether all words are this flag
 all_are : (words : List (String Global)) (flag : List ℕ) → list_all (λ word. bytes_eq word flag) (texts words) ≡ list_all (λ word. bytes_eq (string_bytes word) flag) words

@@ -1,75 +1,56 @@
--- The statuses and the lines of the answers (docs/FORMATS.md, "Refusals").
-use Rattle.std.specs.Prelude.{ℕ, List, [], ◌∷◌, ◌++◌, codes, Result, Ok, Err, if◌then◌else◌}
-use Rattle.std.specs.List.{list_any}
-use Rattle.std.specs.Fmt.{decimal}
-use Rattle.outcome_fold.specs.declared.row.Row.{Row}
-use Rattle.outcome_fold.specs.Answers.{row_fails}
-use Rattle.testr_cli.specs.Words.{names_testr}
+-- The refusals, each of one step, with its status and its line, which are that step's (docs/FORMATS.md, "Refusals").
+use Rattle.std.specs.Prelude.{ℕ, Option, None, Some, List, Result, Ok, Err}
+use Rattle.run_shelf.specs.declared.faults.InitFault.TheVariants as init_fault
+use Rattle.run_shelf.specs.declared.faults.OpenFault.TheVariants as open_fault
+use Rattle.testr_cli.specs.Outside.{Place, in_folder, in_input, in_out}
+use Rattle.testr_cli.specs.Words.{usage_text}
+use Rattle.testr_cli.specs.Store.{init_code, init_text, open_code, open_text, runs_text, keep_text}
+use Rattle.testr_cli.specs.Reading.{read_code, read_text}
+use Rattle.testr_cli.specs.Reporting.{memory_text, print_text}
+use Rattle.testr_cli.specs.Told.{tell_code, tell_text}
+use Rattle.testr_cli.specs.Verdicts.{verdict_code}
+use Rattle.testr_cli.specs.declared.reading.ReadFault.TheVariants as read_fault
+use Rattle.testr_cli.specs.declared.told.TellFault.TheVariants as tell_fault
 use Rattle.testr_cli.specs.declared.answer.Verdict.{Verdict}
-use Rattle.testr_cli.specs.declared.answer.Verdict.TheVariants as verdict
 use Rattle.testr_cli.specs.declared.answer.Refusal.{Refusal}
-use Rattle.testr_cli.specs.declared.answer.Refusal.TheVariants.{Usage, Exists, NoStore, UnknownFormat, Gap, NoRuns, Full, TooLong, ShelfFault, InputFault, SinkFault, NoMemory}
+use Rattle.testr_cli.specs.declared.answer.Refusal.TheVariants.{Usage, Init, Open, Runs, Read, Memory, Keep, Tell, Print}
 
 abbrev pub refusal_code : Refusal → ℕ
-refusal_code Usage = 2
-refusal_code Exists = 3
-refusal_code NoStore = 3
-refusal_code UnknownFormat = 3
-refusal_code (Gap number) = 3
-refusal_code NoRuns = 3
-refusal_code Full = 3
-refusal_code TooLong = 3
-refusal_code ShelfFault = 4
-refusal_code InputFault = 4
-refusal_code SinkFault = 4
-refusal_code NoMemory = 5
+refusal_code (Usage fault) = 2
+refusal_code (Init fault) = init_code fault
+refusal_code (Open fault) = open_code fault
+refusal_code (Runs fault) = 3
+refusal_code (Read fault) = read_code fault
+refusal_code (Memory fault) = 5
+refusal_code (Keep fault) = 4
+refusal_code (Tell fault) = tell_code fault
+refusal_code (Print fault) = 4
 
--- the text of a refusal behind the program's word
 abbrev pub refusal_text : Refusal → List ℕ
-refusal_text Usage = codes "wrong usage"
-refusal_text Exists = codes "a repository is already here"
-refusal_text NoStore = codes "no repository here"
-refusal_text UnknownFormat = codes "unknown repository format"
-refusal_text (Gap number) = codes "run " ++ decimal number ++ codes " is missing"
-refusal_text NoRuns = codes "no runs"
-refusal_text Full = codes "the repository is full"
-refusal_text TooLong = codes "standard input is too long"
-refusal_text ShelfFault = codes "fault of the repository folder"
-refusal_text InputFault = codes "fault reading standard input"
-refusal_text SinkFault = codes "fault writing output"
-refusal_text NoMemory = codes "out of memory"
+refusal_text (Usage fault) = usage_text fault
+refusal_text (Init fault) = init_text fault
+refusal_text (Open fault) = open_text fault
+refusal_text (Runs fault) = runs_text fault
+refusal_text (Read fault) = read_text fault
+refusal_text (Memory fault) = memory_text
+refusal_text (Keep fault) = keep_text
+refusal_text (Tell fault) = tell_text fault
+refusal_text (Print fault) = print_text
 
-abbrev pub testr_line : Refusal → List ℕ
-testr_line refusal = codes "testr: " ++ refusal_text refusal ++ 10 ∷ []
-
-abbrev pub usage_line : List ℕ
-usage_line = codes "usage: testr COMMAND or a subunit filter" ++ 10 ∷ []
-
--- The line that tells of a refusal. Words that name no program get the usage line.
-abbrev pub refusal_line : List (List ℕ) → Refusal → List ℕ
-refusal_line words refusal = if names_testr words then testr_line refusal else usage_line
-
--- a number, and the rest of the line
-abbrev pub number_line : ℕ → List ℕ
-number_line number = decimal number ++ codes " is missing\n"
-
--- the line up to the number where there is one, and what follows
-abbrev pub refusal_front : Refusal → List ℕ
-refusal_front (Gap number) = codes "testr: run "
-refusal_front refusal = testr_line refusal
-
-abbrev pub refusal_rest : Refusal → List ℕ
-refusal_rest (Gap number) = number_line number
-refusal_rest refusal = []
-
--- whether the tests of these rows passed, which they did where no row fails
-abbrev pub verdict_of : List Row → Verdict
-verdict_of rows = if list_any row_fails rows then verdict.Failed else verdict.Passed
-
-abbrev pub verdict_code : Verdict → ℕ
-verdict_code verdict.Passed = 0
-verdict_code verdict.Failed = 1
+-- the part whose call failed, where the refusal is a fault
+abbrev pub place_of : Refusal → Option Place
+place_of (Init (init_fault.Shelf call)) = Some in_folder
+place_of (Open (open_fault.Shelf call)) = Some in_folder
+place_of (Read read_fault.Fault) = Some in_input
+place_of (Keep fault) = Some in_folder
+place_of (Tell tell_fault.Shelf) = Some in_folder
+place_of (Print fault) = Some in_out
+place_of refusal = None
 
 abbrev pub code_of : Result Verdict Refusal → ℕ
 code_of (Ok verdict) = verdict_code verdict
 code_of (Err refusal) = refusal_code refusal
+
+abbrev pub place_in : Result Verdict Refusal → Option Place
+place_in (Ok verdict) = None
+place_in (Err refusal) = place_of refusal

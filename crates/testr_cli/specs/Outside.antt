@@ -1,58 +1,79 @@
--- The outside at one moment: what is told of it, and how often each part has failed.
-use Rattle.std.specs.Prelude.{◌≡◌, ℕ, Option, List, Result, Err}
-use Rattle.std.specs.Io.KnownBytes.{Keeps}
+-- The outside at one moment, and the parts of it that the commands touch.
+use Rattle.std.specs.Prelude.{◌≡◌, ◌⊎◌, ℕ, Option, None, Some, List, refl}
 use Rattle.edge_io.specs.Causes.{Rose}
 use Rattle.edge_io.specs.Disk.{Folder}
-use Rattle.edge_io.specs.Steps.{Goes}
-use Rattle.testr_cli.specs.declared.answer.Refusal.{Refusal}
-use Rattle.testr_cli.specs.declared.answer.Refusal.TheVariants.{ShelfFault, InputFault, SinkFault}
+use Rattle.edge_io.specs.Seen.{Seen}
+use Rattle.testr_cli.specs.Steps.{Part}
 
 pub record Outside : Type 0 where
-  pub folder : Option Folder
-  pub folder_faults : ℕ
-  pub left : Option (List ℕ)
-  pub input_faults : ℕ
-  pub printed : Option (List ℕ)
-  pub out_faults : ℕ
+  pub folder : Seen Folder
+  pub input : Seen (List ℕ)
+  pub out : Seen (List ℕ)
+  pub errors : Seen (List ℕ)
 
-abbrev pub outside : Option Folder → ℕ → Option (List ℕ) → ℕ → Option (List ℕ) → ℕ → Outside
-outside folder folder_faults left input_faults printed out_faults = record {
-  folder = folder;
-  folder_faults = folder_faults;
-  left = left;
-  input_faults = input_faults;
-  printed = printed;
-  out_faults = out_faults;
-}
+abbrev pub outside : Seen Folder → Seen (List ℕ) → Seen (List ℕ) → Seen (List ℕ) → Outside
+outside folder input out errors = record { folder = folder; input = input; out = out; errors = errors }
 
--- nothing was read of the input
-abbrev pub ReadsNothing : Outside → Outside → Type 0
-ReadsNothing before after = Keeps before.left after.left
+-- all but the errors' sink: what a command may touch
+pub record Work : Type 0 where
+  pub folder : Seen Folder
+  pub input : Seen (List ℕ)
+  pub out : Seen (List ℕ)
 
-abbrev pub PrintsNothing : Outside → Outside → Type 0
-PrintsNothing before after = Keeps before.printed after.printed
+abbrev pub work : Seen Folder → Seen (List ℕ) → Seen (List ℕ) → Work
+work folder input out = record { folder = folder; input = input; out = out }
 
--- reads of the folder give the same files
-abbrev pub KeepsFiles : Folder → Folder → Type 0
-KeepsFiles s t = t.disk.published ≡ s.disk.published
+abbrev pub work_of : Outside → Work
+work_of w = work w.folder w.input w.out
 
--- nothing was printed, and reads of the folder give the same files
-pub record ChangesNothing (before after : Outside) : Type 0 where
-  pub printed : PrintsNothing before after
-  pub kept : Goes before.folder after.folder KeepsFiles
+-- what a question touches
+pub record Shown : Type 0 where
+  pub folder : Seen Folder
+  pub out : Seen (List ℕ)
 
--- no count of faults rose
-pub record HasNoFault (before after : Outside) : Type 0 where
-  pub folder : Rose before.folder_faults after.folder_faults → ⊥
-  pub input : Rose before.input_faults after.input_faults → ⊥
-  pub out : Rose before.out_faults after.out_faults → ⊥
+abbrev pub shown : Seen Folder → Seen (List ℕ) → Shown
+shown folder out = record { folder = folder; out = out }
 
--- the count stands where the outcome is not this fault
-abbrev pub StandsUnless : {T : Type 0} → Refusal → Result T Refusal → ℕ → ℕ → Type 0
-StandsUnless fault outcome before now = (outcome ≡ Err fault → ⊥) → now ≡ before
+-- ---- the parts
 
--- A count of faults rises only where the outcome is the fault of that part: the first call that fails decides.
-pub record RisesOnlyAt {T : Type 0} (before after : Outside) (outcome : Result T Refusal) : Type 0 where
-  pub folder : StandsUnless ShelfFault outcome before.folder_faults after.folder_faults
-  pub input : StandsUnless InputFault outcome before.input_faults after.input_faults
-  pub out : StandsUnless SinkFault outcome before.out_faults after.out_faults
+abbrev pub work_folder : Part Work (Seen Folder)
+work_folder = record { of = λ w. w.folder; put = λ w folder. record w { folder = folder }; of_put = λ _ _. refl }
+
+abbrev pub work_input : Part Work (Seen (List ℕ))
+work_input = record { of = λ w. w.input; put = λ w input. record w { input = input }; of_put = λ _ _. refl }
+
+abbrev pub work_out : Part Work (Seen (List ℕ))
+work_out = record { of = λ w. w.out; put = λ w out. record w { out = out }; of_put = λ _ _. refl }
+
+abbrev pub work_shown : Part Work Shown
+work_shown = record { of = λ w. shown w.folder w.out; put = λ w part. record w { folder = part.folder; out = part.out }; of_put = λ _ _. refl }
+
+abbrev pub shown_folder : Part Shown (Seen Folder)
+shown_folder = record { of = λ w. w.folder; put = λ w folder. record w { folder = folder }; of_put = λ _ _. refl }
+
+abbrev pub shown_out : Part Shown (Seen (List ℕ))
+shown_out = record { of = λ w. w.out; put = λ w out. record w { out = out }; of_put = λ _ _. refl }
+
+-- ---- counts of faults
+
+-- the parts that can fail
+pub data Place : Type 0 where
+  in_folder : Place
+  in_input : Place
+  in_out : Place
+
+-- no count of faults differs
+pub record SameCounts (before after : Work) : Type 0 where
+  pub folder : after.folder.faults ≡ before.folder.faults
+  pub input : after.input.faults ≡ before.input.faults
+  pub out : after.out.faults ≡ before.out.faults
+
+-- the count of this part rose, and the others stand; where no part is named all stand
+abbrev pub RisesAt : Option Place → Work → Work → Type 0
+RisesAt None before after = SameCounts before after
+RisesAt (Some in_folder) before after = Rose before.folder.faults after.folder.faults × (after.input.faults ≡ before.input.faults) × (after.out.faults ≡ before.out.faults)
+RisesAt (Some in_input) before after = Rose before.input.faults after.input.faults × (after.folder.faults ≡ before.folder.faults) × (after.out.faults ≡ before.out.faults)
+RisesAt (Some in_out) before after = Rose before.out.faults after.out.faults × (after.folder.faults ≡ before.folder.faults) × (after.input.faults ≡ before.input.faults)
+
+abbrev pub SomeRose : Work → Work → Type 0
+SomeRose before after = Rose before.folder.faults after.folder.faults ⊎ (Rose before.input.faults after.input.faults ⊎ Rose before.out.faults after.out.faults)

@@ -1,66 +1,76 @@
--- What a call of the program answers.
-use Rattle.std.specs.Prelude.{◌≡◌, ◌⊎◌, ℕ, ◌≤◌, ◌<◌, Bool, Option, Some, None, IsSomeAnd, IfSome, List, [], ◌∷◌, ◌++◌, length, Result, Ok, Err, MatchResult}
-use Rattle.std.specs.Io.KnownBytes.{Appends, Keeps, IsAtEnd}
+-- What a call of the program promises.
+use Rattle.std.specs.Prelude.{◌≡◌, ◌⊎◌, ◌↔◌, ℕ, ◌≤◌, ◌<◌, Bool, Option, Some, None, IsSomeAnd, IfSome, List, [], ◌∷◌, ◌++◌, length, Result, Ok, Err}
+use Rattle.std.specs.Io.KnownBytes.{Appends, IsAtEnd}
 use Rattle.edge_io.specs.Bytes.{AppendsPrefix}
 use Rattle.edge_io.specs.Causes.{Rose}
 use Rattle.edge_io.specs.Disk.{Folder}
 use Rattle.edge_io.specs.Moments.{LeavesOnly}
+use Rattle.edge_io.specs.Seen.{Seen}
 use Rattle.edge_io.specs.Steps.{Goes}
 use Rattle.packet_codec.specs.declared.event.Event.{Event}
 use Rattle.packet_codec.specs.Grammar.{AreBytes}
 use Rattle.outcome_fold.specs.Rows.{rows_of}
 use Rattle.outcome_fold.specs.Answers.{status_of}
 use Rattle.worker_lane.specs.Recorded.{HasRecorded}
+use Rattle.run_shelf.specs.Images.{MakesRepository}
 use Rattle.run_shelf.specs.Repository.{Run, run_of, Shows, IsRepository, most_runs, format_name}
 use Rattle.sub_text.specs.Texts.{report_of}
-use Rattle.testr_cli.specs.Words.{command_of}
-use Rattle.testr_cli.specs.Answer.{code_of, verdict_code, refusal_line}
-use Rattle.testr_cli.specs.Outside.{Outside, ReadsNothing, RisesOnlyAt}
+use Rattle.testr_cli.specs.Steps.{Step, At}
+use Rattle.testr_cli.specs.Outside.{Outside, Work, work_of, work_folder, work_shown, SomeRose, RisesAt}
+use Rattle.testr_cli.specs.Words.{command_of, usage_fault}
+use Rattle.testr_cli.specs.Runs.{run_bytes, HasRuns, KeepsFiles}
+use Rattle.testr_cli.specs.Verdicts.{verdict_code}
+use Rattle.testr_cli.specs.Says.{SaysOfFolder, OfLastRun}
 use Rattle.testr_cli.specs.Reading.{most_bytes}
-use Rattle.testr_cli.specs.Init.{Makes, HasInitCause}
-use Rattle.testr_cli.specs.Load.{run_bytes, HasRuns, Loads, HasLoadCause}
-use Rattle.testr_cli.specs.Ask.{Asks, HasAskCause, OfLastRun}
+use Rattle.testr_cli.specs.Answer.{refusal_text, code_of, place_in}
+use Rattle.testr_cli.specs.Init.{Inits}
+use Rattle.testr_cli.specs.Load.{Loads}
+use Rattle.testr_cli.specs.Ask.{Asks}
+use Rattle.testr_cli.specs.Stops.{PassesCommand}
+use Rattle.testr_cli.specs.declared.words.UsageFault.{UsageFault}
 use Rattle.testr_cli.specs.declared.command.Question.{Question}
 use Rattle.testr_cli.specs.declared.command.Command.{Command}
 use Rattle.testr_cli.specs.declared.command.Command.TheVariants.{Init, Load, Ask}
 use Rattle.testr_cli.specs.declared.answer.Verdict.{Verdict}
-use Rattle.testr_cli.specs.declared.answer.Verdict.TheVariants.{Passed}
 use Rattle.testr_cli.specs.declared.answer.Refusal.{Refusal}
 use Rattle.testr_cli.specs.declared.answer.Refusal.TheVariants.{Usage}
 
--- the command was done
-abbrev pub Performs : Option Command → Outside → Outside → Verdict → Type 0
-Performs None before after verdict = ⊥
-Performs (Some Init) before after verdict = Makes before after × (verdict ≡ Passed)
-Performs (Some (Load partial)) before after verdict = Loads partial before after verdict
-Performs (Some (Ask question)) before after verdict = Asks question before after verdict
+-- ---- the answer
 
--- words that are no command change nothing
-pub record IsNoCommand (before after : Outside) : Type 0 where
-  pub read : ReadsNothing before after
-  pub folder : after.folder ≡ before.folder
-  pub printed : Keeps before.printed after.printed
+-- words that are no command are refused, and touch nothing
+pub record Refuses (fault : UsageFault) (before after : Work) (outcome : Result Verdict Refusal) : Type 0 where
+  pub usage : outcome ≡ Err (Usage fault)
+  pub same : after ≡ before
 
--- Words that are no command are the one cause of `Usage`. A command has the causes of its own.
-abbrev pub HasRefusalCause : Option Command → Outside → Outside → Refusal → Type 0
-HasRefusalCause None before after Usage = IsNoCommand before after
-HasRefusalCause None before after refusal = ⊥
-HasRefusalCause (Some Init) before after refusal = HasInitCause before after refusal
-HasRefusalCause (Some (Load partial)) before after refusal = HasLoadCause partial before after refusal
-HasRefusalCause (Some (Ask question)) before after refusal = HasAskCause question before after refusal
+-- what a command does to the parts that it touches; all else stays
+abbrev pub Performs : UsageFault → Option Command → Step Work Verdict Refusal
+Performs fault None = Refuses fault
+Performs fault (Some Init) = At work_folder Inits
+Performs fault (Some (Load partial)) = Loads partial
+Performs fault (Some (Ask question)) = At work_shown (Asks question)
 
 -- the line of a refusal went to the errors' sink: whole, or in part where that sink failed
-abbrev pub TellsLine : List (List ℕ) → Option (List ℕ) → Option (List ℕ) → ℕ → ℕ → Result Verdict Refusal → Type 0
-TellsLine words old new before now (Ok verdict) = Keeps old new
-TellsLine words old new before now (Err refusal) = AppendsPrefix old new (refusal_line words refusal) × (Appends old new (refusal_line words refusal) ⊎ Rose before now)
+abbrev pub TellsLine : Result Verdict Refusal → Seen (List ℕ) → Seen (List ℕ) → Type 0
+TellsLine (Ok verdict) before after = after ≡ before
+TellsLine (Err refusal) before after = AppendsPrefix before.told after.told (refusal_text refusal) × (Appends before.told after.told (refusal_text refusal) ⊎ Rose before.faults after.faults)
 
--- one outcome, its cause, the counts of faults, its line and its status
-pub record Answers (words : List (List ℕ)) (before after : Outside) (errors told : Option (List ℕ)) (errors_before errors_now : ℕ) (answer : ℕ) : Type 0 where
-  pub outcome : Result Verdict Refusal
-  pub cause : MatchResult outcome (Performs (command_of words) before after) (HasRefusalCause (command_of words) before after)
-  pub counts : RisesOnlyAt before after outcome
-  pub line : TellsLine words errors told errors_before errors_now outcome
+pub record Tells (outcome : Result Verdict Refusal) (before after : Seen (List ℕ)) (answer : ℕ) : Type 0 where
+  pub line : TellsLine outcome before after
   pub code : answer ≡ code_of outcome
+
+-- one outcome, which the steps of the command made, and its line and its status
+pub record Answers (words : List (List ℕ)) (before after : Outside) (answer : ℕ) : Type 0 where
+  pub outcome : Result Verdict Refusal
+  pub done : Performs (usage_fault words) (command_of words) (work_of before) (work_of after) outcome
+  pub told : Tells outcome before.errors after.errors answer
+
+-- ---- what is kept
+
+-- the runs shown before are shown after
+abbrev pub KeepsRuns : Folder → Folder → Type 0
+KeepsRuns s t = (runs : List Run) → Shows s.disk.published runs → Shows t.disk.published runs
+
+-- ---- `load`
 
 -- the runs, with one more of these events
 abbrev pub with_run : Bool → List Run → List Event → List Run
@@ -70,38 +80,76 @@ with_run partial runs events = runs ++ run_of partial (run_bytes events) ∷ []
 abbrev pub AddsRun : Bool → List Event → Folder → Folder → Type 0
 AddsRun partial events s t = (runs : List Run) → Shows s.disk.published runs → Shows t.disk.published (with_run partial runs events) × LeavesOnly (λ image. Shows image (with_run partial runs events)) t.disk
 
--- The theorem of `load`: over a told input, and whatever runs the folder shows, the input was read to its end, the folder
--- shows one run more, of what is recorded of the input, and the report of its rows was printed; the status is theirs.
-pub record LoadsAll (partial : Bool) (before after : Outside) (answer : ℕ) (bytes : List ℕ) : Type 0 where
+-- Over a told input, and whatever runs the folder shows, the input was read to its end, the folder shows one run more, of
+-- what is recorded of the input, and the report of its rows was printed; the status is theirs.
+pub record LoadsAll (partial : Bool) (before after : Work) (answer : ℕ) (bytes : List ℕ) : Type 0 where
   pub events : List Event
   pub are_bytes : AreBytes bytes
   pub recorded : HasRecorded 0 bytes events
-  pub at_end : IsAtEnd after.left
-  pub stored : Goes before.folder after.folder (AddsRun partial events)
-  pub printed : IfSome before.folder (λ s. (runs : List Run) → Shows s.disk.published runs → Appends before.printed after.printed (report_of (rows_of events) (length runs) []))
+  pub at_end : IsAtEnd after.input.told
+  pub stored : Goes before.folder.told after.folder.told (AddsRun partial events)
+  pub printed : IfSome before.folder.told (λ s. (runs : List Run) → Shows s.disk.published runs → Appends before.out.told after.out.told (report_of (rows_of events) (length runs) []))
   pub status : answer ≡ status_of (rows_of events)
 
-abbrev pub LoadsTold : Bool → Outside → Outside → ℕ → Type 0
-LoadsTold partial before after answer = IfSome before.left (LoadsAll partial before after answer)
+-- ---- questions
 
--- the runs shown before are shown after
-abbrev pub KeepsRuns : Option Folder → Option Folder → Type 0
-KeepsRuns old new = Goes old new (λ s t. (runs : List Run) → Shows s.disk.published runs → Shows t.disk.published runs)
+-- the answer of the runs that the folder shows was printed, the status is that of its verdict, and nothing else happened
+pub record AnswersQuestion (question : Question) (before after : Work) (answer : ℕ) : Type 0 where
+  pub text : List ℕ
+  pub verdict : Verdict
+  pub says : IfSome after.folder.told (SaysOfFolder question text verdict)
+  pub kept : Goes before.folder.told after.folder.told KeepsFiles
+  pub input : after.input ≡ before.input
+  pub printed : Appends before.out.told after.out.told text
+  pub status : answer ≡ verdict_code verdict
 
--- no answer of `load` but a fault or want of memory has a cause
-pub record CanLoad (before : Outside) : Type 0 where
-  pub free : IsSomeAnd before.folder (λ s. (number : ℕ) × (number < most_runs) × HasRuns number s)
-  pub short : IsSomeAnd before.left (λ bytes. length bytes ≤ most_bytes)
+-- ---- completeness
 
--- no answer of `init` but a fault has a cause
-abbrev pub CanInit : Outside → Type 0
-CanInit before = IsSomeAnd before.folder (λ s. s.disk.published format_name ≡ None)
+-- there is no repository yet
+abbrev pub CanInit : Work → Type 0
+CanInit before = IsSomeAnd before.folder.told (λ s. s.disk.published format_name ≡ None)
 
--- The theorem of a question: its answer was printed, the status is that of its verdict, and nothing else happened.
-abbrev pub AnswersQuestion : Question → Outside → Outside → ℕ → Type 0
-AnswersQuestion question before after answer = (v : Verdict) × Asks question before after v × (answer ≡ verdict_code v)
+-- the folder is told to take a run, and the input not to be too long
+pub record CanLoad (before : Work) : Type 0 where
+  pub free : IsSomeAnd before.folder.told (λ s. (number : ℕ) × (number < most_runs) × HasRuns number s)
+  pub short : IsSomeAnd before.input.told (λ bytes. length bytes ≤ most_bytes)
 
--- no answer of a question but a fault or want of memory has a cause
-pub record CanAsk (question : Question) (before : Outside) : Type 0 where
-  pub repository : IsSomeAnd before.folder (λ s. IsRepository s.disk.published)
-  pub some : OfLastRun question → IsSomeAnd before.folder (λ s. (number : ℕ) × (0 < number) × HasRuns number s)
+-- the folder is told to be a repository, with a run where the question is of the last one
+pub record CanAsk (question : Question) (before : Work) : Type 0 where
+  pub repository : IsSomeAnd before.folder.told (λ s. IsRepository s.disk.published)
+  pub some : OfLastRun question → IsSomeAnd before.folder.told (λ s. (number : ℕ) × (0 < number) × HasRuns number s)
+
+-- no refusal of the command but a fault or want of memory has a cause
+abbrev pub CanPerform : Option Command → Work → Type 0
+CanPerform None before = ⊥
+CanPerform (Some Init) before = CanInit before
+CanPerform (Some (Load partial)) before = CanLoad before
+CanPerform (Some (Ask question)) before = CanAsk question before
+
+-- it was done, or memory was wanting; `init` takes no memory
+abbrev pub IsPerformed : Option Command → ℕ → Type 0
+IsPerformed None answer = ⊥
+IsPerformed (Some Init) answer = answer ≡ 0
+IsPerformed (Some (Load partial)) answer = (answer ≤ 1) ⊎ (answer ≡ 5)
+IsPerformed (Some (Ask question)) answer = (answer ≤ 1) ⊎ (answer ≡ 5)
+
+-- ---- the promises
+
+-- What each call of the program promises, for these words, from the outside before it to that after it.
+pub record Promises (words : List (List ℕ)) (before after : Outside) (answer : ℕ) : Type 0 where
+  -- there is one outcome, which the command's steps made, and the status and the line on the errors' sink are its own
+  pub answers : Answers words before after answer
+  -- the count of that part's faults rose whose fault the outcome is, and no other
+  pub counts : RisesAt (place_in answers.outcome) (work_of before) (work_of after)
+  pub usage : (answer ≡ 2) ↔ (command_of words ≡ None)
+  pub fault : answer ≡ 4 → SomeRose (work_of before) (work_of after)
+  -- what is refused leaves the runs that the folder shows; only a fault may leave one more
+  pub kept : 2 ≤ answer → (answer ≡ 4 → ⊥) → Goes before.folder.told after.folder.told KeepsRuns
+  -- a stop at each moment leaves what one before the call might have left, or the files as reads gave them before the
+  -- call with all that the command adds
+  pub any_moment : Goes before.folder.told after.folder.told (PassesCommand (command_of words) before.input.told)
+  pub made : command_of words ≡ Some Init → answer ≡ 0 → Goes before.folder.told after.folder.told MakesRepository
+  pub loaded : (partial : Bool) → command_of words ≡ Some (Load partial) → answer ≤ 1 → IfSome before.input.told (LoadsAll partial (work_of before) (work_of after) answer)
+  pub asked : (question : Question) → command_of words ≡ Some (Ask question) → answer ≤ 1 → AnswersQuestion question (work_of before) (work_of after) answer
+  -- it does not give up without a cause
+  pub completeness : CanPerform (command_of words) (work_of before) → (SomeRose (work_of before) (work_of after) → ⊥) → IsPerformed (command_of words) answer

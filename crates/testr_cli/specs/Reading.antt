@@ -1,12 +1,15 @@
--- An input that is recorded as it is read (docs/FORMATS.md, "What is recorded of a stream").
-use Rattle.std.specs.Prelude.{◌≡◌, Result, Ok, Err, ℕ, ◌^◌, ◌<◌, ◌≤◌, ⊤, Option, IfSome, List, length}
+-- The step that records an input as it is read (docs/FORMATS.md, "What is recorded of a stream"): why it refuses, and
+-- what it says then.
+use Rattle.std.specs.Prelude.{◌≡◌, Result, Ok, Err, ℕ, ◌^◌, ◌<◌, ◌≤◌, ⊤, Option, IfSome, IfOk, IfErr, List, length, codes, Vec}
+use Rattle.std.specs.declared.alloc.Global.{Global}
 use Rattle.std.specs.Io.KnownBytes.{Consumes, IsAtEnd}
 use Rattle.edge_io.specs.Causes.{Rose}
+use Rattle.edge_io.specs.Seen.{Seen}
 use Rattle.packet_codec.specs.Grammar.{AreBytes}
 use Rattle.worker_lane.specs.Recorded.{IsRecorded}
 use Rattle.worker_lane.specs.Scribing.{Scribing, Recording}
-use Rattle.testr_cli.specs.declared.reading.ReadRefusal.{ReadRefusal}
-use Rattle.testr_cli.specs.declared.reading.ReadRefusal.TheVariants.{Fault, TooLong, NoMemory}
+use Rattle.testr_cli.specs.declared.reading.ReadFault.{ReadFault}
+use Rattle.testr_cli.specs.declared.reading.ReadFault.TheVariants.{Fault, TooLong, NoMemory}
 
 -- how many bytes an input may have
 abbrev pub most_bytes : ℕ
@@ -30,14 +33,27 @@ pub record RecordsPieces (left after : Option (List ℕ)) (scribe : Scribing) (r
   pub size : length bytes ≤ most_bytes
   pub recording : Recording bytes scribe run
 
-abbrev pub HasReadCause : Option (List ℕ) → ℕ → ℕ → ReadRefusal → Type 0
-HasReadCause left before now Fault = Rose before now
-HasReadCause left before now TooLong = IfSome left (λ bytes. most_bytes < length bytes)
-HasReadCause left before now NoMemory = ⊤
+-- the cause of each refusal; the count of faults rises where a read failed, and else it stands
+abbrev pub HasReadCause : Seen (List ℕ) → Seen (List ℕ) → ReadFault → Type 0
+HasReadCause before after Fault = Rose before.faults after.faults
+HasReadCause before after TooLong = IfSome before.told (λ bytes. most_bytes < length bytes) × (after.faults ≡ before.faults)
+HasReadCause before after NoMemory = after.faults ≡ before.faults
 
--- the count rises only where a read failed
-abbrev pub ReadCounts : {T : Type 0} → ℕ → ℕ → Result T ReadRefusal → Type 0
-ReadCounts before now (Ok done) = now ≡ before
-ReadCounts before now (Err Fault) = ⊤
-ReadCounts before now (Err TooLong) = now ≡ before
-ReadCounts before now (Err NoMemory) = now ≡ before
+-- what is recorded was read, and no read failed
+pub record RecordsAll (run : List ℕ) (before after : Seen (List ℕ)) : Type 0 where
+  pub recorded : RecordsInput before.told after.told run
+  pub count : after.faults ≡ before.faults
+
+pub record Records (before after : Seen (List ℕ)) (result : Result (Vec ℕ Global) ReadFault) : Type 0 where
+  pub recorded : IfOk result (λ run. RecordsAll run.items before after)
+  pub refused : IfErr result (HasReadCause before after)
+
+abbrev pub read_code : ReadFault → ℕ
+read_code Fault = 4
+read_code TooLong = 3
+read_code NoMemory = 5
+
+abbrev pub read_text : ReadFault → List ℕ
+read_text Fault = codes "testr: fault reading standard input\n"
+read_text TooLong = codes "testr: standard input is too long\n"
+read_text NoMemory = codes "testr: out of memory\n"

@@ -8,7 +8,7 @@ use Rattle.packet_codec.specs.declared.event.Event.{Event}
 use Rattle.worker_lane.specs.Recorded.{HasRecorded}
 use Rattle.run_shelf.specs.Repository.{run_of}
 use Rattle.run_shelf.specs.Images.{HasRunBeside, PassesOld, PassesFormat}
-use Rattle.testr_cli.specs.Load.{run_bytes}
+use Rattle.testr_cli.specs.Runs.{run_bytes}
 use Rattle.testr_cli.specs.declared.command.Command.{Command}
 use Rattle.testr_cli.specs.declared.command.Command.TheVariants.{Init, Load, Ask}
 

@@ -1,17 +1,18 @@
--- What is found to be told of a repository.
-use Rattle.std.specs.Prelude.{◌≡◌, ℕ, ⊤, Option, IfSome, IsSomeAnd, List}
-use Rattle.edge_io.specs.Causes.{Rose}
+-- The step that finds the answer of a question.
+use Rattle.std.specs.Prelude.{◌≡◌, ℕ, Bool, true, false, IfSome, IfOk, IsSomeAnd, List, codes, Result, Ok, Err}
 use Rattle.edge_io.specs.Disk.{Folder}
-use Rattle.edge_io.specs.Steps.{Goes, Settled}
+use Rattle.edge_io.specs.Seen.{Seen}
+use Rattle.edge_io.specs.Steps.{Goes, Stays}
+use Rattle.run_shelf.specs.Faults.{RisesExactlyIf}
 use Rattle.run_shelf.specs.Repository.{run_at}
 use Rattle.run_ledger.specs.declared.fault.LedgerFault.{LedgerFault}
 use Rattle.run_ledger.specs.declared.fault.LedgerFault.TheVariants as ledger_fault
-use Rattle.testr_cli.specs.Ask.{SaysOfFolder}
+use Rattle.testr_cli.specs.Says.{SaysOfFolder}
 use Rattle.testr_cli.specs.declared.command.Question.{Question}
 use Rattle.testr_cli.specs.declared.answer.Verdict.{Verdict}
-use Rattle.testr_cli.specs.declared.answer.Refusal.{Refusal}
-use Rattle.testr_cli.specs.declared.answer.Refusal.TheVariants.{Usage, Exists, NoStore, UnknownFormat, Gap, NoRuns, Full, TooLong, ShelfFault, InputFault, SinkFault, NoMemory}
 use Rattle.testr_cli.specs.declared.told.Told.{Told}
+use Rattle.testr_cli.specs.declared.told.TellFault.{TellFault}
+use Rattle.testr_cli.specs.declared.told.TellFault.TheVariants.{Shelf, NoMemory}
 
 -- the text and the verdict are what this says of the folder
 abbrev pub TellsSo : (Folder → List ℕ → Verdict → Type 0) → Told → Folder → Type 0
@@ -21,31 +22,34 @@ TellsSo Says told s = Says s told.text.items told.verdict
 abbrev pub IsAnswer : Question → Told → Folder → Type 0
 IsAnswer question told s = SaysOfFolder question told.text.items told.verdict s
 
--- so it is of the folder as it is now, whose files stayed
-pub record Finds (question : Question) (old new : Option Folder) (told : Told) : Type 0 where
-  pub answers : IfSome new (IsAnswer question told)
-  pub settled : Goes old new Settled
+-- whether a call of the folder failed
+abbrev pub fault_fails : TellFault → Bool
+fault_fails Shelf = true
+fault_fails NoMemory = false
 
--- the refusal of a store that could not be read
-abbrev pub refusal_of_ledger : LedgerFault → Refusal
-refusal_of_ledger (ledger_fault.Store fault) = ShelfFault
-refusal_of_ledger ledger_fault.NoMemory = NoMemory
+abbrev pub tell_failed : {T : Type 0} → Result T TellFault → Bool
+tell_failed (Ok told) = false
+tell_failed (Err fault) = fault_fails fault
 
--- why nothing is told, by the counts of the folder's faults before and now
-abbrev pub HasTellCause : ℕ → ℕ → Refusal → Type 0
-HasTellCause before now Usage = ⊥
-HasTellCause before now Exists = ⊥
-HasTellCause before now NoStore = ⊥
-HasTellCause before now UnknownFormat = ⊥
-HasTellCause before now (Gap number) = ⊥
-HasTellCause before now NoRuns = ⊥
-HasTellCause before now Full = ⊥
-HasTellCause before now TooLong = ⊥
-HasTellCause before now ShelfFault = Rose before now
-HasTellCause before now InputFault = ⊥
-HasTellCause before now SinkFault = ⊥
-HasTellCause before now NoMemory = ⊤
+-- why a store that could not be read tells nothing
+abbrev pub fault_of_ledger : LedgerFault → TellFault
+fault_of_ledger (ledger_fault.Store fault) = Shelf
+fault_of_ledger ledger_fault.NoMemory = NoMemory
+
+-- The answer is that of the folder, which stays.
+pub record Finds (question : Question) (before after : Seen Folder) (result : Result Told TellFault) : Type 0 where
+  pub answers : IfOk result (λ told. IfSome before.told (IsAnswer question told))
+  pub same : Goes before.told after.told Stays
+  pub count : RisesExactlyIf before.faults after.faults (tell_failed result)
 
 -- the bytes of the run of this number, which there is
 abbrev pub HasBytesAt : ℕ → List ℕ → Folder → Type 0
 HasBytesAt number bytes s = IsSomeAnd (run_at s.disk.published number) (λ run. bytes ≡ run.bytes)
+
+abbrev pub tell_code : TellFault → ℕ
+tell_code Shelf = 4
+tell_code NoMemory = 5
+
+abbrev pub tell_text : TellFault → List ℕ
+tell_text Shelf = codes "testr: fault of the repository folder\n"
+tell_text NoMemory = codes "testr: out of memory\n"

@@ -4,6 +4,8 @@ use Rattle.std.specs.List.{list_all}
 use Rattle.std.specs.Option.{option_map}
 use Rattle.std.specs.Str.{bytes_eq}
 use Rattle.std.specs.declared.alloc.Global.{Global}
+use Rattle.testr_cli.specs.declared.words.UsageFault.{UsageFault}
+use Rattle.testr_cli.specs.declared.words.UsageFault.TheVariants.{Verb, Tool}
 use Rattle.testr_cli.specs.declared.command.Command.{Command}
 use Rattle.testr_cli.specs.declared.command.Command.TheVariants.{Init, Load, Ask}
 use Rattle.testr_cli.specs.declared.command.Question.{Question}
@@ -19,6 +21,14 @@ testr_word = codes "testr"
 abbrev pub names_testr : List (List ℕ) → Bool
 names_testr [] = false
 names_testr (word ∷ words) = bytes_eq word testr_word
+
+-- why words are no command: those behind `testr` are none, or the first one names no tool
+abbrev pub usage_fault : List (List ℕ) → UsageFault
+usage_fault words = if names_testr words then Verb else Tool
+
+abbrev pub usage_text : UsageFault → List ℕ
+usage_text Verb = codes "testr: wrong usage\n"
+usage_text Tool = codes "usage: testr COMMAND or a subunit filter\n"
 
 abbrev pub has_words : List (List ℕ) → Bool
 has_words [] = false

@@ -1,6 +1,16 @@
 //! What a command answers.
 
 ghost use Rattle.std.specs.Prelude.{◌≡◌};
+ghost use Rattle.testr_cli.specs.Telling.{line_text};
+
+use crate::reading::ReadFault;
+use crate::reporting::PrintFault;
+use crate::store::{KeepFault, RunsFault, init_line, init_status, open_line, open_status};
+use crate::telling::Line;
+use crate::told::TellFault;
+use crate::words::UsageFault;
+use run_shelf::{InitFault, OpenFault};
+use sub_number::NoMemory;
 
 /// Whether the tests of a run passed. A command that tells of no tests answers `Passed`.
 #[derive(Clone, Copy, Debug, PartialEq, Eq)]
@@ -12,7 +22,7 @@ pub enum Verdict {
 }
 
 impl Verdict {
-    ghost use Rattle.testr_cli.specs.Answer.{verdict_code};
+    ghost use Rattle.testr_cli.specs.Verdicts.{verdict_code};
 
     /// The exit status: 0 or 1.
     pub fn code(self) -> u8
@@ -25,73 +35,142 @@ impl Verdict {
     }
 }
 
-/// Why a command was not done, or not done to its end.
+/// Why a command was not done, or not done to its end: by the step that refused.
 #[derive(Clone, Copy, Debug, PartialEq, Eq)]
 pub enum Refusal {
     /// The words are no command.
-    Usage,
-    /// There is a repository already.
-    Exists,
-    /// There is no repository.
-    NoStore,
-    /// The repository has a format that this program does not know.
-    UnknownFormat,
-    /// The run of this number is missing, and a later one is there.
-    Gap(u32),
-    /// The repository has no runs.
-    NoRuns,
-    /// Each of the 1,000,000 numbers has a run.
-    Full,
-    /// Standard input has more than 2^60 bytes.
-    TooLong,
-    /// A call of the repository's folder failed.
-    ShelfFault,
-    /// A read of standard input failed.
-    InputFault,
-    /// A write of the report failed.
-    SinkFault,
-    /// There is not enough memory.
-    NoMemory,
+    Usage(UsageFault),
+    /// No repository was made.
+    Init(InitFault),
+    /// The repository was not opened.
+    Open(OpenFault),
+    /// Its runs do not serve the command.
+    Runs(RunsFault),
+    /// Standard input was not read whole.
+    Read(ReadFault),
+    /// There is not enough memory for the report.
+    Memory(NoMemory),
+    /// The run was not kept, or not surely.
+    Keep(KeepFault),
+    /// The runs were not read.
+    Tell(TellFault),
+    /// A text was not printed whole.
+    Print(PrintFault),
+}
+
+impl From<InitFault> for Refusal {
+    ghost use Rattle.testr_cli.specs.declared.answer.Refusal.TheVariants.{Init};
+
+    ghost from_gives = { λ fault refusal. refusal ≡ Init fault };
+
+    fn from(fault: InitFault) -> Self {
+        Refusal::Init(fault)
+    }
+}
+
+impl From<OpenFault> for Refusal {
+    ghost use Rattle.testr_cli.specs.declared.answer.Refusal.TheVariants.{Open};
+
+    ghost from_gives = { λ fault refusal. refusal ≡ Open fault };
+
+    fn from(fault: OpenFault) -> Self {
+        Refusal::Open(fault)
+    }
+}
+
+impl From<RunsFault> for Refusal {
+    ghost use Rattle.testr_cli.specs.declared.answer.Refusal.TheVariants.{Runs};
+
+    ghost from_gives = { λ fault refusal. refusal ≡ Runs fault };
+
+    fn from(fault: RunsFault) -> Self {
+        Refusal::Runs(fault)
+    }
+}
+
+impl From<ReadFault> for Refusal {
+    ghost use Rattle.testr_cli.specs.declared.answer.Refusal.TheVariants.{Read};
+
+    ghost from_gives = { λ fault refusal. refusal ≡ Read fault };
+
+    fn from(fault: ReadFault) -> Self {
+        Refusal::Read(fault)
+    }
+}
+
+impl From<NoMemory> for Refusal {
+    ghost use Rattle.testr_cli.specs.declared.answer.Refusal.TheVariants.{Memory};
+
+    ghost from_gives = { λ fault refusal. refusal ≡ Memory fault };
+
+    fn from(fault: NoMemory) -> Self {
+        Refusal::Memory(fault)
+    }
+}
+
+impl From<KeepFault> for Refusal {
+    ghost use Rattle.testr_cli.specs.declared.answer.Refusal.TheVariants.{Keep};
+
+    ghost from_gives = { λ fault refusal. refusal ≡ Keep fault };
+
+    fn from(fault: KeepFault) -> Self {
+        Refusal::Keep(fault)
+    }
+}
+
+impl From<TellFault> for Refusal {
+    ghost use Rattle.testr_cli.specs.declared.answer.Refusal.TheVariants.{Tell};
+
+    ghost from_gives = { λ fault refusal. refusal ≡ Tell fault };
+
+    fn from(fault: TellFault) -> Self {
+        Refusal::Tell(fault)
+    }
+}
+
+impl From<PrintFault> for Refusal {
+    ghost use Rattle.testr_cli.specs.declared.answer.Refusal.TheVariants.{Print};
+
+    ghost from_gives = { λ fault refusal. refusal ≡ Print fault };
+
+    fn from(fault: PrintFault) -> Self {
+        Refusal::Print(fault)
+    }
 }
 
 impl Refusal {
-    ghost use Rattle.testr_cli.specs.Answer.{refusal_code, refusal_front};
+    ghost use Rattle.testr_cli.specs.Answer.{refusal_code, refusal_text};
 
     /// The exit status: 2 for words, 3 for a named refusal, 4 for a fault of the outside, 5 for want of memory.
     pub fn code(self) -> u8
         ensures { result ≡ refusal_code self }
     {
         match self {
-            Refusal::Usage => 2,
-            Refusal::Exists
-            | Refusal::NoStore
-            | Refusal::UnknownFormat
-            | Refusal::Gap(_)
-            | Refusal::NoRuns
-            | Refusal::Full
-            | Refusal::TooLong => 3,
-            Refusal::ShelfFault | Refusal::InputFault | Refusal::SinkFault => 4,
-            Refusal::NoMemory => 5,
+            Refusal::Usage(_) => 2,
+            Refusal::Init(fault) => init_status(fault),
+            Refusal::Open(fault) => open_status(fault),
+            Refusal::Runs(_) => 3,
+            Refusal::Read(fault) => fault.code(),
+            Refusal::Tell(fault) => fault.code(),
+            Refusal::Keep(_) | Refusal::Print(_) => 4,
+            Refusal::Memory(_) => 5,
         }
     }
 
-    /// The line that tells of it, up to the number where there is one.
-    pub fn front(self) -> &'static str
-        ensures { result.now ≡ refusal_front self }
+    /// The line that tells of it.
+    pub fn line(self) -> Line
+        ensures { line_text result ≡ refusal_text self }
     {
         match self {
-            Refusal::Usage => "testr: wrong usage\n",
-            Refusal::Exists => "testr: a repository is already here\n",
-            Refusal::NoStore => "testr: no repository here\n",
-            Refusal::UnknownFormat => "testr: unknown repository format\n",
-            Refusal::Gap(_) => "testr: run ",
-            Refusal::NoRuns => "testr: no runs\n",
-            Refusal::Full => "testr: the repository is full\n",
-            Refusal::TooLong => "testr: standard input is too long\n",
-            Refusal::ShelfFault => "testr: fault of the repository folder\n",
-            Refusal::InputFault => "testr: fault reading standard input\n",
-            Refusal::SinkFault => "testr: fault writing output\n",
-            Refusal::NoMemory => "testr: out of memory\n",
+            Refusal::Usage(fault) => fault.line(),
+            Refusal::Init(fault) => init_line(fault),
+            Refusal::Open(fault) => open_line(fault),
+            Refusal::Runs(fault) => fault.line(),
+            Refusal::Read(fault) => fault.line(),
+            Refusal::Memory(_) => Line::of("testr: out of memory\n"),
+            Refusal::Keep(fault) => fault.line(),
+            Refusal::Tell(fault) => fault.line(),
+            Refusal::Print(fault) => fault.line(),
         }
     }
 }

@@ -35,3 +35,18 @@ pub enum Question {
     /// How many runs there are.
     Stats,
 }
+
+impl Question {
+    ghost use Rattle.std.specs.Prelude.{◌↔◌, IsTrue};
+    ghost use Rattle.testr_cli.specs.Says.{OfLastRun};
+
+    /// Whether it is of the last run.
+    pub fn is_of_last_run(self) -> bool
+        ensures { IsTrue result ↔ OfLastRun self }
+    {
+        match self {
+            Question::Last { .. } | Question::Slowest { .. } => true,
+            Question::Failing { .. } | Question::Stats => false,
+        }
+    }
+}

@@ -5,10 +5,9 @@
 //! refusals, and never a real file.
 //!
 //! - `command`, `words`: which words are a command
-//! - `answer`, `telling`: statuses and refusals, and the lines that tell of them
-//! - `init`, `load`, `ask`: the commands
-//! - `reading`, `reporting`: the steps of `load`
-//! - `told`: what is told of the runs
+//! - `store`, `reading`, `reporting`, `told`: the steps, each with why it refuses
+//! - `answer`, `telling`: statuses and refusals by step, and the lines that tell of them
+//! - `init`, `load`, `ask`: the commands, each a chain of steps
 //! - `top`: `program` and `testr`
 #![tactic(auto)]
 
@@ -19,6 +18,7 @@ mod init;
 mod load;
 mod reading;
 mod reporting;
+mod store;
 mod telling;
 mod told;
 mod top;
@@ -26,7 +26,12 @@ mod words;
 
 pub use answer::{Refusal, Verdict};
 pub use command::{Command, Question};
+pub use reading::ReadFault;
+pub use reporting::PrintFault;
+pub use store::{KeepFault, RunsFault};
+pub use told::TellFault;
 pub use top::{program, testr};
+pub use words::UsageFault;
 
 #[cfg(test)]
 mod tests;

@@ -7,10 +7,15 @@ ghost use Rattle.std.specs.List.{list_any};
 ghost use Rattle.outcome_fold.specs.Answers.{row_fails};
 ghost use Rattle.outcome_fold.specs.Rows.{rows_of};
 ghost use Rattle.sub_text.specs.Texts.{report_of};
-ghost use Rattle.testr_cli.specs.Answer.{verdict_of};
-ghost use Rattle.testr_cli.specs.Load.{run_bytes};
+ghost use Rattle.testr_cli.specs.Verdicts.{verdict_of};
+ghost use Rattle.testr_cli.specs.Reporting.{Reports, Prints, print_text};
+ghost use Rattle.testr_cli.specs.Runs.{run_bytes};
+ghost use Rattle.testr_cli.specs.Telling.{line_text};
 
 use crate::Verdict;
+use crate::telling::Line;
+use crate::told::Told;
+use edge_io::{Failed, Sink, write_whole};
 use outcome_fold::{Row, Rows};
 use packet_codec::Tags;
 use run_ledger::rows_of_bytes;
@@ -23,6 +28,46 @@ pub fn rows_of_run(alloc: Global, run: &[u8]) -> Result<Rows, NoMemory>
     ensures { (events : List Event) → All IsEvent events → All Fits events → run.now ≡ run_bytes events → IfOk result (λ rows. rows ≡ rows_of events) }
 {
     rows_of_bytes(alloc, run)
+}
+
+/// The report of the run of these bytes and this number, and its verdict. It is made before the run is kept, so that no
+/// want of memory comes after.
+pub fn report_run(alloc: Global, number: u32, run: &[u8]) -> Result<Told, NoMemory>
+    ensures { Reports number run.now result }
+{
+    let rows = rows_of_run(alloc, run)?;
+    let text = report(alloc, &rows, number)?;
+    Ok(Told {
+        text,
+        verdict: verdict(&rows),
+    })
+}
+
+/// A write failed.
+#[derive(Clone, Copy, Debug, PartialEq, Eq)]
+pub struct PrintFault;
+
+impl PrintFault {
+    /// The line that tells of it.
+    pub fn line(self) -> Line
+        ensures { line_text result ≡ print_text }
+    {
+        Line::of("testr: fault writing output\n")
+    }
+}
+
+impl From<Failed> for PrintFault {
+    fn from(_: Failed) -> Self {
+        PrintFault
+    }
+}
+
+/// Prints the text.
+pub fn print<O: Sink>(out: &mut O, text: &[u8]) -> Result<(), PrintFault>
+    ensures { Prints text.now (O.seen out.old) (O.seen out.new) result }
+{
+    write_whole(out, text)?;
+    Ok(())
 }
 
 /// The report of the run of this number.

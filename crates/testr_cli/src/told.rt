@@ -1,22 +1,24 @@
 //! What is told of the runs of a repository.
 
-ghost use Rattle.std.specs.Prelude.{◌≡◌, ◌<◌, ◌-◌, None, length, IfSome, IfOk, IfErr};
+ghost use Rattle.std.specs.Prelude.{◌≡◌, ◌<◌, ◌-◌, None, length, IfSome, IfOk};
 ghost use Rattle.edge_io.specs.Steps.{Goes, Stays};
+ghost use Rattle.run_shelf.specs.Faults.{RisesExactlyIf};
+ghost use Rattle.run_shelf.specs.Holds.{kinds_of, FitsWhereTold};
 ghost use Rattle.run_shelf.specs.Stores.{store_kinds, store_fault, FitsUnlessBroken};
 ghost use Rattle.run_ledger.specs.Ledger.{HasRowsAt};
-ghost use Rattle.testr_cli.specs.Ask.{OfLastRun, SaysReport, SaysBytes, SaysSlowest, SaysFailing, SaysStats, stats_of, verdict_of_failing};
-ghost use Rattle.testr_cli.specs.Outside.{StandsUnless};
-ghost use Rattle.testr_cli.specs.declared.answer.Refusal.TheVariants.{ShelfFault};
-ghost use Rattle.testr_cli.specs.Told.{IsAnswer, TellsSo, HasTellCause, HasBytesAt, refusal_of_ledger};
+ghost use Rattle.testr_cli.specs.Says.{OfLastRun, SaysReport, SaysBytes, SaysSlowest, SaysFailing, SaysStats, stats_of, verdict_of_failing};
+ghost use Rattle.testr_cli.specs.Telling.{line_text};
+ghost use Rattle.testr_cli.specs.Told.{Finds, IsAnswer, TellsSo, HasBytesAt, tell_failed, fault_of_ledger, tell_code, tell_text};
 
+use crate::Verdict;
 use crate::command::Question;
 use crate::reporting::{report, verdict};
-use crate::{Refusal, Verdict};
+use crate::telling::Line;
 use edge_io::Shelf;
 use itoa::Buffer;
 use outcome_fold::Rows;
 use run_ledger::{LedgerFault, failing, rows_of};
-use run_shelf::Store;
+use run_shelf::{Found, Store};
 use std::alloc::Global;
 use sub_number::{IdList, NoMemory};
 use sub_text::{failing_text, slowest_text};
@@ -30,19 +32,71 @@ pub struct Told {
     pub verdict: Verdict,
 }
 
-/// The answer of the question, of the runs of the store. Where it is of the last run, there must be one.
-pub fn answer_of<H: Shelf>(
+/// Why nothing is told.
+#[derive(Clone, Copy, Debug, PartialEq, Eq)]
+pub enum TellFault {
+    /// A call of the folder failed.
+    Shelf,
+    /// There is not enough memory.
+    NoMemory,
+}
+
+impl TellFault {
+    /// The exit status.
+    pub fn code(self) -> u8
+        ensures { result ≡ tell_code self }
+    {
+        match self {
+            TellFault::Shelf => 4,
+            TellFault::NoMemory => 5,
+        }
+    }
+
+    /// The line that tells of it.
+    pub fn line(self) -> Line
+        ensures { line_text result ≡ tell_text self }
+    {
+        match self {
+            TellFault::Shelf => Line::of("testr: fault of the repository folder\n"),
+            TellFault::NoMemory => Line::of("testr: out of memory\n"),
+        }
+    }
+}
+
+/// Finds the answer of the question, of the runs that were found. Where it is of the last run, there must be one.
+pub fn find<H: Shelf>(
+    alloc: Global,
+    question: Question,
+    shelf: &mut H,
+    found: Found,
+) -> Result<Told, TellFault>
+    requires some { OfLastRun question → 0 < length (kinds_of found) }
+    requires fits { FitsWhereTold (kinds_of found) (H.seen shelf.old).told }
+    ensures { Finds question (H.seen shelf.old) (H.seen shelf.new) result }
+{
+    let mut store = Store::attach(shelf, found);
+    let told = answer_of(alloc, question, &mut store);
+    hand_back(store.into_shelf());
+    told
+}
+
+// The folder is with its lender again.
+fn hand_back<H: Shelf>(shelf: &mut H)
+    ensures { shelf.new ≡ shelf.old }
+{}
+
+// The answer of the question, of the runs of the store. Where it is of the last run, there must be one.
+fn answer_of<H: Shelf>(
     alloc: Global,
     question: Question,
     store: &mut Store<'_, H>,
-) -> Result<Told, Refusal>
+) -> Result<Told, TellFault>
     requires some { OfLastRun question → 0 < length (store_kinds store.old) }
     requires open { store_fault store.old ≡ None }
     requires fits { FitsUnlessBroken (store_kinds store.old) (store_fault store.old) (H.seen store.old.shelf.now).told }
     ensures same_reference { store.new.shelf.ghost_name ≡ store.old.shelf.ghost_name }
     ensures told { IfOk result (λ told. IfSome (H.seen store.old.shelf.now).told (IsAnswer question told)) }
-    ensures refused { IfErr result (HasTellCause (H.seen store.old.shelf.now).faults (H.seen store.new.shelf.now).faults) }
-    ensures count { StandsUnless ShelfFault result (H.seen store.old.shelf.now).faults (H.seen store.new.shelf.now).faults }
+    ensures count { RisesExactlyIf (H.seen store.old.shelf.now).faults (H.seen store.new.shelf.now).faults (tell_failed result) }
     ensures same { Goes (H.seen store.old.shelf.now).told (H.seen store.new.shelf.now).told Stays }
 {
     match question {
@@ -55,38 +109,36 @@ pub fn answer_of<H: Shelf>(
 }
 
 // The bytes of the last run.
-fn last_bytes<H: Shelf>(alloc: Global, store: &mut Store<'_, H>) -> Result<Vec<u8>, Refusal>
+fn last_bytes<H: Shelf>(alloc: Global, store: &mut Store<'_, H>) -> Result<Vec<u8>, TellFault>
     requires some { 0 < length (store_kinds store.old) }
     requires open { store_fault store.old ≡ None }
     requires fits { FitsUnlessBroken (store_kinds store.old) (store_fault store.old) (H.seen store.old.shelf.now).told }
     ensures same_reference { store.new.shelf.ghost_name ≡ store.old.shelf.ghost_name }
     ensures bytes { IfOk result (λ bytes. IfSome (H.seen store.old.shelf.now).told (HasBytesAt (length (store_kinds store.old) - 1) bytes.items)) }
-    ensures refused { IfErr result (HasTellCause (H.seen store.old.shelf.now).faults (H.seen store.new.shelf.now).faults) }
-    ensures count { StandsUnless ShelfFault result (H.seen store.old.shelf.now).faults (H.seen store.new.shelf.now).faults }
+    ensures count { RisesExactlyIf (H.seen store.old.shelf.now).faults (H.seen store.new.shelf.now).faults (tell_failed result) }
     ensures same { Goes (H.seen store.old.shelf.now).told (H.seen store.new.shelf.now).told Stays }
 {
     let number = store.runs() - 1;
     let Ok(size) = store.run_length(number) else {
-        return Err(Refusal::ShelfFault);
+        return Err(TellFault::Shelf);
     };
     let Ok(mut bytes) = vec![in alloc; 0u8; size as usize] else {
-        return Err(Refusal::NoMemory);
+        return Err(TellFault::NoMemory);
     };
     let Ok(count) = store.read_run(number, 0, &mut bytes) else {
-        return Err(Refusal::ShelfFault);
+        return Err(TellFault::Shelf);
     };
     bytes.truncate(count);
     Ok(bytes)
 }
 
-fn tell_bytes<H: Shelf>(alloc: Global, store: &mut Store<'_, H>) -> Result<Told, Refusal>
+fn tell_bytes<H: Shelf>(alloc: Global, store: &mut Store<'_, H>) -> Result<Told, TellFault>
     requires some { 0 < length (store_kinds store.old) }
     requires open { store_fault store.old ≡ None }
     requires fits { FitsUnlessBroken (store_kinds store.old) (store_fault store.old) (H.seen store.old.shelf.now).told }
     ensures same_reference { store.new.shelf.ghost_name ≡ store.old.shelf.ghost_name }
     ensures told { IfOk result (λ told. IfSome (H.seen store.old.shelf.now).told (TellsSo SaysBytes told)) }
-    ensures refused { IfErr result (HasTellCause (H.seen store.old.shelf.now).faults (H.seen store.new.shelf.now).faults) }
-    ensures count { StandsUnless ShelfFault result (H.seen store.old.shelf.now).faults (H.seen store.new.shelf.now).faults }
+    ensures count { RisesExactlyIf (H.seen store.old.shelf.now).faults (H.seen store.new.shelf.now).faults (tell_failed result) }
     ensures same { Goes (H.seen store.old.shelf.now).told (H.seen store.new.shelf.now).told Stays }
 {
     match last_bytes(alloc, store) {
@@ -94,19 +146,18 @@ fn tell_bytes<H: Shelf>(alloc: Global, store: &mut Store<'_, H>) -> Result<Told,
             text,
             verdict: Verdict::Passed,
         }),
-        Err(refusal) => Err(refusal),
+        Err(fault) => Err(fault),
     }
 }
 
 // The rows of the last run.
-fn last_rows<H: Shelf>(alloc: Global, store: &mut Store<'_, H>) -> Result<Rows, Refusal>
+fn last_rows<H: Shelf>(alloc: Global, store: &mut Store<'_, H>) -> Result<Rows, TellFault>
     requires some { 0 < length (store_kinds store.old) }
     requires open { store_fault store.old ≡ None }
     requires fits { FitsUnlessBroken (store_kinds store.old) (store_fault store.old) (H.seen store.old.shelf.now).told }
     ensures same_reference { store.new.shelf.ghost_name ≡ store.old.shelf.ghost_name }
     ensures rows { IfOk result (λ rows. IfSome (H.seen store.old.shelf.now).told (HasRowsAt (length (store_kinds store.old) - 1) rows)) }
-    ensures refused { IfErr result (HasTellCause (H.seen store.old.shelf.now).faults (H.seen store.new.shelf.now).faults) }
-    ensures count { StandsUnless ShelfFault result (H.seen store.old.shelf.now).faults (H.seen store.new.shelf.now).faults }
+    ensures count { RisesExactlyIf (H.seen store.old.shelf.now).faults (H.seen store.new.shelf.now).faults (tell_failed result) }
     ensures same { Goes (H.seen store.old.shelf.now).told (H.seen store.new.shelf.now).told Stays }
 {
     let number = store.runs() - 1;
@@ -117,23 +168,22 @@ fn last_rows<H: Shelf>(alloc: Global, store: &mut Store<'_, H>) -> Result<Rows, 
 }
 
 // The report of the last run.
-fn tell_report<H: Shelf>(alloc: Global, store: &mut Store<'_, H>) -> Result<Told, Refusal>
+fn tell_report<H: Shelf>(alloc: Global, store: &mut Store<'_, H>) -> Result<Told, TellFault>
     requires some { 0 < length (store_kinds store.old) }
     requires open { store_fault store.old ≡ None }
     requires fits { FitsUnlessBroken (store_kinds store.old) (store_fault store.old) (H.seen store.old.shelf.now).told }
     ensures same_reference { store.new.shelf.ghost_name ≡ store.old.shelf.ghost_name }
     ensures told { IfOk result (λ told. IfSome (H.seen store.old.shelf.now).told (TellsSo SaysReport told)) }
-    ensures refused { IfErr result (HasTellCause (H.seen store.old.shelf.now).faults (H.seen store.new.shelf.now).faults) }
-    ensures count { StandsUnless ShelfFault result (H.seen store.old.shelf.now).faults (H.seen store.new.shelf.now).faults }
+    ensures count { RisesExactlyIf (H.seen store.old.shelf.now).faults (H.seen store.new.shelf.now).faults (tell_failed result) }
     ensures same { Goes (H.seen store.old.shelf.now).told (H.seen store.new.shelf.now).told Stays }
 {
     let number = store.runs() - 1;
     let rows = match last_rows(alloc, store) {
         Ok(rows) => rows,
-        Err(refusal) => return Err(refusal),
+        Err(fault) => return Err(fault),
     };
     let Ok(text) = report(alloc, &rows, number) else {
-        return Err(Refusal::NoMemory);
+        return Err(TellFault::NoMemory);
     };
     Ok(Told {
         text,
@@ -146,23 +196,22 @@ fn tell_slowest<H: Shelf>(
     alloc: Global,
     all: bool,
     store: &mut Store<'_, H>,
-) -> Result<Told, Refusal>
+) -> Result<Told, TellFault>
     requires some { 0 < length (store_kinds store.old) }
     requires open { store_fault store.old ≡ None }
     requires fits { FitsUnlessBroken (store_kinds store.old) (store_fault store.old) (H.seen store.old.shelf.now).told }
     ensures same_reference { store.new.shelf.ghost_name ≡ store.old.shelf.ghost_name }
     ensures told { IfOk result (λ told. IfSome (H.seen store.old.shelf.now).told (TellsSo (SaysSlowest all) told)) }
-    ensures refused { IfErr result (HasTellCause (H.seen store.old.shelf.now).faults (H.seen store.new.shelf.now).faults) }
-    ensures count { StandsUnless ShelfFault result (H.seen store.old.shelf.now).faults (H.seen store.new.shelf.now).faults }
+    ensures count { RisesExactlyIf (H.seen store.old.shelf.now).faults (H.seen store.new.shelf.now).faults (tell_failed result) }
     ensures same { Goes (H.seen store.old.shelf.now).told (H.seen store.new.shelf.now).told Stays }
 {
     let rows = match last_rows(alloc, store) {
         Ok(rows) => rows,
-        Err(refusal) => return Err(refusal),
+        Err(fault) => return Err(fault),
     };
     let mut text = Vec::new(alloc);
     let Ok(()) = slowest_text(alloc, &rows, all, &mut text) else {
-        return Err(Refusal::NoMemory);
+        return Err(TellFault::NoMemory);
     };
     Ok(Told {
         text,
@@ -175,13 +224,12 @@ fn tell_failing<H: Shelf>(
     alloc: Global,
     list: bool,
     store: &mut Store<'_, H>,
-) -> Result<Told, Refusal>
+) -> Result<Told, TellFault>
     requires open { store_fault store.old ≡ None }
     requires fits { FitsUnlessBroken (store_kinds store.old) (store_fault store.old) (H.seen store.old.shelf.now).told }
     ensures same_reference { store.new.shelf.ghost_name ≡ store.old.shelf.ghost_name }
     ensures told { IfOk result (λ told. IfSome (H.seen store.old.shelf.now).told (TellsSo (SaysFailing list) told)) }
-    ensures refused { IfErr result (HasTellCause (H.seen store.old.shelf.now).faults (H.seen store.new.shelf.now).faults) }
-    ensures count { StandsUnless ShelfFault result (H.seen store.old.shelf.now).faults (H.seen store.new.shelf.now).faults }
+    ensures count { RisesExactlyIf (H.seen store.old.shelf.now).faults (H.seen store.new.shelf.now).faults (tell_failed result) }
     ensures same { Goes (H.seen store.old.shelf.now).told (H.seen store.new.shelf.now).told Stays }
 {
     let ids = match failing(alloc, store) {
@@ -190,7 +238,7 @@ fn tell_failing<H: Shelf>(
     };
     let mut text = Vec::new(alloc);
     let Ok(()) = failing_text(&ids, list, &mut text) else {
-        return Err(Refusal::NoMemory);
+        return Err(TellFault::NoMemory);
     };
     Ok(Told {
         text,
@@ -199,17 +247,16 @@ fn tell_failing<H: Shelf>(
 }
 
 // How many runs there are.
-fn tell_stats<H: Shelf>(alloc: Global, store: &mut Store<'_, H>) -> Result<Told, Refusal>
+fn tell_stats<H: Shelf>(alloc: Global, store: &mut Store<'_, H>) -> Result<Told, TellFault>
     requires open { store_fault store.old ≡ None }
     requires fits { FitsUnlessBroken (store_kinds store.old) (store_fault store.old) (H.seen store.old.shelf.now).told }
     ensures same_reference { store.new.shelf.ghost_name ≡ store.old.shelf.ghost_name }
     ensures told { IfOk result (λ told. IfSome (H.seen store.old.shelf.now).told (TellsSo SaysStats told)) }
-    ensures refused { IfErr result (HasTellCause (H.seen store.old.shelf.now).faults (H.seen store.new.shelf.now).faults) }
-    ensures count { StandsUnless ShelfFault result (H.seen store.old.shelf.now).faults (H.seen store.new.shelf.now).faults }
+    ensures count { RisesExactlyIf (H.seen store.old.shelf.now).faults (H.seen store.new.shelf.now).faults (tell_failed result) }
     ensures same { Goes (H.seen store.old.shelf.now).told (H.seen store.new.shelf.now).told Stays }
 {
     let Ok(text) = stats_text(alloc, store.runs()) else {
-        return Err(Refusal::NoMemory);
+        return Err(TellFault::NoMemory);
     };
     Ok(Told {
         text,
@@ -240,11 +287,11 @@ fn failing_verdict(ids: &IdList) -> Verdict
 }
 
 // What a store that could not be read answers.
-fn ledger_refusal(fault: LedgerFault) -> Refusal
-    ensures { result ≡ refusal_of_ledger fault }
+fn ledger_refusal(fault: LedgerFault) -> TellFault
+    ensures { result ≡ fault_of_ledger fault }
 {
     match fault {
-        LedgerFault::Store(_) => Refusal::ShelfFault,
-        LedgerFault::NoMemory => Refusal::NoMemory,
+        LedgerFault::Store(_) => TellFault::Shelf,
+        LedgerFault::NoMemory => TellFault::NoMemory,
     }
 }

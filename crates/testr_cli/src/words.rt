@@ -3,9 +3,32 @@
 ghost use Rattle.std.specs.Prelude.{◌≡◌, not, string_bytes};
 ghost use Rattle.std.specs.List.{list_all};
 ghost use Rattle.std.specs.Str.{bytes_eq};
-ghost use Rattle.testr_cli.specs.Words.{texts, names_testr, has_words, flag_in, question_with, command_with, command_behind};
+ghost use Rattle.testr_cli.specs.Telling.{line_text};
+ghost use Rattle.testr_cli.specs.Words.{usage_text, texts, names_testr, has_words, flag_in, question_with, command_with, command_behind};
 
 use crate::command::{Command, Question};
+use crate::telling::Line;
+
+/// Why words are no command.
+#[derive(Clone, Copy, Debug, PartialEq, Eq)]
+pub enum UsageFault {
+    /// Those behind `testr` are none.
+    Verb,
+    /// The first one names no tool.
+    Tool,
+}
+
+impl UsageFault {
+    /// The line that tells of it.
+    pub fn line(self) -> Line
+        ensures { line_text result ≡ usage_text self }
+    {
+        match self {
+            UsageFault::Verb => Line::of("testr: wrong usage\n"),
+            UsageFault::Tool => Line::of("usage: testr COMMAND or a subunit filter\n"),
+        }
+    }
+}
 
 /// Whether the first word is `testr`.
 pub fn is_testr(words: &[String]) -> bool

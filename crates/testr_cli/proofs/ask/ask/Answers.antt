@@ -1,4 +1,32 @@
+use Rattle.std.proofs.Common.{refl}
+use Rattle.testr_cli.proofs.StepLemmas.{still_done, part_done, still_stops, part_stops, prints_as, gives}
 use Rattle.testr_cli.proofs.ask.ask.Goals as goal
 
-pub returns-in-Err-clause-refused : goal.returns-in-Err-clause-refused
-returns-in-Err-clause-refused g c = λ left i. c.in-Err.ensures.refused left (g.O.Sink.seen c.args.out.now).told i (g.O.Sink.seen c.args.out.now).faults
+pub returns-in_err-found : goal.returns-in_err-found
+returns-in_err-found g c = part_stops _ c.from_residual.ensures.1 c.in_err-found.ensures refl
+
+pub returns-in_err-have_run : goal.returns-in_err-have_run
+returns-in_err-have_run g c =
+    part_done _ _ c.in_ok-found.ensures
+    (still_stops _ c.from_residual-in_err-have_run.ensures.1 c.in_err-have_run.ensures refl)
+
+pub returns-in_err-told : goal.returns-in_err-told
+returns-in_err-told g c =
+    part_done _ _ c.in_ok-found.ensures
+    (still_done _ c.in_ok-have_run.ensures
+    (part_stops _ c.from_residual-in_err-told.ensures.1 c.in_err-told.ensures refl))
+
+pub returns-in_err-print : goal.returns-in_err-print
+returns-in_err-print g c =
+    part_done _ _ c.in_ok-found.ensures
+    (still_done _ c.in_ok-have_run.ensures
+    (part_done c.in_ok-told.told _ c.in_ok-told.ensures
+    (part_stops _ c.from_residual-in_err-print.ensures.1 (prints_as c.deref.ensures.value c.in_err-print.ensures) refl)))
+
+pub returns : goal.returns
+returns g c =
+    part_done _ _ c.in_ok-found.ensures
+    (still_done _ c.in_ok-have_run.ensures
+    (part_done c.in_ok-told.told _ c.in_ok-told.ensures
+    (part_done _ _ (prints_as c.deref.ensures.value c.in_ok-print.ensures)
+    gives)))

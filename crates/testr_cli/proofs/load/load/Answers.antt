@@ -1,34 +1,51 @@
-use Rattle.std.proofs.Common.{refl, arith}
-use Rattle.testr_cli.proofs.LoadLemmas.{load_done, load_unkept, load_untold}
-use Rattle.testr_cli.proofs.StopLemmas.{load_moments}
+use Rattle.std.proofs.Common.{refl}
+use Rattle.testr_cli.proofs.StepLemmas.{still_done, part_done, still_stops, part_stops, reports_as, keeps_as, prints_as, gives}
 use Rattle.testr_cli.proofs.load.load.Goals as goal
 
-pub returns-in-Err-clause-refused : goal.returns-in-Err-clause-refused
-returns-in-Err-clause-refused g c = c.in-Err.ensures.refused c.args.partial (g.O.Sink.seen c.args.out.now).told (g.O.Sink.seen c.args.out.now).faults
+pub returns-in_err-found : goal.returns-in_err-found
+returns-in_err-found g c = part_stops _ c.from_residual.ensures.1 c.in_err-found.ensures refl
 
-pub returns-in_default-clause-refused : goal.returns-in_default-clause-refused
-returns-in_default-clause-refused g c =
-    load_unkept c.args.partial _ _ _ _ _ _ _ _ _ _ _ _ _ c.in-Ok.prepared c.in-Ok.ensures.done _ _ c.deref.ensures.value refl _ refl
-    (omega (arith, c.in-Ok.ensures.folder_count (λ e. cc), c.in_default.ensures.cause.failed)) c.in_default.ensures.failed
+pub returns-in_err-take_run : goal.returns-in_err-take_run
+returns-in_err-take_run g c =
+    part_done _ _ c.in_ok-found.ensures
+    (still_stops _ c.from_residual-in_err-take_run.ensures.1 c.in_err-take_run.ensures refl)
 
-pub returns-in_default-clause-any_moment : goal.returns-in_default-clause-any_moment
-returns-in_default-clause-any_moment g c =
-    load_moments c.args.partial _ _ _ _ _ c.in-Ok.prepared c.in-Ok.ensures.done _ c.deref.ensures.value (g.met.H.Shelf.published_counts c.args.shelf.now) c.in-Ok.ensures.any_moment c.keep_run.ensures.any_moment
+pub returns-in_err-packets : goal.returns-in_err-packets
+returns-in_err-packets g c =
+    part_done _ _ c.in_ok-found.ensures
+    (still_done _ c.in_ok-take_run.ensures
+    (part_stops _ c.from_residual-in_err-packets.ensures.1 c.in_err-packets.ensures refl))
 
-pub returns-in_default-write_whole-clause-refused : goal.returns-in_default-write_whole-clause-refused
-returns-in_default-write_whole-clause-refused g c =
-    load_untold c.args.partial _ _ _ _ _ _ _ _ _ _ _ _ _ c.in-Ok.prepared c.in-Ok.ensures.done _ _ c.deref.ensures.value c.deref-2.ensures.value
-    c.in_default-write_whole.ensures.cause.failed c.in-Ok-keep_run.ensures.kept c.write_whole.ensures.prefix
+pub returns-in_err-report : goal.returns-in_err-report
+returns-in_err-report g c =
+    part_done _ _ c.in_ok-found.ensures
+    (still_done _ c.in_ok-take_run.ensures
+    (part_done c.in_ok-packets.packets _ c.in_ok-packets.ensures
+    (still_stops _ c.from_residual-in_err-report.ensures.1 (reports_as c.runs.ensures c.deref.ensures.value c.in_err-report.ensures) refl)))
 
-pub returns-in_default-write_whole-clause-any_moment : goal.returns-in_default-write_whole-clause-any_moment
-returns-in_default-write_whole-clause-any_moment g c =
-    load_moments c.args.partial _ _ _ _ _ c.in-Ok.prepared c.in-Ok.ensures.done _ c.deref.ensures.value (g.met.H.Shelf.published_counts c.args.shelf.now) c.in-Ok.ensures.any_moment c.keep_run.ensures.any_moment
+pub returns-in_err-keep : goal.returns-in_err-keep
+returns-in_err-keep g c =
+    part_done _ _ c.in_ok-found.ensures
+    (still_done _ c.in_ok-take_run.ensures
+    (part_done c.in_ok-packets.packets _ c.in_ok-packets.ensures
+    (still_done c.in_ok-report.report (reports_as c.runs.ensures c.deref.ensures.value c.in_ok-report.ensures)
+    (part_stops _ c.from_residual-in_err-keep.ensures.1 (keeps_as c.deref-2.ensures.value c.in_err-keep.ensures) refl))))
 
-pub returns-clause-done : goal.returns-clause-done
-returns-clause-done g c =
-    load_done c.args.partial _ _ _ _ _ _ _ _ _ _ _ _ _ c.in-Ok.prepared c.in-Ok.ensures.done _ _ c.deref.ensures.value c.deref-2.ensures.value
-    c.in-Ok-keep_run.ensures.kept c.in-Ok-write_whole.ensures.whole
+pub returns-in_err-print : goal.returns-in_err-print
+returns-in_err-print g c =
+    part_done _ _ c.in_ok-found.ensures
+    (still_done _ c.in_ok-take_run.ensures
+    (part_done c.in_ok-packets.packets _ c.in_ok-packets.ensures
+    (still_done c.in_ok-report.report (reports_as c.runs.ensures c.deref.ensures.value c.in_ok-report.ensures)
+    (part_done _ _ (keeps_as c.deref-2.ensures.value c.in_ok-keep.ensures)
+    (part_stops _ c.from_residual-in_err-print.ensures.1 (prints_as c.deref-3.ensures.value c.in_err-print.ensures) refl)))))
 
-pub returns-clause-any_moment : goal.returns-clause-any_moment
-returns-clause-any_moment g c =
-    load_moments c.args.partial _ _ _ _ _ c.in-Ok.prepared c.in-Ok.ensures.done _ c.deref.ensures.value (g.met.H.Shelf.published_counts c.args.shelf.now) c.in-Ok.ensures.any_moment c.keep_run.ensures.any_moment
+pub returns : goal.returns
+returns g c =
+    part_done _ _ c.in_ok-found.ensures
+    (still_done _ c.in_ok-take_run.ensures
+    (part_done c.in_ok-packets.packets _ c.in_ok-packets.ensures
+    (still_done c.in_ok-report.report (reports_as c.runs.ensures c.deref.ensures.value c.in_ok-report.ensures)
+    (part_done _ _ (keeps_as c.deref-2.ensures.value c.in_ok-keep.ensures)
+    (part_done _ _ (prints_as c.deref-3.ensures.value c.in_ok-print.ensures)
+    gives)))))

@@ -1,12 +1,15 @@
-use Rattle.std.proofs.Common.{◌∙◌, sym, ap, Some}
-use Rattle.testr_cli.proofs.AnswerLemmas.{init_refused, ask_done, ask_refused}
+use Rattle.std.proofs.Common.{◌∙◌, sym, ap, Some, refl}
+use Rattle.testr_cli.proofs.Performing.{performs, refuses}
 use Rattle.testr_cli.proofs.top.perform.Goals as goal
 
-pub returns-in-Some-Init-clause-refused : goal.returns-in-Some-Init-clause-refused
-returns-in-Some-Init-clause-refused g c = init_refused _ _ _ c.init.result (sym c.command.ensures ∙ c.in-Some-Init.is ∙ ap Some c.in-Some-Init.field-0-is) (c.init.ensures.refused _ _ _ _)
+pub returns-in-None : goal.returns-in-None
+returns-in-None g c = refuses _ refl (sym c.command.ensures ∙ c.in-None.is)
 
-pub returns-in-Some-Ask-clause-done : goal.returns-in-Some-Ask-clause-done
-returns-in-Some-Ask-clause-done g c = ask_done _ c.in-Some-Ask.question _ _ c.ask.result (sym c.command.ensures ∙ c.in-Some-Ask.is ∙ ap Some c.in-Some-Ask.field-0-is) (c.ask.ensures.done (g.I.Source.seen c.args.input.now).told (g.I.Source.seen c.args.input.now).faults)
+pub returns-in-Some-Init : goal.returns-in-Some-Init
+returns-in-Some-Init g c = performs _ _ _ refl (sym (ap Some c.in-Some-Init.field-0-is) ∙ sym c.in-Some-Init.is ∙ c.command.ensures) (record { at = c.init.ensures; rest = refl })
 
-pub returns-in-Some-Ask-clause-refused : goal.returns-in-Some-Ask-clause-refused
-returns-in-Some-Ask-clause-refused g c = ask_refused _ c.in-Some-Ask.question _ _ c.ask.result (sym c.command.ensures ∙ c.in-Some-Ask.is ∙ ap Some c.in-Some-Ask.field-0-is) (c.ask.ensures.refused (g.I.Source.seen c.args.input.now).told (g.I.Source.seen c.args.input.now).faults)
+pub returns-in-Some-Load : goal.returns-in-Some-Load
+returns-in-Some-Load g c = performs _ _ _ refl (sym (ap Some c.in-Some-Load.field-0-is) ∙ sym c.in-Some-Load.is ∙ c.command.ensures) c.load.ensures
+
+pub returns-in-Some-Ask : goal.returns-in-Some-Ask
+returns-in-Some-Ask g c = performs _ _ _ refl (sym (ap Some c.in-Some-Ask.field-0-is) ∙ sym c.in-Some-Ask.is ∙ c.command.ensures) (record { at = c.ask.ensures; rest = refl })

@@ -1,0 +1,124 @@
+-- What holds of a chain because it holds of its steps.
+use Rattle.std.proofs.Common.{◌≡◌, inl, inr, ℕ, ◌≤◌, Option, None, Some, Result, Ok, Err, refl, sym, subst, ◌∙◌, arith}
+use Rattle.edge_io.specs.Causes.{Rose}
+use Rattle.edge_io.specs.Steps.{Goes}
+use Rattle.testr_cli.specs.Steps.{Step, Then, stops, goes_on, Gives}
+use Rattle.testr_cli.specs.Outside.{Work, Place, in_folder, in_input, in_out, SameCounts, RisesAt, SomeRose}
+use Rattle.testr_cli.specs.Answer.{refusal_code, place_of}
+use Rattle.testr_cli.specs.declared.answer.Refusal.{Refusal}
+use Rattle.testr_cli.proofs.Resting.{Rests, rests_same, rests_then}
+
+-- a chain that was done is its first step done, and then the rest
+pub record Did {W A B E R : Type 0} (first : Step W A E) (second : A → Step W B R) (before after : W) (result : Result B R) : Type 0 where
+  pub value : A
+  pub between : W
+  pub done : first before between (Ok value)
+  pub next : second value between after result
+
+pub then_did : {W A B E R : Type 0} {name : E → R} {first : Step W A E} {second : A → Step W B R} {before after : W} (value : B) → Then name first second before after (Ok value) → Did first second before after (Ok value)
+then_did value (stops fault is step) = cc
+then_did value (goes_on v between done next) = record { value = v; between = between; done = done; next = next }
+
+abbrev pub IsQuiet : Work → Work → Type 0
+IsQuiet a b = Goes a.folder.told b.folder.told Rests
+
+-- what is true where a refusal comes before a run is kept
+pub record IsRefused (refusal : Refusal) (a b : Work) : Type 0 where
+  pub least : 3 ≤ refusal_code refusal
+  pub most : refusal_code refusal ≤ 5
+  pub counts : RisesAt (place_of refusal) a b
+  pub fault : refusal_code refusal ≡ 4 → SomeRose a b
+  pub kept : (refusal_code refusal ≡ 4 → ⊥) → IsQuiet a b
+
+-- and where it may come after
+pub record IsFault (refusal : Refusal) (a b : Work) : Type 0 where
+  pub code : refusal_code refusal ≡ 4
+  pub counts : RisesAt (place_of refusal) a b
+  pub rose : SomeRose a b
+
+counts_after : (place : Option Place) (a m b : Work) → SameCounts a m → RisesAt place m b → RisesAt place a b
+counts_after None a m b same rises = record { folder = rises.folder ∙ same.folder; input = rises.input ∙ same.input; out = rises.out ∙ same.out }
+counts_after (Some in_folder) a m b same rises = (subst (λ (n : ℕ). Rose n b.folder.faults) same.folder rises.0, rises.1 ∙ same.input, rises.2 ∙ same.out)
+counts_after (Some in_input) a m b same rises = (subst (λ (n : ℕ). Rose n b.input.faults) same.input rises.0, rises.1 ∙ same.folder, rises.2 ∙ same.out)
+counts_after (Some in_out) a m b same rises = (subst (λ (n : ℕ). Rose n b.out.faults) same.out rises.0, rises.1 ∙ same.folder, rises.2 ∙ same.input)
+
+rose_after : (a m b : Work) → SameCounts a m → SomeRose m b → SomeRose a b
+rose_after a m b same (inl rose) = inl (subst (λ (n : ℕ). Rose n b.folder.faults) same.folder rose)
+rose_after a m b same (inr (inl rose)) = inr (inl (subst (λ (n : ℕ). Rose n b.input.faults) same.input rose))
+rose_after a m b same (inr (inr rose)) = inr (inr (subst (λ (n : ℕ). Rose n b.out.faults) same.out rose))
+
+pub counts_then : (a m b : Work) → SameCounts a m → SameCounts m b → SameCounts a b
+counts_then a m b first second = counts_after None a m b first second
+
+pub is_fault : (refusal : Refusal) (a b : Work) → IsFault refusal a b → IsRefused refusal a b
+is_fault refusal a b fault = record {
+  least = omega (arith, fault.code);
+  most = omega (arith, fault.code);
+  counts = fault.counts;
+  fault = λ four. fault.rose;
+  kept = λ other. absurd (other fault.code);
+}
+
+module _ {W : Type 0} (see : W → Work) where
+  -- no count rises where it is done
+  abbrev pub Counts : {A E : Type 0} → Step W A E → Type 0
+  Counts {A = A} step = (a b : W) (v : A) → step a b (Ok v) → SameCounts (see a) (see b)
+
+  -- a step that leaves the folder
+  abbrev pub Quiet : {A E : Type 0} → Step W A E → Type 0
+  Quiet {A = A} {E = E} step = (a b : W) (result : Result A E) → step a b result → IsQuiet (see a) (see b)
+
+  abbrev pub Refuses : {A E : Type 0} → (E → Refusal) → Step W A E → Type 0
+  Refuses {E = E} name step = (a b : W) (e : E) → step a b (Err e) → IsRefused (name e) (see a) (see b)
+
+  -- it refuses by a fault alone
+  abbrev pub Faults : {A E : Type 0} → (E → Refusal) → Step W A E → Type 0
+  Faults {E = E} name step = (a b : W) (e : E) → step a b (Err e) → IsFault (name e) (see a) (see b)
+
+  module _ {A B E : Type 0} {name : E → Refusal} {first : Step W A E} {second : A → Step W B Refusal} where
+    pub then_quiet : Quiet first → ((v : A) → Quiet (second v)) → Quiet (Then name first second)
+    then_quiet quiet rest a b result (stops e is step) = quiet a b (Err e) step
+    then_quiet quiet rest a b result (goes_on v m done next) =
+        rests_then (see a).folder.told (see m).folder.told (see b).folder.told (quiet a m (Ok v) done) (rest v m b result next)
+
+    pub then_counts : Counts first → ((v : A) → Counts (second v)) → Counts (Then name first second)
+    then_counts counts rest a b value (stops e is step) = cc
+    then_counts counts rest a b value (goes_on v m done next) = counts_then (see a) (see m) (see b) (counts a m v done) (rest v m b value next)
+
+    pub then_refuses : Counts first → Quiet first → Refuses name first → ((v : A) → Refuses (λ r. r) (second v)) → Refuses (λ r. r) (Then name first second)
+    then_refuses counts quiet refuses rest a b r (stops e is step) =
+        let same : name e ≡ r = cc in
+        subst (λ (x : Refusal). IsRefused x (see a) (see b)) same (refuses a b e step)
+    then_refuses counts quiet refuses rest a b r (goes_on v m done next) =
+        let late = rest v m b r next in
+        record {
+          least = late.least;
+          most = late.most;
+          counts = counts_after (place_of r) (see a) (see m) (see b) (counts a m v done) late.counts;
+          fault = λ four. rose_after (see a) (see m) (see b) (counts a m v done) (late.fault four);
+          kept = λ other. rests_then (see a).folder.told (see m).folder.told (see b).folder.told (quiet a m (Ok v) done) (late.kept other);
+        }
+
+    -- behind this step a fault alone may come
+    pub then_late : Counts first → Refuses name first → ((v : A) → Faults (λ r. r) (second v)) → Refuses (λ r. r) (Then name first second)
+    then_late counts refuses rest a b r (stops e is step) =
+        let same : name e ≡ r = cc in
+        subst (λ (x : Refusal). IsRefused x (see a) (see b)) same (refuses a b e step)
+    then_late counts refuses rest a b r (goes_on v m done next) =
+        let late = rest v m b r next in
+        is_fault r (see a) (see b) (record {
+          code = late.code;
+          counts = counts_after (place_of r) (see a) (see m) (see b) (counts a m v done) late.counts;
+          rose = rose_after (see a) (see m) (see b) (counts a m v done) late.rose;
+        })
+
+    pub then_last : Faults name first → ((v : A) (a b : W) (r : Refusal) → second v a b (Err r) → ⊥) → Faults (λ r. r) (Then name first second)
+    then_last faults rest a b r (stops e is step) =
+        let same : name e ≡ r = cc in
+        subst (λ (x : Refusal). IsFault x (see a) (see b)) same (faults a b e step)
+    then_last faults rest a b r (goes_on v m done next) = absurd (rest v m b r next)
+
+pub gives_not : {W A R : Type 0} {value : A} (a b : W) (r : R) → Gives value a b (Err r) → ⊥
+gives_not a b r gives =
+    let is = gives.answer in
+    cc

@@ -1,0 +1,146 @@
+-- What a command has done, from its chain.
+use Rattle.std.proofs.Common.{◌≡◌, inl, ℕ, Bool, true, false, Option, None, Some, IfSome, Result, Ok, List, [], length, refl, sym, ap, subst, ◌∙◌, if◌then◌else◌}
+use Rattle.std.specs.Io.KnownBytes.{Appends, IsAtEnd}
+use Rattle.std.specs.List.{list_any}
+use Rattle.edge_io.specs.Disk.{Files, Disk, Folder, IsImage, at_rest, put}
+use Rattle.edge_io.specs.Seen.{Seen}
+use Rattle.edge_io.specs.Steps.{Goes, Stays}
+use Rattle.edge_io.proofs.Going.{goes_then, goes_weaker}
+use Rattle.packet_codec.specs.declared.event.Event.{Event}
+use Rattle.outcome_fold.specs.declared.row.Row.{Row}
+use Rattle.outcome_fold.specs.Rows.{rows_of}
+use Rattle.outcome_fold.specs.Answers.{row_fails, status_of}
+use Rattle.run_shelf.specs.Repository.{Run, run_of, run_name, Shows}
+use Rattle.run_shelf.specs.Holds.{kinds_of}
+use Rattle.run_shelf.specs.Images.{KeepsRun, HasRunBeside, MakesRepository}
+use Rattle.run_shelf.proofs.Joining.{stays_some}
+use Rattle.sub_text.specs.Texts.{report_of}
+use Rattle.testr_cli.specs.Outside.{Work, Shown}
+use Rattle.testr_cli.specs.Runs.{run_bytes, KeepsFiles}
+use Rattle.testr_cli.specs.Verdicts.{verdict_of, verdict_code}
+use Rattle.testr_cli.specs.Says.{SaysOfFolder}
+use Rattle.testr_cli.specs.Reading.{RecordsInput}
+use Rattle.testr_cli.specs.Reporting.{IsReport}
+use Rattle.testr_cli.specs.Init.{Inits}
+use Rattle.testr_cli.specs.Load.{Loads}
+use Rattle.testr_cli.specs.Ask.{Asks}
+use Rattle.testr_cli.specs.Program.{LoadsAll, AddsRun, AnswersQuestion}
+use Rattle.testr_cli.specs.declared.command.Question.{Question}
+use Rattle.testr_cli.specs.declared.answer.Verdict.{Verdict}
+use Rattle.testr_cli.specs.declared.answer.Verdict.TheVariants.{Passed, Failed}
+use Rattle.testr_cli.specs.declared.answer.Refusal.{Refusal}
+use Rattle.testr_cli.proofs.ReadLemmas.{told_all}
+use Rattle.testr_cli.proofs.RowsLemmas.{have_packets}
+use Rattle.testr_cli.proofs.Resting.{Rests}
+use Rattle.testr_cli.proofs.ChainLemmas.{then_did}
+use Rattle.testr_cli.proofs.StepLaws.{open_quiet}
+use Rattle.testr_cli.proofs.CommandLaws.{of_shown, ask_quiet}
+
+moved : {x y z w : Option Folder} (R : Folder → Folder → Type 0) → x ≡ y → z ≡ w → Goes x z R → Goes y w R
+moved {y = y} {z = z} R p q goes = subst (λ k. Goes y k R) q (subst (λ k. Goes k z R) p goes)
+
+appended : {x y z w : Option (List ℕ)} {text other : List ℕ} → x ≡ y → z ≡ w → text ≡ other → Appends x z text → Appends y w other
+appended {y = y} {z = z} {w = w} {text = text} p q r appends = subst (λ k. Appends y w k) r (subst (λ k. Appends y k text) q (subst (λ k. Appends k z text) p appends))
+
+same_verdict : {v w : Verdict} → ◌≡◌ {A = Result Verdict Refusal} (Ok v) (Ok w) → v ≡ w
+same_verdict is = cc
+
+-- ---- `init`
+
+pub init_made : (a b : Seen Folder) (v : Verdict) → Inits a b (Ok v) → Goes a.told b.told MakesRepository
+init_made a b v inits =
+    let made = then_did v inits in
+    subst (λ (f : Seen Folder). Goes a.told f.told MakesRepository) (sym made.next.same) made.done.made
+
+pub init_passed : (a b : Seen Folder) (v : Verdict) → Inits a b (Ok v) → verdict_code v ≡ 0
+init_passed a b v inits =
+    let made = then_did v inits in
+    ap verdict_code (same_verdict made.next.answer)
+
+-- ---- `load`
+
+status_is : (rows : List Row) → verdict_code (verdict_of rows) ≡ status_of rows
+status_is rows = by (list_any row_fails rows)
+  where
+    by : (b : Bool) → verdict_code (if b then Failed else Passed) ≡ (if b then 1 else 0)
+    by true = refl
+    by false = refl
+
+-- a run that is kept behind a quiet part is kept beside the files of before
+kept_through : (number : ℕ) (run : Run) (a b c : Option Folder) → Goes a b Rests → Goes b c (KeepsRun number run) → Goes a c (KeepsRun number run)
+kept_through number run a b c quiet kept = goes_then a b c Rests (KeepsRun number run) (KeepsRun number run) quiet kept (λ s m t rests keeps. record {
+  disk = subst (λ (files : Files). t.disk ≡ at_rest (put files (run_name number run.partial) run.bytes)) rests.files keeps.disk;
+  lasts = subst (λ (files : Files). (image : Files) → IsImage t.disk image → HasRunBeside files number run image) rests.files keeps.lasts;
+})
+
+kept_beside : (number : ℕ) (run : Run) (s t : Folder) → KeepsRun number run s t → HasRunBeside s.disk.published number run t.disk.published
+kept_beside number run s t kept =
+    let published : t.disk.published ≡ _ = ap (λ (d : Disk). d.published) kept.disk in
+    let stable : t.disk.stable ≡ _ = ap (λ (d : Disk). d.stable) kept.disk in
+    kept.lasts t.disk.published (inl (published ∙ sym stable))
+
+adds_run : (partial : Bool) (number : ℕ) (events : List Event) (s t : Folder) → KeepsRun number (run_of partial (run_bytes events)) s t → AddsRun partial events s t
+adds_run partial number events s t kept runs shows = ((kept_beside number (run_of partial (run_bytes events)) s t kept).shows runs shows, λ image left. (kept.lasts image left).shows runs shows)
+
+reports : (partial : Bool) (folder folder' : Option Folder) (printed new : Option (List ℕ)) (number : ℕ) (events : List Event) → Goes folder folder' (KeepsRun number (run_of partial (run_bytes events))) → Appends printed new (report_of (rows_of events) number [])
+    → IfSome folder (λ s. (runs : List Run) → Shows s.disk.published runs → Appends printed new (report_of (rows_of events) (length runs) []))
+reports partial None folder' printed new number events kept appends = tt
+reports partial (Some s) None printed new number events kept appends = absurd kept
+reports partial (Some s) (Some t) printed new number events kept appends = λ runs shows.
+    subst (λ n. Appends printed new (report_of (rows_of events) n [])) ((kept_beside number (run_of partial (run_bytes events)) s t kept).counts runs shows) appends
+
+pub load_did : (partial : Bool) (a b : Work) (v : Verdict) → Loads partial a b (Ok v) → IfSome a.input.told (LoadsAll partial a b (verdict_code v))
+load_did partial a b v loads =
+    let opened = then_did v loads in
+    let took = then_did v opened.next in
+    let read = then_did v took.next in
+    let told = then_did v read.next in
+    let kept = then_did v told.next in
+    let printed = then_did v kept.next in
+    let gives = printed.next in
+    let number = length (kinds_of opened.value) in
+    let input : took.between.input ≡ a.input = (λ i. (took.done.same i).input) ∙ (λ i. (opened.done.rest i).input) in
+    let input_left : b.input ≡ read.between.input = (λ i. (gives.same i).input) ∙ (λ i. (printed.done.rest i).input) ∙ (λ i. (kept.done.rest i).input) ∙ (λ i. (told.done.same i).input) in
+    let folder : told.between.folder.told ≡ opened.between.folder.told = (λ i. (told.done.same i).folder.told) ∙ (λ i. (read.done.rest i).folder.told) ∙ (λ i. (took.done.same i).folder.told) in
+    let folder_left : b.folder.told ≡ kept.between.folder.told = (λ i. (gives.same i).folder.told) ∙ (λ i. (printed.done.rest i).folder.told) in
+    let out : kept.between.out.told ≡ a.out.told = (λ i. (kept.done.rest i).out.told) ∙ (λ i. (told.done.same i).out.told) ∙ (λ i. (read.done.rest i).out.told) ∙ (λ i. (took.done.same i).out.told) ∙ (λ i. (opened.done.rest i).out.told) in
+    let records : RecordsInput a.input.told read.between.input.told read.value.items = subst (λ (s : Seen (List ℕ)). RecordsInput s.told read.between.input.told read.value.items) input read.done.at.recorded.recorded in
+    let (bytes, reads, recorded) = records in
+    let packets = have_packets bytes recorded.events reads.are_bytes recorded.has in
+    let report : IsReport number (rows_of recorded.events) told.value = told.done.says.told recorded.events packets.are_events packets.fit recorded.packets in
+    let keeps : Goes opened.between.folder.told b.folder.told (KeepsRun number (run_of partial (run_bytes recorded.events))) =
+    subst (λ (l : List ℕ). Goes opened.between.folder.told b.folder.told (KeepsRun number (run_of partial l))) recorded.packets (moved (KeepsRun number (run_of partial read.value.items)) folder (sym folder_left) kept.done.at.kept) in
+    let stored = kept_through number (run_of partial (run_bytes recorded.events)) a.folder.told opened.between.folder.told b.folder.told (open_quiet a opened.between (Ok opened.value) opened.done.at) keeps in
+    let prints : Appends a.out.told b.out.told (report_of (rows_of recorded.events) number []) = appended {z = printed.between.out.told} out (λ i. (sym gives.same i).out.told) report.text printed.done.at.whole in
+    told_all (LoadsAll partial a b (verdict_code v)) a.input.told read.between.input.told bytes reads.read reads.at_end (record {
+      events = recorded.events;
+      are_bytes = reads.are_bytes;
+      recorded = recorded.has;
+      at_end = subst (λ (s : Seen (List ℕ)). IsAtEnd s.told) (sym input_left) reads.at_end;
+      stored = goes_weaker a.folder.told b.folder.told (KeepsRun number (run_of partial (run_bytes recorded.events))) (AddsRun partial recorded.events) stored (adds_run partial number recorded.events);
+      printed = reports partial a.folder.told b.folder.told a.out.told b.out.told number recorded.events stored prints;
+      status = ap verdict_code (same_verdict gives.answer ∙ report.verdict) ∙ status_is (rows_of recorded.events);
+    })
+
+-- ---- questions
+
+pub ask_did : (question : Question) (input : Seen (List ℕ)) (a b : Shown) (v : Verdict) → Asks question a b (Ok v) → AnswersQuestion question (of_shown input a) (of_shown input b) (verdict_code v)
+ask_did question input a b v asks =
+    let opened = then_did v asks in
+    let had = then_did v opened.next in
+    let told = then_did v had.next in
+    let printed = then_did v told.next in
+    let gives = printed.next in
+    let folder_left : b.folder.told ≡ told.between.folder.told = (λ i. (gives.same i).folder.told) ∙ (λ i. (printed.done.rest i).folder.told) in
+    let out : told.between.out.told ≡ a.out.told = (λ i. (told.done.rest i).out.told) ∙ (λ i. (had.done.same i).out.told) ∙ (λ i. (opened.done.rest i).out.told) in
+    let text = told.value.text.items in
+    let says : IfSome told.between.folder.told (SaysOfFolder question text told.value.verdict) = stays_some had.between.folder.told told.between.folder.told (SaysOfFolder question text told.value.verdict) told.done.at.answers told.done.at.same in
+    record {
+      text = text;
+      verdict = told.value.verdict;
+      says = subst (λ (o : Option Folder). IfSome o (SaysOfFolder question text told.value.verdict)) (sym folder_left) says;
+      kept = goes_weaker a.folder.told b.folder.told Rests KeepsFiles (ask_quiet input question a b (Ok v) asks) (λ s t rests. rests.files);
+      input = refl;
+      printed = appended {z = printed.between.out.told} out (λ i. (sym gives.same i).out.told) refl printed.done.at.whole;
+      status = ap verdict_code (same_verdict gives.answer);
+    }

@@ -1,0 +1,92 @@
+-- What a stop at each moment of a load leaves, and of the making of a repository, at each of its exits.
+use Rattle.std.proofs.Common.{◌≡◌, ◌⊎◌, inl, inr, ℕ, Bool, Option, Result, Ok, Err, List, length, refl, sym, subst, ◌∙◌}
+use Rattle.edge_io.specs.Disk.{Files, Folder, IsImage}
+use Rattle.edge_io.specs.Seen.{Seen}
+use Rattle.edge_io.specs.Steps.{Goes}
+use Rattle.edge_io.proofs.Going.{goes_then, goes_weaker}
+use Rattle.edge_io.proofs.Passing.{passes_then, passes_weaker}
+use Rattle.run_shelf.specs.Repository.{run_of}
+use Rattle.run_shelf.specs.Holds.{kinds_of}
+use Rattle.run_shelf.specs.Images.{HasRunBeside, PassesRun, PassesFormat}
+use Rattle.testr_cli.specs.Steps.{Step, Then, stops, goes_on, Still, Gives, At}
+use Rattle.testr_cli.specs.Outside.{Work, work_folder, work_out}
+use Rattle.testr_cli.specs.Store.{Keeps}
+use Rattle.testr_cli.specs.Reading.{RecordsInput}
+use Rattle.testr_cli.specs.Reporting.{Reports, Prints}
+use Rattle.testr_cli.specs.Stops.{HasLoadedRun, PassesLoad}
+use Rattle.testr_cli.specs.Init.{Inits}
+use Rattle.testr_cli.specs.Load.{Loads}
+use Rattle.testr_cli.specs.declared.told.Told.{Told}
+use Rattle.testr_cli.specs.declared.answer.Verdict.{Verdict}
+use Rattle.testr_cli.specs.declared.answer.Refusal.{Refusal}
+use Rattle.testr_cli.specs.declared.answer.Refusal.TheVariants.{Memory, Keep, Print}
+use Rattle.testr_cli.proofs.ReadLemmas.{told_all}
+use Rattle.testr_cli.proofs.Resting.{Rests, rests_same, rests_then, rests_images}
+use Rattle.testr_cli.proofs.ChainLemmas.{IsQuiet}
+use Rattle.testr_cli.proofs.StepLaws.{still_quiet, open_quiet, read_quiet}
+
+abbrev LeftBy : Bool → Option (List ℕ) → Folder → Files → Type 0
+LeftBy partial left s image = IsImage s.disk image ⊎ HasLoadedRun partial left s.disk.published image
+
+quiet_moves : (partial : Bool) (left : Option (List ℕ)) (a b : Option Folder) → Goes a b Rests → Goes a b (PassesLoad partial left)
+quiet_moves partial left a b quiet = goes_weaker a b Rests (PassesLoad partial left) quiet (λ s t rests. passes_weaker (IsImage s.disk) (LeftBy partial left s) (λ image left. inl left) s t rests.old)
+
+module _ (partial : Bool) (number : ℕ) (run : List ℕ) where
+  abbrev Runs : Folder → Folder → Type 0
+  Runs = PassesRun number (run_of partial run)
+
+  folder_as : (a m k b : Option Folder) → m ≡ a → b ≡ k → Goes m k Runs → Goes a b Runs
+  folder_as a m k b first last goes = subst (λ (o : Option Folder). Goes a o Runs) (sym last) (subst (λ (o : Option Folder). Goes o k Runs) first goes)
+
+  rests_run : (a b : Option Folder) → Goes a b Rests → Goes a b Runs
+  rests_run a b quiet = goes_weaker a b Rests Runs quiet (λ s t rests. passes_weaker (IsImage s.disk) (λ image. IsImage s.disk image ⊎ HasRunBeside s.disk.published number (run_of partial run) image) (λ image left. inl left) s t rests.old)
+
+  printed_or_not : (text : List ℕ) (verdict : Verdict) (a b : Work) (result : Result Verdict Refusal) → Then Print (At work_out (Prints text)) (λ _. Gives verdict) a b result → b.folder ≡ a.folder
+  printed_or_not text verdict a b result (stops fault is step) = λ i. (step.rest i).folder
+  printed_or_not text verdict a b result (goes_on _ m step gives) = (λ i. (gives.same i).folder) ∙ (λ i. (step.rest i).folder)
+
+  kept_or_not : (text : List ℕ) (verdict : Verdict) (a b : Work) (result : Result Verdict Refusal) → Then Keep (At work_folder (Keeps partial number run)) (λ _. Then Print (At work_out (Prints text)) (λ _. Gives verdict)) a b result → Goes a.folder.told b.folder.told Runs
+  kept_or_not text verdict a b result (stops fault is step) = step.at.any_moment
+  kept_or_not text verdict a b result (goes_on _ m step next) = folder_as a.folder.told a.folder.told m.folder.told b.folder.told refl (λ i. (printed_or_not text verdict m b result next i).told) step.at.any_moment
+
+  reported_or_not : (a b : Work) (result : Result Verdict Refusal) → Then Memory (Still (Reports number run)) (λ (report : Told). Then Keep (At work_folder (Keeps partial number run)) (λ _. Then Print (At work_out (Prints report.text.items)) (λ _. Gives report.verdict))) a b result → Goes a.folder.told b.folder.told Runs
+  reported_or_not a b result (stops fault is step) = rests_run a.folder.told b.folder.told (still_quiet a b step.same)
+  reported_or_not a b result (goes_on report m step next) = folder_as a.folder.told m.folder.told b.folder.told b.folder.told (λ i. (step.same i).folder.told) refl (kept_or_not report.text.items report.verdict m b result next)
+
+  module _ (left after : Option (List ℕ)) (records : RecordsInput left after run) where
+    loaded_run : (files image : Files) → HasRunBeside files number (run_of partial run) image → HasLoadedRun partial left files image
+    loaded_run files image beside =
+        let (bytes, reads, recorded) = records in
+        record {
+          number = number;
+          bytes = bytes;
+          are_bytes = reads.are_bytes;
+          told = told_all (λ told. told ≡ bytes) left after bytes reads.read reads.at_end refl;
+          events = recorded.events;
+          recorded = recorded.has;
+          beside = subst (λ (l : List ℕ). HasRunBeside files number (run_of partial l) image) recorded.packets beside;
+        }
+
+    left_by : (s m : Folder) → Rests s m → (image : Files) → IsImage m.disk image ⊎ HasRunBeside m.disk.published number (run_of partial run) image → LeftBy partial left s image
+    left_by s m rests image (inl before) = inl (rests_images s m rests image before)
+    left_by s m rests image (inr beside) = inr (loaded_run s.disk.published image (subst (λ (files : Files). HasRunBeside files number (run_of partial run) image) rests.files beside))
+
+    run_moves : (a m b : Option Folder) → Goes a m Rests → Goes m b Runs → Goes a b (PassesLoad partial left)
+    run_moves a m b quiet runs = goes_then a m b Rests Runs (PassesLoad partial left) quiet runs (λ s m t rests passes.
+        passes_then (LeftBy partial left s) s m t
+        (passes_weaker (IsImage s.disk) (LeftBy partial left s) (λ image left. inl left) s m rests.old)
+        (passes_weaker (λ image. IsImage m.disk image ⊎ HasRunBeside m.disk.published number (run_of partial run) image) (LeftBy partial left s) (left_by s m rests) m t passes))
+
+pub load_moves : (partial : Bool) (a b : Work) (result : Result Verdict Refusal) → Loads partial a b result → Goes a.folder.told b.folder.told (PassesLoad partial a.input.told)
+load_moves partial a b result (stops fault is step) = quiet_moves partial a.input.told a.folder.told b.folder.told (open_quiet a b (Err fault) step.at)
+load_moves partial a b result (goes_on found m opened (stops fault is step)) = quiet_moves partial a.input.told a.folder.told b.folder.told (rests_then a.folder.told m.folder.told b.folder.told (open_quiet a m (Ok found) opened.at) (still_quiet m b step.same))
+load_moves partial a b result (goes_on found m opened (goes_on _ m2 took (stops refused is step))) = quiet_moves partial a.input.told a.folder.told b.folder.told (rests_then a.folder.told m.folder.told b.folder.told (open_quiet a m (Ok found) opened.at) (rests_then m.folder.told m2.folder.told b.folder.told (still_quiet m m2 took.same) (read_quiet m2 b step.rest)))
+load_moves partial a b result (goes_on found m opened (goes_on _ m2 took (goes_on run m3 read next))) =
+    let quiet : IsQuiet a m3 = rests_then a.folder.told m.folder.told m3.folder.told (open_quiet a m (Ok found) opened.at) (rests_then m.folder.told m2.folder.told m3.folder.told (still_quiet m m2 took.same) (read_quiet m2 m3 read.rest)) in
+    let input : m2.input ≡ a.input = (λ i. (took.same i).input) ∙ (λ i. (opened.rest i).input) in
+    let records : RecordsInput a.input.told m3.input.told run.items = subst (λ (s : Seen (List ℕ)). RecordsInput s.told m3.input.told run.items) input read.at.recorded.recorded in
+    run_moves partial (length (kinds_of found)) run.items a.input.told m3.input.told records a.folder.told m3.folder.told b.folder.told quiet (reported_or_not partial (length (kinds_of found)) run.items m3 b result next)
+
+pub init_moves : (a b : Seen Folder) (result : Result Verdict Refusal) → Inits a b result → Goes a.told b.told PassesFormat
+init_moves a b result (stops fault is step) = step.any_moment
+init_moves a b result (goes_on _ m step gives) = subst (λ (f : Seen Folder). Goes a.told f.told PassesFormat) (sym gives.same) step.any_moment

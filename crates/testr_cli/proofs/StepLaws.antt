@@ -1,0 +1,151 @@
+-- What each step keeps, and what is true where it refuses.
+use Rattle.std.proofs.Common.{◌≡◌, inl, inr, ℕ, ◌≤◌, Bool, Option, Some, Result, Ok, Err, List, Global, refl, sym, ap, subst, arith}
+use Rattle.std.specs.Prelude.{Vec}
+use Rattle.edge_io.specs.Causes.{Rose}
+use Rattle.sub_number.specs.declared.memory.NoMemory.{NoMemory}
+use Rattle.run_shelf.specs.declared.faults.InitFault.{InitFault}
+use Rattle.run_shelf.specs.declared.faults.InitFault.TheVariants as init_fault
+use Rattle.run_shelf.specs.declared.faults.OpenFault.{OpenFault}
+use Rattle.run_shelf.specs.declared.faults.OpenFault.TheVariants as open_fault
+use Rattle.run_shelf.specs.declared.found.Found.{Found}
+use Rattle.run_shelf.specs.Outcomes.{InitFails}
+use Rattle.run_shelf.specs.Images.{PassesFormat}
+use Rattle.testr_cli.specs.Outside.{Work, work_folder, work_input, work_out, Place, in_folder, SameCounts, RisesAt}
+use Rattle.testr_cli.specs.Answer.{refusal_code, place_of}
+use Rattle.testr_cli.specs.Steps.{Gives}
+use Rattle.testr_cli.specs.Store.{Makes, Opens, Keeps}
+use Rattle.testr_cli.specs.Reading.{Records}
+use Rattle.testr_cli.specs.Reporting.{Prints}
+use Rattle.testr_cli.specs.Told.{Finds}
+use Rattle.testr_cli.specs.declared.command.Question.{Question}
+use Rattle.testr_cli.specs.declared.store.RunsFault.{RunsFault}
+use Rattle.testr_cli.specs.declared.store.KeepFault.{KeepFault}
+use Rattle.testr_cli.specs.declared.reading.ReadFault.{ReadFault}
+use Rattle.testr_cli.specs.declared.reading.ReadFault.TheVariants as read_fault
+use Rattle.testr_cli.specs.declared.reporting.PrintFault.{PrintFault}
+use Rattle.testr_cli.specs.declared.told.Told.{Told}
+use Rattle.testr_cli.specs.declared.told.TellFault.{TellFault}
+use Rattle.testr_cli.specs.declared.told.TellFault.TheVariants as tell_fault
+use Rattle.testr_cli.specs.declared.answer.Verdict.{Verdict}
+use Rattle.testr_cli.specs.declared.answer.Refusal.{Refusal}
+use Rattle.testr_cli.specs.declared.answer.Refusal.TheVariants as refusal
+use Rattle.testr_cli.proofs.Resting.{Rests, rests_same, rests_of_stays, open_rests, goes_both, exists_rests}
+use Rattle.testr_cli.proofs.ChainLemmas.{IsQuiet, IsRefused, IsFault, is_fault}
+
+module _ (a b : Work) where
+  -- ---- where one part alone is touched
+
+  folder_same : b ≡ work_folder.put a b.folder → b.folder.faults ≡ a.folder.faults → SameCounts a b
+  folder_same rest count = record { folder = count; input = λ i. (rest i).input.faults; out = λ i. (rest i).out.faults }
+
+  folder_rises : b ≡ work_folder.put a b.folder → Rose a.folder.faults b.folder.faults → RisesAt (Some in_folder) a b
+  folder_rises rest rose = (rose, (λ i. (rest i).input.faults), (λ i. (rest i).out.faults))
+
+  input_same : b ≡ work_input.put a b.input → b.input.faults ≡ a.input.faults → SameCounts a b
+  input_same rest count = record { folder = λ i. (rest i).folder.faults; input = count; out = λ i. (rest i).out.faults }
+
+  out_same : b ≡ work_out.put a b.out → b.out.faults ≡ a.out.faults → SameCounts a b
+  out_same rest count = record { folder = λ i. (rest i).folder.faults; input = λ i. (rest i).input.faults; out = count }
+
+  by_folder : b.folder ≡ a.folder → IsQuiet a b
+  by_folder same = rests_same a.folder.told b.folder.told (λ i. (same i).told)
+
+  -- ---- steps that touch nothing
+
+  pub still_counts : b ≡ a → SameCounts a b
+  still_counts same = record { folder = λ i. (same i).folder.faults; input = λ i. (same i).input.faults; out = λ i. (same i).out.faults }
+
+  pub still_quiet : b ≡ a → IsQuiet a b
+  still_quiet same = by_folder (λ i. (same i).folder)
+
+  -- a refusal that is no fault
+  named : (r : Refusal) → 3 ≤ refusal_code r → refusal_code r ≤ 5 → (refusal_code r ≡ 4 → ⊥) → RisesAt (place_of r) a b → IsQuiet a b → IsRefused r a b
+  named r least most not_four counts quiet = record { least = least; most = most; counts = counts; fault = λ four. absurd (not_four four); kept = λ other. quiet }
+
+  pub runs_refuse : (fault : RunsFault) → b ≡ a → IsRefused (refusal.Runs fault) a b
+  runs_refuse fault same = named (refusal.Runs fault) (omega arith) (omega arith) (λ four. omega arith) (still_counts same) (still_quiet same)
+
+  pub memory_refuses : (fault : NoMemory) → b ≡ a → IsRefused (refusal.Memory fault) a b
+  memory_refuses fault same = named (refusal.Memory fault) (omega arith) (omega arith) (λ four. omega arith) (still_counts same) (still_quiet same)
+
+  -- ---- steps of the folder
+
+  folder_fault : (r : Refusal) → refusal_code r ≡ 4 → place_of r ≡ Some in_folder → b ≡ work_folder.put a b.folder → Rose a.folder.faults b.folder.faults → IsFault r a b
+  folder_fault r code place rest rose = record { code = code; counts = subst (λ (p : Option Place). RisesAt p a b) (sym place) (folder_rises rest rose); rose = inl rose }
+
+  pub make_counts : (done : Unit {0}) → Makes a.folder b.folder (Ok done) → b ≡ work_folder.put a b.folder → SameCounts a b
+  make_counts done makes rest = folder_same rest (makes.count.stands refl)
+
+  pub make_refuses : (fault : InitFault) → Makes a.folder b.folder (Err fault) → b ≡ work_folder.put a b.folder → IsRefused (refusal.Init fault) a b
+  make_refuses init_fault.Exists makes rest = named (refusal.Init init_fault.Exists) (omega arith) (omega arith) (λ four. omega arith) (folder_same rest (makes.count.stands refl)) (goes_both a.folder.told b.folder.told (InitFails init_fault.Exists) PassesFormat Rests makes.refused makes.any_moment exists_rests)
+  make_refuses (init_fault.Shelf call) makes rest = is_fault (refusal.Init (init_fault.Shelf call)) a b (folder_fault (refusal.Init (init_fault.Shelf call)) refl refl rest (makes.count.rose refl))
+
+  pub open_counts : (found : Found) → Opens a.folder b.folder (Ok found) → b ≡ work_folder.put a b.folder → SameCounts a b
+  open_counts found opens rest = folder_same rest (opens.count.stands refl)
+
+  pub open_quiet : (result : Result Found OpenFault) → Opens a.folder b.folder result → IsQuiet a b
+  open_quiet result opens = open_rests a.folder b.folder result opens
+
+  pub open_refuses : (fault : OpenFault) → Opens a.folder b.folder (Err fault) → b ≡ work_folder.put a b.folder → IsRefused (refusal.Open fault) a b
+  open_refuses open_fault.NoStore opens rest = named (refusal.Open open_fault.NoStore) (omega arith) (omega arith) (λ four. omega arith) (folder_same rest (opens.count.stands refl)) (open_quiet (Err open_fault.NoStore) opens)
+  open_refuses open_fault.UnknownFormat opens rest = named (refusal.Open open_fault.UnknownFormat) (omega arith) (omega arith) (λ four. omega arith) (folder_same rest (opens.count.stands refl)) (open_quiet (Err open_fault.UnknownFormat) opens)
+  open_refuses (open_fault.Gap number) opens rest = named (refusal.Open (open_fault.Gap number)) (omega arith) (omega arith) (λ four. omega arith) (folder_same rest (opens.count.stands refl)) (open_quiet (Err (open_fault.Gap number)) opens)
+  open_refuses (open_fault.Shelf call) opens rest = is_fault (refusal.Open (open_fault.Shelf call)) a b (folder_fault (refusal.Open (open_fault.Shelf call)) refl refl rest (opens.count.rose refl))
+  open_refuses open_fault.NoMemory opens rest = named (refusal.Open open_fault.NoMemory) (omega arith) (omega arith) (λ four. omega arith) (folder_same rest (opens.count.stands refl)) (open_quiet (Err open_fault.NoMemory) opens)
+
+  pub find_counts : (question : Question) (told : Told) → Finds question a.folder b.folder (Ok told) → b ≡ work_folder.put a b.folder → SameCounts a b
+  find_counts question told finds rest = folder_same rest (finds.count.stands refl)
+
+  pub find_quiet : (question : Question) (result : Result Told TellFault) → Finds question a.folder b.folder result → IsQuiet a b
+  find_quiet question result finds = rests_of_stays a.folder.told b.folder.told finds.same
+
+  pub find_refuses : (question : Question) (fault : TellFault) → Finds question a.folder b.folder (Err fault) → b ≡ work_folder.put a b.folder → IsRefused (refusal.Tell fault) a b
+  find_refuses question tell_fault.Shelf finds rest = is_fault (refusal.Tell tell_fault.Shelf) a b (folder_fault (refusal.Tell tell_fault.Shelf) refl refl rest (finds.count.rose refl))
+  find_refuses question tell_fault.NoMemory finds rest = named (refusal.Tell tell_fault.NoMemory) (omega arith) (omega arith) (λ four. omega arith) (folder_same rest (finds.count.stands refl)) (find_quiet question (Err tell_fault.NoMemory) finds)
+
+  pub keep_counts : (partial : Bool) (number : ℕ) (bytes : List ℕ) (done : Unit {0}) → Keeps partial number bytes a.folder b.folder (Ok done) → b ≡ work_folder.put a b.folder → SameCounts a b
+  keep_counts partial number bytes done keeps rest = folder_same rest keeps.count.done
+
+  pub keep_faults : (partial : Bool) (number : ℕ) (bytes : List ℕ) (fault : KeepFault) → Keeps partial number bytes a.folder b.folder (Err fault) → b ≡ work_folder.put a b.folder → IsFault (refusal.Keep fault) a b
+  keep_faults partial number bytes fault keeps rest = folder_fault (refusal.Keep fault) refl refl rest keeps.count.failed
+
+  -- ---- the step of the input
+
+  pub read_counts : (run : Vec ℕ Global) → Records a.input b.input (Ok run) → b ≡ work_input.put a b.input → SameCounts a b
+  read_counts run records rest = input_same rest records.recorded.count
+
+  pub read_quiet : b ≡ work_input.put a b.input → IsQuiet a b
+  read_quiet rest = by_folder (λ i. (rest i).folder)
+
+  pub read_refuses : (fault : ReadFault) → Records a.input b.input (Err fault) → b ≡ work_input.put a b.input → IsRefused (refusal.Read fault) a b
+  read_refuses read_fault.Fault records rest = is_fault (refusal.Read read_fault.Fault) a b (record {
+    code = refl;
+    counts = (records.refused, (λ i. (rest i).folder.faults), (λ i. (rest i).out.faults));
+    rose = inr (inl records.refused);
+  })
+  read_refuses read_fault.TooLong records rest = named (refusal.Read read_fault.TooLong) (omega arith) (omega arith) (λ four. omega arith) (input_same rest records.refused.1) (read_quiet rest)
+  read_refuses read_fault.NoMemory records rest = named (refusal.Read read_fault.NoMemory) (omega arith) (omega arith) (λ four. omega arith) (input_same rest records.refused) (read_quiet rest)
+
+  -- ---- the step of the output
+
+  pub print_counts : (text : List ℕ) (done : Unit {0}) → Prints text a.out b.out (Ok done) → b ≡ work_out.put a b.out → SameCounts a b
+  print_counts text done prints rest = out_same rest prints.count.done
+
+  pub print_quiet : b ≡ work_out.put a b.out → IsQuiet a b
+  print_quiet rest = by_folder (λ i. (rest i).folder)
+
+  pub print_faults : (text : List ℕ) (fault : PrintFault) → Prints text a.out b.out (Err fault) → b ≡ work_out.put a b.out → IsFault (refusal.Print fault) a b
+  print_faults text fault prints rest = record {
+    code = refl;
+    counts = (prints.count.failed, (λ i. (rest i).folder.faults), (λ i. (rest i).input.faults));
+    rose = inr (inr prints.count.failed);
+  }
+
+-- ---- chains that end
+
+module _ {W : Type 0} (see : W → Work) {verdict : Verdict} where
+  pub gives_quiet : (a b : W) (result : Result Verdict Refusal) → Gives verdict a b result → IsQuiet (see a) (see b)
+  gives_quiet a b result gives = still_quiet (see a) (see b) (ap see gives.same)
+
+  pub gives_counts : (a b : W) (v : Verdict) → Gives {R = Refusal} verdict a b (Ok v) → SameCounts (see a) (see b)
+  gives_counts a b v gives = still_counts (see a) (see b) (ap see gives.same)

@@ -1,0 +1,155 @@
+//! The steps of the folder, and why each refuses.
+
+ghost use Rattle.std.specs.Prelude.{◌≡◌, ◌<◌, length};
+ghost use Rattle.run_shelf.specs.Holds.{kinds_of, HasRoom, FitsWhereTold};
+ghost use Rattle.run_shelf.specs.Repository.{most_runs};
+ghost use Rattle.testr_cli.specs.Store.{Makes, init_code, init_text, Opens, open_code, open_text, TakesRun, HasRunFor, runs_text, Keeps, keep_text};
+ghost use Rattle.testr_cli.specs.Telling.{line_text};
+
+use crate::command::Question;
+use crate::telling::Line;
+use edge_io::Shelf;
+use run_shelf::{
+    Found, InitFault, MOST_RUNS, OpenFault, ShelfCall, keep_run, make_repository, survey,
+};
+use std::alloc::Global;
+
+/// Makes a repository. It takes no memory.
+pub fn make<H: Shelf>(shelf: &mut H) -> Result<(), InitFault>
+    ensures { Makes (H.seen shelf.old) (H.seen shelf.new) result }
+{
+    make_repository(shelf)
+}
+
+/// The status of a repository that was not made.
+pub fn init_status(fault: InitFault) -> u8
+    ensures { result ≡ init_code fault }
+{
+    match fault {
+        InitFault::Exists => 3,
+        InitFault::Shelf(_) => 4,
+    }
+}
+
+/// The line that tells why it was not made.
+pub fn init_line(fault: InitFault) -> Line
+    ensures { line_text result ≡ init_text fault }
+{
+    match fault {
+        InitFault::Exists => Line::of("testr: a repository is already here\n"),
+        InitFault::Shelf(_) => Line::of("testr: fault of the repository folder\n"),
+    }
+}
+
+/// Looks which runs the repository has.
+pub fn open<H: Shelf>(alloc: Global, shelf: &mut H) -> Result<Found, OpenFault>
+    ensures { Opens (H.seen shelf.old) (H.seen shelf.new) result }
+{
+    survey(alloc, shelf)
+}
+
+/// The status of a folder that was not opened.
+pub fn open_status(fault: OpenFault) -> u8
+    ensures { result ≡ open_code fault }
+{
+    match fault {
+        OpenFault::NoStore | OpenFault::UnknownFormat | OpenFault::Gap(_) => 3,
+        OpenFault::Shelf(_) => 4,
+        OpenFault::NoMemory => 5,
+    }
+}
+
+/// The line that tells why it was not opened.
+pub fn open_line(fault: OpenFault) -> Line
+    ensures { line_text result ≡ open_text fault }
+{
+    match fault {
+        OpenFault::NoStore => Line::of("testr: no repository here\n"),
+        OpenFault::UnknownFormat => Line::of("testr: unknown repository format\n"),
+        OpenFault::Gap(number) => Line {
+            front: "testr: run ",
+            number: Some(number),
+            rest: " is missing\n",
+        },
+        OpenFault::Shelf(_) => Line::of("testr: fault of the repository folder\n"),
+        OpenFault::NoMemory => Line::of("testr: out of memory\n"),
+    }
+}
+
+/// Why the runs that are there do not serve a command.
+#[derive(Clone, Copy, Debug, PartialEq, Eq)]
+pub enum RunsFault {
+    /// Each of the 1,000,000 numbers has a run.
+    Full,
+    /// There is no run.
+    NoRuns,
+}
+
+impl RunsFault {
+    /// The line that tells of it.
+    pub fn line(self) -> Line
+        ensures { line_text result ≡ runs_text self }
+    {
+        match self {
+            RunsFault::Full => Line::of("testr: the repository is full\n"),
+            RunsFault::NoRuns => Line::of("testr: no runs\n"),
+        }
+    }
+}
+
+/// There must be a number for a run more.
+pub fn take_run(found: &Found) -> Result<(), RunsFault>
+    ensures { TakesRun (length (kinds_of found.now)) result }
+{
+    if found.runs() == MOST_RUNS {
+        Err(RunsFault::Full)
+    } else {
+        Ok(())
+    }
+}
+
+/// There must be a run, where the question is of the last one.
+pub fn have_run(question: Question, found: &Found) -> Result<(), RunsFault>
+    ensures { HasRunFor question (length (kinds_of found.now)) result }
+{
+    if found.runs() == 0 && question.is_of_last_run() {
+        Err(RunsFault::NoRuns)
+    } else {
+        Ok(())
+    }
+}
+
+/// This call of the folder failed while a run was kept.
+#[derive(Clone, Copy, Debug, PartialEq, Eq)]
+pub struct KeepFault {
+    /// The call.
+    pub call: ShelfCall,
+}
+
+impl KeepFault {
+    /// The line that tells of it.
+    pub fn line(self) -> Line
+        ensures { line_text result ≡ keep_text }
+    {
+        Line::of("testr: fault of the repository folder\n")
+    }
+}
+
+/// Keeps the bytes as the run behind all others.
+pub fn keep<H: Shelf>(
+    shelf: &mut H,
+    found: Found,
+    partial: bool,
+    bytes: &[u8],
+) -> Result<(), KeepFault>
+    requires few { length (kinds_of found) < most_runs }
+    requires room { HasRoom found }
+    requires fits { FitsWhereTold (kinds_of found) (H.seen shelf.old).told }
+    ensures { Keeps partial (length (kinds_of found)) bytes.now (H.seen shelf.old) (H.seen shelf.new) result }
+{
+    let mut found = found;
+    match keep_run(shelf, &mut found, partial, bytes) {
+        Ok(_) => Ok(()),
+        Err(call) => Err(KeepFault { call }),
+    }
+}
