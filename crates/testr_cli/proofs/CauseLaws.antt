@@ -15,13 +15,13 @@ use Rattle.testr_cli.specs.Outside.{Work, Shown, SameCounts, SomeRose}
 use Rattle.testr_cli.specs.Runs.{HasRuns}
 use Rattle.testr_cli.specs.Answer.{refusal_code}
 use Rattle.testr_cli.specs.Store.{Opens, open_code}
-use Rattle.testr_cli.specs.Reading.{most_bytes}
+use Rattle.testr_cli.specs.Recording.{most_bytes}
 use Rattle.testr_cli.specs.Init.{Inits}
 use Rattle.testr_cli.specs.Load.{Loads}
 use Rattle.testr_cli.specs.Ask.{Asks}
 use Rattle.testr_cli.specs.Program.{CanLoad, CanAsk}
 use Rattle.testr_cli.specs.declared.command.Question.{Question}
-use Rattle.testr_cli.specs.declared.reading.ReadFault.TheVariants as read_fault
+use Rattle.testr_cli.specs.declared.recording.RecordFault.TheVariants as record_fault
 use Rattle.testr_cli.specs.declared.told.TellFault.TheVariants as tell_fault
 use Rattle.testr_cli.specs.declared.answer.Verdict.{Verdict}
 use Rattle.testr_cli.specs.declared.answer.Refusal.{Refusal}
@@ -83,15 +83,17 @@ load_never partial a b r (stops fault is step) can three =
     let same : r ≡ refusal.Open fault = cc in
     open_never a.folder b.folder fault (takes_in_repository a.folder.told can.free) step.at (sym (ap refusal_code same) ∙ three)
 load_never partial a b r (goes_on found m opened (stops fault is step)) can three = not_full a.folder.told can.free (runs_are a.folder m.folder found most_runs opened.at step.says.full.1)
-load_never partial a b r (goes_on found m opened (goes_on _ m2 took (stops read_fault.TooLong is step))) can three =
-    let input : m2.input ≡ a.input = (λ i. (took.same i).input) ∙ (λ i. (opened.rest i).input) in
+load_never partial a b r (goes_on found m opened (goes_on _ m2 took (stops fault is step))) can three = other (refusal.Keep fault) r is (λ s. omega arith) three
+load_never partial a b r (goes_on found m opened (goes_on _ m2 took (goes_on _ m3 begun (stops record_fault.TooLong is step)))) can three =
+    let input : m3.input ≡ a.input = (λ i. (begun.rest i).input) ∙ (λ i. (took.same i).input) ∙ (λ i. (opened.rest i).input) in
     not_long a.input.told can.short (subst (λ (s : Seen (List ℕ)). IfSome s.told (λ bytes. most_bytes < length bytes)) input step.at.refused.0)
-load_never partial a b r (goes_on found m opened (goes_on _ m2 took (stops read_fault.Fault is step))) can three = other (refusal.Read read_fault.Fault) r is (λ s. omega arith) three
-load_never partial a b r (goes_on found m opened (goes_on _ m2 took (stops read_fault.NoMemory is step))) can three = other (refusal.Read read_fault.NoMemory) r is (λ s. omega arith) three
-load_never partial a b r (goes_on found m opened (goes_on _ m2 took (goes_on run m3 read (stops fault is step)))) can three = other (refusal.Memory fault) r is (λ s. omega arith) three
-load_never partial a b r (goes_on found m opened (goes_on _ m2 took (goes_on run m3 read (goes_on report m4 told (stops fault is step))))) can three = other (refusal.Keep fault) r is (λ s. omega arith) three
-load_never partial a b r (goes_on found m opened (goes_on _ m2 took (goes_on run m3 read (goes_on report m4 told (goes_on _ m5 kept (stops fault is step)))))) can three = other (refusal.Print fault) r is (λ s. omega arith) three
-load_never partial a b r (goes_on found m opened (goes_on _ m2 took (goes_on run m3 read (goes_on report m4 told (goes_on _ m5 kept (goes_on _ m6 printed gives)))))) can three = gives_not m6 b r gives
+load_never partial a b r (goes_on found m opened (goes_on _ m2 took (goes_on _ m3 begun (stops (record_fault.Shelf call) is step)))) can three = other (refusal.Record (record_fault.Shelf call)) r is (λ s. omega arith) three
+load_never partial a b r (goes_on found m opened (goes_on _ m2 took (goes_on _ m3 begun (stops record_fault.Input is step)))) can three = other (refusal.Record record_fault.Input) r is (λ s. omega arith) three
+load_never partial a b r (goes_on found m opened (goes_on _ m2 took (goes_on _ m3 begun (stops record_fault.NoMemory is step)))) can three = other (refusal.Record record_fault.NoMemory) r is (λ s. omega arith) three
+load_never partial a b r (goes_on found m opened (goes_on _ m2 took (goes_on _ m3 begun (goes_on rows m4 recorded (stops fault is step))))) can three = other (refusal.Memory fault) r is (λ s. omega arith) three
+load_never partial a b r (goes_on found m opened (goes_on _ m2 took (goes_on _ m3 begun (goes_on rows m4 recorded (goes_on report m5 told (stops fault is step)))))) can three = other (refusal.Keep fault) r is (λ s. omega arith) three
+load_never partial a b r (goes_on found m opened (goes_on _ m2 took (goes_on _ m3 begun (goes_on rows m4 recorded (goes_on report m5 told (goes_on _ m6 kept (stops fault is step))))))) can three = other (refusal.Print fault) r is (λ s. omega arith) three
+load_never partial a b r (goes_on found m opened (goes_on _ m2 took (goes_on _ m3 begun (goes_on rows m4 recorded (goes_on report m5 told (goes_on _ m6 kept (goes_on _ m7 printed gives))))))) can three = gives_not m7 b r gives
 
 -- ---- questions
 

@@ -8,7 +8,7 @@ use Rattle.testr_cli.specs.Load.{Loads}
 use Rattle.testr_cli.specs.Ask.{Asks}
 use Rattle.testr_cli.specs.declared.command.Question.{Question}
 use Rattle.testr_cli.proofs.ChainLemmas.{Counts, Quiet, Refuses, is_fault, then_quiet, then_counts, then_refuses, then_late, then_last, gives_not}
-use Rattle.testr_cli.proofs.StepLaws.{still_counts, still_quiet, runs_refuse, memory_refuses, make_counts, make_refuses, open_counts, open_quiet, open_refuses, find_counts, find_quiet, find_refuses, keep_counts, keep_faults, read_counts, read_quiet, read_refuses, print_counts, print_quiet, print_faults, gives_quiet, gives_counts}
+use Rattle.testr_cli.proofs.StepLaws.{still_counts, still_quiet, runs_refuse, memory_refuses, make_counts, make_refuses, open_counts, open_quiet, open_refuses, find_counts, find_quiet, find_refuses, begin_counts, begin_quiet, begin_refuses, keep_counts, keep_faults, record_counts, record_quiet, record_refuses, print_counts, print_quiet, print_faults, gives_quiet, gives_counts}
 
 abbrev all : Work → Work
 all w = w
@@ -17,20 +17,22 @@ pub load_refuses : (partial : Bool) → Refuses all (λ r. r) (Loads partial)
 load_refuses partial =
     then_refuses all (λ a b v s. open_counts a b v s.at s.rest) (λ a b r s. open_quiet a b r s.at) (λ a b e s. open_refuses a b e s.at s.rest) (λ found.
     then_refuses all (λ a b v s. still_counts a b s.same) (λ a b r s. still_quiet a b s.same) (λ a b e s. runs_refuse a b e s.same) (λ _.
-    then_refuses all (λ a b v s. read_counts a b v s.at s.rest) (λ a b r s. read_quiet a b s.rest) (λ a b e s. read_refuses a b e s.at s.rest) (λ run.
+    then_refuses all (λ a b v s. begin_counts a b v s.at s.rest) (λ a b r s. begin_quiet a b r s.at) (λ a b e s. begin_refuses a b e s.at s.rest) (λ _.
+    then_refuses all (λ a b v s. record_counts a b v s.at s.rest) (λ a b r s. record_quiet a b r s.at) (λ a b e s. record_refuses a b e s.at s.rest) (λ rows.
     then_refuses all (λ a b v s. still_counts a b s.same) (λ a b r s. still_quiet a b s.same) (λ a b e s. memory_refuses a b e s.same) (λ report.
-    then_late all (λ a b v s. keep_counts a b _ _ _ v s.at s.rest) (λ a b e s. is_fault _ a b (keep_faults a b _ _ _ e s.at s.rest)) (λ _.
-    then_last all (λ a b e s. print_faults a b _ e s.at s.rest) (λ _. gives_not))))))
+    then_late all (λ a b v s. keep_counts a b _ _ v s.at s.rest) (λ a b e s. is_fault _ a b (keep_faults a b _ _ e s.at s.rest)) (λ _.
+    then_last all (λ a b e s. print_faults a b _ e s.at s.rest) (λ _. gives_not)))))))
 
 pub load_counts : (partial : Bool) → Counts all (Loads partial)
 load_counts partial =
     then_counts all (λ a b v s. open_counts a b v s.at s.rest) (λ found.
     then_counts all (λ a b v s. still_counts a b s.same) (λ _.
-    then_counts all (λ a b v s. read_counts a b v s.at s.rest) (λ run.
+    then_counts all (λ a b v s. begin_counts a b v s.at s.rest) (λ _.
+    then_counts all (λ a b v s. record_counts a b v s.at s.rest) (λ rows.
     then_counts all (λ a b v s. still_counts a b s.same) (λ report.
-    then_counts all (λ a b v s. keep_counts a b _ _ _ v s.at s.rest) (λ _.
+    then_counts all (λ a b v s. keep_counts a b _ _ v s.at s.rest) (λ _.
     then_counts all (λ a b v s. print_counts a b _ v s.at s.rest) (λ _.
-    gives_counts all))))))
+    gives_counts all)))))))
 
 module _ (input : Seen (List ℕ)) where
   abbrev pub of_shown : Shown → Work

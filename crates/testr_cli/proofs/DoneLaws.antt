@@ -4,7 +4,7 @@ use Rattle.std.specs.Io.KnownBytes.{Appends, IsAtEnd}
 use Rattle.std.specs.List.{list_any}
 use Rattle.edge_io.specs.Disk.{Files, Disk, Folder, IsImage, at_rest, put}
 use Rattle.edge_io.specs.Seen.{Seen}
-use Rattle.edge_io.specs.Steps.{Goes, Stays}
+use Rattle.edge_io.specs.Steps.{Goes, Opened, Grown}
 use Rattle.edge_io.proofs.Going.{goes_then, goes_weaker}
 use Rattle.packet_codec.specs.declared.event.Event.{Event}
 use Rattle.outcome_fold.specs.declared.row.Row.{Row}
@@ -13,13 +13,14 @@ use Rattle.outcome_fold.specs.Answers.{row_fails, status_of}
 use Rattle.run_shelf.specs.Repository.{Run, run_of, run_name, Shows}
 use Rattle.run_shelf.specs.Holds.{kinds_of}
 use Rattle.run_shelf.specs.Images.{KeepsRun, HasRunBeside, MakesRepository}
+use Rattle.run_shelf.proofs.DraftLemmas.{goes_writes, run_kept}
 use Rattle.run_shelf.proofs.Joining.{stays_some}
 use Rattle.sub_text.specs.Texts.{report_of}
 use Rattle.testr_cli.specs.Outside.{Work, Shown}
 use Rattle.testr_cli.specs.Runs.{run_bytes, KeepsFiles}
 use Rattle.testr_cli.specs.Verdicts.{verdict_of, verdict_code}
 use Rattle.testr_cli.specs.Says.{SaysOfFolder}
-use Rattle.testr_cli.specs.Reading.{RecordsInput}
+use Rattle.testr_cli.specs.Recording.{RecordsInput}
 use Rattle.testr_cli.specs.Reporting.{IsReport}
 use Rattle.testr_cli.specs.Init.{Inits}
 use Rattle.testr_cli.specs.Load.{Loads}
@@ -30,14 +31,11 @@ use Rattle.testr_cli.specs.declared.answer.Verdict.{Verdict}
 use Rattle.testr_cli.specs.declared.answer.Verdict.TheVariants.{Passed, Failed}
 use Rattle.testr_cli.specs.declared.answer.Refusal.{Refusal}
 use Rattle.testr_cli.proofs.ReadLemmas.{told_all}
-use Rattle.testr_cli.proofs.RowsLemmas.{have_packets}
+use Rattle.testr_cli.proofs.RowsLemmas.{have_packets, rows_of_written}
 use Rattle.testr_cli.proofs.Resting.{Rests}
 use Rattle.testr_cli.proofs.ChainLemmas.{then_did}
 use Rattle.testr_cli.proofs.StepLaws.{open_quiet}
 use Rattle.testr_cli.proofs.CommandLaws.{of_shown, ask_quiet}
-
-moved : {x y z w : Option Folder} (R : Folder → Folder → Type 0) → x ≡ y → z ≡ w → Goes x z R → Goes y w R
-moved {y = y} {z = z} R p q goes = subst (λ k. Goes y k R) q (subst (λ k. Goes k z R) p goes)
 
 appended : {x y z w : Option (List ℕ)} {text other : List ℕ} → x ≡ y → z ≡ w → text ≡ other → Appends x z text → Appends y w other
 appended {y = y} {z = z} {w = w} {text = text} p q r appends = subst (λ k. Appends y w k) r (subst (λ k. Appends y k text) q (subst (λ k. Appends k z text) p appends))
@@ -93,23 +91,30 @@ pub load_did : (partial : Bool) (a b : Work) (v : Verdict) → Loads partial a b
 load_did partial a b v loads =
     let opened = then_did v loads in
     let took = then_did v opened.next in
-    let read = then_did v took.next in
+    let begun = then_did v took.next in
+    let read = then_did v begun.next in
     let told = then_did v read.next in
     let kept = then_did v told.next in
     let printed = then_did v kept.next in
     let gives = printed.next in
     let number = length (kinds_of opened.value) in
-    let input : took.between.input ≡ a.input = (λ i. (took.done.same i).input) ∙ (λ i. (opened.done.rest i).input) in
+    let input : begun.between.input ≡ a.input = (λ i. (begun.done.rest i).input) ∙ (λ i. (took.done.same i).input) ∙ (λ i. (opened.done.rest i).input) in
     let input_left : b.input ≡ read.between.input = (λ i. (gives.same i).input) ∙ (λ i. (printed.done.rest i).input) ∙ (λ i. (kept.done.rest i).input) ∙ (λ i. (told.done.same i).input) in
-    let folder : told.between.folder.told ≡ opened.between.folder.told = (λ i. (told.done.same i).folder.told) ∙ (λ i. (read.done.rest i).folder.told) ∙ (λ i. (took.done.same i).folder.told) in
+    let begins : Goes opened.between.folder.told begun.between.folder.told Opened = subst (λ (o : Option Folder). Goes o begun.between.folder.told Opened) (λ i. (took.done.same i).folder.told) begun.done.at.begun in
+    let grows : Goes begun.between.folder.told told.between.folder.told (Grown read.done.at.recorded.run) = subst (λ (o : Option Folder). Goes begun.between.folder.told o (Grown read.done.at.recorded.run)) (λ i. (sym told.done.same i).folder.told) read.done.at.recorded.written in
+    let all = read.done.at.recorded in
     let folder_left : b.folder.told ≡ kept.between.folder.told = (λ i. (gives.same i).folder.told) ∙ (λ i. (printed.done.rest i).folder.told) in
-    let out : kept.between.out.told ≡ a.out.told = (λ i. (kept.done.rest i).out.told) ∙ (λ i. (told.done.same i).out.told) ∙ (λ i. (read.done.rest i).out.told) ∙ (λ i. (took.done.same i).out.told) ∙ (λ i. (opened.done.rest i).out.told) in
-    let records : RecordsInput a.input.told read.between.input.told read.value.items = subst (λ (s : Seen (List ℕ)). RecordsInput s.told read.between.input.told read.value.items) input read.done.at.recorded.recorded in
+    let out : kept.between.out.told ≡ a.out.told = (λ i. (kept.done.rest i).out.told) ∙ (λ i. (told.done.same i).out.told) ∙ (λ i. (read.done.rest i).out.told) ∙ (λ i. (begun.done.rest i).out.told) ∙ (λ i. (took.done.same i).out.told) ∙ (λ i. (opened.done.rest i).out.told) in
+    let records : RecordsInput a.input.told read.between.input.told all.run = subst (λ (s : Seen (List ℕ)). RecordsInput s.told read.between.input.told all.run) input all.recorded in
     let (bytes, reads, recorded) = records in
     let packets = have_packets bytes recorded.events reads.are_bytes recorded.has in
-    let report : IsReport number (rows_of recorded.events) told.value = told.done.says.told recorded.events packets.are_events packets.fit recorded.packets in
+    let rows : read.value ≡ rows_of recorded.events = rows_of_written all.run recorded.events read.value all.are_bytes packets.are_events packets.fit recorded.packets all.rows_are in
+    let report : IsReport number (rows_of recorded.events) told.value = subst (λ (list : List Row). IsReport number list told.value) rows told.done.says.told in
+    let run_is : all.run ≡ run_bytes recorded.events = recorded.packets in
     let keeps : Goes opened.between.folder.told b.folder.told (KeepsRun number (run_of partial (run_bytes recorded.events))) =
-    subst (λ (l : List ℕ). Goes opened.between.folder.told b.folder.told (KeepsRun number (run_of partial l))) recorded.packets (moved (KeepsRun number (run_of partial read.value.items)) folder (sym folder_left) kept.done.at.kept) in
+        subst (λ (l : List ℕ). Goes opened.between.folder.told b.folder.told (KeepsRun number (run_of partial l))) run_is
+        (subst (λ (o : Option Folder). Goes opened.between.folder.told o (KeepsRun number (run_of partial all.run))) (sym folder_left)
+        (run_kept number partial all.run opened.between.folder.told told.between.folder.told kept.between.folder.told (goes_writes opened.between.folder.told begun.between.folder.told told.between.folder.told all.run begins grows) kept.done.at.kept)) in
     let stored = kept_through number (run_of partial (run_bytes recorded.events)) a.folder.told opened.between.folder.told b.folder.told (open_quiet a opened.between (Ok opened.value) opened.done.at) keeps in
     let prints : Appends a.out.told b.out.told (report_of (rows_of recorded.events) number []) = appended {z = printed.between.out.told} out (λ i. (sym gives.same i).out.told) report.text printed.done.at.whole in
     told_all (LoadsAll partial a b (verdict_code v)) a.input.told read.between.input.told bytes reads.read reads.at_end (record {

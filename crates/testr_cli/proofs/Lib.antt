@@ -4,6 +4,7 @@ pub mod StepLemmas
 pub mod WordsLemmas
 pub mod ReadLemmas
 pub mod RowsLemmas
+pub mod RecordLemmas
 pub mod TellLemmas
 pub mod FolderLemmas
 pub mod Resting

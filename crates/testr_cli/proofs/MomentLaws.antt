@@ -5,13 +5,18 @@ use Rattle.edge_io.specs.Seen.{Seen}
 use Rattle.edge_io.specs.Steps.{Goes}
 use Rattle.edge_io.proofs.Going.{goes_then, goes_weaker}
 use Rattle.edge_io.proofs.Passing.{passes_then, passes_weaker}
+use Rattle.outcome_fold.specs.declared.row.Row.{Row}
+use Rattle.run_shelf.specs.declared.found.Found.{Found}
+use Rattle.run_shelf.specs.Drafts.{OfDraft, Writes}
+use Rattle.run_shelf.proofs.DraftLemmas.{goes_writes, run_passes}
 use Rattle.run_shelf.specs.Repository.{run_of}
 use Rattle.run_shelf.specs.Holds.{kinds_of}
 use Rattle.run_shelf.specs.Images.{HasRunBeside, PassesRun, PassesFormat}
 use Rattle.testr_cli.specs.Steps.{Step, Then, stops, goes_on, Still, Gives, At}
 use Rattle.testr_cli.specs.Outside.{Work, work_folder, work_out}
-use Rattle.testr_cli.specs.Store.{Keeps}
-use Rattle.testr_cli.specs.Reading.{RecordsInput}
+use Rattle.testr_cli.specs.Store.{Opens, TakesRun, Keeps}
+use Rattle.testr_cli.specs.declared.store.RunsFault.{RunsFault}
+use Rattle.testr_cli.specs.Recording.{RecordsInput}
 use Rattle.testr_cli.specs.Reporting.{Reports, Prints}
 use Rattle.testr_cli.specs.Stops.{HasLoadedRun, PassesLoad}
 use Rattle.testr_cli.specs.Init.{Inits}
@@ -23,7 +28,7 @@ use Rattle.testr_cli.specs.declared.answer.Refusal.TheVariants.{Memory, Keep, Pr
 use Rattle.testr_cli.proofs.ReadLemmas.{told_all}
 use Rattle.testr_cli.proofs.Resting.{Rests, rests_same, rests_then, rests_images}
 use Rattle.testr_cli.proofs.ChainLemmas.{IsQuiet}
-use Rattle.testr_cli.proofs.StepLaws.{still_quiet, open_quiet, read_quiet}
+use Rattle.testr_cli.proofs.StepLaws.{still_quiet, open_quiet, begin_quiet, record_quiet}
 
 abbrev LeftBy : Bool → Option (List ℕ) → Folder → Files → Type 0
 LeftBy partial left s image = IsImage s.disk image ⊎ HasLoadedRun partial left s.disk.published image
@@ -35,8 +40,8 @@ module _ (partial : Bool) (number : ℕ) (run : List ℕ) where
   abbrev Runs : Folder → Folder → Type 0
   Runs = PassesRun number (run_of partial run)
 
-  folder_as : (a m k b : Option Folder) → m ≡ a → b ≡ k → Goes m k Runs → Goes a b Runs
-  folder_as a m k b first last goes = subst (λ (o : Option Folder). Goes a o Runs) (sym last) (subst (λ (o : Option Folder). Goes o k Runs) first goes)
+  abbrev Drafted : Folder → Folder → Type 0
+  Drafted = OfDraft (λ bytes. PassesRun number (run_of partial bytes))
 
   rests_run : (a b : Option Folder) → Goes a b Rests → Goes a b Runs
   rests_run a b quiet = goes_weaker a b Rests Runs quiet (λ s t rests. passes_weaker (IsImage s.disk) (λ image. IsImage s.disk image ⊎ HasRunBeside s.disk.published number (run_of partial run) image) (λ image left. inl left) s t rests.old)
@@ -45,13 +50,17 @@ module _ (partial : Bool) (number : ℕ) (run : List ℕ) where
   printed_or_not text verdict a b result (stops fault is step) = λ i. (step.rest i).folder
   printed_or_not text verdict a b result (goes_on _ m step gives) = (λ i. (gives.same i).folder) ∙ (λ i. (step.rest i).folder)
 
-  kept_or_not : (text : List ℕ) (verdict : Verdict) (a b : Work) (result : Result Verdict Refusal) → Then Keep (At work_folder (Keeps partial number run)) (λ _. Then Print (At work_out (Prints text)) (λ _. Gives verdict)) a b result → Goes a.folder.told b.folder.told Runs
-  kept_or_not text verdict a b result (stops fault is step) = step.at.any_moment
-  kept_or_not text verdict a b result (goes_on _ m step next) = folder_as a.folder.told a.folder.told m.folder.told b.folder.told refl (λ i. (printed_or_not text verdict m b result next i).told) step.at.any_moment
+  -- behind a run that was begun at s and written up to a
+  module _ (s : Option Folder) (a b : Work) (written : Goes s a.folder.told (Writes run)) (quiet : Goes s a.folder.told Rests) where
+    kept_or_not : (text : List ℕ) (verdict : Verdict) (m : Work) (result : Result Verdict Refusal) → m.folder ≡ a.folder → Then Keep (At work_folder (Keeps partial number)) (λ _. Then Print (At work_out (Prints text)) (λ _. Gives verdict)) m b result → Goes s b.folder.told Runs
+    kept_or_not text verdict m result same (stops fault is step) = run_passes number partial run s a.folder.told b.folder.told written (subst (λ (f : Seen Folder). Goes f.told b.folder.told Drafted) same step.at.any_moment)
+    kept_or_not text verdict m result same (goes_on _ k step next) =
+        subst (λ (f : Seen Folder). Goes s f.told Runs) (sym (printed_or_not text verdict k b result next))
+        (run_passes number partial run s a.folder.told k.folder.told written (subst (λ (f : Seen Folder). Goes f.told k.folder.told Drafted) same step.at.any_moment))
 
-  reported_or_not : (a b : Work) (result : Result Verdict Refusal) → Then Memory (Still (Reports number run)) (λ (report : Told). Then Keep (At work_folder (Keeps partial number run)) (λ _. Then Print (At work_out (Prints report.text.items)) (λ _. Gives report.verdict))) a b result → Goes a.folder.told b.folder.told Runs
-  reported_or_not a b result (stops fault is step) = rests_run a.folder.told b.folder.told (still_quiet a b step.same)
-  reported_or_not a b result (goes_on report m step next) = folder_as a.folder.told m.folder.told b.folder.told b.folder.told (λ i. (step.same i).folder.told) refl (kept_or_not report.text.items report.verdict m b result next)
+    reported_or_not : (rows : List Row) (result : Result Verdict Refusal) → Then Memory (Still (Reports number rows)) (λ (report : Told). Then Keep (At work_folder (Keeps partial number)) (λ _. Then Print (At work_out (Prints report.text.items)) (λ _. Gives report.verdict))) a b result → Goes s b.folder.told Runs
+    reported_or_not rows result (stops fault is step) = rests_run s b.folder.told (subst (λ (w : Work). Goes s w.folder.told Rests) (sym step.same) quiet)
+    reported_or_not rows result (goes_on report m step next) = kept_or_not report.text.items report.verdict m result (λ i. (step.same i).folder) next
 
   module _ (left after : Option (List ℕ)) (records : RecordsInput left after run) where
     loaded_run : (files image : Files) → HasRunBeside files number (run_of partial run) image → HasLoadedRun partial left files image
@@ -77,15 +86,21 @@ module _ (partial : Bool) (number : ℕ) (run : List ℕ) where
         (passes_weaker (IsImage s.disk) (LeftBy partial left s) (λ image left. inl left) s m rests.old)
         (passes_weaker (λ image. IsImage m.disk image ⊎ HasRunBeside m.disk.published number (run_of partial run) image) (LeftBy partial left s) (left_by s m rests) m t passes))
 
+taken : (a m m2 : Work) (found : Found) → At work_folder Opens a m (Ok found) → Still {E = RunsFault} (TakesRun (length (kinds_of found))) m m2 (Ok tt) → IsQuiet a m2
+taken a m m2 found opened took = rests_then a.folder.told m.folder.told m2.folder.told (open_quiet a m (Ok found) opened.at) (still_quiet m m2 took.same)
+
 pub load_moves : (partial : Bool) (a b : Work) (result : Result Verdict Refusal) → Loads partial a b result → Goes a.folder.told b.folder.told (PassesLoad partial a.input.told)
 load_moves partial a b result (stops fault is step) = quiet_moves partial a.input.told a.folder.told b.folder.told (open_quiet a b (Err fault) step.at)
 load_moves partial a b result (goes_on found m opened (stops fault is step)) = quiet_moves partial a.input.told a.folder.told b.folder.told (rests_then a.folder.told m.folder.told b.folder.told (open_quiet a m (Ok found) opened.at) (still_quiet m b step.same))
-load_moves partial a b result (goes_on found m opened (goes_on _ m2 took (stops refused is step))) = quiet_moves partial a.input.told a.folder.told b.folder.told (rests_then a.folder.told m.folder.told b.folder.told (open_quiet a m (Ok found) opened.at) (rests_then m.folder.told m2.folder.told b.folder.told (still_quiet m m2 took.same) (read_quiet m2 b step.rest)))
-load_moves partial a b result (goes_on found m opened (goes_on _ m2 took (goes_on run m3 read next))) =
-    let quiet : IsQuiet a m3 = rests_then a.folder.told m.folder.told m3.folder.told (open_quiet a m (Ok found) opened.at) (rests_then m.folder.told m2.folder.told m3.folder.told (still_quiet m m2 took.same) (read_quiet m2 m3 read.rest)) in
-    let input : m2.input ≡ a.input = (λ i. (took.same i).input) ∙ (λ i. (opened.rest i).input) in
-    let records : RecordsInput a.input.told m3.input.told run.items = subst (λ (s : Seen (List ℕ)). RecordsInput s.told m3.input.told run.items) input read.at.recorded.recorded in
-    run_moves partial (length (kinds_of found)) run.items a.input.told m3.input.told records a.folder.told m3.folder.told b.folder.told quiet (reported_or_not partial (length (kinds_of found)) run.items m3 b result next)
+load_moves partial a b result (goes_on found m opened (goes_on _ m2 took (stops fault is step))) = quiet_moves partial a.input.told a.folder.told b.folder.told (rests_then a.folder.told m2.folder.told b.folder.told (taken a m m2 found opened took) (begin_quiet m2 b (Err fault) step.at))
+load_moves partial a b result (goes_on found m opened (goes_on _ m2 took (goes_on _ m3 begun (stops refused is step)))) = quiet_moves partial a.input.told a.folder.told b.folder.told (rests_then a.folder.told m2.folder.told b.folder.told (taken a m m2 found opened took) (rests_then m2.folder.told m3.folder.told b.folder.told (begin_quiet m2 m3 (Ok tt) begun.at) (record_quiet m3 b (Err refused) step.at)))
+load_moves partial a b result (goes_on found m opened (goes_on _ m2 took (goes_on _ m3 begun (goes_on rows m4 recorded next)))) =
+    let input : m3.input ≡ a.input = (λ i. (begun.rest i).input) ∙ (λ i. (took.same i).input) ∙ (λ i. (opened.rest i).input) in
+    let all = recorded.at.recorded in
+    let records : RecordsInput a.input.told m4.input.told all.run = subst (λ (s : Seen (List ℕ)). RecordsInput s.told m4.input.told all.run) input all.recorded in
+    let written : Goes m2.folder.told m4.folder.told (Writes all.run) = goes_writes m2.folder.told m3.folder.told m4.folder.told all.run begun.at.begun all.written in
+    let quiet : IsQuiet m2 m4 = rests_then m2.folder.told m3.folder.told m4.folder.told (begin_quiet m2 m3 (Ok tt) begun.at) (record_quiet m3 m4 (Ok rows) recorded.at) in
+    run_moves partial (length (kinds_of found)) all.run a.input.told m4.input.told records a.folder.told m2.folder.told b.folder.told (taken a m m2 found opened took) (reported_or_not partial (length (kinds_of found)) all.run m2.folder.told m4 b written quiet rows result next)
 
 pub init_moves : (a b : Seen Folder) (result : Result Verdict Refusal) → Inits a b result → Goes a.told b.told PassesFormat
 init_moves a b result (stops fault is step) = step.any_moment

@@ -1,5 +1,5 @@
 -- The rows of a run that is read back.
-use Rattle.std.proofs.Common.{◌≡◌, List, [], ℕ, arith, All, Result, Ok, Err, IfOk, sym, ap, subst, ◌∙◌}
+use Rattle.std.proofs.Common.{◌≡◌, List, [], ℕ, arith, All, sym, ap, subst, ◌∙◌}
 use Rattle.packet_codec.specs.declared.event.Event.{Event}
 use Rattle.packet_codec.specs.Grammar.{AreBytes}
 use Rattle.packet_codec.specs.Canonical.{IsEvent, Fits}
@@ -10,7 +10,7 @@ use Rattle.worker_lane.specs.Recorded.{HasRecorded}
 use Rattle.worker_lane.proofs.NoteLemmas.{notes_have_packets, HavePackets}
 use Rattle.outcome_fold.specs.declared.row.Row.{Row}
 use Rattle.outcome_fold.specs.Rows.{rows_of}
-use Rattle.run_ledger.specs.Reading.{AreRowsOf}
+use Rattle.run_ledger.specs.Recording.{AreRowsOf}
 use Rattle.testr_cli.specs.Runs.{run_bytes}
 
 -- bytes have one list of events
@@ -21,9 +21,9 @@ one_events bytes some others are (notes, has, some_are) (notes', has', others_ar
 written : (events : List Event) → All IsEvent events → All Fits events → HasEvents (run_bytes events) events
 written events are fit = (_, record { pieces = packets_of events; cut = cut_of_written events are fit; made = sym (notes_of_packets events) }, sym (events_of_packets events))
 
-pub rows_of_written : {E : Type 0} (run : List ℕ) (events : List Event) (r : Result (List Row) E) → AreBytes run → All IsEvent events → All Fits events → run ≡ run_bytes events → IfOk r (AreRowsOf run) → IfOk r (λ rows. rows ≡ rows_of events)
-rows_of_written run events (Err e) bytes are fit is rows = tt
-rows_of_written run events (Ok x) bytes are fit is rows =
+-- the rows of a run are those of the events whose packets it is
+pub rows_of_written : (run : List ℕ) (events : List Event) (list : List Row) → AreBytes run → All IsEvent events → All Fits events → run ≡ run_bytes events → AreRowsOf run list → list ≡ rows_of events
+rows_of_written run events list bytes are fit is rows =
     rows.folded ∙ ap rows_of (one_events run rows.events events bytes rows.told (subst (λ (l : List ℕ). HasEvents l events) (sym is) (written events are fit)))
 
 -- what is recorded has packets

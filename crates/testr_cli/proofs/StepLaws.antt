@@ -1,6 +1,6 @@
 -- What each step keeps, and what is true where it refuses.
-use Rattle.std.proofs.Common.{◌≡◌, inl, inr, ℕ, ◌≤◌, Bool, Option, Some, Result, Ok, Err, List, Global, refl, sym, ap, subst, arith}
-use Rattle.std.specs.Prelude.{Vec}
+use Rattle.std.proofs.Common.{◌≡◌, inl, inr, ℕ, ◌≤◌, Bool, Option, Some, Result, Ok, Err, List, refl, sym, ap, subst, arith}
+use Rattle.outcome_fold.specs.declared.row.Row.{Row}
 use Rattle.edge_io.specs.Causes.{Rose}
 use Rattle.sub_number.specs.declared.memory.NoMemory.{NoMemory}
 use Rattle.run_shelf.specs.declared.faults.InitFault.{InitFault}
@@ -10,18 +10,18 @@ use Rattle.run_shelf.specs.declared.faults.OpenFault.TheVariants as open_fault
 use Rattle.run_shelf.specs.declared.found.Found.{Found}
 use Rattle.run_shelf.specs.Outcomes.{InitFails}
 use Rattle.run_shelf.specs.Images.{PassesFormat}
-use Rattle.testr_cli.specs.Outside.{Work, work_folder, work_input, work_out, Place, in_folder, SameCounts, RisesAt}
+use Rattle.testr_cli.specs.Outside.{Work, fed, work_folder, work_fed, work_out, Place, in_folder, SameCounts, RisesAt}
 use Rattle.testr_cli.specs.Answer.{refusal_code, place_of}
 use Rattle.testr_cli.specs.Steps.{Gives}
-use Rattle.testr_cli.specs.Store.{Makes, Opens, Keeps}
-use Rattle.testr_cli.specs.Reading.{Records}
+use Rattle.testr_cli.specs.Store.{Makes, Opens, Begins, Keeps}
+use Rattle.testr_cli.specs.Recording.{Records, NoneFailed}
 use Rattle.testr_cli.specs.Reporting.{Prints}
 use Rattle.testr_cli.specs.Told.{Finds}
 use Rattle.testr_cli.specs.declared.command.Question.{Question}
 use Rattle.testr_cli.specs.declared.store.RunsFault.{RunsFault}
 use Rattle.testr_cli.specs.declared.store.KeepFault.{KeepFault}
-use Rattle.testr_cli.specs.declared.reading.ReadFault.{ReadFault}
-use Rattle.testr_cli.specs.declared.reading.ReadFault.TheVariants as read_fault
+use Rattle.testr_cli.specs.declared.recording.RecordFault.{RecordFault}
+use Rattle.testr_cli.specs.declared.recording.RecordFault.TheVariants as record_fault
 use Rattle.testr_cli.specs.declared.reporting.PrintFault.{PrintFault}
 use Rattle.testr_cli.specs.declared.told.Told.{Told}
 use Rattle.testr_cli.specs.declared.told.TellFault.{TellFault}
@@ -29,7 +29,7 @@ use Rattle.testr_cli.specs.declared.told.TellFault.TheVariants as tell_fault
 use Rattle.testr_cli.specs.declared.answer.Verdict.{Verdict}
 use Rattle.testr_cli.specs.declared.answer.Refusal.{Refusal}
 use Rattle.testr_cli.specs.declared.answer.Refusal.TheVariants as refusal
-use Rattle.testr_cli.proofs.Resting.{Rests, rests_same, rests_of_stays, open_rests, goes_both, exists_rests}
+use Rattle.testr_cli.proofs.Resting.{Rests, rests_same, rests_of_stays, rests_of_same, open_rests, begin_rests, goes_both, exists_rests}
 use Rattle.testr_cli.proofs.ChainLemmas.{IsQuiet, IsRefused, IsFault, is_fault}
 
 module _ (a b : Work) where
@@ -40,9 +40,6 @@ module _ (a b : Work) where
 
   folder_rises : b ≡ work_folder.put a b.folder → Rose a.folder.faults b.folder.faults → RisesAt (Some in_folder) a b
   folder_rises rest rose = (rose, (λ i. (rest i).input.faults), (λ i. (rest i).out.faults))
-
-  input_same : b ≡ work_input.put a b.input → b.input.faults ≡ a.input.faults → SameCounts a b
-  input_same rest count = record { folder = λ i. (rest i).folder.faults; input = count; out = λ i. (rest i).out.faults }
 
   out_same : b ≡ work_out.put a b.out → b.out.faults ≡ a.out.faults → SameCounts a b
   out_same rest count = record { folder = λ i. (rest i).folder.faults; input = λ i. (rest i).input.faults; out = count }
@@ -103,28 +100,45 @@ module _ (a b : Work) where
   find_refuses question tell_fault.Shelf finds rest = is_fault (refusal.Tell tell_fault.Shelf) a b (folder_fault (refusal.Tell tell_fault.Shelf) refl refl rest (finds.count.rose refl))
   find_refuses question tell_fault.NoMemory finds rest = named (refusal.Tell tell_fault.NoMemory) (omega arith) (omega arith) (λ four. omega arith) (folder_same rest (finds.count.stands refl)) (find_quiet question (Err tell_fault.NoMemory) finds)
 
-  pub keep_counts : (partial : Bool) (number : ℕ) (bytes : List ℕ) (done : Unit {0}) → Keeps partial number bytes a.folder b.folder (Ok done) → b ≡ work_folder.put a b.folder → SameCounts a b
-  keep_counts partial number bytes done keeps rest = folder_same rest keeps.count.done
+  pub begin_counts : (done : Unit {0}) → Begins a.folder b.folder (Ok done) → b ≡ work_folder.put a b.folder → SameCounts a b
+  begin_counts done begins rest = folder_same rest begins.count.done
 
-  pub keep_faults : (partial : Bool) (number : ℕ) (bytes : List ℕ) (fault : KeepFault) → Keeps partial number bytes a.folder b.folder (Err fault) → b ≡ work_folder.put a b.folder → IsFault (refusal.Keep fault) a b
-  keep_faults partial number bytes fault keeps rest = folder_fault (refusal.Keep fault) refl refl rest keeps.count.failed
+  pub begin_quiet : (result : Result (Unit {0}) KeepFault) → Begins a.folder b.folder result → IsQuiet a b
+  begin_quiet result begins = begin_rests a.folder b.folder result begins
 
-  -- ---- the step of the input
+  pub begin_refuses : (fault : KeepFault) → Begins a.folder b.folder (Err fault) → b ≡ work_folder.put a b.folder → IsRefused (refusal.Keep fault) a b
+  begin_refuses fault begins rest = is_fault (refusal.Keep fault) a b (folder_fault (refusal.Keep fault) refl refl rest begins.count.failed)
 
-  pub read_counts : (run : Vec ℕ Global) → Records a.input b.input (Ok run) → b ≡ work_input.put a b.input → SameCounts a b
-  read_counts run records rest = input_same rest records.recorded.count
+  pub keep_counts : (partial : Bool) (number : ℕ) (done : Unit {0}) → Keeps partial number a.folder b.folder (Ok done) → b ≡ work_folder.put a b.folder → SameCounts a b
+  keep_counts partial number done keeps rest = folder_same rest keeps.count.done
 
-  pub read_quiet : b ≡ work_input.put a b.input → IsQuiet a b
-  read_quiet rest = by_folder (λ i. (rest i).folder)
+  pub keep_faults : (partial : Bool) (number : ℕ) (fault : KeepFault) → Keeps partial number a.folder b.folder (Err fault) → b ≡ work_folder.put a b.folder → IsFault (refusal.Keep fault) a b
+  keep_faults partial number fault keeps rest = folder_fault (refusal.Keep fault) refl refl rest keeps.count.failed
 
-  pub read_refuses : (fault : ReadFault) → Records a.input b.input (Err fault) → b ≡ work_input.put a b.input → IsRefused (refusal.Read fault) a b
-  read_refuses read_fault.Fault records rest = is_fault (refusal.Read read_fault.Fault) a b (record {
+  -- ---- the step of the input and the draft
+
+  fed_same : b ≡ work_fed.put a (fed b.folder b.input) → NoneFailed (fed a.folder a.input) (fed b.folder b.input) → SameCounts a b
+  fed_same rest none = record { folder = none.folder; input = none.input; out = λ i. (rest i).out.faults }
+
+  pub record_counts : (rows : List Row) → Records (fed a.folder a.input) (fed b.folder b.input) (Ok rows) → b ≡ work_fed.put a (fed b.folder b.input) → SameCounts a b
+  record_counts rows records rest = fed_same rest records.recorded.counts
+
+  pub record_quiet : (result : Result (List Row) RecordFault) → Records (fed a.folder a.input) (fed b.folder b.input) result → IsQuiet a b
+  record_quiet result records = rests_of_same a.folder.told b.folder.told records.rests
+
+  pub record_refuses : (fault : RecordFault) → Records (fed a.folder a.input) (fed b.folder b.input) (Err fault) → b ≡ work_fed.put a (fed b.folder b.input) → IsRefused (refusal.Record fault) a b
+  record_refuses (record_fault.Shelf call) records rest = is_fault (refusal.Record (record_fault.Shelf call)) a b (record {
     code = refl;
-    counts = (records.refused, (λ i. (rest i).folder.faults), (λ i. (rest i).out.faults));
-    rose = inr (inl records.refused);
+    counts = (records.refused.0, records.refused.1, (λ i. (rest i).out.faults));
+    rose = inl records.refused.0;
   })
-  read_refuses read_fault.TooLong records rest = named (refusal.Read read_fault.TooLong) (omega arith) (omega arith) (λ four. omega arith) (input_same rest records.refused.1) (read_quiet rest)
-  read_refuses read_fault.NoMemory records rest = named (refusal.Read read_fault.NoMemory) (omega arith) (omega arith) (λ four. omega arith) (input_same rest records.refused) (read_quiet rest)
+  record_refuses record_fault.Input records rest = is_fault (refusal.Record record_fault.Input) a b (record {
+    code = refl;
+    counts = (records.refused.0, records.refused.1, (λ i. (rest i).out.faults));
+    rose = inr (inl records.refused.0);
+  })
+  record_refuses record_fault.TooLong records rest = named (refusal.Record record_fault.TooLong) (omega arith) (omega arith) (λ four. omega arith) (fed_same rest records.refused.1) (record_quiet (Err record_fault.TooLong) records)
+  record_refuses record_fault.NoMemory records rest = named (refusal.Record record_fault.NoMemory) (omega arith) (omega arith) (λ four. omega arith) (fed_same rest records.refused) (record_quiet (Err record_fault.NoMemory) records)
 
   -- ---- the step of the output
 

@@ -1,14 +1,12 @@
 -- How a chain goes on, and how it stops.
-use Rattle.std.proofs.Common.{◌≡◌, ℕ, Bool, List, Result, Ok, Err, refl, sym, ap, subst, ◌∙◌}
+use Rattle.std.proofs.Common.{◌≡◌, ℕ, List, Result, Ok, Err, refl, sym, ap, subst, ◌∙◌}
 use Rattle.std.specs.Prelude.{IsErrAnd}
 use Rattle.std.proofs.lemmas.Result.{err_from_is_err_and}
-use Rattle.edge_io.specs.Disk.{Folder}
+use Rattle.outcome_fold.specs.declared.row.Row.{Row}
 use Rattle.edge_io.specs.Seen.{Seen}
 use Rattle.sub_number.specs.declared.memory.NoMemory.{NoMemory}
 use Rattle.testr_cli.specs.Steps.{Step, Then, stops, goes_on, Still, Gives, Part, At}
-use Rattle.testr_cli.specs.Store.{Keeps}
 use Rattle.testr_cli.specs.Reporting.{Reports, Prints}
-use Rattle.testr_cli.specs.declared.store.KeepFault.{KeepFault}
 use Rattle.testr_cli.specs.declared.reporting.PrintFault.{PrintFault}
 use Rattle.testr_cli.specs.declared.told.Told.{Told}
 
@@ -41,8 +39,5 @@ gives = record { answer = refl; same = refl }
 pub prints_as : {given text : List ℕ} {before after : Seen (List ℕ)} {result : Result (Unit {0}) PrintFault} → given ≡ text → Prints given before after result → Prints text before after result
 prints_as {before = before} {after = after} {result = result} same prints = subst (λ (l : List ℕ). Prints l before after result) same prints
 
-pub keeps_as : {partial : Bool} {number : ℕ} {given bytes : List ℕ} {before after : Seen Folder} {result : Result (Unit {0}) KeepFault} → given ≡ bytes → Keeps partial number given before after result → Keeps partial number bytes before after result
-keeps_as {partial = partial} {number = number} {before = before} {after = after} {result = result} same keeps = subst (λ (l : List ℕ). Keeps partial number l before after result) same keeps
-
-pub reports_as : {given number : ℕ} {run bytes : List ℕ} {result : Result Told NoMemory} → given ≡ number → run ≡ bytes → Reports given run result → Reports number bytes result
-reports_as {number = number} {run = run} {result = result} same are reports = subst (λ (l : List ℕ). Reports number l result) are (subst (λ (n : ℕ). Reports n run result) same reports)
+pub reports_as : {given number : ℕ} {rows : List Row} {result : Result Told NoMemory} → given ≡ number → Reports given rows result → Reports number rows result
+reports_as {rows = rows} {result = result} same reports = subst (λ (n : ℕ). Reports n rows result) same reports

@@ -5,22 +5,22 @@ use Rattle.run_shelf.specs.declared.faults.OpenFault.TheVariants as open_fault
 use Rattle.testr_cli.specs.Outside.{Place, in_folder, in_input, in_out}
 use Rattle.testr_cli.specs.Words.{usage_text}
 use Rattle.testr_cli.specs.Store.{init_code, init_text, open_code, open_text, runs_text, keep_text}
-use Rattle.testr_cli.specs.Reading.{read_code, read_text}
+use Rattle.testr_cli.specs.Recording.{record_code, record_text}
 use Rattle.testr_cli.specs.Reporting.{memory_text, print_text}
 use Rattle.testr_cli.specs.Told.{tell_code, tell_text}
 use Rattle.testr_cli.specs.Verdicts.{verdict_code}
-use Rattle.testr_cli.specs.declared.reading.ReadFault.TheVariants as read_fault
+use Rattle.testr_cli.specs.declared.recording.RecordFault.TheVariants as record_fault
 use Rattle.testr_cli.specs.declared.told.TellFault.TheVariants as tell_fault
 use Rattle.testr_cli.specs.declared.answer.Verdict.{Verdict}
 use Rattle.testr_cli.specs.declared.answer.Refusal.{Refusal}
-use Rattle.testr_cli.specs.declared.answer.Refusal.TheVariants.{Usage, Init, Open, Runs, Read, Memory, Keep, Tell, Print}
+use Rattle.testr_cli.specs.declared.answer.Refusal.TheVariants.{Usage, Init, Open, Runs, Record, Memory, Keep, Tell, Print}
 
 abbrev pub refusal_code : Refusal → ℕ
 refusal_code (Usage fault) = 2
 refusal_code (Init fault) = init_code fault
 refusal_code (Open fault) = open_code fault
 refusal_code (Runs fault) = 3
-refusal_code (Read fault) = read_code fault
+refusal_code (Record fault) = record_code fault
 refusal_code (Memory fault) = 5
 refusal_code (Keep fault) = 4
 refusal_code (Tell fault) = tell_code fault
@@ -31,7 +31,7 @@ refusal_text (Usage fault) = usage_text fault
 refusal_text (Init fault) = init_text fault
 refusal_text (Open fault) = open_text fault
 refusal_text (Runs fault) = runs_text fault
-refusal_text (Read fault) = read_text fault
+refusal_text (Record fault) = record_text fault
 refusal_text (Memory fault) = memory_text
 refusal_text (Keep fault) = keep_text
 refusal_text (Tell fault) = tell_text fault
@@ -41,7 +41,8 @@ refusal_text (Print fault) = print_text
 abbrev pub place_of : Refusal → Option Place
 place_of (Init (init_fault.Shelf call)) = Some in_folder
 place_of (Open (open_fault.Shelf call)) = Some in_folder
-place_of (Read read_fault.Fault) = Some in_input
+place_of (Record (record_fault.Shelf call)) = Some in_folder
+place_of (Record record_fault.Input) = Some in_input
 place_of (Keep fault) = Some in_folder
 place_of (Tell tell_fault.Shelf) = Some in_folder
 place_of (Print fault) = Some in_out

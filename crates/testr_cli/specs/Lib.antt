@@ -5,7 +5,7 @@ pub mod Runs
 pub mod Verdicts
 pub mod Says
 pub mod Store
-pub mod Reading
+pub mod Recording
 pub mod Reporting
 pub mod Told
 pub mod Telling

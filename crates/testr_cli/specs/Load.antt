@@ -2,20 +2,21 @@
 use Rattle.std.specs.Prelude.{Bool, length}
 use Rattle.run_shelf.specs.Holds.{kinds_of}
 use Rattle.testr_cli.specs.Steps.{Step, Then, Still, Gives, At}
-use Rattle.testr_cli.specs.Outside.{Work, work_folder, work_input, work_out}
-use Rattle.testr_cli.specs.Store.{Opens, TakesRun, Keeps}
-use Rattle.testr_cli.specs.Reading.{Records}
+use Rattle.testr_cli.specs.Outside.{Work, work_folder, work_fed, work_out}
+use Rattle.testr_cli.specs.Store.{Opens, TakesRun, Begins, Keeps}
+use Rattle.testr_cli.specs.Recording.{Records}
 use Rattle.testr_cli.specs.Reporting.{Reports, Prints}
 use Rattle.testr_cli.specs.declared.answer.Verdict.{Verdict}
 use Rattle.testr_cli.specs.declared.answer.Refusal.{Refusal}
-use Rattle.testr_cli.specs.declared.answer.Refusal.TheVariants.{Open, Runs, Read, Memory, Keep, Print}
+use Rattle.testr_cli.specs.declared.answer.Refusal.TheVariants.{Open, Runs, Keep, Record, Memory, Print}
 
 abbrev pub Loads : Bool → Step Work Verdict Refusal
 Loads partial =
     Then Open (At work_folder Opens) (λ found.
     Then Runs (Still (TakesRun (length (kinds_of found)))) (λ _.
-    Then Read (At work_input Records) (λ run.
-    Then Memory (Still (Reports (length (kinds_of found)) run.items)) (λ report.
-    Then Keep (At work_folder (Keeps partial (length (kinds_of found)) run.items)) (λ _.
+    Then Keep (At work_folder Begins) (λ _.
+    Then Record (At work_fed Records) (λ rows.
+    Then Memory (Still (Reports (length (kinds_of found)) rows)) (λ report.
+    Then Keep (At work_folder (Keeps partial (length (kinds_of found)))) (λ _.
     Then Print (At work_out (Prints report.text.items)) (λ _.
-    Gives report.verdict))))))
+    Gives report.verdict)))))))

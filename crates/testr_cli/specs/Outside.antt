@@ -34,13 +34,21 @@ pub record Shown : Type 0 where
 abbrev pub shown : Seen Folder → Seen (List ℕ) → Shown
 shown folder out = record { folder = folder; out = out }
 
+-- what a recording touches
+pub record Fed : Type 0 where
+  pub folder : Seen Folder
+  pub input : Seen (List ℕ)
+
+abbrev pub fed : Seen Folder → Seen (List ℕ) → Fed
+fed folder input = record { folder = folder; input = input }
+
 -- ---- the parts
 
 abbrev pub work_folder : Part Work (Seen Folder)
 work_folder = record { of = λ w. w.folder; put = λ w folder. record w { folder = folder }; of_put = λ _ _. refl }
 
-abbrev pub work_input : Part Work (Seen (List ℕ))
-work_input = record { of = λ w. w.input; put = λ w input. record w { input = input }; of_put = λ _ _. refl }
+abbrev pub work_fed : Part Work Fed
+work_fed = record { of = λ w. fed w.folder w.input; put = λ w part. record w { folder = part.folder; input = part.input }; of_put = λ _ _. refl }
 
 abbrev pub work_out : Part Work (Seen (List ℕ))
 work_out = record { of = λ w. w.out; put = λ w out. record w { out = out }; of_put = λ _ _. refl }

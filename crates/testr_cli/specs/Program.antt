@@ -21,7 +21,7 @@ use Rattle.testr_cli.specs.Words.{command_of, usage_fault}
 use Rattle.testr_cli.specs.Runs.{run_bytes, HasRuns, KeepsFiles}
 use Rattle.testr_cli.specs.Verdicts.{verdict_code}
 use Rattle.testr_cli.specs.Says.{SaysOfFolder, OfLastRun}
-use Rattle.testr_cli.specs.Reading.{most_bytes}
+use Rattle.testr_cli.specs.Recording.{most_bytes}
 use Rattle.testr_cli.specs.Answer.{refusal_text, code_of, place_in}
 use Rattle.testr_cli.specs.Init.{Inits}
 use Rattle.testr_cli.specs.Load.{Loads}

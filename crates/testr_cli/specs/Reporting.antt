@@ -1,16 +1,12 @@
 -- The steps that make the report of a run and print a text, and what they say where they refuse.
-use Rattle.std.specs.Prelude.{◌≡◌, ℕ, List, [], All, codes, Result, IfOk, OnOk}
+use Rattle.std.specs.Prelude.{◌≡◌, ℕ, List, [], codes, Result, IfOk, OnOk}
 use Rattle.std.specs.Io.KnownBytes.{Appends}
 use Rattle.edge_io.specs.Bytes.{AppendsPrefix}
 use Rattle.edge_io.specs.Causes.{HasCause}
 use Rattle.edge_io.specs.Seen.{Seen}
-use Rattle.packet_codec.specs.declared.event.Event.{Event}
-use Rattle.packet_codec.specs.Canonical.{IsEvent, Fits}
 use Rattle.outcome_fold.specs.declared.row.Row.{Row}
-use Rattle.outcome_fold.specs.Rows.{rows_of}
 use Rattle.sub_number.specs.declared.memory.NoMemory.{NoMemory}
 use Rattle.sub_text.specs.Texts.{report_of}
-use Rattle.testr_cli.specs.Runs.{run_bytes}
 use Rattle.testr_cli.specs.Verdicts.{verdict_of}
 use Rattle.testr_cli.specs.declared.told.Told.{Told}
 use Rattle.testr_cli.specs.declared.reporting.PrintFault.{PrintFault}
@@ -20,9 +16,8 @@ pub record IsReport (number : ℕ) (rows : List Row) (report : Told) : Type 0 wh
   pub text : report.text.items ≡ report_of rows number []
   pub verdict : report.verdict ≡ verdict_of rows
 
--- it is the report of the events whose packets the run is
-pub record Reports (number : ℕ) (run : List ℕ) (result : Result Told NoMemory) : Type 0 where
-  pub told : IfOk result (λ report. (events : List Event) → All IsEvent events → All Fits events → run ≡ run_bytes events → IsReport number (rows_of events) report)
+pub record Reports (number : ℕ) (rows : List Row) (result : Result Told NoMemory) : Type 0 where
+  pub told : IfOk result (IsReport number rows)
 
 abbrev pub memory_text : List ℕ
 memory_text = codes "testr: out of memory\n"

@@ -1,19 +1,21 @@
 -- The steps of the folder: what each does to it, why it refuses, and what it says then.
-use Rattle.std.specs.Prelude.{◌≡◌, ℕ, ◌<◌, Bool, List, ◌++◌, codes, length, Result, IfOk, IfErr, OnOk}
+use Rattle.std.specs.Prelude.{◌≡◌, ℕ, ◌<◌, Bool, List, ◌++◌, codes, length, Result, IfOk, IfErr, OnOk, OnErr}
 use Rattle.std.specs.Fmt.{decimal}
 use Rattle.edge_io.specs.Causes.{HasCause}
 use Rattle.edge_io.specs.Disk.{Folder}
 use Rattle.edge_io.specs.Seen.{Seen}
-use Rattle.edge_io.specs.Steps.{Goes}
+use Rattle.edge_io.specs.Steps.{Goes, Opened, Dropped}
 use Rattle.run_shelf.specs.declared.faults.InitFault.{InitFault}
 use Rattle.run_shelf.specs.declared.faults.InitFault.TheVariants as init_fault
 use Rattle.run_shelf.specs.declared.faults.OpenFault.{OpenFault}
 use Rattle.run_shelf.specs.declared.faults.OpenFault.TheVariants as open_fault
 use Rattle.run_shelf.specs.declared.found.Found.{Found}
+use Rattle.run_shelf.specs.declared.faults.ShelfCall.TheVariants.{StartDraft}
+use Rattle.run_shelf.specs.Drafts.{OfDraft, PlaceFails}
 use Rattle.run_shelf.specs.Faults.{RisesExactlyIf, init_failed, open_failed}
 use Rattle.run_shelf.specs.Holds.{kinds_of, HasRoom}
 use Rattle.run_shelf.specs.Images.{MakesRepository, KeepsRun, PassesFormat, PassesOld, PassesRun}
-use Rattle.run_shelf.specs.Outcomes.{InitFails, Surveys, OpenFails, KeepFails}
+use Rattle.run_shelf.specs.Outcomes.{InitFails, Surveys, OpenFails}
 use Rattle.run_shelf.specs.Repository.{run_of, run_name, most_runs}
 use Rattle.testr_cli.specs.declared.command.Question.{Question}
 use Rattle.testr_cli.specs.Says.{OfLastRun}
@@ -76,12 +78,19 @@ abbrev pub runs_text : RunsFault → List ℕ
 runs_text Full = codes "testr: the repository is full\n"
 runs_text NoRuns = codes "testr: no runs\n"
 
--- ---- keeping a run behind so many others
+-- ---- beginning a run, and keeping it behind so many others
 
-pub record Keeps (partial : Bool) (number : ℕ) (bytes : List ℕ) (before after : Seen Folder) (result : Result (Unit {0}) KeepFault) : Type 0 where
-  pub kept : OnOk result (Goes before.told after.told (KeepsRun number (run_of partial bytes)))
-  pub failed : IfErr result (λ fault. Goes before.told after.told (KeepFails (run_name number partial) bytes fault.call))
-  pub any_moment : Goes before.told after.told (PassesRun number (run_of partial bytes))
+pub record Begins (before after : Seen Folder) (result : Result (Unit {0}) KeepFault) : Type 0 where
+  pub begun : OnOk result (Goes before.told after.told Opened)
+  pub not_begun : OnErr result (Goes before.told after.told Dropped)
+  pub failed : IfErr result (λ fault. fault.call ≡ StartDraft)
+  pub count : HasCause before.faults after.faults result
+
+-- the run is that of the draft
+pub record Keeps (partial : Bool) (number : ℕ) (before after : Seen Folder) (result : Result (Unit {0}) KeepFault) : Type 0 where
+  pub kept : OnOk result (Goes before.told after.told (OfDraft (λ bytes. KeepsRun number (run_of partial bytes))))
+  pub failed : IfErr result (λ fault. Goes before.told after.told (OfDraft (λ bytes. PlaceFails (run_name number partial) bytes fault.call)))
+  pub any_moment : Goes before.told after.told (OfDraft (λ bytes. PassesRun number (run_of partial bytes)))
   pub count : HasCause before.faults after.faults result
 
 abbrev pub keep_text : List ℕ

@@ -3,7 +3,7 @@
 ghost use Rattle.std.specs.Prelude.{◌≡◌};
 ghost use Rattle.testr_cli.specs.Telling.{line_text};
 
-use crate::reading::ReadFault;
+use crate::recording::RecordFault;
 use crate::reporting::PrintFault;
 use crate::store::{KeepFault, RunsFault, init_line, init_status, open_line, open_status};
 use crate::telling::Line;
@@ -46,11 +46,11 @@ pub enum Refusal {
     Open(OpenFault),
     /// Its runs do not serve the command.
     Runs(RunsFault),
-    /// Standard input was not read whole.
-    Read(ReadFault),
+    /// Standard input was not recorded whole.
+    Record(RecordFault),
     /// There is not enough memory for the report.
     Memory(NoMemory),
-    /// The run was not kept, or not surely.
+    /// The run was not begun, or not kept, or not surely.
     Keep(KeepFault),
     /// The runs were not read.
     Tell(TellFault),
@@ -88,13 +88,13 @@ impl From<RunsFault> for Refusal {
     }
 }
 
-impl From<ReadFault> for Refusal {
-    ghost use Rattle.testr_cli.specs.declared.answer.Refusal.TheVariants.{Read};
+impl From<RecordFault> for Refusal {
+    ghost use Rattle.testr_cli.specs.declared.answer.Refusal.TheVariants.{Record};
 
-    ghost from_gives = { λ fault refusal. refusal ≡ Read fault };
+    ghost from_gives = { λ fault refusal. refusal ≡ Record fault };
 
-    fn from(fault: ReadFault) -> Self {
-        Refusal::Read(fault)
+    fn from(fault: RecordFault) -> Self {
+        Refusal::Record(fault)
     }
 }
 
@@ -150,7 +150,7 @@ impl Refusal {
             Refusal::Init(fault) => init_status(fault),
             Refusal::Open(fault) => open_status(fault),
             Refusal::Runs(_) => 3,
-            Refusal::Read(fault) => fault.code(),
+            Refusal::Record(fault) => fault.code(),
             Refusal::Tell(fault) => fault.code(),
             Refusal::Keep(_) | Refusal::Print(_) => 4,
             Refusal::Memory(_) => 5,
@@ -166,7 +166,7 @@ impl Refusal {
             Refusal::Init(fault) => init_line(fault),
             Refusal::Open(fault) => open_line(fault),
             Refusal::Runs(fault) => fault.line(),
-            Refusal::Read(fault) => fault.line(),
+            Refusal::Record(fault) => fault.line(),
             Refusal::Memory(_) => Line::of("testr: out of memory\n"),
             Refusal::Keep(fault) => fault.line(),
             Refusal::Tell(fault) => fault.line(),

@@ -5,7 +5,7 @@
 //! refusals, and never a real file.
 //!
 //! - `command`, `words`: which words are a command
-//! - `store`, `reading`, `reporting`, `told`: the steps, each with why it refuses
+//! - `store`, `recording`, `reporting`, `told`: the steps, each with why it refuses
 //! - `answer`, `telling`: statuses and refusals by step, and the lines that tell of them
 //! - `init`, `load`, `ask`: the commands, each a chain of steps
 //! - `top`: `program` and `testr`
@@ -16,7 +16,7 @@ mod ask;
 mod command;
 mod init;
 mod load;
-mod reading;
+mod recording;
 mod reporting;
 mod store;
 mod telling;
@@ -26,7 +26,7 @@ mod words;
 
 pub use answer::{Refusal, Verdict};
 pub use command::{Command, Question};
-pub use reading::ReadFault;
+pub use recording::RecordFault;
 pub use reporting::PrintFault;
 pub use store::{KeepFault, RunsFault};
 pub use told::TellFault;

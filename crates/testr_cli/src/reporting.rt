@@ -1,15 +1,11 @@
 //! What is told of a run.
 
 ghost use Rattle.std.specs.Prelude.{◌≡◌, [], ℕ, List, All, IfOk};
-ghost use Rattle.packet_codec.specs.declared.event.Event.{Event};
-ghost use Rattle.packet_codec.specs.Canonical.{IsEvent, Fits};
 ghost use Rattle.std.specs.List.{list_any};
 ghost use Rattle.outcome_fold.specs.Answers.{row_fails};
-ghost use Rattle.outcome_fold.specs.Rows.{rows_of};
 ghost use Rattle.sub_text.specs.Texts.{report_of};
 ghost use Rattle.testr_cli.specs.Verdicts.{verdict_of};
 ghost use Rattle.testr_cli.specs.Reporting.{Reports, Prints, print_text};
-ghost use Rattle.testr_cli.specs.Runs.{run_bytes};
 ghost use Rattle.testr_cli.specs.Telling.{line_text};
 
 use crate::Verdict;
@@ -18,28 +14,18 @@ use crate::told::Told;
 use edge_io::{Failed, Sink, write_whole};
 use outcome_fold::{Row, Rows};
 use packet_codec::Tags;
-use run_ledger::rows_of_bytes;
 use std::alloc::Global;
 use sub_number::NoMemory;
 use sub_text::report_text;
 
-/// The rows of a run, read back from its bytes, which are packets in their shortest form.
-pub fn rows_of_run(alloc: Global, run: &[u8]) -> Result<Rows, NoMemory>
-    ensures { (events : List Event) → All IsEvent events → All Fits events → run.now ≡ run_bytes events → IfOk result (λ rows. rows ≡ rows_of events) }
+/// The report of the run of these rows and this number, and its verdict.
+pub fn report_rows(alloc: Global, number: u32, rows: &Rows) -> Result<Told, NoMemory>
+    ensures { Reports number rows.now result }
 {
-    rows_of_bytes(alloc, run)
-}
-
-/// The report of the run of these bytes and this number, and its verdict. It is made before the run is kept, so that no
-/// want of memory comes after.
-pub fn report_run(alloc: Global, number: u32, run: &[u8]) -> Result<Told, NoMemory>
-    ensures { Reports number run.now result }
-{
-    let rows = rows_of_run(alloc, run)?;
-    let text = report(alloc, &rows, number)?;
+    let text = report(alloc, rows, number)?;
     Ok(Told {
         text,
-        verdict: verdict(&rows),
+        verdict: verdict(rows),
     })
 }
 

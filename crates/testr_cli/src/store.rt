@@ -1,16 +1,17 @@
 //! The steps of the folder, and why each refuses.
 
 ghost use Rattle.std.specs.Prelude.{◌≡◌, ◌<◌, length};
+ghost use Rattle.edge_io.specs.Steps.{HasDraft};
 ghost use Rattle.run_shelf.specs.Holds.{kinds_of, HasRoom, FitsWhereTold};
 ghost use Rattle.run_shelf.specs.Repository.{most_runs};
-ghost use Rattle.testr_cli.specs.Store.{Makes, init_code, init_text, Opens, open_code, open_text, TakesRun, HasRunFor, runs_text, Keeps, keep_text};
+ghost use Rattle.testr_cli.specs.Store.{Makes, init_code, init_text, Opens, open_code, open_text, TakesRun, HasRunFor, runs_text, Begins, Keeps, keep_text};
 ghost use Rattle.testr_cli.specs.Telling.{line_text};
 
 use crate::command::Question;
 use crate::telling::Line;
 use edge_io::Shelf;
 use run_shelf::{
-    Found, InitFault, MOST_RUNS, OpenFault, ShelfCall, keep_run, make_repository, survey,
+    Found, InitFault, MOST_RUNS, OpenFault, ShelfCall, begin_run, finish_run, make_repository, survey,
 };
 use std::alloc::Global;
 
@@ -119,7 +120,7 @@ pub fn have_run(question: Question, found: &Found) -> Result<(), RunsFault>
     }
 }
 
-/// This call of the folder failed while a run was kept.
+/// This call of the folder failed while a run was begun or kept.
 #[derive(Clone, Copy, Debug, PartialEq, Eq)]
 pub struct KeepFault {
     /// The call.
@@ -135,20 +136,26 @@ impl KeepFault {
     }
 }
 
-/// Keeps the bytes as the run behind all others.
-pub fn keep<H: Shelf>(
-    shelf: &mut H,
-    found: Found,
-    partial: bool,
-    bytes: &[u8],
-) -> Result<(), KeepFault>
+/// Begins a run.
+pub fn begin<H: Shelf>(shelf: &mut H) -> Result<(), KeepFault>
+    ensures { Begins (H.seen shelf.old) (H.seen shelf.new) result }
+{
+    match begin_run(shelf) {
+        Ok(()) => Ok(()),
+        Err(call) => Err(KeepFault { call }),
+    }
+}
+
+/// Keeps what was added as the run behind all others.
+pub fn keep<H: Shelf>(shelf: &mut H, found: Found, partial: bool) -> Result<(), KeepFault>
     requires few { length (kinds_of found) < most_runs }
     requires room { HasRoom found }
     requires fits { FitsWhereTold (kinds_of found) (H.seen shelf.old).told }
-    ensures { Keeps partial (length (kinds_of found)) bytes.now (H.seen shelf.old) (H.seen shelf.new) result }
+    requires draft { HasDraft (H.seen shelf.old).told }
+    ensures { Keeps partial (length (kinds_of found)) (H.seen shelf.old) (H.seen shelf.new) result }
 {
     let mut found = found;
-    match keep_run(shelf, &mut found, partial, bytes) {
+    match finish_run(shelf, &mut found, partial) {
         Ok(_) => Ok(()),
         Err(call) => Err(KeepFault { call }),
     }

@@ -141,6 +141,8 @@ fn other_words_are_no_command(rt: HostRuntime) -> Result<(), Fail> {
         (["testr", "init", "--partial"].as_slice(), WRONG_USAGE),
         (["testr", "testr"].as_slice(), WRONG_USAGE),
         (["testr", "runn"].as_slice(), WRONG_USAGE),
+        (["testr", "run", "--concurrency=65"].as_slice(), WRONG_USAGE),
+        (["testr", "run", "--concurrency=x"].as_slice(), WRONG_USAGE),
         (["testr", ""].as_slice(), WRONG_USAGE),
         (["testr"].as_slice(), WRONG_USAGE),
         (["load"].as_slice(), USAGE),

@@ -100,13 +100,25 @@ fn a_partial_run_changes_the_failing_set_and_a_full_one_replaces_it(
 }
 
 #[test]
-fn the_slowest_tests_of_the_last_run_are_told(rt: HostRuntime) -> Result<(), Fail> {
+fn the_last_of_two_runs_is_told(rt: HostRuntime) -> Result<(), Fail> {
     let alloc = rt.alloc();
     let mut shelf = repository(alloc, &[])?;
     load(alloc, &mut shelf, FOO)?;
     load(alloc, &mut shelf, TIMED)?;
-    let told = ask(alloc, &mut shelf, &["testr", "slowest", "--all"])?;
-    assert!(rt; told.is(0, b"     1.001  a\n     0.564  b\n", NOTHING));
+    let slowest = b"     1.001  a\n     0.564  b\n".as_slice();
+    let table = [
+        (["testr", "slowest", "--all"].as_slice(), slowest),
+        (["testr", "slowest"].as_slice(), slowest),
+        (["testr", "stats"].as_slice(), b"runs=2\n".as_slice()),
+        (
+            ["testr", "last"].as_slice(),
+            b"Ran 2 tests in 1.565s\nPASSED (id=1)\n".as_slice(),
+        ),
+    ];
+    for (words, text) in table {
+        let told = ask(alloc, &mut shelf, words)?;
+        assert!(rt; told.is(0, text, NOTHING), "{}", words[1]);
+    }
     Ok(())
 }
 

@@ -1,5 +1,5 @@
 use Rattle.std.proofs.Common.{refl}
-use Rattle.testr_cli.proofs.StepLemmas.{still_done, part_done, still_stops, part_stops, reports_as, keeps_as, prints_as, gives}
+use Rattle.testr_cli.proofs.StepLemmas.{still_done, part_done, still_stops, part_stops, reports_as, prints_as, gives}
 use Rattle.testr_cli.proofs.load.load.Goals as goal
 
 pub returns-in_err-found : goal.returns-in_err-found
@@ -10,42 +10,53 @@ returns-in_err-take_run g c =
     part_done _ _ c.in_ok-found.ensures
     (still_stops _ c.from_residual-in_err-take_run.ensures.1 c.in_err-take_run.ensures refl)
 
-pub returns-in_err-packets : goal.returns-in_err-packets
-returns-in_err-packets g c =
+pub returns-in_err-begin : goal.returns-in_err-begin
+returns-in_err-begin g c =
     part_done _ _ c.in_ok-found.ensures
     (still_done _ c.in_ok-take_run.ensures
-    (part_stops _ c.from_residual-in_err-packets.ensures.1 c.in_err-packets.ensures refl))
+    (part_stops _ c.from_residual-in_err-begin.ensures.1 c.in_err-begin.ensures refl))
+
+pub returns-in_err-rows : goal.returns-in_err-rows
+returns-in_err-rows g c =
+    part_done _ _ c.in_ok-found.ensures
+    (still_done _ c.in_ok-take_run.ensures
+    (part_done _ _ c.in_ok-begin.ensures
+    (part_stops _ c.from_residual-in_err-rows.ensures.1 c.in_err-rows.ensures refl)))
 
 pub returns-in_err-report : goal.returns-in_err-report
 returns-in_err-report g c =
     part_done _ _ c.in_ok-found.ensures
     (still_done _ c.in_ok-take_run.ensures
-    (part_done c.in_ok-packets.packets _ c.in_ok-packets.ensures
-    (still_stops _ c.from_residual-in_err-report.ensures.1 (reports_as c.runs.ensures c.deref.ensures.value c.in_err-report.ensures) refl)))
+    (part_done _ _ c.in_ok-begin.ensures
+    (part_done c.in_ok-rows.rows _ c.in_ok-rows.ensures
+    (still_stops _ c.from_residual-in_err-report.ensures.1 (reports_as c.runs.ensures c.in_err-report.ensures) refl))))
 
 pub returns-in_err-keep : goal.returns-in_err-keep
 returns-in_err-keep g c =
     part_done _ _ c.in_ok-found.ensures
     (still_done _ c.in_ok-take_run.ensures
-    (part_done c.in_ok-packets.packets _ c.in_ok-packets.ensures
-    (still_done c.in_ok-report.report (reports_as c.runs.ensures c.deref.ensures.value c.in_ok-report.ensures)
-    (part_stops _ c.from_residual-in_err-keep.ensures.1 (keeps_as c.deref-2.ensures.value c.in_err-keep.ensures) refl))))
+    (part_done _ _ c.in_ok-begin.ensures
+    (part_done c.in_ok-rows.rows _ c.in_ok-rows.ensures
+    (still_done c.in_ok-report.report (reports_as c.runs.ensures c.in_ok-report.ensures)
+    (part_stops _ c.from_residual-in_err-keep.ensures.1 c.in_err-keep.ensures refl)))))
 
 pub returns-in_err-print : goal.returns-in_err-print
 returns-in_err-print g c =
     part_done _ _ c.in_ok-found.ensures
     (still_done _ c.in_ok-take_run.ensures
-    (part_done c.in_ok-packets.packets _ c.in_ok-packets.ensures
-    (still_done c.in_ok-report.report (reports_as c.runs.ensures c.deref.ensures.value c.in_ok-report.ensures)
-    (part_done _ _ (keeps_as c.deref-2.ensures.value c.in_ok-keep.ensures)
-    (part_stops _ c.from_residual-in_err-print.ensures.1 (prints_as c.deref-3.ensures.value c.in_err-print.ensures) refl)))))
+    (part_done _ _ c.in_ok-begin.ensures
+    (part_done c.in_ok-rows.rows _ c.in_ok-rows.ensures
+    (still_done c.in_ok-report.report (reports_as c.runs.ensures c.in_ok-report.ensures)
+    (part_done _ _ c.in_ok-keep.ensures
+    (part_stops _ c.from_residual-in_err-print.ensures.1 (prints_as c.deref.ensures.value c.in_err-print.ensures) refl))))))
 
 pub returns : goal.returns
 returns g c =
     part_done _ _ c.in_ok-found.ensures
     (still_done _ c.in_ok-take_run.ensures
-    (part_done c.in_ok-packets.packets _ c.in_ok-packets.ensures
-    (still_done c.in_ok-report.report (reports_as c.runs.ensures c.deref.ensures.value c.in_ok-report.ensures)
-    (part_done _ _ (keeps_as c.deref-2.ensures.value c.in_ok-keep.ensures)
-    (part_done _ _ (prints_as c.deref-3.ensures.value c.in_ok-print.ensures)
-    gives)))))
+    (part_done _ _ c.in_ok-begin.ensures
+    (part_done c.in_ok-rows.rows _ c.in_ok-rows.ensures
+    (still_done c.in_ok-report.report (reports_as c.runs.ensures c.in_ok-report.ensures)
+    (part_done _ _ c.in_ok-keep.ensures
+    (part_done _ _ (prints_as c.deref.ensures.value c.in_ok-print.ensures)
+    gives))))))

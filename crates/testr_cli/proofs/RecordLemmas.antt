@@ -1,0 +1,63 @@
+-- What is recorded, one piece after another.
+use Rattle.std.proofs.Common.{◌≡◌, ℕ, true, List, [], ◌++◌, Result, Err, sym, ap, subst, ◌∙◌}
+use Rattle.std.specs.Prelude.{IsErrAnd}
+use Rattle.std.proofs.lemmas.Result.{err_from_is_err_and}
+use Rattle.edge_io.specs.Causes.{Rose}
+use Rattle.edge_io.specs.Disk.{Folder}
+use Rattle.edge_io.specs.Seen.{Seen}
+use Rattle.edge_io.specs.Steps.{Goes, Grown}
+use Rattle.outcome_fold.specs.declared.row.Row.{Row}
+use Rattle.packet_codec.specs.Grammar.{AreBytes}
+use Rattle.run_ledger.specs.Reading.{AreRowsOf}
+use Rattle.run_ledger.specs.declared.run_reader.RunReader.{RunReader}
+use Rattle.run_shelf.specs.Drafts.{SameButDraft}
+use Rattle.run_shelf.proofs.DraftLemmas.{goes_grown_then}
+use Rattle.stream_reader.proofs.FrontLemmas.{are_both}
+use Rattle.worker_lane.specs.Recorded.{IsRecorded}
+use Rattle.worker_lane.specs.Scribing.{Scribing, holding, Recording, GivesPackets, HasNone}
+use Rattle.worker_lane.proofs.RecordingLemmas.{recording_ended, recording_whole}
+use Rattle.testr_cli.specs.Outside.{Fed, fed}
+use Rattle.testr_cli.specs.Recording.{NoneFailed, HasRecordCause, HasWriteCause, RecordsInput, RecordsPieces, RecordsAll, Records}
+use Rattle.testr_cli.specs.declared.recording.RecordFault.{RecordFault}
+use Rattle.testr_cli.specs.declared.recording.RecordFault.TheVariants.{Shelf, Input, TooLong, NoMemory}
+
+-- a fault behind pieces that were recorded
+pub write_cause : (before : Fed) (folder between : Seen Folder) (input : Seen (List ℕ)) (fault : RecordFault) → NoneFailed before (fed between input) → HasWriteCause between folder fault → HasRecordCause before (fed folder input) fault
+write_cause before folder between input (Shelf call) none cause = (subst (λ (n : ℕ). Rose n folder.faults) none.folder cause, none.input)
+write_cause before folder between input Input none cause = absurd cause
+write_cause before folder between input TooLong none cause = absurd cause
+write_cause before folder between input NoMemory none cause = record { folder = cause ∙ none.folder; input = none.input }
+
+-- an exit by `?`
+pub refused_by : (before after : Fed) (result : Result (List Row) RecordFault) (fault : RecordFault) → IsErrAnd result (λ given. given ≡ fault) → HasRecordCause before after fault → Goes before.folder.told after.folder.told SameButDraft → Records before after result
+refused_by before after result fault is cause rests =
+    let p = err_from_is_err_and result is in
+    subst (Records before after) (sym (p.1 ∙ ap Err p.2)) (record { recorded = tt; refused = cause; rests = rests })
+
+-- the end of the input, of which the last packets were written
+module _ (before : Fed) (between after : Seen Folder) (input : Seen (List ℕ)) (scribe ended last : Scribing) (rows : RunReader) (pieces : RecordsPieces before (fed between input) scribe rows) (packets : List ℕ) (given : GivesPackets ended [] last packets) (written : Goes between.told after.told (Grown packets)) (are : AreBytes packets) (count : after.faults ≡ between.faults) where
+  run : List ℕ
+  run = pieces.run ++ packets
+
+  recorded : ended ≡ holding scribe scribe.held.bytes true → scribe.lane ≡ 0 → HasNone last → RecordsInput before.input.told input.told run
+  unfolding run
+  recorded is lane none =
+      let fed : Recording pieces.bytes ended pieces.run = recording_ended pieces.bytes pieces.run scribe ended is pieces.recording in
+      let whole : Recording pieces.bytes last (pieces.run ++ packets) = subst (λ (l : List ℕ). Recording pieces.bytes last (pieces.run ++ l)) (sym given.new_is) (given.recording pieces.bytes pieces.run fed) in
+      let under : last.lane ≡ 0 = given.lane ∙ ap (λ (s : Scribing). s.lane) is ∙ lane in
+      (
+        pieces.bytes,
+        record { read = pieces.read; at_end = pieces.at_end; size = pieces.size; are_bytes = pieces.recording.are_bytes },
+        subst (λ (n : ℕ). IsRecorded n pieces.bytes (pieces.run ++ packets)) under (recording_whole pieces.bytes (pieces.run ++ packets) last (given.ended ∙ ap (λ (s : Scribing). s.held.ended) is) none whole),
+      )
+
+  pub recorded_all : (list : List Row) → ended ≡ holding scribe scribe.held.bytes true → scribe.lane ≡ 0 → HasNone last → AreRowsOf (pieces.run ++ packets) list → RecordsAll list before (fed after input)
+  unfolding run
+  recorded_all list is lane none rows_are = record {
+    run = pieces.run ++ packets;
+    recorded = recorded is lane none;
+    are_bytes = are_both pieces.run packets pieces.are_bytes are;
+    rows_are = rows_are;
+    written = goes_grown_then before.folder.told between.told after.told pieces.run packets pieces.written written;
+    counts = record { folder = count ∙ pieces.counts.folder; input = pieces.counts.input };
+  }

@@ -1,0 +1,177 @@
+//! Records an input as it is read: each piece of it becomes packets, which are written behind the draft and folded, and
+//! no more than one packet is held.
+
+ghost use Rattle.std.specs.Prelude.{◌≡◌, ℕ, List, [], ◌++◌, false, IfErr, OnOk, OnErr};
+ghost use Rattle.edge_io.specs.Causes.{HasCause};
+ghost use Rattle.edge_io.specs.Steps.{Goes, Grown, HasDraft};
+ghost use Rattle.packet_codec.specs.Grammar.{AreBytes};
+ghost use Rattle.run_ledger.specs.Reading.{HasRead};
+ghost use Rattle.run_shelf.specs.Drafts.{SameButDraft};
+ghost use Rattle.testr_cli.specs.Outside.{fed};
+ghost use Rattle.testr_cli.specs.Recording.{Records, RecordsPieces, HasRecordCause, HasWriteCause, record_code, record_text};
+ghost use Rattle.testr_cli.specs.Telling.{line_text};
+ghost use Rattle.testr_cli.specs.declared.recording.RecordFault.TheVariants.{Shelf as ShelfFailed, Input, NoMemory};
+ghost use Rattle.worker_lane.specs.Scribing.{Recording, GivesPackets, HasNone};
+
+use crate::telling::Line;
+use edge_io::{Failed, Shelf, Source};
+use outcome_fold::Rows;
+use run_ledger::RunReader;
+use run_shelf::{ShelfCall, add_packet};
+use std::alloc::Global;
+use worker_lane::{Scribe, take_packets};
+
+/// How many bytes an input may have: 2^60.
+pub const MOST_BYTES: usize = 1 << 60;
+
+/// How many bytes a read asks for.
+pub const PIECE: usize = 65_536;
+
+/// Why an input was not recorded whole.
+#[derive(Clone, Copy, Debug, PartialEq, Eq)]
+pub enum RecordFault {
+    /// This call of the repository's folder failed.
+    Shelf(ShelfCall),
+    /// A read of the input failed.
+    Input,
+    /// The input has more than `MOST_BYTES`.
+    TooLong,
+    /// There is not enough memory.
+    NoMemory,
+}
+
+impl RecordFault {
+    /// The exit status.
+    pub fn code(self) -> u8
+        ensures { result ≡ record_code self }
+    {
+        match self {
+            RecordFault::Shelf(_) | RecordFault::Input => 4,
+            RecordFault::TooLong => 3,
+            RecordFault::NoMemory => 5,
+        }
+    }
+
+    /// The line that tells of it.
+    pub fn line(self) -> Line
+        ensures { line_text result ≡ record_text self }
+    {
+        match self {
+            RecordFault::Shelf(_) => Line::of("testr: fault of the repository folder\n"),
+            RecordFault::Input => Line::of("testr: fault reading standard input\n"),
+            RecordFault::TooLong => Line::of("testr: standard input is too long\n"),
+            RecordFault::NoMemory => Line::of("testr: out of memory\n"),
+        }
+    }
+}
+
+impl From<ShelfCall> for RecordFault {
+    ghost from_gives = { λ call fault. fault ≡ ShelfFailed call };
+
+    fn from(call: ShelfCall) -> Self {
+        RecordFault::Shelf(call)
+    }
+}
+
+impl From<Failed> for RecordFault {
+    ghost from_gives = { λ _ fault. fault ≡ Input };
+
+    fn from(_: Failed) -> Self {
+        RecordFault::Input
+    }
+}
+
+impl From<sub_number::NoMemory> for RecordFault {
+    ghost from_gives = { λ _ fault. fault ≡ NoMemory };
+
+    fn from(_: sub_number::NoMemory) -> Self {
+        RecordFault::NoMemory
+    }
+}
+
+/// Records the input under lane 0, behind the draft that was begun, and gives the rows of what was written. It is read in
+/// pieces, to its end.
+pub fn record<H: Shelf, I: Source>(
+    alloc: Global,
+    shelf: &mut H,
+    input: &mut I,
+) -> Result<Rows, RecordFault>
+    requires { HasDraft (H.seen shelf.old).told }
+    ensures { Records
+        (fed (H.seen shelf.old) (I.seen input.old))
+        (fed (H.seen shelf.new) (I.seen input.new))
+        result }
+{
+    let mut scribe = Scribe::new(alloc, 0)?;
+    let mut rows = RunReader::new(alloc)?;
+    let mut packets = Vec::new(alloc);
+    record_pieces(shelf, input, &mut scribe, &mut rows, &mut packets)?;
+    scribe.finish();
+    write_packets(shelf, &mut scribe, &mut rows, &mut packets)?;
+    let rows = rows.close()?;
+    Ok(rows)
+}
+
+// Records the input piece by piece, up to its end, which the scribe is not told.
+fn record_pieces<H: Shelf, I: Source>(
+    shelf: &mut H,
+    input: &mut I,
+    scribe: &mut Scribe,
+    rows: &mut RunReader,
+    packets: &mut Vec<u8>,
+) -> Result<(), RecordFault>
+    requires draft { HasDraft (H.seen shelf.old).told }
+    requires going_on { scribe.old.held.ended ≡ false }
+    requires recording { Recording [] scribe.old [] }
+    requires folded { HasRead rows.old [] }
+    ensures recorded { OnOk result (RecordsPieces
+        (fed (H.seen shelf.old) (I.seen input.old))
+        (fed (H.seen shelf.new) (I.seen input.new))
+        scribe.new rows.new) }
+    ensures draft { OnOk result (HasDraft (H.seen shelf.new).told) }
+    ensures lane { OnOk result (scribe.new.lane ≡ scribe.old.lane) }
+    ensures rests { Goes (H.seen shelf.old).told (H.seen shelf.new).told SameButDraft }
+    ensures refused { IfErr result (HasRecordCause
+        (fed (H.seen shelf.old) (I.seen input.old))
+        (fed (H.seen shelf.new) (I.seen input.new))) }
+{
+    let mut piece = [0u8; PIECE];
+    let mut total = 0;
+    loop {
+        let count = input.read(&mut piece)?;
+        if count == 0 {
+            return Ok(());
+        }
+        total += count;
+        if total > MOST_BYTES {
+            return Err(RecordFault::TooLong);
+        }
+        scribe.feed(&piece[..count])?;
+        write_packets(shelf, scribe, rows, packets)?;
+    }
+}
+
+// Writes all packets that are decided by now behind the draft, and folds them.
+fn write_packets<H: Shelf>(
+    shelf: &mut H,
+    scribe: &mut Scribe,
+    rows: &mut RunReader,
+    packets: &mut Vec<u8>,
+) -> Result<(), RecordFault>
+    requires { HasDraft (H.seen shelf.old).told }
+    ensures given { OnOk result (GivesPackets scribe.old [] scribe.new packets.new.items) }
+    ensures none { OnOk result (HasNone scribe.new) }
+    ensures written { OnOk result (Goes (H.seen shelf.old).told (H.seen shelf.new).told (Grown packets.new.items)) }
+    ensures folded { (run : List ℕ) → HasRead rows.old run → OnOk result (HasRead rows.new (run ++ packets.new.items)) }
+    ensures are_bytes { OnOk result (AreBytes packets.new.items) }
+    ensures draft { OnOk result (HasDraft (H.seen shelf.new).told) }
+    ensures rests { Goes (H.seen shelf.old).told (H.seen shelf.new).told SameButDraft }
+    ensures count { OnOk result ((H.seen shelf.new).faults ≡ (H.seen shelf.old).faults) }
+    ensures refused { IfErr result (HasWriteCause (H.seen shelf.old) (H.seen shelf.new)) }
+{
+    packets.clear();
+    take_packets(scribe, packets)?;
+    add_packet(shelf, packets)?;
+    rows.feed(packets)?;
+    Ok(())
+}
