@@ -72,7 +72,7 @@ size_least bytes e s =
     rw size (packet_size_least (length s.size) (length (canonical_fields e)) (length s.fields) s.size_spelled.some s.size_short (fields_least s.fields e s.fields_spelled) room)
 
 -- three bytes have no room for more than the largest packet
-small_of_width : (width value : ℕ) → width ≤ 3 → value < 2 ^ (8 * width - 2) → value ≤ largest_packet
+pub small_of_width : (width value : ℕ) → width ≤ 3 → value < 2 ^ (8 * width - 2) → value ≤ largest_packet
 small_of_width zero value few room = omega arith
 small_of_width (suc zero) value few room = omega arith
 small_of_width (suc (suc zero)) value few room = omega arith

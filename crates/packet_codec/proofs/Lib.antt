@@ -14,3 +14,4 @@ pub mod ShortestLemmas
 pub mod SpelledLemmas
 pub mod SpellingLemmas
 pub mod WritingLemmas
+pub mod AnswerLemmas

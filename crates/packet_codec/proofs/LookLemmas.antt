@@ -18,7 +18,7 @@ use Rattle.packet_codec.proofs.HeaderLemmas.{header_free}
 use Rattle.packet_codec.proofs.PacketLemmas.{header_found}
 use Rattle.packet_codec.proofs.RunsLeft.{answers_no}
 
-header_shape : (h : List ℕ) (size : ℕ) → (s : IsHeader h size) → HeaderShape h (s.first, (s.second, size))
+pub header_shape : (h : List ℕ) (size : ℕ) → (s : IsHeader h size) → HeaderShape h (s.first, (s.second, size))
 header_shape h size s = record { number = s.number; parts = s.parts; version = s.version; zero_bit = s.zero_bit; size_spelled = s.size_spelled; size_short = s.size_short; room = s.room }
 
 is_header : (h : List ℕ) (v : ℕ × (ℕ × ℕ)) → HeaderShape h v → IsHeader h v.1.1

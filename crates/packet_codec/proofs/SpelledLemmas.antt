@@ -25,17 +25,17 @@ CanRead {A} Spells = (bytes : List ℕ) → Decided ((value : A) × Spells bytes
 
 -- ---- numbers and texts
 
-decided_number : (bytes : List ℕ) (value : ℕ) → Decided (SpellsNumber bytes value)
+pub decided_number : (bytes : List ℕ) (value : ℕ) → Decided (SpellsNumber bytes value)
 decided_number bytes value =
     decided_as (λ all. record { some = all.0; few = all.1.0; fits = all.1.1.0; digits = all.1.1.1 }) (λ s. (s.some, (s.few, (s.fits, s.digits))))
     (decided_both (decided_most 1 (length bytes)) (decided_both (decided_most (length bytes) 4)
     (decided_both (decided_less value (2 ^ (8 * length bytes - 2))) (cases_eq (number_from_digits 256 bytes) ((length bytes - 1) * 2 ^ (8 * length bytes - 2) + value)))))
 
 -- the one value that they may spell
-number_of : List ℕ → ℕ
+pub number_of : List ℕ → ℕ
 number_of bytes = number_from_digits 256 bytes - (length bytes - 1) * 2 ^ (8 * length bytes - 2)
 
-number_is : (bytes : List ℕ) (value : ℕ) → SpellsNumber bytes value → value ≡ number_of bytes
+pub number_is : (bytes : List ℕ) (value : ℕ) → SpellsNumber bytes value → value ≡ number_of bytes
 unfolding number_of
 number_is bytes value s = omega (arith, s.digits)
 

@@ -36,11 +36,12 @@ pub record IsFrontOfHeader (bytes : List ℕ) : Type 0 where
   pub are_bytes : All (λ byte. byte < 256) rest
   pub header : IsHeader (bytes ++ rest) size
 
--- more bytes are needed: the header is not whole, or the packet that it tells of
+-- More bytes are asked for: the header is not whole, or the packet that it tells of. The bytes at hand may tell by
+-- then that no packet comes of it.
 abbrev pub NeedsMore : List ℕ → Type 0
 NeedsMore bytes = IsFrontOfHeader bytes ⊎ ((size : ℕ) × BeginsWithHeader bytes size × (length bytes < size))
 
--- where the bytes do not begin with a packet, more may make one, or none ever
+-- a packet, or a place where more bytes are asked for, or neither: then no packet stands there, whatever follows
 abbrev pub LooksLike : List ℕ → Front → Type 0
 LooksLike bytes (Packet size) = BeginsWithPacket bytes size
 LooksLike bytes More = NeedsMore bytes

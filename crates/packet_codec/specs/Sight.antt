@@ -9,7 +9,7 @@ pub record BeginsWithThis (bytes packet : List ℕ) : Type 0 where
   pub begins : BeginsWithPacket bytes (length packet)
   pub front : packet ≡ take (length packet) bytes
 
--- where the bytes do not begin with a packet, more may make one, or none ever
+-- a packet, or a place where more bytes are asked for, or neither: then no packet stands there, whatever follows
 abbrev pub IsSeen : List ℕ → Sight → Type 0
 IsSeen bytes (Packet packet) = BeginsWithThis bytes packet
 IsSeen bytes More = NeedsMore bytes

@@ -1,9 +1,16 @@
 //! The law of the shortest spelling.
 
+ghost use Rattle.std.specs.Prelude.{◌≡◌, List, ℕ, length};
 ghost use Rattle.packet_codec.specs.declared.event.Event.{Event};
-ghost use Rattle.packet_codec.specs.Canonical.{IsEvent, Fits, IsShortestSpelling, canonical};
+ghost use Rattle.packet_codec.specs.Packet.{SpellsEvent};
+ghost use Rattle.packet_codec.specs.Canonical.{IsEvent, Fits, IsShortestSpelling, canonical, canonical_size};
 
-/// What `encode` appends spells the event, and no other spelling of it is shorter.
+/// Which events have a packet, and what the shortest one is.
 pub fn canonical_is_shortest()
-    ensures { (e : Event) → IsEvent e → Fits e → IsShortestSpelling (canonical e) e }
+    // What `encode` appends spells the event, and no other spelling of it is shorter.
+    ensures shortest { (e : Event) → IsEvent e → Fits e → IsShortestSpelling (canonical e) e }
+    // An event that some bytes spell fits.
+    ensures only { (bytes : List ℕ) (e : Event) → SpellsEvent bytes e → Fits e }
+    // What `size` tells is the length of the shortest spelling.
+    ensures size { (e : Event) → Fits e → length (canonical e) ≡ canonical_size e }
 {}

@@ -100,8 +100,9 @@ fn event_of(alloc: Global, first: u8, second: u8, parts: &Parts<'_>) -> Result<E
 }
 
 impl<'a> Packet<'a> {
-    /// The event that the packet spells. Each part is copied once, and none is read again. The error comes for want of
-    /// memory. The event fits, since its shortest spelling is no longer than the packet.
+    /// The event that the packet spells. Each part is copied once, from where it was found; its tags are walked again,
+    /// and texts are tested again as they become texts of their own. The error comes for want of memory. The event
+    /// fits, since its shortest spelling is no longer than the packet.
     #[inline(always)]
     pub fn event(&self, alloc: Global) -> Result<Event, NoMemory>
         ensures spelled { IfOk result (SpellsEvent self.now) }

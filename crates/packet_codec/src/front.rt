@@ -5,8 +5,8 @@
 pub enum Front {
     /// A packet of this many bytes.
     Packet(usize),
-    /// The front of a header, or a header whose packet is longer than the bytes at hand: with more bytes it may become
-    /// a packet.
+    /// More bytes are asked for: the front of a header stands there, or a header whose packet would be longer than the
+    /// bytes at hand. Whether a packet can still come of it is not told.
     More,
     /// No packet, whatever follows.
     No,

@@ -33,7 +33,7 @@ pub use decoding::decode;
 pub use encoding::encode;
 pub use event::{Event, FilePart};
 pub use front::Front;
-pub use laws::packets_are_one_event;
+pub use laws::{fronts_are_one, packets_are_one_event};
 pub use looking::{Sight, look, see};
 pub use packet::Packet;
 pub use routing::reroute;

@@ -13,8 +13,8 @@ use crate::packet::{Packet, packet_of};
 pub enum Sight<'a> {
     /// A packet.
     Packet(Packet<'a>),
-    /// The front of a header, or a header whose packet is longer than the bytes at hand: with more bytes it may become
-    /// a packet.
+    /// More bytes are asked for: the front of a header stands there, or a header whose packet would be longer than the
+    /// bytes at hand. Whether a packet can still come of it is not told.
     More,
     /// No packet, whatever follows.
     No,
@@ -50,10 +50,10 @@ fn is_front_of_header(bytes: &[u8]) -> bool
     extra <= 2 && bytes.len() <= 3 + extra
 }
 
-/// Whether the bytes begin with a packet, may do so with more bytes behind them, or never will. It takes no memory, and
-/// of a packet its event can be made without another look at it.
-/// What cannot be is refused at the first byte that tells it: the header first, then the lengths of the fields, then
-/// the texts, and the checksum last.
+/// Whether the bytes begin with a packet, ask for more bytes, or begin with none, whatever follows. It takes no memory,
+/// and the packet's event can be made without its checksum and its texts being tested again.
+///
+/// The header is tested first, then the lengths of the fields, then the texts, and the checksum last.
 #[inline(always)]
 pub fn see(bytes: &[u8]) -> Sight<'_>
     ensures { IsSeen bytes.now result }

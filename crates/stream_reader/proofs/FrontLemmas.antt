@@ -3,7 +3,7 @@ use Rattle.std.proofs.Common.{◌≡◌, ◌⊎◌, ℕ, ◌≤◌, ◌<◌, Lis
 use Rattle.std.specs.Prelude.{is_some}
 use Rattle.std.specs.Int.{w32, to_be_bytes}
 use Rattle.std.proofs.lemmas.Bool.{cases_lt}
-use Rattle.std.proofs.lemmas.List.{length-append, length-drop, take-append-drop, take-append-le, drop-append-le, take_at, drop_at, append-nil, append_cancel_left}
+use Rattle.std.proofs.lemmas.List.{length-append, length-drop, take-append-drop, take-append-le, drop-append-le, take_at, drop_at, append_cancel_left}
 use Rattle.std.proofs.lemmas.List.Elements.{All-append, All-take, All-drop, All-from_get_or}
 use Rattle.sub_number.specs.Checksum.{crc32}
 use Rattle.sub_number.proofs.NumberLemmas as fits
@@ -12,10 +12,9 @@ use Rattle.packet_codec.specs.Flags.{first_flags, second_flags}
 use Rattle.packet_codec.specs.Packet.{signature, SpellsEvent}
 use Rattle.packet_codec.specs.Grammar.{AreBytes, Found}
 use Rattle.packet_codec.specs.Header.{IsHeader, BeginsWithHeader, BeginsWithPacket, IsFrontOfHeader, NeedsMore}
-use Rattle.packet_codec.specs.Shapes.{HeaderShape}
 use Rattle.packet_codec.proofs.FlagLemmas.{first_bits, second_bits}
-use Rattle.packet_codec.proofs.GrammarLemmas.{fits_from_are, found_same}
-use Rattle.packet_codec.proofs.HeaderLemmas.{header_free}
+use Rattle.packet_codec.proofs.GrammarLemmas.{fits_from_are}
+use Rattle.packet_codec.proofs.AnswerLemmas.{packet_needs_no_more}
 use Rattle.packet_codec.proofs.PacketLemmas.{no_front, one_event}
 use Rattle.stream_reader.specs.Cut.{BeginsWithPacketOf, BeginsWithNone}
 
@@ -45,12 +44,6 @@ split_front a r b x e le =
 
 -- ---- headers
 
-header_shape : (h : List ℕ) (size : ℕ) → (s : IsHeader h size) → HeaderShape h (s.first, (s.second, size))
-header_shape h size s = record { number = s.number; parts = s.parts; version = s.version; zero_bit = s.zero_bit; size_spelled = s.size_spelled; size_short = s.size_short; room = s.room }
-
-header_found : (b : List ℕ) (size : ℕ) → (h : BeginsWithHeader b size) → Found HeaderShape b (h.3.first, (h.3.second, size)) h.1
-header_found b size (h, rest, parts, s) = record { front = h; parts = parts; spelled = header_shape h size s }
-
 header_longer : (b c more : List ℕ) (size : ℕ) → c ≡ b ++ more → BeginsWithHeader b size → BeginsWithHeader c size
 header_longer b c more size e (h, rest, parts, s) = (h, rest ++ more, e ∙ ap (λ (l : List ℕ). l ++ more) parts ∙ append_assoc h rest more, s)
 
@@ -73,18 +66,6 @@ header_shorter b more size are (h, rest, parts, s) = elim (cases_lt (length b) (
           are_bytes = are_before (drop (length b) h) rest are';
           header = rw (← whole) s;
         }
-
-one_size : (b : List ℕ) (n m : ℕ) → AreBytes b → BeginsWithHeader b n → BeginsWithHeader b m → n ≡ m
-one_size b n m are h k = ap (λ (v : ℕ × (ℕ × ℕ)). v.1.1) (found_same HeaderShape header_free b _ _ _ _ (fits_from_are b are) (header_found b n h) (header_found b m k)).value
-
-whole_is_no_front : (b : List ℕ) (size : ℕ) → AreBytes b → BeginsWithHeader b size → IsFrontOfHeader b → ⊥
-whole_is_no_front b size are (h, rest, parts, s) front =
-    let longer : Found HeaderShape (b ++ front.rest) (s.first, (s.second, size)) (rest ++ front.rest) =
-    record { front = h; parts = ap (λ (l : List ℕ). l ++ front.rest) parts ∙ append_assoc h rest front.rest; spelled = header_shape h size s } in
-    let whole : Found HeaderShape (b ++ front.rest) (front.header.first, (front.header.second, front.size)) [] =
-    record { front = b ++ front.rest; parts = sym (append-nil (b ++ front.rest)); spelled = header_shape _ front.size front.header } in
-    let same = found_same HeaderShape header_free (b ++ front.rest) _ _ _ _ (fits_from_are (b ++ front.rest) (are_both b front.rest are front.are_bytes)) longer whole in
-    omega (arith, front.some, ap length same.rest, length-append rest front.rest)
 
 -- ---- packets
 
@@ -141,11 +122,6 @@ packet_longer b more size p = record {
   in_range = omega (arith, p.in_range, length-append b more);
   packet = (p.packet.0, rw (take-append-le size b more p.in_range) p.packet.1);
 }
-
--- where a packet stands, no more bytes are needed
-pub packet_needs_no_more : (b : List ℕ) (size : ℕ) → AreBytes b → BeginsWithPacket b size → NeedsMore b → ⊥
-packet_needs_no_more b size are p (inl front) = whole_is_no_front b size are p.header front
-packet_needs_no_more b size are p (inr (other, begins, less)) = omega (arith, one_size b size other are p.header begins, p.in_range)
 
 pub found_needs_no_more : (b rest : List ℕ) (e : Event) → AreBytes b → BeginsWithPacketOf b e rest → NeedsMore b → ⊥
 found_needs_no_more b rest e are f more = packet_needs_no_more b _ are (found_begins b rest e f) more

@@ -5,3 +5,4 @@ pub mod RunLemmas
 pub mod GivingLemmas
 pub mod TurnLemmas
 pub mod ExistLemmas
+pub mod RoomLemmas

@@ -20,10 +20,10 @@ pieces_of (byte ∷ run) = foreign byte ∷ pieces_of run
 
 -- ---- one byte
 
-one_more : (at_end : List ℕ → List Note) (ps : List Piece) (run : List ℕ) (byte : ℕ) → length run + 1 < 65536 → notes_behind at_end (foreign byte ∷ ps) run ≡ notes_behind at_end ps (run ++ byte ∷ [])
+pub one_more : (at_end : List ℕ → List Note) (ps : List Piece) (run : List ℕ) (byte : ℕ) → length run + 1 < 65536 → notes_behind at_end (foreign byte ∷ ps) run ≡ notes_behind at_end ps (run ++ byte ∷ [])
 one_more at_end ps run byte less = cond-true _ _ _ (lt-ltb (length run + 1) 65536 less)
 
-last_one : (at_end : List ℕ → List Note) (ps : List Piece) (run : List ℕ) (byte : ℕ) → 65536 ≤ length run + 1 → notes_behind at_end (foreign byte ∷ ps) run ≡ note.Foreign (run ++ byte ∷ []) ∷ notes_behind at_end ps []
+pub last_one : (at_end : List ℕ → List Note) (ps : List Piece) (run : List ℕ) (byte : ℕ) → 65536 ≤ length run + 1 → notes_behind at_end (foreign byte ∷ ps) run ≡ note.Foreign (run ++ byte ∷ []) ∷ notes_behind at_end ps []
 last_one at_end ps run byte full = cond-false _ _ _ (le-ltb (length run + 1) 65536 full)
 
 -- ---- runs

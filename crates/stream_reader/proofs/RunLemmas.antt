@@ -8,9 +8,10 @@ use Rattle.packet_codec.specs.Grammar.{AreBytes}
 use Rattle.packet_codec.specs.Header.{BeginsWithPacket, NeedsMore, LooksLike}
 use Rattle.packet_codec.specs.declared.front.Front.TheVariants.{More, No}
 use Rattle.packet_codec.proofs.LookLemmas.{front_of_none}
+use Rattle.packet_codec.proofs.AnswerLemmas.{packet_needs_no_more}
 use Rattle.stream_reader.specs.Cut.{Piece, IsCut, IsOpenCut}
 use Rattle.stream_reader.specs.Run.{IsForeign, AreForeign, IsRun}
-use Rattle.stream_reader.proofs.FrontLemmas.{packet_longer, none_found, stays_none, stays_closed, packet_needs_no_more, header_first, front_first, are_dropped}
+use Rattle.stream_reader.proofs.FrontLemmas.{packet_longer, none_found, stays_none, stays_closed, header_first, front_first, are_dropped}
 use Rattle.stream_reader.proofs.NotesLemmas.{pieces_of}
 
 -- ---- one place

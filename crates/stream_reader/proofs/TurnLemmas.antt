@@ -6,9 +6,11 @@ use Rattle.std.proofs.lemmas.List.{append-nil, length-append, take_more}
 use Rattle.std.proofs.lemmas.List.Elements.{All-nil}
 use Rattle.packet_codec.specs.Grammar.{AreBytes}
 use Rattle.stream_reader.specs.declared.note.Note.{Note}
-use Rattle.stream_reader.specs.Notes.{HasNotes, HasDecided}
+use Rattle.stream_reader.specs.Notes.{notes_of, decided_of, HasNotes, HasDecided}
 use Rattle.stream_reader.specs.Stream.{Held, BeginsWithNotes, EndsWithNotes, Gives, GivesNote, GivesNotes, IsSpent}
 use Rattle.stream_reader.proofs.FrontLemmas.{are_both}
+use Rattle.stream_reader.proofs.CutLemmas.{one_cut, one_open_cut}
+use Rattle.stream_reader.proofs.ExistLemmas.{some_notes, some_decided}
 
 no_bytes : AreBytes []
 no_bytes = All-nil (λ byte. byte < 256)
@@ -44,6 +46,24 @@ pub end_whole : (bytes : List ℕ) (given : List Note) → EndsWithNotes bytes g
 end_whole bytes given first =
     let whole : HasNotes bytes (given ++ []) = first.notes [] (record { pieces = []; cut = refl; made = refl }) in
     rw (append-nil given) at whole
+
+-- ---- one list, and the notes given are the first of it
+
+pub one_notes : (bytes : List ℕ) (notes others : List Note) → AreBytes bytes → HasNotes bytes notes → HasNotes bytes others → notes ≡ others
+one_notes bytes notes others are h k = h.made ∙ ap notes_of (one_cut h.pieces k.pieces bytes are h.cut k.cut) ∙ sym k.made
+
+pub one_decided : (bytes : List ℕ) (notes others : List Note) → AreBytes bytes → HasDecided bytes notes → HasDecided bytes others → notes ≡ others
+one_decided bytes notes others are h k = h.made ∙ ap decided_of (one_open_cut h.pieces k.pieces bytes are h.cut k.cut) ∙ sym k.made
+
+pub given_first : (bytes rest more : List ℕ) (given others : List Note) → AreBytes (bytes ++ more) → AreBytes more → BeginsWithNotes bytes given rest → HasNotes (bytes ++ more) others → (last : List Note) × (others ≡ given ++ last)
+given_first bytes rest more given others are are' first h =
+    let last = some_notes (rest ++ more) in
+    (last.0, one_notes (bytes ++ more) others (given ++ last.0) are h (first.notes more last.0 are' last.1))
+
+pub given_decided : (bytes rest more : List ℕ) (given others : List Note) → AreBytes (bytes ++ more) → AreBytes (rest ++ more) → AreBytes more → BeginsWithNotes bytes given rest → HasDecided (bytes ++ more) others → (last : List Note) × (others ≡ given ++ last)
+given_decided bytes rest more given others are are_rest are' first h =
+    let last = some_decided (rest ++ more) are_rest in
+    (last.0, one_decided (bytes ++ more) others (given ++ last.0) are h (first.decided more last.0 are' last.1))
 
 -- ---- several notes
 

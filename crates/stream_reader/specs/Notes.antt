@@ -38,7 +38,8 @@ pub record HasNotes (bytes : List ℕ) (notes : List Note) : Type 0 where
   pub cut : IsCut bytes pieces
   pub made : notes ≡ notes_of pieces
 
--- the notes that the first bytes of a stream decide, whatever follows
+-- The notes that the first bytes of a stream decide: those up to the first place where more bytes are asked for. Each of
+-- them stands, whatever follows.
 pub record HasDecided (bytes : List ℕ) (notes : List Note) : Type 0 where
   pub pieces : List Piece
   pub cut : IsOpenCut bytes pieces

@@ -11,6 +11,8 @@ ghost use Rattle.worker_lane.specs.Scribing.{Scribing, IsAsBefore, GivesPacket, 
 
 /// Laws of what is recorded of all streams.
 pub fn recorded_streams()
+    // Some list of events is recorded of each stream.
+    ensures some { (lane : ℕ) (bytes : List ℕ) → (events : List Event) × HasRecorded lane bytes events }
     // Each recorded event has a packet.
     ensures events { (lane : ℕ) (bytes : List ℕ) (events : List Event) → lane < 64 → AreBytes bytes → HasRecorded lane bytes events → All IsEvent events × All Fits events }
     // So these packets, as a stream, are the events that were recorded.

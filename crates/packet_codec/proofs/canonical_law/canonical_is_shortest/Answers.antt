@@ -1,5 +1,12 @@
-use Rattle.packet_codec.proofs.SpellingLemmas.{canonical_shortest}
+use Rattle.packet_codec.proofs.SpellingLemmas.{canonical_shortest, length_canonical}
+use Rattle.packet_codec.proofs.LeastLemmas.{spelled_fits}
 use Rattle.packet_codec.proofs.canonical_law.canonical_is_shortest.Goals as goal
 
-pub returns : goal.returns
-returns c = canonical_shortest
+pub returns-clause-shortest : goal.returns-clause-shortest
+returns-clause-shortest c = canonical_shortest
+
+pub returns-clause-only : goal.returns-clause-only
+returns-clause-only c = spelled_fits
+
+pub returns-clause-size : goal.returns-clause-size
+returns-clause-size c = length_canonical

@@ -1,4 +1,4 @@
-use Rattle.stream_reader.proofs.TurnLemmas.{begin_then, begin_fed, begin_decided, begin_ended, end_then, end_whole}
+use Rattle.stream_reader.proofs.TurnLemmas.{begin_then, begin_fed, begin_decided, begin_ended, end_then, end_whole, given_first, given_decided}
 use Rattle.stream_reader.proofs.laws.notes_in_turn.Goals as goal
 
 pub returns-clause-more : goal.returns-clause-more
@@ -18,3 +18,9 @@ returns-clause-more_ended c = end_then
 
 pub returns-clause-whole : goal.returns-clause-whole
 returns-clause-whole c = end_whole
+
+pub returns-clause-given_first : goal.returns-clause-given_first
+returns-clause-given_first c = given_first
+
+pub returns-clause-given_decided : goal.returns-clause-given_decided
+returns-clause-given_decided c = given_decided

@@ -1,8 +1,10 @@
 use Rattle.std.proofs.Common.{◌∙◌, ◌++◌, sym, ap, [], map, arith}
-use Rattle.stream_reader.specs.Notes.{notes_of, decided_of}
+use Rattle.stream_reader.specs.Notes.{notes_of}
 use Rattle.stream_reader.proofs.FrontLemmas.{are_before, are_behind}
-use Rattle.stream_reader.proofs.ExistLemmas.{some_notes}
-use Rattle.stream_reader.proofs.CutLemmas.{one_cut, one_open_cut, open_cut_first}
+use Rattle.stream_reader.proofs.ExistLemmas.{some_notes, some_decided}
+use Rattle.stream_reader.proofs.RoomLemmas.{decided_few}
+use Rattle.stream_reader.proofs.TurnLemmas.{one_notes, one_decided}
+use Rattle.stream_reader.proofs.CutLemmas.{open_cut_first}
 use Rattle.stream_reader.proofs.NotesLemmas.{decided_first, are_full, are_made, packets_of, notes_of_packets, events_of_packets, cut_of_written}
 use Rattle.stream_reader.specs.declared.note.Note.TheVariants as note
 use Rattle.stream_reader.proofs.laws.notes_of_streams.Goals as goal
@@ -10,11 +12,17 @@ use Rattle.stream_reader.proofs.laws.notes_of_streams.Goals as goal
 pub returns-clause-some : goal.returns-clause-some
 returns-clause-some c = some_notes
 
+pub returns-clause-some_decided : goal.returns-clause-some_decided
+returns-clause-some_decided c = some_decided
+
+pub returns-clause-decided_few : goal.returns-clause-decided_few
+returns-clause-decided_few c = decided_few
+
 pub returns-clause-one_list : goal.returns-clause-one_list
-returns-clause-one_list c = λ bytes notes others are h k. h.made ∙ ap notes_of (one_cut h.pieces k.pieces bytes are h.cut k.cut) ∙ sym k.made
+returns-clause-one_list c = one_notes
 
 pub returns-clause-one_decided : goal.returns-clause-one_decided
-returns-clause-one_decided c = λ bytes notes others are h k. h.made ∙ ap decided_of (one_open_cut h.pieces k.pieces bytes are h.cut k.cut) ∙ sym k.made
+returns-clause-one_decided c = one_decided
 
 pub returns-clause-decided_first : goal.returns-clause-decided_first
 returns-clause-decided_first c = λ bytes more notes others are h k.
