@@ -1,11 +1,11 @@
 -- The first note of what is held, and that a reader's notes are those of the stream.
+use Rattle.std.specs.Prelude.{Option, Some, None}
 use Rattle.std.proofs.Common.{◌≡◌, ◌⊎◌, ℕ, ◌≤◌, ◌<◌, Bool, true, false, List, [], ◌∷◌, ◌++◌, length, take, drop, refl, inl, inr, sym, ap, ◌∙◌, append_assoc, arith}
 use Rattle.std.proofs.lemmas.List.{take-append-drop, length-take-le, drop_all}
 use Rattle.packet_codec.specs.declared.event.Event.{Event}
 use Rattle.packet_codec.specs.Grammar.{AreBytes}
 use Rattle.packet_codec.specs.Header.{BeginsWithPacket, NeedsMore}
 use Rattle.packet_codec.specs.Packet.{SpellsEvent}
-use Rattle.packet_codec.specs.Sight.{BeginsWithThis}
 use Rattle.packet_codec.specs.declared.front.Front.{Front}
 use Rattle.packet_codec.specs.declared.front.Front.TheVariants.{Packet, More, No}
 use Rattle.packet_codec.proofs.LookLemmas.{front_of_none}
@@ -15,7 +15,9 @@ use Rattle.stream_reader.specs.Cut.{Piece, packet, foreign, BeginsWithPacketOf, 
 use Rattle.stream_reader.specs.Notes.{foreign_note, notes_behind, notes_of}
 use Rattle.stream_reader.specs.Stream.{Held, BeginsWithNotes, EndsWithNotes, Gives, IsSpent, GivesNote}
 use Rattle.stream_reader.specs.Run.{AreForeign, StopsBy, IsRun}
-use Rattle.stream_reader.specs.First.{IsFirst}
+use Rattle.stream_reader.specs.declared.first.First.{First}
+use Rattle.stream_reader.specs.declared.first.First.TheVariants as found
+use Rattle.stream_reader.specs.First.{IsFirst, FirstIs, IsMadeBy, front_behind, first_size}
 use Rattle.stream_reader.proofs.FrontLemmas.{are_dropped, packet_some, begins_found, found_longer, found_needs_no_more, are_both}
 use Rattle.stream_reader.proofs.CutLemmas.{found_not_empty, not_empty}
 use Rattle.stream_reader.proofs.NotesLemmas.{pieces_of, run_goes_on, run_is_full, run_at_packet, run_at_end}
@@ -151,9 +153,6 @@ first_is_event ended b size e in_range spells = record {
   gives = gives_event ended b (drop size b) e (record { front = take size b; parts = sym (take-append-drop size b); spelled = spells });
 }
 
-pub first_is_packet : (ended : Bool) (b p : List ℕ) (size : ℕ) (e : Event) → BeginsWithThis b p → size ≡ length p → SpellsEvent p e → IsFirst ended b (note.Event e) size
-first_is_packet ended b p size e this size-is spells = rw size-is (first_is_event ended b (length p) e this.begins.in_range (rw (sym this.front) spells))
-
 pub first_is_run : (ended : Bool) (b : List ℕ) (count : ℕ) (front : Front) → AreBytes b → 0 < count → (front ≡ More → ⊥) → IsRun ended b count front → IsFirst ended b (note.Foreign (take count b)) count
 first_is_run ended b count front are some closed run =
     let len : length (take count b) ≡ count = length-take-le count b run.in_range in
@@ -199,3 +198,15 @@ gives_first before after first size is after-is = rw after-is (record {
   made = is.made;
   first = is.gives;
 })
+
+not_more : (behind : Option ℕ) → front_behind behind ≡ More → ⊥
+not_more None is = absurd cc
+not_more (Some size) is = absurd cc
+
+pub gives_made : (before after : Held) (first : First) (given : Note) → AreBytes before.bytes → FirstIs before.ended before.bytes first → after ≡ record { bytes = drop (first_size first) before.bytes; ended = before.ended } → IsMadeBy before.bytes first given → GivesNote before given after
+gives_made before after (found.Packet size) (note.Event e) are is after-is made = gives_first before after (note.Event e) size (first_is_event before.ended before.bytes size e is.in_range made) after-is
+gives_made before after (found.Packet size) (note.Foreign run) are is after-is made = absurd made
+gives_made before after (found.Foreign size behind) (note.Event e) are is after-is made = absurd made
+gives_made before after (found.Foreign size behind) (note.Foreign run) are is after-is made =
+    rw made (gives_first before after (note.Foreign (take size before.bytes)) size (first_is_run before.ended before.bytes size (front_behind behind) are is.0 (not_more behind) is.1) after-is)
+gives_made before after found.Nothing given are is after-is made = absurd made

@@ -1,8 +1,8 @@
 -- The notes that a reader gives, one call after another.
 use Rattle.std.specs.List.{flat_map}
 use Rattle.std.proofs.lemmas.List.Concat.{flat_map-append}
-use Rattle.std.proofs.Common.{◌≡◌, ℕ, ◌+◌, ◌<◌, get_or, take, Bool, true, false, List, [], ◌∷◌, ◌++◌, length, refl, sym, ap, ◌∙◌, append_assoc, arith}
-use Rattle.std.proofs.lemmas.List.{append-nil, length-append, take_more}
+use Rattle.std.proofs.Common.{◌≡◌, ℕ, ◌+◌, ◌<◌, get_or, take, drop, Bool, true, false, List, [], ◌∷◌, ◌++◌, length, refl, sym, ap, ◌∙◌, append_assoc, arith}
+use Rattle.std.proofs.lemmas.List.{take-append-drop, append-nil, length-append, take_more}
 use Rattle.std.proofs.lemmas.List.Elements.{All-nil}
 use Rattle.packet_codec.specs.Grammar.{AreBytes}
 use Rattle.stream_reader.specs.declared.note.Note.{Note}
@@ -97,6 +97,31 @@ pub begin_more : (bytes piece rest : List ℕ) (notes new : List Note) (held aft
 begin_more bytes piece rest notes new held after are before held-is step =
     let first : Gives false (rest ++ piece) step.given after.bytes = rw held-is at step.first in
     rw (step.new_is) (begin_then (bytes ++ piece) (rest ++ piece) after.bytes notes step.given (begin_fed bytes rest piece notes are before) first)
+
+pub split_parts : (left part behind : List ℕ) (n : ℕ) → part ≡ take n left → behind ≡ drop n left → left ≡ part ++ behind
+split_parts left part behind n front back = rw (front, back) (sym (take-append-drop n left))
+
+-- what is left of a piece is still to be read
+abbrev pub IsReadTo : (old : List ℕ) → (before : List Note) → (now : List ℕ) → (notes : List Note) → (piece left : List ℕ) → Type 0
+IsReadTo old before now notes piece left = (bytes : List ℕ) → BeginsWithNotes bytes before old → (done : List ℕ) × (piece ≡ done ++ left) × BeginsWithNotes (bytes ++ done) notes now
+
+pub read_none : (old : List ℕ) (before : List Note) (piece : List ℕ) → IsReadTo old before old before piece piece
+read_none old before piece bytes first = ([], refl, rw (append-nil bytes) first)
+
+pub read_more : (old now piece left part behind : List ℕ) (before notes new : List Note) (held after : Held) → AreBytes part → left ≡ part ++ behind → held ≡ record { bytes = now ++ part; ended = false } → GivesNotes held notes after new → IsReadTo old before now notes piece left → IsReadTo old before after.bytes new piece behind
+read_more old now piece left part behind before notes new held after are parts held-is step so_far bytes first =
+    let was = so_far bytes first in (
+      was.0 ++ part,
+      was.1 ∙ ap (λ (l : List ℕ). was.0 ++ l) parts ∙ sym (append_assoc was.0 part behind),
+      rw (← append_assoc bytes was.0 part) (begin_more (bytes ++ was.0) part now notes new held after are was.2 held-is step),
+    )
+
+pub read_all : (old now piece left : List ℕ) (before notes : List Note) → length left ≡ 0 → IsReadTo old before now notes piece left → (bytes : List ℕ) → BeginsWithNotes bytes before old → BeginsWithNotes (bytes ++ piece) notes now
+read_all old now piece [] before notes none so_far bytes first =
+    let was = so_far bytes first in
+    let all : piece ≡ was.0 = was.1 ∙ append-nil was.0 in
+    rw all was.2
+read_all old now piece (byte ∷ left) before notes none so_far bytes first = absurd (omega arith)
 
 pub whole_at_end : (bytes rest : List ℕ) (notes new : List Note) (held after : Held) → BeginsWithNotes bytes notes rest → held ≡ record { bytes = rest; ended = true } → GivesNotes held notes after new → IsSpent after.ended after.bytes → HasNotes bytes new
 whole_at_end bytes rest notes new held after before held-is step spent =

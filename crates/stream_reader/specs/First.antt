@@ -1,7 +1,15 @@
 -- The first note of what is held.
-use Rattle.std.specs.Prelude.{ℕ, ◌<◌, ◌≤◌, Bool, List, [], ◌∷◌, length, take, drop}
+use Rattle.std.specs.Prelude.{◌≡◌, ℕ, ◌<◌, ◌≤◌, Bool, Option, Some, None, List, [], ◌∷◌, length, take, drop}
+use Rattle.packet_codec.specs.Packet.{SpellsEvent}
+use Rattle.packet_codec.specs.Header.{BeginsWithPacket}
+use Rattle.packet_codec.specs.declared.front.Front.{Front}
+use Rattle.packet_codec.specs.declared.front.Front.TheVariants as front
 use Rattle.stream_reader.specs.declared.note.Note.{Note}
-use Rattle.stream_reader.specs.Stream.{Gives, IsMadeOf}
+use Rattle.stream_reader.specs.declared.note.Note.TheVariants as note
+use Rattle.stream_reader.specs.declared.first.First.{First}
+use Rattle.stream_reader.specs.declared.first.First.TheVariants.{Packet, Foreign, Nothing}
+use Rattle.stream_reader.specs.Run.{IsRun}
+use Rattle.stream_reader.specs.Stream.{Gives, IsMadeOf, IsSpent}
 
 -- the first note, and how many bytes at the front it is made of
 pub record IsFirst (ended : Bool) (bytes : List ℕ) (first : Note) (size : ℕ) : Type 0 where
@@ -9,3 +17,28 @@ pub record IsFirst (ended : Bool) (bytes : List ℕ) (first : Note) (size : ℕ)
   pub in_range : size ≤ length bytes
   pub made : IsMadeOf first (take size bytes)
   pub gives : Gives ended bytes (first ∷ []) (drop size bytes)
+
+-- what was seen behind a run of foreign bytes: a packet, or why the run is no longer
+abbrev pub front_behind : Option ℕ → Front
+front_behind (Some size) = front.Packet size
+front_behind None = front.No
+
+-- what the first note is made of: a packet, a run of foreign bytes that no bytes to come make longer, or nothing yet
+abbrev pub FirstIs : Bool → List ℕ → First → Type 0
+FirstIs ended bytes (Packet size) = BeginsWithPacket bytes size
+FirstIs ended bytes (Foreign size behind) = (0 < size) × IsRun ended bytes size (front_behind behind)
+FirstIs ended bytes Nothing = IsSpent ended bytes
+
+-- the note that is made of it
+abbrev pub IsMadeBy : List ℕ → First → Note → Type 0
+IsMadeBy bytes (Packet size) (note.Event event) = SpellsEvent (take size bytes) event
+IsMadeBy bytes (Packet size) (note.Foreign run) = ⊥
+IsMadeBy bytes (Foreign size behind) (note.Event event) = ⊥
+IsMadeBy bytes (Foreign size behind) (note.Foreign run) = run ≡ take size bytes
+IsMadeBy bytes Nothing given = ⊥
+
+-- how many bytes it takes
+abbrev pub first_size : First → ℕ
+first_size (Packet size) = size
+first_size (Foreign size behind) = size
+first_size Nothing = 0

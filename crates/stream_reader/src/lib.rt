@@ -4,18 +4,23 @@
 //! kept as foreign bytes. The rule stands in docs/FORMATS.md, "Streams".
 //!
 //! - `note`: an event, or foreign bytes
-//! - `reader`: the bytes fed, and the notes that they decide
+//! - `reader`: the bytes fed, and the notes that they decide; it stands on `buffer`, the bytes held
+//! - `first`: what a note is made of, before it is made
 //! - `run`: the foreign bytes at the front of what is held
 //! - `whole`: the notes of a whole stream
 //! - `laws`: what holds of the notes of all streams
 #![tactic(auto)]
 
+mod buffer;
+mod first;
 mod laws;
 mod note;
 mod reader;
 mod run;
 mod whole;
 
+pub use buffer::{MOST_HELD, ROOM};
+pub use first::First;
 pub use laws::{notes_in_turn, notes_of_streams};
 pub use note::{Note, stdout_event};
 pub use reader::Reader;

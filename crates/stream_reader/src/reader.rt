@@ -1,14 +1,20 @@
 //! A reader of a stream.
 
-ghost use Rattle.std.specs.Prelude.{◌≡◌, ◌<◌, ◌≤◌, ◌++◌, [], true, false, length, drop, IfOk, OnOk, OnErr, IfSome, IfNone};
+ghost use Rattle.std.specs.Prelude.{◌≡◌, ◌<◌, ◌≤◌, ◌+◌, ◌++◌, [], true, false, length, take, drop, IfOk, OnErr, IfSome, IfNone};
 ghost use Rattle.packet_codec.specs.Header.{BeginsWithPacket};
+ghost use Rattle.stream_reader.specs.declared.note.Note.{Note};
+ghost use Rattle.stream_reader.specs.declared.first.First.TheVariants.{Nothing};
 ghost use Rattle.stream_reader.specs.Notes.{longest_foreign};
+ghost use Rattle.stream_reader.specs.First.{FirstIs, IsMadeBy};
+ghost use Rattle.stream_reader.specs.Room.{room, most_held};
 ghost use Rattle.stream_reader.specs.Run.{AreForeign};
 ghost use Rattle.stream_reader.specs.Stream.{GivesNote, IsSpent};
 
+use crate::buffer::Buffer;
+use crate::first::First;
 use crate::note::Note;
 use crate::run::{are_bytes, foreign_run};
-use packet_codec::{Front, Sight, decode, see};
+use packet_codec::{Front, decode, look};
 use std::alloc::Global;
 use std::marker::Model;
 use sub_number::{Bytes, NoMemory};
@@ -17,22 +23,22 @@ use sub_number::{Bytes, NoMemory};
 /// of the whole stream. Contracts see the bytes fed that belong to no note given, and whether the stream has ended.
 ///
 /// Each note is given as soon as the bytes fed decide it, whatever may follow. The bytes of notes that were given are
-/// let go of.
+/// let go of. The reader takes its room when it is made, and holds 4,325,376 bytes at most: whoever takes all notes
+/// that can be told before the next piece may feed pieces of 65,536 bytes.
 #[derive(Drop)]
 pub struct Reader {
-    buffer: Vec<u8>,
-    // So many bytes of the buffer belong to notes that were given.
-    given: usize,
-    // So many bytes behind them are known to be foreign.
+    alloc: Global,
+    // The bytes that belong to no note given.
+    buffer: Buffer,
+    // So many bytes at their front are known to be foreign.
     foreign: usize,
-    // The size of a packet that is known to stand behind them: a run of foreign bytes was seen to end there. So it is
-    // not tested again.
+    // The size of a packet that is known to stand there. So it is not tested again.
     packet: Option<usize>,
     ended: bool,
 }
 
 impl Model for Reader {
-    ghost use Rattle.std.specs.Prelude.{◌+◌, ◌≤◌, length, drop, IfSome};
+    ghost use Rattle.std.specs.Prelude.{◌≤◌, length, IfSome};
     ghost use Rattle.packet_codec.specs.Header.{BeginsWithPacket};
     ghost use Rattle.stream_reader.specs.Notes.{longest_foreign};
     ghost use Rattle.stream_reader.specs.Stream.{Held};
@@ -40,38 +46,35 @@ impl Model for Reader {
 
     ghost Value = { Held };
 
-    ghost view = { λ r. record { bytes = drop r.given r.buffer.items; ended = r.ended } };
+    ghost view = { λ r. record { bytes = r.buffer; ended = r.ended } };
 
-    ghost invariant = { λ r. (r.given + r.foreign ≤ length r.buffer.items) × (r.foreign ≤ longest_foreign) × AreForeign r.ended (drop r.given r.buffer.items) r.foreign × IfSome r.packet (BeginsWithPacket (drop r.given r.buffer.items)) };
+    ghost invariant = { λ r. (r.foreign ≤ length r.buffer) × (r.foreign ≤ longest_foreign) × AreForeign r.ended r.buffer r.foreign × IfSome r.packet (BeginsWithPacket r.buffer) };
 }
 
 impl Reader {
-    /// A reader to which nothing was fed.
+    /// A reader to which nothing was fed, with all the room that it will ever need.
     ///
     /// `NoMemory` comes only for want of memory.
     pub fn new(alloc: Global) -> Result<Self, NoMemory>
         ensures { IfOk result (λ reader. reader ≡ record { bytes = []; ended = false }) }
     {
         Ok(Reader {
-            buffer: Vec::new(alloc),
-            given: 0,
+            alloc,
+            buffer: Buffer::new(alloc)?,
             foreign: 0,
             packet: None,
             ended: false,
         })
     }
 
-    /// The next bytes of the stream, any number of them.
-    ///
-    /// `NoMemory` comes only for want of memory, and leaves the reader as before.
-    pub fn feed(&mut self, piece: &[u8]) -> Result<(), NoMemory>
-        requires { self.old.ended ≡ false }
-        ensures ok { OnOk result (self.new ≡ record { bytes = self.old.bytes ++ piece.now; ended = false }) }
-        ensures err { OnErr result (self.new ≡ self.old) }
+    /// The next bytes of the stream. With what is held they are 4,325,376 at most, and the stream has not ended. It
+    /// takes no memory.
+    pub fn feed(&mut self, piece: &[u8])
+        requires going_on { self.old.ended ≡ false }
+        requires in_room { length self.old.bytes + length piece.now ≤ room }
+        ensures { self.new ≡ record { bytes = self.old.bytes ++ piece.now; ended = false } }
     {
-        self.let_go();
-        self.buffer.extend_from_slice(piece)?;
-        Ok(())
+        self.buffer.append(piece);
     }
 
     /// The first note of the bytes held, whose bytes are then let go of. None where no further note can be told: before
@@ -79,22 +82,22 @@ impl Reader {
     ///
     /// Before the end a note is given only where no bytes that may follow would change it. So bytes are held back as
     /// long as they may become a packet, and so are fewer than 65,536 foreign bytes that may be followed by others.
+    /// After None before the end at most 4,259,837 bytes are held.
     ///
     /// `NoMemory` comes only for want of memory, and leaves the reader as before.
     pub fn next(&mut self) -> Result<Option<Note>, NoMemory>
         ensures some { IfOk result (λ answer. IfSome answer (λ note. GivesNote self.old note self.new)) }
         ensures none { IfOk result (λ answer. IfNone answer (IsSpent self.old.ended self.old.bytes × (self.new ≡ self.old))) }
+        ensures held { IfOk result (λ answer. IfNone answer (self.new.ended ≡ false → length self.new.bytes ≤ most_held)) }
         ensures err { OnErr result (self.new ≡ self.old) }
         ensures ended { self.new.ended ≡ self.old.ended }
     {
-        if let Some(size) = self.packet {
-            return self.give_packet(size);
-        }
-        let known = self.foreign;
-        if known > 0 {
-            return self.give_run(known);
-        }
-        self.give_first()
+        let first = self.first();
+        let Some(note) = self.note(first)? else {
+            return Ok(None);
+        };
+        self.pass(first);
+        Ok(Some(note))
     }
 
     /// The stream has ended: nothing is fed any more. A second call changes nothing.
@@ -108,74 +111,102 @@ impl Reader {
     pub fn held(&self) -> usize
         ensures { result ≡ length self.now.bytes }
     {
-        self.buffer.len() - self.given
+        self.buffer.len()
     }
+}
 
-    // The note of the packet of this size that stands at the front.
-    fn give_packet(&mut self, size: usize) -> Result<Option<Note>, NoMemory>
-        requires { BeginsWithPacket self.old.bytes size }
-        ensures some { IfOk result (λ answer. IfSome answer (λ note. GivesNote self.old note self.new)) }
-        ensures none { IfOk result (λ answer. IfNone answer (IsSpent self.old.ended self.old.bytes × (self.new ≡ self.old))) }
-        ensures err { OnErr result (self.new ≡ self.old) }
-        ensures ended { self.new.ended ≡ self.old.ended }
+/// The steps of `next`, for those who make something else of a note than a value.
+impl Reader {
+    /// What the first note of the bytes held is made of. It takes no memory, and is not looked for a second time.
+    pub fn first(&mut self) -> First
+        ensures same { self.new ≡ self.old }
+        ensures first { FirstIs self.old.ended self.old.bytes result }
     {
-        let rest = &self.buffer[self.given..];
-        let event = decode(*self.buffer.allocator(), &rest[..size])?;
-        self.let_pass(size, None);
-        Ok(Some(Note::Event(event)))
-    }
-
-    // The first note, where nothing is known of the front.
-    fn give_first(&mut self) -> Result<Option<Note>, NoMemory>
-        ensures some { IfOk result (λ answer. IfSome answer (λ note. GivesNote self.old note self.new)) }
-        ensures none { IfOk result (λ answer. IfNone answer (IsSpent self.old.ended self.old.bytes × (self.new ≡ self.old))) }
-        ensures err { OnErr result (self.new ≡ self.old) }
-        ensures ended { self.new.ended ≡ self.old.ended }
-    {
+        if let Some(size) = self.packet {
+            return First::Packet(size);
+        }
+        let known = self.foreign;
+        if known > 0 {
+            return self.first_run(known);
+        }
         if self.held() == 0 {
-            return Ok(None);
+            return First::Nothing;
         }
-        let rest = &self.buffer[self.given..];
-        are_bytes(rest);
-        match see(rest) {
-            Sight::Packet(packet) => {
-                let size = packet.size();
-                let event = packet.event(*self.buffer.allocator())?;
-                self.let_pass(size, None);
-                Ok(Some(Note::Event(event)))
-            }
-            Sight::More if self.ended => self.give_run(1),
-            Sight::More => Ok(None),
-            Sight::No => self.give_run(1),
+        are_bytes(self.buffer.held());
+        match look(self.buffer.held()) {
+            Front::Packet(size) => self.first_packet(size),
+            Front::More if self.ended => self.first_run(1),
+            Front::More => First::Nothing,
+            Front::No => self.first_run(1),
         }
     }
 
-    // The note of the foreign bytes at the front, of which so many are known. The packet that is seen behind them is
-    // kept in mind.
-    fn give_run(&mut self, known: usize) -> Result<Option<Note>, NoMemory>
+    /// The first bytes held.
+    pub fn front(&self, size: usize) -> &[u8]
+        requires { size ≤ length self.now.bytes }
+        ensures { result.now ≡ take size self.now.bytes }
+    {
+        &self.buffer.held()[..size]
+    }
+
+    /// The note of what `first` told. None where there is nothing.
+    ///
+    /// `NoMemory` comes only for want of memory.
+    pub fn note(&self, first: First) -> Result<Option<Note>, NoMemory>
+        requires { FirstIs self.now.ended self.now.bytes first }
+        ensures some { IfOk result (λ answer. IfSome answer (IsMadeBy self.now.bytes first)) }
+        ensures none { IfOk result (λ answer. IfNone answer (first ≡ Nothing)) }
+    {
+        match first {
+            First::Packet(size) => Ok(Some(Note::Event(decode(self.alloc, self.front(size))?))),
+            First::Foreign(size, _) => {
+                let bytes = Bytes::new(self.alloc, self.front(size))?;
+                Ok(Some(Note::Foreign(bytes)))
+            }
+            First::Nothing => Ok(None),
+        }
+    }
+
+    /// The note of what `first` told was given: its bytes are let go of.
+    pub fn pass(&mut self, first: First)
+        requires { FirstIs self.old.ended self.old.bytes first }
+        ensures given { (note : Note) → IsMadeBy self.old.bytes first note → GivesNote self.old note self.new }
+        ensures ended { self.new.ended ≡ self.old.ended }
+    {
+        are_bytes(self.buffer.held());
+        match first {
+            First::Packet(size) => self.let_pass(size, None),
+            First::Foreign(size, packet) => self.let_pass(size, packet),
+            First::Nothing => (),
+        }
+    }
+
+    // A packet of this size stands at the front. That is kept in mind.
+    fn first_packet(&mut self, size: usize) -> First
+        requires { BeginsWithPacket self.old.bytes size }
+        ensures same { self.new ≡ self.old }
+        ensures first { FirstIs self.old.ended self.old.bytes result }
+    {
+        self.packet = Some(size);
+        First::Packet(size)
+    }
+
+    // The foreign bytes at the front, of which so many are known. How far they go is kept in mind.
+    fn first_run(&mut self, known: usize) -> First
         requires some { 0 < known }
         requires in_range { known ≤ length self.old.bytes }
         requires short { known ≤ longest_foreign }
         requires are_foreign { AreForeign self.old.ended self.old.bytes known }
-        ensures some { IfOk result (λ answer. IfSome answer (λ note. GivesNote self.old note self.new)) }
-        ensures none { IfOk result (λ answer. IfNone answer (IsSpent self.old.ended self.old.bytes × (self.new ≡ self.old))) }
-        ensures err { OnErr result (self.new ≡ self.old) }
-        ensures ended { self.new.ended ≡ self.old.ended }
+        ensures same { self.new ≡ self.old }
+        ensures first { FirstIs self.old.ended self.old.bytes result }
     {
-        let rest = &self.buffer[self.given..];
-        are_bytes(rest);
-        let run = foreign_run(rest, known, self.ended);
-        let packet = match run.front {
-            Front::More => {
-                self.foreign = run.count;
-                return Ok(None);
-            }
-            Front::Packet(size) => Some(size),
-            Front::No => None,
-        };
-        let bytes = Bytes::new(*self.buffer.allocator(), &rest[..run.count])?;
-        self.let_pass(run.count, packet);
-        Ok(Some(Note::Foreign(bytes)))
+        let run = foreign_run(self.buffer.held(), known, self.ended);
+        self.foreign = run.count;
+        match run.front {
+            Front::More => First::Nothing,
+            Front::Packet(size) => First::Foreign(run.count, Some(size)),
+            Front::No => First::Foreign(run.count, None),
+        }
     }
 
     // So many bytes belong to a note that is given, and what stands behind them is a packet of this size, if it is known.
@@ -184,22 +215,8 @@ impl Reader {
         requires packet { IfSome packet (BeginsWithPacket (drop size self.old.bytes)) }
         ensures { self.new ≡ record { bytes = drop size self.old.bytes; ended = self.old.ended } }
     {
-        self.given += size;
+        self.buffer.let_pass(size);
         self.foreign = 0;
         self.packet = packet;
-    }
-
-    // Moves what is held to the front of the buffer, once at least half of it belongs to notes that were given. So no
-    // byte is moved more often than bytes are given.
-    fn let_go(&mut self)
-        ensures { self.new ≡ self.old }
-    {
-        let held = self.buffer.len() - self.given;
-        if self.given < held {
-            return;
-        }
-        self.buffer.copy_within(self.given.., 0);
-        self.buffer.truncate(held);
-        self.given = 0;
     }
 }

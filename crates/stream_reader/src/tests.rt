@@ -1,4 +1,6 @@
-use crate::{Note, Reader, notes_of_pieces};
+ghost use Rattle.std.specs.Prelude.{◌≡◌, false};
+
+use crate::{MOST_HELD, Note, ROOM, Reader, notes_of_pieces};
 use packet_codec::{Event, FilePart, Front, Status, encode, fits, look};
 use std::alloc::Global;
 use std::test::Fail;
@@ -39,6 +41,18 @@ fn are_wanted(notes: &[Note], wanted: &[Wanted<'_>]) -> bool {
     same
 }
 
+// Feeds a piece that there is room for.
+fn fed(reader: &mut Reader, piece: &[u8]) -> Option<()>
+    requires { reader.old.ended ≡ false }
+    ensures { reader.new.ended ≡ false }
+{
+    if piece.len() > ROOM || reader.held() > ROOM - piece.len() {
+        return None;
+    }
+    reader.feed(piece);
+    Some(())
+}
+
 // The notes of a stream that is fed in pieces of this size.
 fn notes_of(alloc: Global, stream: &[u8], size: usize) -> Result<Vec<Note>, Fail> {
     let mut pieces = Vec::new(alloc);
@@ -76,12 +90,12 @@ fn streams_in_pieces_of_every_size(rt: HostRuntime) -> Result<(), Fail> {
 fn a_packet_is_held_back_until_it_is_whole(rt: HostRuntime) -> Result<(), Fail> {
     let stream = b"ab\xb3\x29\x03\x0c\x03foo\x45\x9d\xfe\x10";
     let mut reader = Reader::new(rt.alloc()).ok().ok_or("no memory")?;
-    reader.feed(&stream[..3]).ok().ok_or("no memory")?;
+    fed(&mut reader, &stream[..3]).ok_or("no room")?;
     assert!(rt; reader.next().ok().ok_or("no memory")?.is_none());
-    reader.feed(&stream[3..13]).ok().ok_or("no memory")?;
+    fed(&mut reader, &stream[3..13]).ok_or("no room")?;
     assert!(rt; reader.next().ok().ok_or("no memory")?.is_none());
     assert_eq!(rt; reader.held(), 13);
-    reader.feed(&stream[13..]).ok().ok_or("no memory")?;
+    fed(&mut reader, &stream[13..]).ok_or("no room")?;
     let first = reader.next().ok().ok_or("no memory")?.ok_or("no note")?;
     assert!(rt; is_wanted(&first, Wanted::Foreign(b"ab")));
     assert_eq!(rt; reader.held(), 12);
@@ -108,7 +122,7 @@ fn foreign_bytes_are_cut_every_65536(rt: HostRuntime) -> Result<(), Fail> {
     let full = repeated(rt.alloc(), b"a", 65_536)?;
     let stream = repeated(rt.alloc(), b"a", 65_537)?;
     let mut reader = Reader::new(rt.alloc()).ok().ok_or("no memory")?;
-    reader.feed(&short).ok().ok_or("no memory")?;
+    fed(&mut reader, &short).ok_or("no room")?;
     assert!(rt; reader.next().ok().ok_or("no memory")?.is_none());
     for size in [1_000, 65_535, 65_536, 65_537] {
         let notes = notes_of(rt.alloc(), &stream, size)?;
@@ -159,13 +173,71 @@ fn the_longest_packet_is_one_note(rt: HostRuntime) -> Result<(), Fail> {
     Ok(())
 }
 
-// Each candidate needs megabytes to be refused: none of them may be looked at again and again.
+// How many bytes the next note has, if it is a foreign one.
+fn foreign_size(reader: &mut Reader) -> Option<usize>
+    ensures { reader.new.ended ≡ reader.old.ended }
+{
+    match reader.next().ok()?? {
+        Note::Foreign(bytes) => Some(bytes.bytes().len()),
+        Note::Event(_) => None,
+    }
+}
+
+// 300,000 foreign bytes: a full note as soon as there are enough, and the rest at the end.
 #[test]
-fn many_headers_of_long_packets(rt: HostRuntime) -> Result<(), Fail> {
-    let stream = repeated(rt.alloc(), LONGEST_HEADER, 1_398_101)?;
-    let notes = notes_of(rt.alloc(), &stream, 65_536)?;
-    assert_eq!(rt; notes.len(), 128);
-    assert!(rt; matches!(&notes[127], Note::Foreign(bytes) if bytes.bytes().len() == 65_534));
+fn few_foreign_bytes_are_held(rt: HostRuntime) -> Result<(), Fail> {
+    let stream = repeated(rt.alloc(), b"a", 300_000)?;
+    let mut reader = Reader::new(rt.alloc()).ok().ok_or("no memory")?;
+    for piece in stream.chunks(65_536) {
+        fed(&mut reader, piece).ok_or("no room")?;
+        if piece.len() == 65_536 {
+            assert_eq!(rt; foreign_size(&mut reader), Some(65_536));
+        }
+        assert_eq!(rt; foreign_size(&mut reader), None);
+        assert!(rt; reader.held() <= MOST_HELD);
+    }
+    assert_eq!(rt; reader.held(), 37_856);
+    reader.finish();
+    assert_eq!(rt; foreign_size(&mut reader), Some(37_856));
+    assert_eq!(rt; foreign_size(&mut reader), None);
+    Ok(())
+}
+
+// As many bytes as can be held where no note is told: 65,535 foreign ones, and a packet of which one byte is to come.
+#[test]
+fn the_most_bytes_are_held(rt: HostRuntime) -> Result<(), Fail> {
+    let mut stream = repeated(rt.alloc(), b"a", 65_535)?;
+    stream
+        .extend_from_slice(LONGEST_HEADER)
+        .ok()
+        .ok_or("no memory")?;
+    stream.resize(MOST_HELD, 0).ok().ok_or("no memory")?;
+    let mut reader = Reader::new(rt.alloc()).ok().ok_or("no memory")?;
+    for piece in stream.chunks(4_096) {
+        fed(&mut reader, piece).ok_or("no room")?;
+        assert_eq!(rt; foreign_size(&mut reader), None);
+    }
+    assert_eq!(rt; reader.held(), MOST_HELD);
+    fed(&mut reader, b"x").ok_or("no room")?;
+    assert_eq!(rt; foreign_size(&mut reader), Some(65_536));
+    Ok(())
+}
+
+// Candidates that nest in one another, each of which fills its claim exactly: in the first kind the checksum alone
+// tells that there is no packet, in the second each walks along millions of tags of one byte.
+#[test]
+fn candidates_that_nest(rt: HostRuntime) -> Result<(), Fail> {
+    let units: [&[u8]; 2] = [
+        b"\xb3\x20\x40\xbf\xff\xff\x00\xbf\xff\xf1",
+        b"\x09\xb3\x20\x80\xbf\xff\xff\xbf\xff\xff",
+    ];
+    for unit in units {
+        let mut stream = repeated(rt.alloc(), unit, 200)?;
+        stream.resize(4_300_000, 0).ok().ok_or("no memory")?;
+        let notes = notes_of(rt.alloc(), &stream, 65_536)?;
+        assert_eq!(rt; notes.len(), 66);
+        assert!(rt; matches!(&notes[65], Note::Foreign(bytes) if bytes.bytes().len() == 40_160));
+    }
     let packets = repeated(rt.alloc(), SUCCESS_FOO, 100_000)?;
     assert_eq!(rt; notes_of(rt.alloc(), &packets, 65_536)?.len(), 100_000);
     Ok(())

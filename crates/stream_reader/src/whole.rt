@@ -1,14 +1,19 @@
 //! The notes of a whole stream.
 
-ghost use Rattle.std.specs.Prelude.{◌≡◌, ◌++◌, ℕ, List, false, IfOk, OnOk};
+ghost use Rattle.std.specs.Prelude.{◌≡◌, ◌≤◌, ◌++◌, ℕ, List, false, length, IfOk, OnOk};
 ghost use Rattle.std.specs.List.{flat_map};
 ghost use Rattle.stream_reader.specs.Notes.{HasNotes};
+ghost use Rattle.stream_reader.specs.Room.{most_held};
 ghost use Rattle.stream_reader.specs.Stream.{BeginsWithNotes, GivesNotes, IsSpent};
 
 use crate::note::Note;
 use crate::reader::Reader;
+use crate::run::are_bytes;
 use std::alloc::Global;
 use sub_number::{Bytes, NoMemory};
+
+// So many bytes are fed before notes are taken.
+const PART: usize = 65_536;
 
 /// Appends all notes that can be told of the bytes held, in order.
 fn take_notes(reader: &mut Reader, notes: &mut Vec<Note>) -> Result<(), NoMemory>
@@ -21,14 +26,22 @@ fn take_notes(reader: &mut Reader, notes: &mut Vec<Note>) -> Result<(), NoMemory
     Ok(())
 }
 
-/// Appends the notes that the next piece decides.
+/// Appends the notes that the next piece decides. It is fed a part at a time, so that there is room for each.
 fn read_piece(reader: &mut Reader, notes: &mut Vec<Note>, piece: &[u8]) -> Result<(), NoMemory>
-    requires { reader.old.ended ≡ false }
+    requires going_on { reader.old.ended ≡ false }
+    requires held { length reader.old.bytes ≤ most_held }
     ensures going_on { OnOk result (reader.new.ended ≡ false) }
+    ensures held { OnOk result (length reader.new.bytes ≤ most_held) }
     ensures notes { OnOk result ((bytes : List ℕ) → BeginsWithNotes bytes notes.old.items reader.old.bytes → BeginsWithNotes (bytes ++ piece.now) notes.new.items reader.new.bytes) }
 {
-    reader.feed(piece)?;
-    take_notes(reader, notes)?;
+    let mut left = piece;
+    while !left.is_empty() {
+        let (part, behind) = left.split_at(left.len().min(PART));
+        are_bytes(part);
+        reader.feed(part);
+        take_notes(reader, notes)?;
+        left = behind;
+    }
     Ok(())
 }
 

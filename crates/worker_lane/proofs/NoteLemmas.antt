@@ -1,7 +1,7 @@
 -- The events that are recorded of a note.
-use Rattle.std.proofs.Common.{◌≡◌, ℕ, zero, suc, ◌<◌, ◌≤◌, Bool, true, false, List, [], ◌∷◌, ◌++◌, length, map, All, refl, inl, inr, ap, arith}
+use Rattle.std.proofs.Common.{◌≡◌, ℕ, zero, suc, ◌<◌, ◌≤◌, Bool, true, false, List, [], ◌∷◌, ◌++◌, length, map, take, All, refl, inl, inr, ap, arith}
 use Rattle.std.proofs.lemmas.Bool.{cases_lt, cond-true, cond-false, le-leb, lt-leb}
-use Rattle.std.proofs.lemmas.List.{length-append, length-map, append-nil}
+use Rattle.std.proofs.lemmas.List.{length-take, length-append, length-map, append-nil}
 use Rattle.std.proofs.lemmas.List.Elements.{All-nil, All-cons, All-append, All-map, All-weaker}
 use Rattle.packet_codec.specs.declared.event.Event.{Event}
 use Rattle.packet_codec.specs.Grammar.{AreBytes}
@@ -15,7 +15,10 @@ use Rattle.stream_reader.specs.declared.note.Note.{Note}
 use Rattle.stream_reader.specs.declared.note.Note.TheVariants as note
 use Rattle.stream_reader.specs.Cut.{Piece, packet, foreign, BeginsWithNone, IsCut}
 use Rattle.stream_reader.specs.Notes.{notes_of, HasNotes, AreFullRuns}
-use Rattle.stream_reader.specs.Stream.{Gives, IsMadeOf, AreMadeOf}
+use Rattle.stream_reader.specs.Stream.{IsMadeOf, AreMadeOf}
+use Rattle.stream_reader.specs.declared.first.First.{First}
+use Rattle.stream_reader.specs.declared.first.First.TheVariants as found
+use Rattle.stream_reader.specs.First.{FirstIs, IsMadeBy}
 use Rattle.stream_reader.proofs.FrontLemmas.{are_before, are_behind, packet_some}
 use Rattle.stream_reader.proofs.NotesLemmas.{are_full}
 use Rattle.worker_lane.specs.Recorded.{pieces_of, stdout_under, recorded_event, recorded_note, recorded_events}
@@ -25,37 +28,12 @@ use Rattle.worker_lane.proofs.EventLemmas.{spelled_is_event, canonical_bytes, st
 
 -- ---- a foreign note is short
 
--- it cannot be that a stream has no cut
-not_without_cut : (n : ℕ) (bytes : List ℕ) → length bytes ≤ n → ((pieces : List Piece) → IsCut bytes pieces → ⊥) → ⊥
-not_without_cut n [] short without = without [] refl
-not_without_cut zero (byte ∷ bytes) short without = absurd (omega arith)
-not_without_cut (suc n) (byte ∷ bytes) short without =
-    let none : BeginsWithNone (byte ∷ bytes) = λ e rest found.
-    not_without_cut n rest (omega (arith, packet_some found.front e found.spelled, ap length found.parts, length-append found.front rest)) (λ pieces cut. without (packet e ∷ pieces) (rest, found, cut)) in
-    not_without_cut n bytes (omega arith) (λ pieces cut. without (foreign byte ∷ pieces) (bytes, none, refl, cut))
-
-pub are_full_runs : (bytes : List ℕ) (notes : List Note) → HasNotes bytes notes → AreFullRuns notes
-are_full_runs bytes notes h = rw (h.made) (are_full h.pieces [] (omega arith))
-
-short_in_stream : (bytes run : List ℕ) (others : List Note) → HasNotes bytes (note.Foreign run ∷ others) → length run ≤ 65536
-short_in_stream bytes run others h = (are_full_runs bytes (note.Foreign run ∷ others) h).1
-
-whole_front : (ended : Bool) (bytes rest : List ℕ) (given others : List Note) → Gives ended bytes given rest → HasNotes rest others → (whole : List ℕ) × HasNotes whole (given ++ others)
-whole_front false bytes rest given others first h = (bytes ++ [], first.notes [] others (All-nil (λ byte. byte < 256)) (rw (append-nil rest) h))
-whole_front true bytes rest given others first h = (bytes, first.notes others h)
-
-foreign_short : (ended : Bool) (bytes run rest : List ℕ) → Gives ended bytes (note.Foreign run ∷ []) rest → length run ≤ 65536
-foreign_short ended bytes run rest first = elim (cases_lt 65536 (length run)) [
-  | inl long ↦ absurd (not_without_cut (length rest) rest (omega arith) (λ pieces cut.
-      let whole = whole_front ended bytes rest (note.Foreign run ∷ []) (notes_of pieces) first (record { pieces = pieces; cut = cut; made = refl }) in
-      let short : length run ≤ 65536 = short_in_stream whole.0 run (notes_of pieces) whole.1 in
-      omega arith))
-  | inr short ↦ short
-]
-
-pub note_is_short : (ended : Bool) (bytes front rest : List ℕ) (given : Note) → IsMadeOf given front → Gives ended bytes (given ∷ []) rest → IsShortNote given
-note_is_short ended bytes front rest (note.Event e) made first = spelled_fits front e made
-note_is_short ended bytes front rest (note.Foreign run) made first = foreign_short ended bytes run rest first
+pub made_is_short : (ended : Bool) (bytes : List ℕ) (first : First) (given : Note) → FirstIs ended bytes first → IsMadeBy bytes first given → IsShortNote given
+made_is_short ended bytes (found.Packet size) (note.Event e) is made = spelled_fits (take size bytes) e made
+made_is_short ended bytes (found.Packet size) (note.Foreign run) is made = absurd made
+made_is_short ended bytes (found.Foreign size behind) (note.Event e) is made = absurd made
+made_is_short ended bytes (found.Foreign size behind) (note.Foreign run) is made = omega (arith, is.1.short, ap length made, length-take size bytes)
+made_is_short ended bytes found.Nothing given is made = absurd made
 
 -- ---- an event is one, or many
 

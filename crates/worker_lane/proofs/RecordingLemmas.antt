@@ -1,6 +1,6 @@
 -- What a scribe gives, one call after another.
 use Rattle.std.proofs.Common.{◌≡◌, ℕ, ◌<◌, Bool, true, false, List, [], ◌∷◌, ◌++◌, length, refl, inl, inr, sym, ap, ◌∙◌, append_assoc, arith}
-use Rattle.std.specs.Prelude.{Result, Ok, Err, IfOk, OnOk}
+use Rattle.std.specs.Prelude.{Result, Ok, Err, IfOk}
 use Rattle.std.specs.List.{flat_map}
 use Rattle.std.proofs.lemmas.List.{length-append, append-nil, flat_map_more}
 use Rattle.std.proofs.lemmas.List.Concat.{flat_map-append}
@@ -10,11 +10,12 @@ use Rattle.packet_codec.specs.Canonical.{canonical}
 use Rattle.packet_codec.specs.Grammar.{AreBytes}
 use Rattle.stream_reader.specs.declared.note.Note.{Note}
 use Rattle.stream_reader.specs.Notes.{HasDecided}
-use Rattle.stream_reader.specs.Stream.{Gives}
+use Rattle.stream_reader.specs.Stream.{Held, Gives, GivesNote}
 use Rattle.stream_reader.proofs.FrontLemmas.{are_both}
 use Rattle.stream_reader.proofs.TurnLemmas.{begin_fed, begin_decided, begin_ended, end_whole, gives_none, gives_then}
 use Rattle.worker_lane.specs.Recorded.{recorded_note, recorded_events, IsRecorded}
 use Rattle.worker_lane.specs.Scribing.{Scribing, holding, TakesNote, IsAsBefore, GivesEvent, GivesPacket, HasNone, most_left, Recording, GivesPackets, IsRecordedSoFar}
+use Rattle.worker_lane.specs.Waiting.{PutsFirst}
 use Rattle.worker_lane.proofs.NoteLemmas.{recorded_count}
 
 -- ---- bytes fed, and the end
@@ -49,10 +50,6 @@ recording_ended fed written before after after-is r = rw after-is (record {
   parts = r.parts;
   packets = r.packets;
 })
-
-pub recording_on_ok : {E : Type 0} (result : Result (Unit {0}) E) (before after : Scribing) (piece : List ℕ) → AreBytes piece → before.held.ended ≡ false → OnOk result (after ≡ holding before (before.held.bytes ++ piece) false) → OnOk result ((fed written : List ℕ) → Recording fed before written → Recording (fed ++ piece) after written)
-recording_on_ok (Ok done) before after piece are going_on after-is = λ fed written r. recording_fed fed piece written before after are going_on after-is r
-recording_on_ok (Err refused) before after piece are going_on after-is = tt
 
 -- ---- one packet
 
@@ -90,6 +87,38 @@ recording_given fed written before after event g r =
       packets = ap (λ (l : List ℕ). l ++ canonical event) first.packets ∙ flat_map_more canonical [] first.events event;
     }
 
+first_waiting : (before after : Scribing) (event : Event) → after.lane ≡ before.lane → after.held ≡ before.held → before.waiting ≡ event ∷ after.waiting → before ≡ record { lane = after.lane; waiting = event ∷ after.waiting; held = after.held }
+first_waiting before after event lane held waiting =
+    ap (λ (l : List Event). record { lane = before.lane; waiting = l; held = before.held }) waiting
+    ∙ ap (λ (n : ℕ). record { lane = n; waiting = event ∷ after.waiting; held = before.held }) (sym lane)
+    ∙ ap (λ (h : Held). record { lane = after.lane; waiting = event ∷ after.waiting; held = h }) (sym held)
+
+-- the packet of the first event waiting was given
+pub first_given : (before after : Scribing) (old new : List ℕ) → after.lane ≡ before.lane → after.held ≡ before.held → PutsFirst before.waiting old after.waiting new → GivesPacket before old after new
+first_given before after old new lane held first = record {
+  event = first.event;
+  given = record { waiting = before; ready = inl refl; first = first_waiting before after first.event lane held first.events_are };
+  new_is = first.new_is;
+}
+
+pub first_if_given : {E : Type 0} (result : Result Bool E) (before after : Scribing) (old new : List ℕ) → after.lane ≡ before.lane → after.held ≡ before.held → IfOk result (λ given. given ≡ true → PutsFirst before.waiting old after.waiting new) → IfOk result (λ given. given ≡ true → GivesPacket before old after new)
+first_if_given (Ok given) before after old new lane held first = λ yes. first_given before after old new lane held (first yes)
+first_if_given (Err fault) before after old new lane held first = tt
+
+-- the first packet of the next note was given
+pub note_given : (before after : Scribing) (given : Note) (left : List Event) (old new : List ℕ) → before.waiting ≡ [] → GivesNote before.held given after.held → after.held.ended ≡ before.held.ended → after.lane ≡ before.lane → after.waiting ≡ left → PutsFirst (recorded_note before.lane given) old left new → GivesPacket before old after new
+note_given before after given left old new none step ended lane left-is first =
+    let taken : Scribing = record { lane = before.lane; waiting = recorded_note before.lane given; held = after.held } in
+    record {
+      event = first.event;
+      given = record {
+        waiting = taken;
+        ready = inr (record { none = none; note = given; given = step; ended = ended; lane = refl; waiting = refl });
+        first = first_waiting taken after first.event lane refl (first.events_are ∙ ap (λ (l : List Event). first.event ∷ l) (sym left-is));
+      };
+      new_is = first.new_is;
+    }
+
 -- ---- what stays
 
 as_before_lane : (before after : Scribing) → IsAsBefore before after → after.lane ≡ before.lane
@@ -110,15 +139,6 @@ given_ended before after event g = sym (ap (λ (s : Scribing). s.held.ended) g.f
 
 pub packets_none : (before : Scribing) (old : List ℕ) → GivesPackets before old before old
 packets_none before old = record { lane = refl; ended = refl; packets = []; new_is = sym (append-nil old); recording = λ fed written r. rw (append-nil written) r }
-
-pub packets_as_before : (before after : Scribing) (old new : List ℕ) → IsAsBefore before after → new ≡ old → GivesPackets before old after new
-packets_as_before before after old new same kept = record {
-  lane = as_before_lane before after same;
-  ended = as_before_ended before after same;
-  packets = [];
-  new_is = kept ∙ sym (append-nil old);
-  recording = λ fed written r. rw (append-nil written) (recording_as_before fed written before after same r);
-}
 
 pub packets_one : (before after : Scribing) (old new : List ℕ) → GivesPacket before old after new → GivesPackets before old after new
 packets_one before after old new g = record {
@@ -188,11 +208,35 @@ pub shorter_if_given : {E : Type 0} (result : Result Bool E) (before after : Scr
 shorter_if_given (Ok given) before after old new gives = λ yes. given_shorter before after (gives yes).event (gives yes).given
 shorter_if_given (Err refused) before after old new gives = tt
 
--- ---- a whole stream
+-- ---- a piece of a stream
 
 -- what was given of a scribe is behind what was written before
 pub recording_packets : (fed old new : List ℕ) (before after : Scribing) → GivesPackets before old after new → Recording fed before old → Recording fed after new
 recording_packets fed old new before after g r = rw (g.new_is) (g.recording fed old r)
+
+-- what is left of a piece is still to be recorded
+abbrev pub IsRecordedTo : (old : Scribing) → (before : List ℕ) → (now : Scribing) → (written : List ℕ) → (piece left : List ℕ) → Type 0
+IsRecordedTo old before now written piece left = (fed : List ℕ) → Recording fed old before → (done : List ℕ) × (piece ≡ done ++ left) × Recording (fed ++ done) now written
+
+pub recorded_none : (old : Scribing) (before piece : List ℕ) → IsRecordedTo old before old before piece piece
+recorded_none old before piece fed r = ([], refl, rw (append-nil fed) r)
+
+pub recorded_more : (old now held after : Scribing) (before written new piece left part behind : List ℕ) → left ≡ part ++ behind → ((fed written : List ℕ) → Recording fed now written → Recording (fed ++ part) held written) → GivesPackets held written after new → IsRecordedTo old before now written piece left → IsRecordedTo old before after new piece behind
+recorded_more old now held after before written new piece left part behind parts step g so_far fed r =
+    let was = so_far fed r in (
+      was.0 ++ part,
+      was.1 ∙ ap (λ (l : List ℕ). was.0 ++ l) parts ∙ sym (append_assoc was.0 part behind),
+      rw (← append_assoc fed was.0 part) (recording_packets ((fed ++ was.0) ++ part) written new held after g (step (fed ++ was.0) written was.2)),
+    )
+
+pub recorded_all : (old now : Scribing) (before written piece left : List ℕ) → length left ≡ 0 → IsRecordedTo old before now written piece left → (fed : List ℕ) → Recording fed old before → Recording (fed ++ piece) now written
+recorded_all old now before written piece [] none so_far fed r =
+    let was = so_far fed r in
+    let all : piece ≡ was.0 = was.1 ∙ append-nil was.0 in
+    rw all was.2
+recorded_all old now before written piece (byte ∷ left) none so_far fed r = absurd (omega arith)
+
+-- ---- a whole stream
 
 pub all_recorded : (fed old new : List ℕ) (lane : ℕ) (before ended after : Scribing) → before.lane ≡ lane → Recording fed before old → ended ≡ holding before before.held.bytes true → GivesPackets ended old after new → HasNone after → IsRecorded lane fed new
 all_recorded fed old new lane before ended after lane-is r ended-is g none =

@@ -1,9 +1,9 @@
 -- The events that are waiting, one by one.
-use Rattle.std.proofs.Common.{◌≡◌, ℕ, ◌+◌, ◌-◌, ◌<◌, ◌≤◌, min, Bool, false, ◌↔◌, rules, List, [], ◌∷◌, ◌++◌, length, map, take, drop, refl, inl, inr, sym, ap, ◌∙◌, arith}
+use Rattle.std.proofs.Common.{◌≡◌, ℕ, ◌+◌, ◌-◌, ◌<◌, ◌≤◌, min, Bool, true, false, ◌↔◌, rules, List, [], ◌∷◌, ◌++◌, length, map, take, drop, refl, inl, inr, sym, ap, ◌∙◌, arith}
 use Rattle.std.proofs.lemmas.Bool.{cases_lt}
 use Rattle.std.proofs.lemmas.List.{length-append, length-map, length-take, length-drop, drop-drop, drop_all, take_all}
 use Rattle.packet_codec.specs.declared.event.Event.{Event}
-use Rattle.std.specs.Prelude.{IsTrue}
+use Rattle.std.specs.Prelude.{IsTrue, Result, Ok, Err, IfOk}
 use Rattle.std.specs.Int.{w32, to_be_bytes}
 use Rattle.sub_number.specs.Checksum.{crc32}
 use Rattle.packet_codec.specs.Canonical.{canonical, canonical_body, canonical_size}
@@ -12,7 +12,7 @@ use Rattle.stream_reader.specs.declared.note.Note.{Note}
 use Rattle.stream_reader.specs.declared.note.Note.TheVariants as note
 use Rattle.worker_lane.specs.declared.waiting.Spelling.{Spelling}
 use Rattle.worker_lane.specs.declared.waiting.Waiting.{Waiting}
-use Rattle.worker_lane.specs.declared.waiting.Waiting.TheVariants.{Nothing, OfNote, Packet, Pieces}
+use Rattle.worker_lane.specs.declared.waiting.Waiting.TheVariants.{Nothing, Packet, Pieces}
 use Rattle.worker_lane.specs.Recorded.{pieces_of, stdout_under, recorded_event, recorded_note}
 use Rattle.worker_lane.specs.Waiting.{waiting_events, IsSound, PutsFirst}
 use Rattle.worker_lane.proofs.PiecesLemmas.{pieces_first}
@@ -84,8 +84,6 @@ some_recorded lane e = elim (cases_lt 4194303 (canonical_size (under lane e))) [
 
 pub waiting_some : (lane : ℕ) (waiting : Waiting) → IsSound waiting → (waiting ≡ Nothing → ⊥) → 0 < length (waiting_events lane waiting)
 waiting_some lane Nothing sound other = absurd (other refl)
-waiting_some lane (OfNote (note.Event e)) sound other = some_recorded lane e
-waiting_some lane (OfNote (note.Foreign bytes)) sound other = omega arith
 waiting_some lane (Packet event) sound other = omega arith
 waiting_some lane (Pieces spelling) sound other = some_pieces lane (drop spelling.given spelling.bytes.items) (omega (arith, sound, length-drop spelling.given spelling.bytes.items))
 
@@ -95,9 +93,22 @@ not_nothing lane waiting test sound (to, from) is_false empty =
     let other : waiting ≡ Nothing → ⊥ = λ is. never (from is) in
     omega (arith, waiting_some lane waiting sound other, ap length empty)
 
-pub note_is_some : (lane : ℕ) (waiting : Waiting) (given : Note) → waiting ≡ OfNote given → waiting_events lane waiting ≡ [] → ⊥
-note_is_some lane waiting given is empty = some given (rw is at empty)
-  where
-    some : (given : Note) → recorded_note lane given ≡ [] → ⊥
-    some (note.Event e) none = omega (arith, some_recorded lane e, ap length none)
-    some (note.Foreign bytes) none = omega (arith, ap length none)
+-- of each note an event is recorded
+pub note_is_some : (lane : ℕ) (given : Note) → recorded_note lane given ≡ [] → ⊥
+note_is_some lane (note.Event e) none = omega (arith, some_recorded lane e, ap length none)
+note_is_some lane (note.Foreign bytes) none = omega (arith, ap length none)
+
+-- where nothing is waiting, none is
+pub nothing_waiting : (lane : ℕ) (waiting : Waiting) (test : Bool) → IsTrue test ↔ (waiting ≡ Nothing) → test ≡ true → waiting_events lane waiting ≡ []
+nothing_waiting lane waiting test (to, from) is_true =
+    let is : waiting ≡ Nothing = to (search (rules, is_true)) in
+    ap (waiting_events lane) is
+
+-- where some event is waiting, its packet is given
+pub surely : {P : Type 0} (given : Bool) (events : List Event) → (events ≡ [] → ⊥) → (given ≡ true → P) → (given ≡ false → events ≡ []) → P
+surely true events some first otherwise = first refl
+surely false events some first otherwise = absurd (some (otherwise refl))
+
+pub never_false : {E : Type 0} (P : Bool → Type 0) (Q : Type 0) (result : Result Bool E) (events : List Event) → (events ≡ [] → ⊥) → ((given : Bool) → P given → given ≡ false → events ≡ []) → IfOk result P → IfOk result (λ given. given ≡ false → Q)
+never_false P Q (Ok given) events some otherwise told = λ is. absurd (some (otherwise given told is))
+never_false P Q (Err fault) events some otherwise told = tt

@@ -5,12 +5,11 @@ use Rattle.packet_codec.specs.Canonical.{Fits, canonical}
 use Rattle.stream_reader.specs.declared.note.Note.{Note}
 use Rattle.stream_reader.specs.declared.note.Note.TheVariants as note
 use Rattle.worker_lane.specs.declared.waiting.Waiting.{Waiting}
-use Rattle.worker_lane.specs.declared.waiting.Waiting.TheVariants.{Nothing, OfNote, Packet, Pieces}
-use Rattle.worker_lane.specs.Recorded.{longest_piece, pieces_of, stdout_under, recorded_note}
+use Rattle.worker_lane.specs.declared.waiting.Waiting.TheVariants.{Nothing, Packet, Pieces}
+use Rattle.worker_lane.specs.Recorded.{longest_piece, pieces_of, stdout_under}
 
 abbrev pub waiting_events : (lane : ℕ) → Waiting → List Event
 waiting_events lane Nothing = []
-waiting_events lane (OfNote taken) = recorded_note lane taken
 waiting_events lane (Packet event) = event ∷ []
 waiting_events lane (Pieces spelling) = map (stdout_under lane) (pieces_of (drop spelling.given spelling.bytes.items))
 
@@ -22,16 +21,8 @@ IsShortNote (note.Foreign bytes) = length bytes ≤ longest_piece
 -- each event can be encoded, and there is one, unless nothing is waiting
 abbrev pub IsSound : Waiting → Type 0
 IsSound Nothing = ⊤
-IsSound (OfNote taken) = IsShortNote taken
 IsSound (Packet event) = Fits event
 IsSound (Pieces spelling) = spelling.given < length spelling.bytes.items
-
--- the next event only has to be encoded
-abbrev pub IsReady : Waiting → Type 0
-IsReady Nothing = ⊤
-IsReady (OfNote taken) = ⊥
-IsReady (Packet event) = ⊤
-IsReady (Pieces spelling) = ⊤
 
 -- the first event was appended as its packet, and the others are waiting
 pub record PutsFirst (events : List Event) (old : List ℕ) (left : List Event) (new : List ℕ) : Type 0 where

@@ -1,11 +1,10 @@
 //! What one stream becomes under a lane.
 
-ghost use Rattle.std.specs.Prelude.{◌≡◌, ◌<◌, ℕ, List, [], ◌++◌, true, false, length, IfOk, OnOk, OnErr, IfSome, IfNone};
-ghost use Rattle.packet_codec.specs.declared.event.Event.{Event};
-ghost use Rattle.packet_codec.specs.Canonical.{canonical};
-ghost use Rattle.worker_lane.specs.Scribing.{holding, IsAsBefore, GivesEvent, GivesPacket, HasNone, most_left, Recording};
+ghost use Rattle.std.specs.Prelude.{◌≡◌, ◌<◌, ◌≤◌, ◌+◌, ℕ, List, [], ◌++◌, true, false, length, IfOk, OnErr, IfSome, IfNone};
+ghost use Rattle.stream_reader.specs.Room.{room};
+ghost use Rattle.worker_lane.specs.Scribing.{holding, GivesPacket, HasNone, most_left, Recording};
 
-use crate::waiting::{Waiting, is_nothing, prepare, put_first, wait_for};
+use crate::waiting::{Waiting, is_nothing, put_first, put_note, wait_for};
 use std::alloc::Global;
 use std::marker::Model;
 use stream_reader::Reader;
@@ -13,7 +12,7 @@ use sub_number::{Bytes, NoMemory};
 
 /// What a stream becomes when it is recorded under a lane: for each note of the stream, packets under the lane's route.
 /// Contracts see the lane, the events that are given before the next note is taken, and the bytes fed of which no note
-/// was taken.
+/// was taken. A note is taken when its first packet is given.
 ///
 /// With `recording` the clauses say of all calls together what was given: that of `new` holds, each call keeps it, and
 /// `recording_in_turn` tells what it comes to at the end.
@@ -54,16 +53,15 @@ impl Scribe {
         })
     }
 
-    /// The next bytes of the stream, any number of them.
-    ///
-    /// `NoMemory` comes only for want of memory, and leaves the scribe as before.
-    pub fn feed(&mut self, piece: &[u8]) -> Result<(), NoMemory>
-        requires { self.old.held.ended ≡ false }
-        ensures ok { OnOk result (self.new ≡ holding self.old (self.old.held.bytes ++ piece.now) false) }
-        ensures recording { OnOk result ((fed written : List ℕ) → Recording fed self.old written → Recording (fed ++ piece.now) self.new written) }
-        ensures err { OnErr result (self.new ≡ self.old) }
+    /// The next bytes of the stream. With what is held they are 4,325,376 at most, and the stream has not ended. It
+    /// takes no memory.
+    pub fn feed(&mut self, piece: &[u8])
+        requires going_on { self.old.held.ended ≡ false }
+        requires in_room { length self.old.held.bytes + length piece.now ≤ room }
+        ensures ok { self.new ≡ holding self.old (self.old.held.bytes ++ piece.now) false }
+        ensures recording { (fed written : List ℕ) → Recording fed self.old written → Recording (fed ++ piece.now) self.new written }
     {
-        self.reader.feed(piece)
+        self.reader.feed(piece);
     }
 
     /// The stream has ended: nothing is fed any more. A second call changes nothing.
@@ -82,27 +80,26 @@ impl Scribe {
     }
 
     /// Appends the next recorded packet, and answers true. False comes where there is none: before the end, until more
-    /// bytes are fed; behind the end, where all were given.
+    /// bytes are fed; behind the end, where all were given. After false before the end at most 4,259,837 bytes are held.
     ///
-    /// `NoMemory` comes only for want of memory. `out` then has what it had, and what is to be given is as before. Its
-    /// next note may have been taken by then; `held` does not count that note any more.
+    /// `NoMemory` comes only for want of memory, and leaves the scribe and `out` as before.
     pub fn next_into(&mut self, out: &mut Vec<u8>) -> Result<bool, NoMemory>
         ensures given { IfOk result (λ given. given ≡ true → GivesPacket self.old out.old.items self.new out.new.items) }
         ensures shorter { IfOk result (λ given. given ≡ true → most_left self.new < most_left self.old) }
         ensures none { IfOk result (λ given. given ≡ false → HasNone self.old × (self.new ≡ self.old) × (out.new.items ≡ out.old.items)) }
-        ensures err { OnErr result (IsAsBefore self.old self.new × (out.new.items ≡ out.old.items)) }
+        ensures err { OnErr result ((self.new ≡ self.old) × (out.new.items ≡ out.old.items)) }
     {
         self.put_next(out)
     }
 
     /// The next recorded packet. None comes where `next_into` answers false.
     ///
-    /// `NoMemory` comes only for want of memory, and what is to be given is then as before.
+    /// `NoMemory` comes only for want of memory, and leaves the scribe as before.
     pub fn next(&mut self) -> Result<Option<Bytes>, NoMemory>
         ensures some { IfOk result (λ answer. IfSome answer (λ packet. GivesPacket self.old [] self.new packet)) }
         ensures shorter { IfOk result (λ answer. IfSome answer (λ packet. most_left self.new < most_left self.old)) }
         ensures none { IfOk result (λ answer. IfNone answer (HasNone self.old × (self.new ≡ self.old))) }
-        ensures err { OnErr result (IsAsBefore self.old self.new) }
+        ensures err { OnErr result (self.new ≡ self.old) }
     {
         let mut packet = Vec::new(self.alloc);
         if self.next_into(&mut packet)? {
@@ -117,24 +114,29 @@ impl Scribe {
     fn put_next(&mut self, out: &mut Vec<u8>) -> Result<bool, NoMemory>
         ensures given { IfOk result (λ given. given ≡ true → GivesPacket self.old out.old.items self.new out.new.items) }
         ensures none { IfOk result (λ given. given ≡ false → HasNone self.old × (self.new ≡ self.old) × (out.new.items ≡ out.old.items)) }
-        ensures err { OnErr result (IsAsBefore self.old self.new × (out.new.items ≡ out.old.items)) }
-    {
-        self.take_note()?;
-        prepare(self.alloc, self.lane, &mut self.waiting)?;
-        put_first(self.alloc, self.lane, &mut self.waiting, out)
-    }
-
-    // Takes the next note, where nothing is waiting.
-    fn take_note(&mut self) -> Result<(), NoMemory>
-        ensures as_before { IsAsBefore self.old self.new }
-        ensures none { OnOk result (self.new.waiting ≡ [] → HasNone self.old × (self.new ≡ self.old)) }
-        ensures err { OnErr result (self.new ≡ self.old) }
+        ensures err { OnErr result ((self.new ≡ self.old) × (out.new.items ≡ out.old.items)) }
     {
         if is_nothing(&self.waiting) {
-            if let Some(note) = self.reader.next()? {
-                wait_for(&mut self.waiting, Waiting::OfNote(note));
-            }
+            self.put_first_of_note(out)
+        } else {
+            put_first(self.alloc, self.lane, &mut self.waiting, out)
         }
-        Ok(())
+    }
+
+    // The first packet of the next note. The note is taken only once the packet is written.
+    fn put_first_of_note(&mut self, out: &mut Vec<u8>) -> Result<bool, NoMemory>
+        requires { self.old.waiting ≡ [] }
+        ensures given { IfOk result (λ given. given ≡ true → GivesPacket self.old out.old.items self.new out.new.items) }
+        ensures none { IfOk result (λ given. given ≡ false → HasNone self.old × (self.new ≡ self.old) × (out.new.items ≡ out.old.items)) }
+        ensures err { OnErr result ((self.new ≡ self.old) × (out.new.items ≡ out.old.items)) }
+    {
+        let first = self.reader.first();
+        let Some(note) = self.reader.note(first)? else {
+            return Ok(false);
+        };
+        let left = put_note(self.alloc, self.lane, note, out)?;
+        self.reader.pass(first);
+        wait_for(&mut self.waiting, left);
+        Ok(true)
     }
 }

@@ -1,8 +1,10 @@
+ghost use Rattle.std.specs.Prelude.{◌≡◌, false};
+
 use crate::{Scribe, recorded_of_pieces, take_packets};
 use packet_codec::{Event, FilePart, Status, encode, fits};
 use std::alloc::Global;
 use std::test::Fail;
-use stream_reader::{Note, notes_of_pieces};
+use stream_reader::{Note, ROOM, notes_of_pieces};
 use sub_number::{Bytes, Text};
 
 // `foo` passed: as it comes, and as it is recorded under lane 0.
@@ -105,22 +107,34 @@ fn other_lanes_and_routes(rt: HostRuntime) {
     }
 }
 
+// Feeds a piece that there is room for.
+fn fed(scribe: &mut Scribe, piece: &[u8]) -> Option<()>
+    requires { scribe.old.held.ended ≡ false }
+    ensures { scribe.new.held.ended ≡ false }
+{
+    if piece.len() > ROOM || scribe.held() > ROOM - piece.len() {
+        return None;
+    }
+    scribe.feed(piece);
+    Some(())
+}
+
 #[test]
 fn each_packet_is_given_as_soon_as_it_is_decided(rt: HostRuntime) -> Result<(), Fail> {
     let stream = b"ab\xb3\x29\x03\x0c\x03foo\x45\x9d\xfe\x10";
     let mut scribe = Scribe::new(rt.alloc(), 0).ok().ok_or("no memory")?;
     let mut out = Vec::new(rt.alloc());
-    scribe.feed(&stream[..13]).ok().ok_or("no memory")?;
+    fed(&mut scribe, &stream[..13]).ok_or("no room")?;
     assert!(rt; !scribe.next_into(&mut out).ok().ok_or("no memory")?);
     assert_eq!(rt; scribe.held(), 13);
-    scribe.feed(&stream[13..]).ok().ok_or("no memory")?;
+    fed(&mut scribe, &stream[13..]).ok_or("no room")?;
     assert!(rt; scribe.next_into(&mut out).ok().ok_or("no memory")?);
     assert!(rt; out.as_slice() == AB_UNDER_0);
     assert_eq!(rt; scribe.held(), 12);
     let second = scribe.next().ok().ok_or("no memory")?.ok_or("no packet")?;
     assert!(rt; second.bytes() == FOO_UNDER_0);
     assert!(rt; scribe.next().ok().ok_or("no memory")?.is_none());
-    scribe.feed(b"ab").ok().ok_or("no memory")?;
+    fed(&mut scribe, b"ab").ok_or("no room")?;
     take_packets(&mut scribe, &mut out).ok().ok_or("no memory")?;
     assert!(rt; out.as_slice() == AB_UNDER_0);
     scribe.finish();

@@ -3,12 +3,11 @@
 ghost use Rattle.std.specs.Prelude.{◌≡◌, ◌↔◌, IsTrue, ◌<◌, ◌≤◌, ◌+◌, [], ◌++◌, ◌∷◌, true, false, length, take, drop, min, IfOk, IfErr, OnOk, OnErr};
 ghost use Rattle.packet_codec.specs.Canonical.{Fits, canonical};
 ghost use Rattle.worker_lane.specs.Recorded.{longest_piece, stdout_under, recorded_event, recorded_note};
-ghost use Rattle.worker_lane.specs.Waiting.{waiting_events, IsShortNote, IsSound, IsReady, PutsFirst};
+ghost use Rattle.worker_lane.specs.Waiting.{waiting_events, IsShortNote, IsSound, PutsFirst};
 ghost use Rattle.worker_lane.specs.declared.waiting.Waiting.TheVariants.{Nothing};
 
 use packet_codec::{Event, encode, reroute, routed_size};
 use std::alloc::Global;
-use std::mem;
 use stream_reader::{Note, stdout_event};
 use sub_number::{Bytes, NoMemory};
 
@@ -29,8 +28,6 @@ pub(crate) struct Spelling {
 #[derive(Drop)]
 pub(crate) enum Waiting {
     Nothing,
-    /// All of it.
-    OfNote(Note),
     /// An event as it is recorded, under the lane.
     Packet(Event),
     /// The further pieces.
@@ -51,27 +48,6 @@ pub(crate) fn wait_for(waiting: &mut Waiting, next: Waiting)
     *waiting = next;
 }
 
-/// Makes the next event ready to be encoded. For want of memory what is waiting is as before.
-pub(crate) fn prepare(alloc: Global, lane: u32, waiting: &mut Waiting) -> Result<(), NoMemory>
-    requires lane { lane < 64 }
-    requires sound { IsSound waiting.old }
-    ensures events { waiting_events lane waiting.new ≡ waiting_events lane waiting.old }
-    ensures sound { IsSound waiting.new }
-    ensures ready { OnOk result (IsReady waiting.new) }
-{
-    match mem::replace(waiting, Waiting::Nothing) {
-        Waiting::OfNote(note) => match prepared(alloc, lane, note) {
-            Ok(ready) => wait_for(waiting, ready),
-            Err(note) => {
-                wait_for(waiting, Waiting::OfNote(note));
-                return Err(NoMemory);
-            }
-        },
-        ready => wait_for(waiting, ready),
-    }
-    Ok(())
-}
-
 /// Appends the packet of the next event. Answers false where nothing is waiting.
 pub(crate) fn put_first(
     alloc: Global,
@@ -81,7 +57,6 @@ pub(crate) fn put_first(
 ) -> Result<bool, NoMemory>
     requires lane { lane < 64 }
     requires sound { IsSound waiting.old }
-    requires ready { IsReady waiting.old }
     ensures sound { IsSound waiting.new }
     ensures given { IfOk result (λ given. given ≡ true → PutsFirst (waiting_events lane waiting.old) out.old.items (waiting_events lane waiting.new) out.new.items) }
     ensures none { IfOk result (λ given. given ≡ false → (waiting_events lane waiting.old ≡ []) × (waiting.new ≡ waiting.old) × (out.new.items ≡ out.old.items)) }
@@ -95,84 +70,66 @@ pub(crate) fn put_first(
                 return Ok(true);
             }
         }
-        _ => return Ok(false),
+        Waiting::Nothing => return Ok(false),
     }
     wait_for(waiting, Waiting::Nothing);
     Ok(true)
 }
 
-// The note's first event, ready to be encoded. The note is handed back for want of memory alone.
-fn prepared(alloc: Global, lane: u32, note: Note) -> Result<Waiting, Note>
+/// Appends the packet of the first event that is recorded of the note, and gives what is still to be given of it.
+pub(crate) fn put_note(
+    alloc: Global,
+    lane: u32,
+    note: Note,
+    out: &mut Vec<u8>,
+) -> Result<Waiting, NoMemory>
     requires lane { lane < 64 }
     requires short { IsShortNote note }
-    ensures events { IfOk result (λ ready. waiting_events lane ready ≡ recorded_note lane note) }
-    ensures ready { IfOk result (λ ready. IsSound ready × IsReady ready) }
-    ensures err { IfErr result (λ same. same ≡ note) }
+    ensures sound { IfOk result IsSound }
+    ensures given { IfOk result (λ left. PutsFirst (recorded_note lane note) out.old.items (waiting_events lane left) out.new.items) }
+    ensures err { IfErr result (λ fault. out.new.items ≡ out.old.items) }
+{
+    let mut left = events_of(alloc, lane, note)?;
+    put_first(alloc, lane, &mut left, out)?;
+    Ok(left)
+}
+
+// The events that are recorded of the note.
+fn events_of(alloc: Global, lane: u32, note: Note) -> Result<Waiting, NoMemory>
+    requires lane { lane < 64 }
+    requires short { IsShortNote note }
+    ensures events { IfOk result (λ left. waiting_events lane left ≡ recorded_note lane note) }
+    ensures sound { IfOk result IsSound }
 {
     match note {
-        Note::Event(event) => prepared_event(alloc, lane, event).map_err(Note::Event),
-        Note::Foreign(bytes) => prepared_foreign(alloc, lane, bytes).map_err(Note::Foreign),
+        Note::Event(event) => event_under(alloc, lane, event),
+        Note::Foreign(bytes) => Ok(Waiting::Packet(piece_event(alloc, lane, bytes)?)),
     }
 }
 
-// Under the lane, where it fits; else as its own spelling.
-fn prepared_event(alloc: Global, lane: u32, mut event: Event) -> Result<Waiting, Event>
+// The event under the lane, where it fits; else its own spelling.
+fn event_under(alloc: Global, lane: u32, mut event: Event) -> Result<Waiting, NoMemory>
     requires lane { lane < 64 }
     requires fits { Fits event }
-    ensures events { IfOk result (λ ready. waiting_events lane ready ≡ recorded_event lane event) }
-    ensures ready { IfOk result (λ ready. IsSound ready × IsReady ready) }
-    ensures err { IfErr result (λ same. same ≡ event) }
+    ensures events { IfOk result (λ left. waiting_events lane left ≡ recorded_event lane event) }
+    ensures sound { IfOk result IsSound }
 {
     if routed_size(&event, lane) <= LARGEST_PACKET {
-        return match reroute(alloc, &mut event, lane) {
-            Ok(()) => Ok(Waiting::Packet(event)),
-            Err(_) => Err(event),
-        };
+        reroute(alloc, &mut event, lane)?;
+        return Ok(Waiting::Packet(event));
     }
     let mut bytes = Vec::new(alloc);
-    match encode(&event, &mut bytes) {
-        Ok(()) => Ok(Waiting::Pieces(Spelling { bytes, given: 0 })),
-        Err(_) => Err(event),
-    }
+    encode(&event, &mut bytes)?;
+    Ok(Waiting::Pieces(Spelling { bytes, given: 0 }))
 }
 
-// As a piece of the file `stdout`.
-fn prepared_foreign(alloc: Global, lane: u32, bytes: Bytes) -> Result<Waiting, Bytes>
-    requires lane { lane < 64 }
-    requires short { length bytes ≤ longest_piece }
-    ensures events { IfOk result (λ ready. waiting_events lane ready ≡ stdout_under lane bytes ∷ []) }
-    ensures ready { IfOk result (λ ready. IsSound ready × IsReady ready) }
-    ensures err { IfErr result (λ same. same ≡ bytes) }
-{
-    match piece_event(alloc, lane, bytes) {
-        Ok(event) => Ok(Waiting::Packet(event)),
-        Err(bytes) => Err(bytes),
-    }
-}
-
-// The event of a piece of the file `stdout`, under the lane. The bytes are handed back for want of memory alone: all
-// that takes memory is made before they are put in.
-fn piece_event(alloc: Global, lane: u32, bytes: Bytes) -> Result<Event, Bytes>
+// The event of a piece of the file `stdout`, under the lane.
+fn piece_event(alloc: Global, lane: u32, bytes: Bytes) -> Result<Event, NoMemory>
     requires { lane < 64 }
     ensures ok { IfOk result (λ event. event ≡ stdout_under lane bytes) }
     ensures fits { IfOk result (λ event. length bytes ≤ longest_piece → Fits event) }
-    ensures err { IfErr result (λ same. same ≡ bytes) }
 {
-    let Ok(mut event) = empty_event(alloc, lane) else {
-        return Err(bytes);
-    };
-    if let Some(file) = &mut event.file {
-        file.bytes = bytes;
-    }
-    Ok(event)
-}
-
-// The event of a piece of no bytes.
-fn empty_event(alloc: Global, lane: u32) -> Result<Event, NoMemory>
-    requires { lane < 64 }
-    ensures { IfOk result (λ event. event ≡ stdout_under lane []) }
-{
-    let mut event = stdout_event(alloc, Bytes::from_vec(Vec::new(alloc)))?;
+    let mut event = stdout_event(alloc, bytes)?;
     reroute(alloc, &mut event, lane)?;
     Ok(event)
 }
@@ -193,9 +150,7 @@ fn put_piece(
     let size = (spelling.bytes.len() - spelling.given).min(LONGEST_PIECE);
     let end = spelling.given + size;
     let piece = Bytes::new(alloc, &spelling.bytes[spelling.given..end])?;
-    let Ok(event) = piece_event(alloc, lane, piece) else {
-        return Err(NoMemory);
-    };
+    let event = piece_event(alloc, lane, piece)?;
     encode(&event, out)?;
     spelling.given = end;
     Ok(())

@@ -1,13 +1,17 @@
 //! All packets that are recorded of a stream.
 
-ghost use Rattle.std.specs.Prelude.{◌≡◌, ◌<◌, IfOk, OnOk};
+ghost use Rattle.std.specs.Prelude.{◌≡◌, ◌<◌, ◌≤◌, ◌++◌, ℕ, List, false, length, IfOk, OnOk};
 ghost use Rattle.std.specs.List.{flat_map};
 ghost use Rattle.worker_lane.specs.Recorded.{IsRecorded};
-ghost use Rattle.worker_lane.specs.Scribing.{GivesPackets, HasNone};
+ghost use Rattle.worker_lane.specs.Scribing.{GivesPackets, HasNone, Recording};
+ghost use Rattle.stream_reader.specs.Room.{most_held};
 
 use crate::scribe::Scribe;
 use std::alloc::Global;
 use sub_number::{Bytes, NoMemory};
+
+// So many bytes are fed before packets are taken.
+const PART: usize = 65_536;
 
 /// Appends all packets that are recorded of the bytes fed and were not given yet, in order: before the end, those that
 /// these bytes decide; behind the end, all.
@@ -16,8 +20,28 @@ use sub_number::{Bytes, NoMemory};
 pub fn take_packets(scribe: &mut Scribe, out: &mut Vec<u8>) -> Result<(), NoMemory>
     ensures given { GivesPackets scribe.old out.old.items scribe.new out.new.items }
     ensures none { OnOk result (HasNone scribe.new) }
+    ensures held { OnOk result (scribe.new.held.ended ≡ false → length scribe.new.held.bytes ≤ most_held) }
 {
     while scribe.next_into(out)? {}
+    Ok(())
+}
+
+/// Appends the packets that the next piece decides. It is fed a part at a time, so that there is room for each.
+fn record_piece(scribe: &mut Scribe, out: &mut Vec<u8>, piece: &[u8]) -> Result<(), NoMemory>
+    requires going_on { scribe.old.held.ended ≡ false }
+    requires held { length scribe.old.held.bytes ≤ most_held }
+    ensures lane { scribe.new.lane ≡ scribe.old.lane }
+    ensures going_on { OnOk result (scribe.new.held.ended ≡ false) }
+    ensures held { OnOk result (length scribe.new.held.bytes ≤ most_held) }
+    ensures recording { OnOk result ((fed : List ℕ) → Recording fed scribe.old out.old.items → Recording (fed ++ piece.now) scribe.new out.new.items) }
+{
+    let mut left = piece;
+    while !left.is_empty() {
+        let (part, behind) = left.split_at(left.len().min(PART));
+        scribe.feed(part);
+        take_packets(scribe, out)?;
+        left = behind;
+    }
     Ok(())
 }
 
@@ -32,8 +56,7 @@ pub fn recorded_of_pieces(alloc: Global, lane: u32, pieces: &[Bytes]) -> Result<
     let mut out = Vec::new(alloc);
     let mut scribe = Scribe::new(alloc, lane)?;
     for piece in pieces {
-        scribe.feed(piece.bytes())?;
-        take_packets(&mut scribe, &mut out)?;
+        record_piece(&mut scribe, &mut out, piece.bytes())?;
     }
     scribe.finish();
     take_packets(&mut scribe, &mut out)?;

@@ -8,6 +8,7 @@ loop-piece-preserved c =
     let more = pieces_more c.args.pieces.now c.loop-piece.piece-index c.piece-item.result c.bytes.result.now c.loop-piece-test.true c.piece-item.is c.bytes.ensures in
     record {
       going_on = c.in_ok-read_piece.ensures.going_on;
+      held = c.in_ok-read_piece.ensures.held;
       notes = rw more (c.in_ok-read_piece.ensures.notes _ c.loop-piece.invariant.notes);
     }
 

@@ -1,6 +1,15 @@
-use Rattle.stream_reader.proofs.FrontLemmas.{are_from_fits}
-use Rattle.stream_reader.proofs.TurnLemmas.{begin_more}
+use Rattle.std.proofs.Common.{◌≡◌, ◌∙◌, false, ap, rules}
+use Rattle.std.proofs.lemmas.List.{take-append-drop}
+use Rattle.stream_reader.proofs.TurnLemmas.{read_none, read_more, read_all, split_parts}
+use Rattle.stream_reader.proofs.RoomLemmas.{spent_short}
 use Rattle.stream_reader.proofs.whole.read_piece.Goals as goal
 
-pub returns-clause-notes : goal.returns-clause-notes
-returns-clause-notes c = λ bytes before. begin_more bytes c.args.piece.now _ _ _ _ _ (are_from_fits _ c.type_inv.piece) before c.in_ok-feed.ensures.ok c.in_ok-take_notes.ensures.given
+pub loop-left-preserved : goal.loop-left-preserved
+loop-left-preserved c =
+    let given = c.in_ok-take_notes.ensures.given in
+    let going_on : c.take_notes.new.reader.ended ≡ false = given.ended ∙ ap (λ h. h.ended) c.feed.ensures in
+    record {
+      going_on = going_on;
+      held = spent_short _ _ going_on c.in_ok-take_notes.ensures.spent;
+      read = read_more _ _ _ _ _ _ _ _ _ _ _ c.are_bytes.ensures (split_parts _ _ _ _ c.split_at.ensures.front c.split_at.ensures.back) c.feed.ensures given c.loop-left.invariant.read;
+    }

@@ -7,9 +7,9 @@ use Rattle.worker_lane.proofs.waiting.put_piece.Goals as goal
 pub encode-requires : goal.encode-requires
 encode-requires c =
     let piece = piece_is c.args.spelling.now.bytes.items c.in_ok-piece.piece c.args.spelling.now.given c.min-size.result c.requires.some (search rules) (rw (c.deref.ensures.value) at c.in_ok-piece.ensures) in
-    c.in-Ok.ensures.fits (piece_is_short _ _ piece)
+    c.in_ok-event.ensures.fits (piece_is_short _ _ piece)
 
 pub returns-clause-packet : goal.returns-clause-packet
 returns-clause-packet c =
     let piece = piece_is c.args.spelling.now.bytes.items c.in_ok-piece.piece c.args.spelling.now.given c.min-size.result c.requires.some (search rules) (rw (c.deref.ensures.value) at c.in_ok-piece.ensures) in
-    c.in_ok-encode.ensures.ok ∙ ap (λ e. c.args.out.now.items ++ canonical e) (c.in-Ok.ensures.ok ∙ ap (stdout_under c.args.lane) piece)
+    c.in_ok-encode.ensures.ok ∙ ap (λ e. c.args.out.now.items ++ canonical e) (c.in_ok-event.ensures.ok ∙ ap (stdout_under c.args.lane) piece)

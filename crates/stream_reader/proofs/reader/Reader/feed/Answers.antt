@@ -3,12 +3,11 @@ use Rattle.stream_reader.proofs.FrontLemmas.{are_from_fits}
 use Rattle.stream_reader.proofs.RunLemmas.{foreign_fed, packet_fed}
 use Rattle.stream_reader.proofs.reader.Reader.feed.Goals as goal
 
-pub invariant_of-self-2 : goal.invariant_of-self-2
-invariant_of-self-2 c =
-    let grown = c.in_ok-extend_from_slice.ensures.items in
+pub invariant_of-self : goal.invariant_of-self
+invariant_of-self c =
     let going_on : c.self.inside.ended ≡ false = search rules in (
-      omega (arith, c.self.invariant.0, ap length grown, length-append c.self.inside.buffer.items c.args.piece.now),
+      omega (arith, c.self.invariant.0, ap length c.append.ensures, length-append c.self.inside.buffer c.args.piece.now),
       c.self.invariant.1,
-      foreign_fed _ _ _ _ _ _ going_on (are_from_fits _ c.type_inv.piece) c.self.invariant.0 grown c.self.invariant.2,
-      packet_fed _ _ _ _ _ (omega (arith, c.self.invariant.0)) grown c.self.invariant.3,
+      foreign_fed c.self.inside.ended c.self.inside.buffer c.args.piece.now c.append.new.self 0 c.self.inside.foreign going_on (are_from_fits _ c.type_inv.piece) (omega (arith, c.self.invariant.0)) c.append.ensures c.self.invariant.2,
+      packet_fed c.self.inside.packet c.self.inside.buffer c.args.piece.now c.append.new.self 0 (omega arith) c.append.ensures c.self.invariant.3,
     )
