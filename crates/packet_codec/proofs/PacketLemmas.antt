@@ -16,6 +16,8 @@ use Rattle.packet_codec.specs.Packet.{signature, SpellsEvent, IsPacket}
 use Rattle.packet_codec.specs.Grammar.{Found, NotFound, Flagged}
 use Rattle.packet_codec.specs.Shapes.{Run, Runs, CountedRuns, NamedRun, bit, Contents, FieldShapes, HeaderShape, HeaderStands, AreTexts, status_from, file_from, event_from, contents_of, fields_at, ShowsParts}
 use Rattle.packet_codec.specs.Told.{IsTold}
+use Rattle.packet_codec.specs.Grammar as grammar
+use Rattle.std.proofs.lemmas.List.{get_or_default}
 use Rattle.packet_codec.specs.declared.parts.Parts.{Parts}
 use Rattle.packet_codec.proofs.GrammarLemmas.{fits_from_are, are_front, are_rest, found_same, same_front}
 use Rattle.packet_codec.proofs.FlagLemmas.{FirstBits, SecondBits, first_bits, second_bits, first_from_bits, second_from_bits, status_from_number, number_of_status}
@@ -403,3 +405,17 @@ told_event_of p header parts r is made e s = decoded p header is.contents e r (f
 pub told_spelled : {E : Type 0} (p : List ℕ) (header : Header) (parts : Parts) (r : Result Event E) → IsTold p header parts
     → ((c : Contents) → ShowsParts parts c → IfOk r (λ event. event ≡ event_from header.first header.second c)) → IfOk r (SpellsEvent p)
 told_spelled p header parts r is made = decoded_spelled p is.packet.0 r is.packet.1 (told_event_of p header parts r is made is.packet.0 is.packet.1)
+
+-- ---- the checksum first
+
+pub short_of : (p : List ℕ) (header : Header) → HeaderStands p header → length p ≡ header.size → 4 ≤ length p
+short_of p header stands size = omega (arith, room_of p header stands, size)
+
+pub other_sum : (p : List ℕ) (header : Header) (sum : ℕ) → AreBytes p → HeaderStands p header → sum ≡ crc32 (take (length p - 4) p) → (drop (length p - 4) p ≡ to_be_bytes w32 sum → ⊥) → IsPacket p → ⊥
+other_sum p header sum are stands is other (e, s) = other (rw is ((told_at p header e are stands s).sum))
+
+are_from_fits : (p : List ℕ) → AreBytes p → grammar.AreBytes p
+are_from_fits p are k d below = rw (get_or_default p k d 0 below) (omega (arith, are k))
+
+pub told_by : (p : List ℕ) (header : Header) (parts : Parts) → AreBytes p → HeaderStands p header → IsPacket p → ((contents : Contents) × FieldShapes header.first header.second (fields_at header p) contents × ShowsParts parts contents) → IsTold p header parts
+told_by p header parts are stands packet (contents, shape, shown) = record { are_bytes = are_from_fits p are; stands = stands; packet = packet; contents = contents; shape = shape; shown = shown }

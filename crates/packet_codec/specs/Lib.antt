@@ -8,3 +8,4 @@ pub mod Grammar
 pub mod Shapes
 pub mod Told
 pub mod Sight
+pub mod Heading

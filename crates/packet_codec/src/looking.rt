@@ -1,12 +1,15 @@
 //! What the front of some bytes is.
 
-ghost use Rattle.std.specs.Prelude.{◌↔◌, IsTrue};
+ghost use Rattle.std.specs.Prelude.{◌≡◌, ◌↔◌, ◌≤◌, ◌-◌, length, take, IsTrue};
+ghost use Rattle.sub_number.specs.Checksum.{crc32};
+ghost use Rattle.packet_codec.specs.Shapes.{HeaderStands};
+ghost use Rattle.packet_codec.specs.Heading.{IsHeading};
 ghost use Rattle.packet_codec.specs.Header.{IsFrontOfHeader, LooksLike};
 ghost use Rattle.packet_codec.specs.Sight.{IsSeen};
 
 use crate::front::Front;
-use crate::header::{SIGNATURE, header_at};
-use crate::packet::{Packet, packet_of};
+use crate::header::{Header, SIGNATURE, header_at};
+use crate::packet::{Packet, packet_by, packet_of};
 
 /// What stands at the front of some bytes, with the packet itself.
 #[derive(Drop)]
@@ -50,6 +53,79 @@ fn is_front_of_header(bytes: &[u8]) -> bool
     extra <= 2 && bytes.len() <= 3 + extra
 }
 
+/// What the header at the front of some bytes tells of them.
+#[derive(Clone, Copy)]
+pub enum Heading {
+    /// A header, with as many bytes as it tells of.
+    Whole(Header),
+    /// More bytes are asked for: the front of a header stands there, or a header whose packet would be longer than the
+    /// bytes at hand.
+    More,
+    /// No header, whatever follows.
+    No,
+}
+
+/// What the header at the front of the bytes tells. It looks at six bytes at most.
+#[inline(always)]
+pub fn head_of(bytes: &[u8]) -> Heading
+    ensures { IsHeading bytes.now result }
+{
+    let Some(header) = header_at(bytes) else {
+        return if is_front_of_header(bytes) {
+            Heading::More
+        } else {
+            Heading::No
+        };
+    };
+    if header.size > bytes.len() {
+        return Heading::More;
+    }
+    Heading::Whole(header)
+}
+
+/// What stands at the front of the bytes, which have this header and are no shorter than it tells, where the checksum
+/// that a packet there would end with is known. The checksum is tested first, then the lengths of the fields, and the
+/// texts last. It takes no memory.
+#[inline(always)]
+pub fn see_by(header: Header, bytes: &[u8], sum: u32) -> Sight<'_>
+    requires stands { HeaderStands bytes.now header }
+    requires size { header.size ≤ length bytes.now }
+    requires sum { sum ≡ crc32 (take (header.size - 4) bytes.now) }
+    ensures { IsSeen bytes.now result }
+{
+    match packet_by(header, &bytes[..header.size], sum) {
+        Some(packet) => Sight::Packet(packet),
+        None => Sight::No,
+    }
+}
+
+/// What `see_by` sees, without the packet itself: its size alone. It takes no memory.
+pub fn look_by(header: Header, bytes: &[u8], sum: u32) -> Front
+    requires stands { HeaderStands bytes.now header }
+    requires size { header.size ≤ length bytes.now }
+    requires sum { sum ≡ crc32 (take (header.size - 4) bytes.now) }
+    ensures { LooksLike bytes.now result }
+{
+    match see_by(header, bytes, sum) {
+        Sight::Packet(packet) => Front::Packet(packet.size()),
+        Sight::More => Front::More,
+        Sight::No => Front::No,
+    }
+}
+
+// What stands at the front of the bytes, which have this header and are no shorter than it tells.
+#[inline(always)]
+fn see_whole(header: Header, bytes: &[u8]) -> Sight<'_>
+    requires stands { HeaderStands bytes.now header }
+    requires size { header.size ≤ length bytes.now }
+    ensures { IsSeen bytes.now result }
+{
+    match packet_of(header, &bytes[..header.size]) {
+        Some(packet) => Sight::Packet(packet),
+        None => Sight::No,
+    }
+}
+
 /// Whether the bytes begin with a packet, ask for more bytes, or begin with none, whatever follows. It takes no memory,
 /// and the packet's event can be made without its checksum and its texts being tested again.
 ///
@@ -58,19 +134,10 @@ fn is_front_of_header(bytes: &[u8]) -> bool
 pub fn see(bytes: &[u8]) -> Sight<'_>
     ensures { IsSeen bytes.now result }
 {
-    let Some(header) = header_at(bytes) else {
-        return if is_front_of_header(bytes) {
-            Sight::More
-        } else {
-            Sight::No
-        };
-    };
-    if header.size > bytes.len() {
-        return Sight::More;
-    }
-    match packet_of(header, &bytes[..header.size]) {
-        Some(packet) => Sight::Packet(packet),
-        None => Sight::No,
+    match head_of(bytes) {
+        Heading::Whole(header) => see_whole(header, bytes),
+        Heading::More => Sight::More,
+        Heading::No => Sight::No,
     }
 }
 

@@ -1,6 +1,8 @@
 //! Packets, and whether some bytes are one.
 
-ghost use Rattle.std.specs.Prelude.{◌≡◌, ◌↔◌, Option, List, ℕ, length, All, IsTrue, IfSome, IfNone};
+ghost use Rattle.std.specs.Prelude.{◌≡◌, ◌↔◌, ◌≤◌, ◌-◌, Option, List, ℕ, length, take, drop, All, IsTrue, IfSome, IfNone};
+ghost use Rattle.std.specs.Int.{w32, to_be_bytes};
+ghost use Rattle.sub_number.specs.Checksum.{crc32};
 ghost use Rattle.sub_number.specs.Texts.{IsText};
 ghost use Rattle.packet_codec.specs.Packet.{IsPacket};
 ghost use Rattle.packet_codec.specs.Shapes.{HeaderStands, FieldShapes, fields_at, Contents, ShowsRuns, ShowsTags, ShowsParts, AreTexts, bytes_of, file_of};
@@ -130,6 +132,50 @@ pub fn packet_of(header: Header, bytes: &[u8]) -> Option<Packet<'_>>
 {
     let parts = packet_parts(header, bytes)?;
     if !is_packet(header, bytes, &parts) {
+        return None;
+    }
+    Some(Packet {
+        bytes,
+        header,
+        parts,
+    })
+}
+
+/// Whether the bytes end with this checksum.
+fn ends_with(bytes: &[u8], sum: u32) -> bool
+    requires { 4 ≤ length bytes.now }
+    ensures { IsTrue result ↔ drop (length bytes.now - 4) bytes.now ≡ to_be_bytes w32 sum }
+{
+    let (_, checksum) = bytes.split_at(bytes.len() - CHECKSUM);
+    checksum == sum.to_be_bytes().as_slice()
+}
+
+/// The same as `is_packet`, where the checksum of the bytes in front of the last four is known.
+fn is_packet_by(header: Header, bytes: &[u8], parts: &Parts<'_>, sum: u32) -> bool
+    requires stands { HeaderStands bytes.now header }
+    requires size { length bytes.now ≡ header.size }
+    requires shown { (contents : Contents) × FieldShapes header.first header.second (fields_at header bytes.now) contents × ShowsParts parts.now contents }
+    requires sum { sum ≡ crc32 (take (length bytes.now - 4) bytes.now) }
+    ensures { IsTrue result ↔ IsPacket bytes.now }
+{
+    have_texts(parts) && ends_with(bytes, sum)
+}
+
+/// The packet that the bytes are, which have this header and its size, where the checksum of those in front of their
+/// last four is known. The checksum is tested first, then the lengths, and the texts last.
+#[inline(always)]
+pub fn packet_by(header: Header, bytes: &[u8], sum: u32) -> Option<Packet<'_>>
+    requires stands { HeaderStands bytes.now header }
+    requires size { length bytes.now ≡ header.size }
+    requires sum { sum ≡ crc32 (take (length bytes.now - 4) bytes.now) }
+    ensures found { IfSome result (λ packet. (packet ≡ bytes.now) × IsPacket bytes.now) }
+    ensures none { IfNone result (IsPacket bytes.now → ⊥) }
+{
+    if !ends_with(bytes, sum) {
+        return None;
+    }
+    let parts = packet_parts(header, bytes)?;
+    if !is_packet_by(header, bytes, &parts, sum) {
         return None;
     }
     Some(Packet {

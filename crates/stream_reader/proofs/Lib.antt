@@ -6,3 +6,4 @@ pub mod GivingLemmas
 pub mod TurnLemmas
 pub mod ExistLemmas
 pub mod RoomLemmas
+pub mod BufferLemmas

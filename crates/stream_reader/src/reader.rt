@@ -14,7 +14,7 @@ use crate::buffer::Buffer;
 use crate::first::First;
 use crate::note::Note;
 use crate::run::{are_bytes, foreign_run};
-use packet_codec::{Front, decode, look};
+use packet_codec::{Front, decode};
 use std::alloc::Global;
 use std::marker::Model;
 use sub_number::{Bytes, NoMemory};
@@ -133,7 +133,7 @@ impl Reader {
             return First::Nothing;
         }
         are_bytes(self.buffer.held());
-        match look(self.buffer.held()) {
+        match self.buffer.look_at(0) {
             Front::Packet(size) => self.first_packet(size),
             Front::More if self.ended => self.first_run(1),
             Front::More => First::Nothing,
@@ -200,7 +200,7 @@ impl Reader {
         ensures same { self.new ≡ self.old }
         ensures first { FirstIs self.old.ended self.old.bytes result }
     {
-        let run = foreign_run(self.buffer.held(), known, self.ended);
+        let run = foreign_run(&mut self.buffer, known, self.ended);
         self.foreign = run.count;
         match run.front {
             Front::More => First::Nothing,

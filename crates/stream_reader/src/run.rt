@@ -1,16 +1,14 @@
 //! The foreign bytes at the front of what is held.
 
-ghost use Rattle.std.specs.Prelude.{◌≡◌, ◌≢◌, ◌<◌, ◌≤◌, ℕ, length, get_or};
+ghost use Rattle.std.specs.Prelude.{◌≡◌, ◌≢◌, ◌<◌, ◌≤◌, ℕ, length, drop, get_or};
 ghost use Rattle.packet_codec.specs.Grammar.{AreBytes};
 ghost use Rattle.packet_codec.specs.Packet.{signature};
 ghost use Rattle.stream_reader.specs.Notes.{longest_foreign};
 ghost use Rattle.stream_reader.specs.Run.{AreForeign, FrontIs, IsRun};
 
+use crate::buffer::Buffer;
 use memchr::memchr;
-use packet_codec::{Front, look};
-
-// The byte that each packet begins with.
-const SIGNATURE: u8 = 0xb3;
+use packet_codec::{Front, SIGNATURE};
 
 // The most bytes of one foreign note.
 const LONGEST_FOREIGN: usize = 65_536;
@@ -38,35 +36,40 @@ fn next_signature(bytes: &[u8], from: usize, room: usize) -> usize
     }
 }
 
-/// What the front of the bytes is. At the end of a stream nothing may become a packet.
-fn front_of(bytes: &[u8], ended: bool) -> Front
-    ensures { FrontIs ended bytes.now result }
-{
-    match look(bytes) {
-        Front::More if ended => Front::No,
-        front => front,
-    }
-}
-
 /// What holds of the bytes of each slice: the type tells it.
 pub(crate) fn are_bytes(bytes: &[u8])
     ensures { AreBytes bytes.now }
 {}
 
+/// What stands at a place among the bytes held. At the end of a stream nothing may become a packet.
+fn front_at(buffer: &mut Buffer, place: usize, ended: bool) -> Front
+    requires { place ≤ length buffer.old }
+    ensures same { buffer.new ≡ buffer.old }
+    ensures front { FrontIs ended (drop place buffer.old) result }
+{
+    are_bytes(&buffer.held()[place..]);
+    match buffer.look_at(place) {
+        Front::More if ended => Front::No,
+        front => front,
+    }
+}
+
 /// The foreign bytes at the front, where it is known of the first `known` bytes that they are foreign. Those are not
 /// looked at again.
-pub(crate) fn foreign_run(bytes: &[u8], known: usize, ended: bool) -> Run
-    requires in_range { known ≤ length bytes.now }
+pub(crate) fn foreign_run(buffer: &mut Buffer, known: usize, ended: bool) -> Run
+    requires in_range { known ≤ length buffer.old }
     requires short { known ≤ longest_foreign }
-    requires are_foreign { AreForeign ended bytes.now known }
+    requires are_foreign { AreForeign ended buffer.old known }
+    ensures same { buffer.new ≡ buffer.old }
     ensures known { known ≤ result.count }
-    ensures run { IsRun ended bytes.now result.count result.front }
+    ensures run { IsRun ended buffer.old result.count result.front }
 {
-    let room = bytes.len().min(LONGEST_FOREIGN);
-    let mut count = next_signature(bytes, known, room);
+    are_bytes(buffer.held());
+    let room = buffer.len().min(LONGEST_FOREIGN);
+    let mut count = next_signature(buffer.held(), known, room);
     while count < room {
-        match front_of(&bytes[count..], ended) {
-            Front::No => count = next_signature(bytes, count + 1, room),
+        match front_at(buffer, count, ended) {
+            Front::No => count = next_signature(buffer.held(), count + 1, room),
             front => return Run { count, front },
         }
     }

@@ -40,8 +40,8 @@ fn after_eight(register: u32, bytes: &[u8; 8]) -> u32
         ^ shifted_byte(0, u32::from(bytes[7]))
 }
 
-// The register behind the bytes.
-fn register_after(mut register: u32, bytes: &[u8]) -> u32
+/// The register behind the bytes, where it was this one before them.
+pub fn register_after(mut register: u32, bytes: &[u8]) -> u32
     ensures { result ≡ fold crc_step register bytes.now }
 {
     let mut left = bytes;

@@ -6,7 +6,7 @@ use Rattle.stream_reader.proofs.reader.Reader.first_run.Goals.{in-More, in-Packe
 
 pub returns-clause-first : goal.returns-clause-first
 returns-clause-first c =
-    let run : IsRun c.args.self.now.ended c.args.self.now.bytes c.foreign_run-run.result.count c.foreign_run-run.result.front = rw (← c.self.view_is) (rw (c.held.ensures) at c.foreign_run-run.ensures.run) in
+    let run : IsRun c.args.self.now.ended c.args.self.now.bytes c.foreign_run-run.result.count c.foreign_run-run.result.front = rw (← c.self.view_is) c.foreign_run-run.ensures.run in
     let some : 0 < c.foreign_run-run.result.count = omega (arith, c.requires.some, c.foreign_run-run.ensures.known) in
     elim c.match-run.branch [
       | in-More w ↦ rw (w.result-is) (spent_open _ _ _ _ w.in-More.is run)
