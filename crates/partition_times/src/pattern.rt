@@ -58,6 +58,8 @@ pub(crate) fn compiled(alloc: Global, index: usize, pattern: &Text) -> Result<Re
     match Regex::new(alloc, string_of(pattern)) {
         Ok(regex) => Ok(regex),
         Err(Error::Syntax(_)) => Err(PatternFault::BadPattern(index)),
-        Err(_) => Err(PatternFault::NoMemory),
+        Err(Error::CompiledTooBig | Error::OutOfMemory) => Err(PatternFault::NoMemory),
+        // `regex` promises that it never gives this one.
+        Err(Error::Internal) => unreachable!(),
     }
 }
