@@ -1,0 +1,73 @@
+-- Words cut into options, values and names (docs/FORMATS.md, "Words").
+use Rattle.std.specs.Prelude.{ℕ, ◌^◌, Bool, not, ◌&&◌, ◌==◌, nat_lt, nat_eq, Option, Some, None, List, [], ◌∷◌, length, map, codes, String, string_bytes, if◌then◌else◌}
+use Rattle.std.specs.List.{list_any, starts_with, before_first, after_first, position_or_len}
+use Rattle.std.specs.Option.{option_map}
+use Rattle.std.specs.declared.alloc.Global.{Global}
+use Rattle.command_words.specs.declared.table.Kind.{Kind}
+use Rattle.command_words.specs.declared.table.Kind.TheVariants.{Flag, Valued}
+
+abbrev pub texts : List (String Global) → List (List ℕ)
+texts words = map string_bytes words
+
+-- What a word is, or an option and the word that is its value.
+pub data Item : Type 0 where
+  -- an option without a value
+  flag : List ℕ → Item
+  -- an option and its value
+  valued : List ℕ → List ℕ → Item
+  -- any other word
+  name : List ℕ → Item
+
+-- a word is UTF-8 as it comes; a text has no NUL, and fewer than 2^30 bytes
+abbrev pub is_text : List ℕ → Bool
+is_text word = not (list_any (λ byte. byte == 0) word) && nat_lt (length word) (2 ^ 30)
+
+-- what a word is by itself
+pub data Meaning : Type 0 where
+  refused : Meaning
+  is_item : Item → Meaning
+  -- an option whose value is the next word
+  asks : List ℕ → Meaning
+
+abbrev pub equals_sign : ℕ → Bool
+equals_sign byte = byte == 61
+
+-- an option's name, up to the first equals sign
+abbrev pub key_of : List ℕ → List ℕ
+key_of word = before_first equals_sign word
+
+-- what stands behind the first equals sign, where there is one
+abbrev pub value_of : List ℕ → Option (List ℕ)
+value_of word = if nat_lt (position_or_len equals_sign word) (length word) then Some (after_first equals_sign word) else None
+
+-- A flag has no value. Where an option with a value has none in its word, the next word is its value.
+abbrev pub option_meaning : Option Kind → List ℕ → Option (List ℕ) → Meaning
+option_meaning None key value = refused
+option_meaning (Some Flag) key None = is_item (flag key)
+option_meaning (Some Flag) key (Some value) = refused
+option_meaning (Some Valued) key None = asks key
+option_meaning (Some Valued) key (Some value) = is_item (valued key value)
+
+-- two dashes begin an option, and one dash is a name alone
+abbrev pub meaning_of : (List ℕ → Option Kind) → List ℕ → Meaning
+meaning_of kinds word =
+    if starts_with nat_eq word (codes "--") then option_meaning (kinds (key_of word)) (key_of word) (value_of word)
+    else (if starts_with nat_eq word (codes "-") && nat_lt 1 (length word) then refused
+    else is_item (name word))
+
+-- the rest of the items, as the meaning of a word says: behind the option that asks for a value, or behind none
+abbrev pub and_then : Meaning → (List ℕ → Option (List Item)) → Option (List Item) → Option (List Item)
+and_then refused behind rest = None
+and_then (is_item item) behind rest = option_map (λ items. item ∷ items) rest
+and_then (asks key) behind rest = behind key
+
+-- what the words are behind the option that asks for its value, where there is one; none where one of them is refused
+abbrev pub items_behind : (List ℕ → Option Kind) → Option (List ℕ) → List (List ℕ) → Option (List Item)
+items_behind kinds None [] = Some []
+items_behind kinds (Some key) [] = None
+items_behind kinds None (word ∷ words) = if is_text word then and_then (meaning_of kinds word) (λ key. items_behind kinds (Some key) words) (items_behind kinds None words) else None
+items_behind kinds (Some key) (word ∷ words) = if is_text word then option_map (λ items. valued key word ∷ items) (items_behind kinds None words) else None
+
+-- what the words are, in their order
+abbrev pub items_of : (List ℕ → Option Kind) → List (List ℕ) → Option (List Item)
+items_of kinds words = items_behind kinds None words

@@ -1,0 +1,4 @@
+-- What words are, as a list.
+pub mod Items
+-- How the code keeps them.
+pub mod Code

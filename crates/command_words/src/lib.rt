@@ -1,0 +1,23 @@
+//! The words of a command line behind the command's name, cut into options, their values and names.
+//!
+//! This room knows how options are written, and nothing of what a command does with them. The rules stand in
+//! docs/FORMATS.md, "Words".
+//!
+//! - `table`: which options a command has
+//! - `item`: what words are
+//! - `reading`: reads the words
+//! - `text`: words as texts
+#![tactic(auto)]
+
+mod item;
+mod reading;
+mod table;
+mod text;
+
+pub use item::Item;
+pub use reading::read_items;
+pub use table::{Kind, OptionTable};
+pub use text::text_of;
+
+#[cfg(test)]
+mod tests;
