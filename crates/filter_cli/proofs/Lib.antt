@@ -1,0 +1,4 @@
+pub mod PipeLemmas
+pub mod PumpLemmas
+pub mod NotedLemmas
+pub mod StepLemmas

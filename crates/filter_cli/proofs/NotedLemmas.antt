@@ -1,0 +1,85 @@
+-- A filter of notes at work.
+use Rattle.std.proofs.Common.{◌≡◌, ℕ, Bool, true, false, List, [], ◌∷◌, ◌++◌, length, refl, sym, ap, subst, ◌∙◌, append_assoc, append-nil, arith}
+use Rattle.packet_codec.specs.Grammar.{AreBytes}
+use Rattle.stream_reader.specs.declared.note.Note.{Note}
+use Rattle.stream_reader.specs.Notes.{HasNotes, HasDecided}
+use Rattle.stream_reader.specs.Stream.{Held, BeginsWithNotes, GivesNote, GivesNotes, IsSpent}
+use Rattle.stream_reader.proofs.TurnLemmas.{notes_none, notes_more, begin_more, whole_at_end, gives_none}
+use Rattle.stream_reader.proofs.GivingLemmas.{spent_empty}
+use Rattle.filter_cli.specs.Pipe.{Adds}
+use Rattle.filter_cli.specs.Plan.{Plan, IsSeen, IsFiltered}
+use Rattle.filter_cli.specs.Script.{given_by}
+use Rattle.filter_cli.specs.Noted.{HasFiltered, TakesNotes}
+use Rattle.filter_cli.specs.ScriptLaws.{given_more}
+
+pub filtered_none : (takes : List Note → Type 0) (plan : Plan) → takes [] → HasFiltered takes plan [] [] []
+filtered_none takes plan none = record { notes = []; taken = none; begins = gives_none false []; spent = spent_empty false [] (omega arith); made = refl }
+
+-- of no bytes nothing is decided
+pub seen_none : (plan : Plan) → IsSeen plan [] []
+seen_none plan = record { notes = []; decided = spent_empty false [] (omega arith); made = refl }
+
+pub takes_none : (takes : List Note → Type 0) (plan : Plan) (notes : List Note) (held : Held) (text : List ℕ) → takes notes → TakesNotes takes plan notes held held text text
+takes_none takes plan notes held text taken = record {
+  all = notes;
+  given = notes_none held notes;
+  taken = taken;
+  more = [];
+  grown = sym (append-nil text);
+  made = sym (append-nil (given_by plan notes));
+}
+
+pub takes_more : (takes later : List Note → Type 0) (plan now : Plan) (notes : List Note) (before held after : Held) (old mid new : List ℕ) (note : Note)
+    → now ≡ plan → TakesNotes takes plan notes before held old mid → GivesNote held note after → after.ended ≡ held.ended
+    → ((all : List Note) → takes all → later (all ++ note ∷ [])) → ((all : List Note) → takes all → new ≡ mid ++ now.gives all note)
+    → TakesNotes later plan notes before after old new
+takes_more takes later plan now notes before held after old mid new note same t step ended goes_on writes =
+    let piece = plan.gives t.all note in
+    let is : now.gives t.all note ≡ piece = ap (λ (p : Plan). p.gives t.all note) same in
+    record {
+      all = t.all ++ note ∷ [];
+      given = notes_more before held after notes t.all note t.given step ended;
+      taken = goes_on t.all t.taken;
+      more = t.more ++ piece;
+      grown = writes t.all t.taken ∙ ap (λ (l : List ℕ). mid ++ l) is ∙ ap (λ (l : List ℕ). l ++ piece) t.grown ∙ append_assoc old t.more piece;
+      made = given_more plan t.all note ∙ ap (λ (l : List ℕ). l ++ piece) t.made ∙ append_assoc (given_by plan notes) t.more piece;
+    }
+
+shown_more : (plan : Plan) (notes all : List Note) (shown more : List ℕ) → shown ≡ given_by plan notes → given_by plan all ≡ given_by plan notes ++ more → shown ++ more ≡ given_by plan all
+shown_more plan notes all shown more is made = ap (λ (l : List ℕ). l ++ more) is ∙ sym made
+
+pub filtered_more : (takes later : List Note → Type 0) (plan now : Plan) (rest piece fed shown : List ℕ) (held after : Held) (old new : List ℕ)
+    → now ≡ plan → AreBytes piece → held ≡ record { bytes = rest ++ piece; ended = false } → (h : HasFiltered takes plan rest fed shown)
+    → TakesNotes later plan h.notes held after old new → IsSpent after.ended after.bytes → after.ended ≡ held.ended
+    → Adds old new (λ more. HasFiltered later now after.bytes (fed ++ piece) (shown ++ more))
+filtered_more takes later plan now rest piece fed shown held after old new same are is h t spent ended =
+    let going_on : after.ended ≡ false = ended ∙ ap (λ (s : Held). s.ended) is in
+    record {
+      more = t.more;
+      grown = t.grown;
+      holds = subst (λ (p : Plan). HasFiltered later p after.bytes (fed ++ piece) (shown ++ t.more)) (sym same) (record {
+        notes = t.all;
+        taken = t.taken;
+        begins = begin_more fed piece rest h.notes t.all held after are h.begins is t.given;
+        spent = subst (λ (e : Bool). IsSpent e after.bytes) going_on spent;
+        made = shown_more plan h.notes t.all shown t.more h.made t.made;
+      });
+    }
+
+pub filtered_all : (takes later : List Note → Type 0) (plan now : Plan) (rest fed shown : List ℕ) (held after : Held) (old mid new : List ℕ) (status : ℕ)
+    → now ≡ plan → held ≡ record { bytes = rest; ended = true } → (h : HasFiltered takes plan rest fed shown)
+    → TakesNotes later plan h.notes held after old mid → IsSpent after.ended after.bytes
+    → ((all : List Note) → later all → new ≡ mid ++ now.at_end all) → ((all : List Note) → later all → status ≡ now.status all)
+    → Adds old new (λ more. IsFiltered plan fed (shown ++ more) status)
+filtered_all takes later plan now rest fed shown held after old mid new status same is h t spent writes answers =
+    let last = plan.at_end t.all in
+    record {
+      more = t.more ++ last;
+      grown = writes t.all t.taken ∙ ap (λ (p : Plan). mid ++ p.at_end t.all) same ∙ ap (λ (l : List ℕ). l ++ last) t.grown ∙ append_assoc old t.more last;
+      holds = record {
+        notes = t.all;
+        told = whole_at_end fed rest h.notes t.all held after h.begins is t.given spent;
+        made = sym (append_assoc shown t.more last) ∙ ap (λ (l : List ℕ). l ++ last) (shown_more plan h.notes t.all shown t.more h.made t.made);
+        status = answers t.all t.taken ∙ ap (λ (p : Plan). p.status t.all) same;
+      };
+    }

@@ -1,0 +1,11 @@
+-- The loop that all filters go through.
+pub mod Pipe
+pub mod Pumping
+pub mod Script
+pub mod ScriptLaws
+-- Filters that go by the notes of a stream.
+pub mod Plan
+pub mod Noted
+pub mod PlanLaws
+-- Chains of steps.
+pub mod Steps

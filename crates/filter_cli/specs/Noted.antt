@@ -1,0 +1,24 @@
+-- A filter of notes at work. `takes` says which notes it has taken.
+use Rattle.std.specs.Prelude.{◌≡◌, ℕ, List, [], ◌++◌}
+use Rattle.stream_reader.specs.declared.note.Note.{Note}
+use Rattle.stream_reader.specs.Notes.{HasDecided}
+use Rattle.stream_reader.specs.Stream.{Held, BeginsWithNotes, GivesNotes}
+use Rattle.filter_cli.specs.Plan.{Plan}
+use Rattle.filter_cli.specs.Script.{given_by}
+
+-- With these bytes fed, of which so many are held, it has taken all notes that they decide, and this text was appended.
+pub record HasFiltered (takes : List Note → Type 0) (plan : Plan) (held fed shown : List ℕ) : Type 0 where
+  pub notes : List Note
+  pub taken : takes notes
+  pub begins : BeginsWithNotes fed notes held
+  pub spent : HasDecided held []
+  pub made : shown ≡ given_by plan notes
+
+-- the next notes were given and taken, and what they give was appended
+pub record TakesNotes (takes : List Note → Type 0) (plan : Plan) (notes : List Note) (before after : Held) (old new : List ℕ) : Type 0 where
+  pub all : List Note
+  pub given : GivesNotes before notes after all
+  pub taken : takes all
+  pub more : List ℕ
+  pub grown : new ≡ old ++ more
+  pub made : given_by plan all ≡ given_by plan notes ++ more

@@ -1,0 +1,74 @@
+-- What a pump does, whatever the filter. `sees` and `ends` are the filter's: the text that first bytes decide, and the
+-- text and status of a whole stream.
+use Rattle.std.specs.Prelude.{◌≡◌, ◌⊎◌, ℕ, ◌<◌, ◌≤◌, ◌^◌, Option, IfSome, List, ◌++◌, length, take, Result, Ok, Err}
+use Rattle.std.specs.Io.KnownBytes.{IsAtEnd}
+use Rattle.edge_io.specs.Causes.{Rose}
+use Rattle.filter_cli.specs.Pipe.{Pipe, Moves, NoFault}
+use Rattle.filter_cli.specs.declared.pass.PumpFault.{PumpFault}
+use Rattle.filter_cli.specs.declared.pass.PumpFault.TheVariants.{Input, TooLong, Output, NoMemory}
+
+-- how many bytes an input may have
+abbrev pub most_bytes : ℕ
+most_bytes = 2 ^ 60
+
+-- how many bytes a read gives at most
+abbrev pub most_at_once : ℕ
+most_at_once = 65536
+
+-- the whole input was read, and its text was written
+pub record PumpsAll (ends : List ℕ → List ℕ → ℕ → Type 0) (before after : Pipe) (status : ℕ) : Type 0 where
+  pub bytes : List ℕ
+  pub text : List ℕ
+  pub moved : Moves bytes text before after
+  pub at_end : IsAtEnd after.input.told
+  pub size : length bytes ≤ most_bytes
+  pub whole : ends bytes text status
+  pub faults : NoFault before after
+
+-- A read failed. What was written is exactly what is decided by the bytes that the reads gave.
+pub record ReadFails (sees : List ℕ → List ℕ → Type 0) (before after : Pipe) : Type 0 where
+  pub bytes : List ℕ
+  pub text : List ℕ
+  pub moved : Moves bytes text before after
+  pub seen : sees bytes text
+  pub rose : Rose before.input.faults after.input.faults
+  pub out : after.out.faults ≡ before.out.faults
+
+-- It stopped at a piece, with no fault. What was written is what the reads before that piece decide.
+pub record StopsBefore (sees : List ℕ → List ℕ → Type 0) (before after : Pipe) : Type 0 where
+  pub front : List ℕ
+  pub piece : List ℕ
+  pub short : length piece ≤ most_at_once
+  pub text : List ℕ
+  pub moved : Moves (front ++ piece) text before after
+  pub seen : sees front text
+  pub faults : NoFault before after
+
+-- what is due once these bytes were read: what they decide, or where they are all, their whole text
+abbrev pub IsDue : (sees : List ℕ → List ℕ → Type 0) (ends : List ℕ → List ℕ → ℕ → Type 0) → Option (List ℕ) → List ℕ → List ℕ → Type 0
+IsDue sees ends left bytes text = sees bytes text ⊎ ((status : ℕ) × IsAtEnd left × ends bytes text status)
+
+-- A write failed. What the reads before the last piece decide was written, and of what was due with that piece a part.
+pub record WriteFails (sees : List ℕ → List ℕ → Type 0) (ends : List ℕ → List ℕ → ℕ → Type 0) (before after : Pipe) : Type 0 where
+  pub front : List ℕ
+  pub piece : List ℕ
+  pub short : length piece ≤ most_at_once
+  pub shown : List ℕ
+  pub seen : sees front shown
+  pub more : List ℕ
+  pub due : IsDue sees ends after.input.told (front ++ piece) (shown ++ more)
+  pub count : ℕ
+  pub moved : Moves (front ++ piece) (shown ++ take count more) before after
+  pub rose : Rose before.out.faults after.out.faults
+  pub input : after.input.faults ≡ before.input.faults
+
+-- the input has more bytes than it may
+abbrev pub IsTooLong : Pipe → Type 0
+IsTooLong before = IfSome before.input.told (λ bytes. most_bytes < length bytes)
+
+abbrev pub Pumps : (sees : List ℕ → List ℕ → Type 0) (ends : List ℕ → List ℕ → ℕ → Type 0) → Pipe → Pipe → Result ℕ PumpFault → Type 0
+Pumps sees ends before after (Ok status) = PumpsAll ends before after status
+Pumps sees ends before after (Err Input) = ReadFails sees before after
+Pumps sees ends before after (Err TooLong) = StopsBefore sees before after × IsTooLong before
+Pumps sees ends before after (Err Output) = WriteFails sees ends before after
+Pumps sees ends before after (Err NoMemory) = StopsBefore sees before after

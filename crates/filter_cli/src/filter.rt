@@ -1,0 +1,46 @@
+// What a filter is.
+ghost use Rattle.std.specs.Prelude.{◌≡◌, ◌++◌, ℕ, List, IfOk, OnOk};
+ghost use Rattle.packet_codec.specs.Grammar.{AreBytes};
+ghost use Rattle.filter_cli.specs.Pipe.{Adds};
+
+use sub_number::NoMemory;
+
+/// A filter is fed a stream piece by piece, and appends what each piece decides of its text.
+pub trait Filter {
+    /// The text that the first bytes of a stream decide, whatever follows.
+    ghost seen: { Self → List ℕ → List ℕ → Type 0 };
+
+    /// The text of a whole stream, and its status.
+    ghost whole: { Self → List ℕ → List ℕ → ℕ → Type 0 };
+
+    /// These bytes were fed, and this text was appended.
+    ghost has: { Self → List ℕ → List ℕ → Type 0 };
+
+    /// What it was made over may be called.
+    ghost ready: { Self → Type 0 } = { λ _. Unit {0} };
+
+    /// Takes the next bytes, and appends what they decide.
+    fn feed(&mut self, piece: &[u8], text: &mut Vec<u8>) -> Result<(), NoMemory>
+        requires { ready self.old }
+        ensures ready { OnOk result (ready self.new) }
+        ensures ok { (fed shown : List ℕ) → has self.old fed shown → OnOk result (Adds text.old.items text.new.items (λ more. has self.new (fed ++ piece.now) (shown ++ more))) }
+        ensures seen { OnOk result ((fed shown : List ℕ) → seen self.new fed shown → seen self.old fed shown) }
+        ensures whole { OnOk result ((fed all : List ℕ) (status : ℕ) → whole self.new fed all status → whole self.old fed all status) };
+
+    /// The stream has ended: appends the rest of the text, and gives the status.
+    fn close(self, text: &mut Vec<u8>) -> Result<u8, NoMemory>
+        requires { ready self }
+        ensures { (fed shown : List ℕ) → has self fed shown → IfOk result (λ status. Adds text.old.items text.new.items (λ more. whole self fed (shown ++ more) status)) };
+
+    /// Gives it up.
+    fn let_go(self);
+
+    // What was appended is all that the bytes fed decide.
+    ghost is_seen: { (f : Self) (fed shown : List ℕ) → has f fed shown → seen f fed shown };
+
+    // What first bytes decide comes first, whatever follows.
+    ghost front: { (f : Self) (bytes more shown all : List ℕ) (status : ℕ) → AreBytes (bytes ++ more) → seen f bytes shown → whole f (bytes ++ more) all status → (rest : List ℕ) × (all ≡ shown ++ rest) };
+
+    // A stream has one text and one status.
+    ghost one: { (f : Self) (bytes all other : List ℕ) (status another : ℕ) → AreBytes bytes → whole f bytes all status → whole f bytes other another → (all ≡ other) × (status ≡ another) };
+}

@@ -1,0 +1,84 @@
+// A filter of notes as a filter of bytes.
+ghost use Rattle.std.specs.Prelude.{◌≡◌, false};
+
+use crate::filter::Filter;
+use crate::notes::NoteFilter;
+use crate::taking::take_notes;
+use std::alloc::Global;
+use stream_reader::Reader;
+use sub_number::NoMemory;
+
+/// A filter of notes, and the reader that gives it the notes of a stream.
+pub struct OfNotes<F: NoteFilter> {
+    reader: Reader,
+    filter: F,
+    ghost open: { reader.ended ≡ false },
+}
+
+impl<F: NoteFilter> OfNotes<F> {
+    ghost use Rattle.std.specs.Prelude.{[], IfOk};
+    ghost use Rattle.filter_cli.specs.Noted.{HasFiltered};
+
+    /// Nothing was read yet.
+    pub fn new(alloc: Global, filter: F) -> Result<Self, NoMemory>
+        requires ready { F.ready filter }
+        requires has { F.has filter [] }
+        ensures ready { IfOk result (λ made. F.ready made.filter) }
+        ensures filter { IfOk result (λ made. made.filter ≡ filter) }
+        ensures has { IfOk result (λ made. HasFiltered (F.has made.filter) (F.plan made.filter) made.reader.bytes [] []) }
+    {
+        let Ok(reader) = Reader::new(alloc) else {
+            filter.let_go();
+            return Err(NoMemory);
+        };
+        Ok(OfNotes { reader, filter })
+    }
+}
+
+impl<F: NoteFilter> Filter for OfNotes<F> {
+    ghost use Rattle.filter_cli.specs.Plan.{IsSeen, IsFiltered};
+    ghost use Rattle.filter_cli.specs.Noted.{HasFiltered};
+    ghost use Rattle.filter_cli.specs.PlanLaws.{plan_seen, plan_front, plan_one};
+
+    ghost seen = { λ f. IsSeen (F.plan f.filter) };
+
+    ghost whole = { λ f. IsFiltered (F.plan f.filter) };
+
+    ghost ready = { λ f. F.ready f.filter };
+
+    ghost has = { λ f. HasFiltered (F.has f.filter) (F.plan f.filter) f.reader.bytes };
+
+    fn feed(&mut self, piece: &[u8], text: &mut Vec<u8>) -> Result<(), NoMemory> {
+        self.reader.feed(piece)?;
+        take_notes(&mut self.reader, &mut self.filter, text)?;
+        Ok(())
+    }
+
+    fn close(self, text: &mut Vec<u8>) -> Result<u8, NoMemory> {
+        let OfNotes {
+            mut reader,
+            mut filter,
+        } = self;
+        reader.finish();
+        let Ok(()) = take_notes(&mut reader, &mut filter, text) else {
+            filter.let_go();
+            return Err(NoMemory);
+        };
+        let status = filter.close(text)?;
+        Ok(status)
+    }
+
+    fn let_go(self) {
+        let OfNotes {
+            reader: _reader,
+            filter,
+        } = self;
+        filter.let_go();
+    }
+
+    ghost is_seen = { λ f. plan_seen (F.has f.filter) (F.plan f.filter) f.reader.bytes };
+
+    ghost front = { λ f. plan_front (F.plan f.filter) };
+
+    ghost one = { λ f. plan_one (F.plan f.filter) };
+}

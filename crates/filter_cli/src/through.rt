@@ -1,0 +1,26 @@
+// A filter of notes, from an input to an output.
+ghost use Rattle.std.specs.Prelude.{[]};
+ghost use Rattle.filter_cli.specs.Pipe.{pipe};
+ghost use Rattle.filter_cli.specs.Plan.{IsSeen, IsFiltered};
+ghost use Rattle.filter_cli.specs.Pumping.{Pumps};
+
+use crate::notes::NoteFilter;
+use crate::of_notes::OfNotes;
+use crate::pass::{PumpFault, pump};
+use edge_io::{Sink, Source};
+use std::alloc::Global;
+
+/// Filters the notes of the input to its end.
+pub fn pass_notes<F: NoteFilter, I: Source, O: Sink>(
+    alloc: Global,
+    filter: F,
+    input: &mut I,
+    out: &mut O,
+) -> Result<u8, PumpFault>
+    requires ready { F.ready filter }
+    requires has { F.has filter [] }
+    ensures { Pumps (IsSeen (F.plan filter)) (IsFiltered (F.plan filter)) (pipe (I.seen input.old) (O.seen out.old)) (pipe (I.seen input.new) (O.seen out.new)) result }
+{
+    let notes = OfNotes::new(alloc, filter)?;
+    pump(alloc, notes, input, out)
+}
