@@ -9,3 +9,7 @@ pub mod Noted
 pub mod PlanLaws
 -- Chains of steps.
 pub mod Steps
+-- The filters.
+pub mod Events
+pub mod Ls
+pub mod Stats

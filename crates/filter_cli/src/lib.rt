@@ -3,18 +3,23 @@
 //! - `filter`: what a filter is, to the one loop that serves them all
 //! - `pass`: that loop
 //! - `through`: the loop over a filter of notes
+//! - `ls`, `stats`: the filters
 //! - `notes`, `taking`, `of_notes`: filters that go by the notes of a stream
 #![tactic(auto)]
 
 mod filter;
+mod ls;
 mod notes;
 mod of_notes;
 mod pass;
+mod stats;
 mod taking;
 mod through;
 
 pub use filter::Filter;
+pub use ls::{Listing, Ls};
 pub use notes::NoteFilter;
 pub use of_notes::OfNotes;
 pub use pass::{PumpFault, pump};
+pub use stats::Stats;
 pub use through::pass_notes;

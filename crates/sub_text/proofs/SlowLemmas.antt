@@ -1,5 +1,5 @@
 -- The order of the slowest tests, and lists that are in it.
-use Rattle.std.proofs.Common.{◌≡◌, ℕ, suc, ◌+◌, ◌-◌, ◌<◌, ◌≤◌, Bool, true, false, cond, not, List, [], ◌∷◌, ◌++◌, map, take, length, get_or, refl, sym, ◌∙◌, ap, subst, T, arith, true≢false}
+use Rattle.std.proofs.Common.{◌≡◌, ℕ, suc, ◌+◌, ◌-◌, ◌<◌, ◌≤◌, Bool, true, false, cond, not, List, [], ◌∷◌, ◌++◌, map, take, length, replicate, get_or, refl, sym, ◌∙◌, ap, subst, T, arith, true≢false}
 use Rattle.std.specs.FinMap.{IsAntisymmetric, nat_cmp-IsAntisymmetric}
 use Rattle.std.specs.Ordering.{nat_cmp, is_lt, is_eq, eq_by_cmp, ordering_then, ordering_reverse}
 use Rattle.std.specs.Cmp.{IsTotalOrder, IsStrictWeakOrder, Equal-is, eq_by_cmp_equiv}
@@ -187,3 +187,9 @@ pub padded : (k : ℕ) (text : List ℕ) → k ≡ 10 - length text → take k (
 padded k text is =
     ap (λ n. take n (codes "          ") ++ text) is
     ∙ ap (λ l. l ++ text) (take-replicate {X = ℕ} (10 - length text) 10 32 (omega arith))
+
+-- the same in five places
+pub padded_five : (k : ℕ) (text : List ℕ) → k ≡ 5 - length text → take k (codes "     ") ++ text ≡ replicate (5 - length text) 32 ++ text
+padded_five k text is =
+    ap (λ n. take n (codes "     ") ++ text) is
+    ∙ ap (λ l. l ++ text) (take-replicate {X = ℕ} (5 - length text) 5 32 (omega arith))

@@ -5,15 +5,19 @@
 #![tactic(auto)]
 
 mod failing;
+mod listing;
 mod report;
 mod seconds;
 mod slowest;
+mod stats;
 mod summary;
 
 pub use failing::failing_text;
+pub use listing::ls_line;
 pub use report::report_text;
 pub use seconds::seconds_text;
 pub use slowest::slowest_text;
+pub use stats::stats_text;
 pub use summary::summary_text;
 
 #[cfg(test)]

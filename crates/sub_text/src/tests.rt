@@ -1,6 +1,8 @@
 //! Texts of small runs, as they are printed.
 
-use crate::{failing_text, report_text, seconds_text, slowest_text, summary_text};
+use crate::{
+    failing_text, ls_line, report_text, seconds_text, slowest_text, stats_text, summary_text,
+};
 use outcome_fold::{Ended, Row, Rows};
 use packet_codec::Tags;
 use std::alloc::Global;
@@ -216,5 +218,71 @@ fn equal_times_stand_by_id_and_rows_without_a_time_are_left_out(
     rt: HostRuntime,
 ) -> Result<(), Fail> {
     assert_eq!(rt; equal_times(rt.alloc()), Some(true));
+    Ok(())
+}
+
+fn line_is(alloc: Global, nanos: Option<u64>, times: bool, text: &[u8]) -> Option<bool> {
+    let mut out = Vec::new(alloc);
+    ls_line(
+        &row(alloc, b"foo", Ended::Exists, nanos, b"")?,
+        times,
+        &mut out,
+    )
+    .ok()?;
+    Some(is_text(&out, text))
+}
+
+#[test]
+fn a_line_has_a_time_where_times_are_asked_for(rt: HostRuntime) -> Result<(), Fail> {
+    let alloc = rt.alloc();
+    assert_eq!(rt;
+        line_is(alloc, Some(1_000_500_000), true, b"foo 1.001\n"),
+        Some(true)
+    );
+    assert_eq!(rt;
+        line_is(alloc, Some(1_000_500_000), false, b"foo\n"),
+        Some(true)
+    );
+    assert_eq!(rt; line_is(alloc, None, true, b"foo\n"), Some(true));
+    Ok(())
+}
+
+// A row with one tag.
+fn tagged(alloc: Global, id: &[u8], ended: Ended, tag: &[u8]) -> Option<Row> {
+    let mut row = row(alloc, id, ended, None, b"")?;
+    row.tags.push(Text::new(alloc, tag).ok()?).ok()?;
+    Some(row)
+}
+
+fn stats_are(alloc: Global, rows: Vec<Row>, text: &[u8]) -> Option<bool> {
+    let mut out = Vec::new(alloc);
+    stats_text(&Rows::of(rows), &mut out).ok()?;
+    Some(is_text(&out, text))
+}
+
+fn stats_of_three(alloc: Global) -> Option<bool> {
+    let mut rows = Vec::new(alloc);
+    rows.push(tagged(alloc, b"t1", Ended::Success, b"b")?).ok()?;
+    rows.push(tagged(alloc, b"t2", Ended::Fail, b"a")?).ok()?;
+    rows.push(row(alloc, b"t3", Ended::Skip, None, b"")?).ok()?;
+    stats_are(
+        alloc,
+        rows,
+        b"Total tests:       3\nPassed tests:      1\nFailed tests:      1\nSkipped tests:     1\nSeen tags: a, b\n",
+    )
+}
+
+#[test]
+fn stats_count_and_name_the_tags(rt: HostRuntime) -> Result<(), Fail> {
+    let alloc = rt.alloc();
+    assert_eq!(rt; stats_of_three(alloc), Some(true));
+    assert_eq!(rt;
+        stats_are(
+            alloc,
+            Vec::new(alloc),
+            b"Total tests:       0\nPassed tests:      0\nFailed tests:      0\nSkipped tests:     0\nSeen tags: \n"
+        ),
+        Some(true)
+    );
     Ok(())
 }
