@@ -2,3 +2,4 @@ pub mod PipeLemmas
 pub mod PumpLemmas
 pub mod NotedLemmas
 pub mod StepLemmas
+pub mod EventLemmas

@@ -1,6 +1,6 @@
 //! The tests of a stream, listed as they complete.
 
-ghost use Rattle.std.specs.Prelude.{◌≡◌, ◌++◌, OnOk};
+ghost use Rattle.std.specs.Prelude.{◌≡◌, ◌++◌, ◌||◌, OnOk};
 ghost use Rattle.std.specs.List.{flat_map, list_any};
 ghost use Rattle.std.specs.Option.{option_to_list};
 ghost use Rattle.outcome_fold.specs.Answers.{row_fails};
@@ -72,7 +72,7 @@ impl NoteFilter for Ls {
         };
         let row = self.fold.add(&event)?;
         put_row(self.listing, &row, text)?;
-        self.failed = self.failed || has_failed(&row);
+        self.failed = failed_after(self.failed, &row);
         Ok(())
     }
 
@@ -123,12 +123,13 @@ fn put_rows(listing: Listing, rows: &[Row], text: &mut Vec<u8>) -> Result<(), No
     Ok(())
 }
 
-fn has_failed(row: &Option<Row>) -> bool
-    ensures { result ≡ list_any row_fails (option_to_list row.now) }
+// Whether a test failed, this row included.
+fn failed_after(failed: bool, row: &Option<Row>) -> bool
+    ensures { result ≡ (failed || list_any row_fails (option_to_list row.now)) }
 {
     match row {
-        Some(row) => row.ended.fails(),
-        None => false,
+        Some(row) => failed || row.ended.fails(),
+        None => failed,
     }
 }
 
