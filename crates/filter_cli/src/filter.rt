@@ -1,5 +1,5 @@
 // What a filter is.
-ghost use Rattle.std.specs.Prelude.{◌≡◌, ◌++◌, ℕ, List, IfOk, OnOk};
+ghost use Rattle.std.specs.Prelude.{◌≡◌, ◌++◌, ◌≤◌, ℕ, List, length, IfOk, OnOk};
 ghost use Rattle.packet_codec.specs.Grammar.{AreBytes};
 ghost use Rattle.filter_cli.specs.Pipe.{Adds};
 
@@ -19,9 +19,10 @@ pub trait Filter {
     /// What it was made over may be called.
     ghost ready: { Self → Type 0 } = { λ _. Unit {0} };
 
-    /// Takes the next bytes, and appends what they decide.
+    /// Takes the next bytes, at most 65,536, and appends what they decide.
     fn feed(&mut self, piece: &[u8], text: &mut Vec<u8>) -> Result<(), NoMemory>
-        requires { ready self.old }
+        requires ready { ready self.old }
+        requires piece { length piece.now ≤ 65536 }
         ensures ready { OnOk result (ready self.new) }
         ensures ok { (fed shown : List ℕ) → has self.old fed shown → OnOk result (Adds text.old.items text.new.items (λ more. has self.new (fed ++ piece.now) (shown ++ more))) }
         ensures seen { OnOk result ((fed shown : List ℕ) → seen self.new fed shown → seen self.old fed shown) }

@@ -16,7 +16,8 @@ pub struct OfNotes<F: NoteFilter> {
 }
 
 impl<F: NoteFilter> OfNotes<F> {
-    ghost use Rattle.std.specs.Prelude.{[], IfOk};
+    ghost use Rattle.std.specs.Prelude.{[], ◌≤◌, length, IfOk};
+    ghost use Rattle.stream_reader.specs.Room.{most_held};
     ghost use Rattle.filter_cli.specs.Noted.{HasFiltered};
 
     /// Nothing was read yet.
@@ -24,6 +25,7 @@ impl<F: NoteFilter> OfNotes<F> {
         requires ready { F.ready filter }
         requires has { F.has filter [] }
         ensures ready { IfOk result (λ made. F.ready made.filter) }
+        ensures held { IfOk result (λ made. length made.reader.bytes ≤ most_held) }
         ensures filter { IfOk result (λ made. made.filter ≡ filter) }
         ensures has { IfOk result (λ made. HasFiltered (F.has made.filter) (F.plan made.filter) made.reader.bytes [] []) }
     {
@@ -36,6 +38,8 @@ impl<F: NoteFilter> OfNotes<F> {
 }
 
 impl<F: NoteFilter> Filter for OfNotes<F> {
+    ghost use Rattle.std.specs.Prelude.{◌≤◌, length};
+    ghost use Rattle.stream_reader.specs.Room.{most_held};
     ghost use Rattle.filter_cli.specs.Plan.{IsSeen, IsFiltered};
     ghost use Rattle.filter_cli.specs.Noted.{HasFiltered};
     ghost use Rattle.filter_cli.specs.PlanLaws.{plan_seen, plan_front, plan_one};
@@ -44,12 +48,12 @@ impl<F: NoteFilter> Filter for OfNotes<F> {
 
     ghost whole = { λ f. IsFiltered (F.plan f.filter) };
 
-    ghost ready = { λ f. F.ready f.filter };
+    ghost ready = { λ f. F.ready f.filter × (length f.reader.bytes ≤ most_held) };
 
     ghost has = { λ f. HasFiltered (F.has f.filter) (F.plan f.filter) f.reader.bytes };
 
     fn feed(&mut self, piece: &[u8], text: &mut Vec<u8>) -> Result<(), NoMemory> {
-        self.reader.feed(piece)?;
+        self.reader.feed(piece);
         take_notes(&mut self.reader, &mut self.filter, text)?;
         Ok(())
     }

@@ -1,5 +1,6 @@
 // The notes that a reader can tell, and a filter that takes them.
-ghost use Rattle.std.specs.Prelude.{◌≡◌, List, OnOk};
+ghost use Rattle.std.specs.Prelude.{◌≡◌, ◌≤◌, false, length, List, OnOk};
+ghost use Rattle.stream_reader.specs.Room.{most_held};
 ghost use Rattle.stream_reader.specs.declared.note.Note.{Note as ANote};
 ghost use Rattle.stream_reader.specs.Stream.{IsSpent};
 ghost use Rattle.filter_cli.specs.Noted.{TakesNotes};
@@ -17,6 +18,7 @@ pub(crate) fn take_notes<F: NoteFilter>(
     requires { F.ready filter.old }
     ensures ready { OnOk result (F.ready filter.new) }
     ensures taken { (notes : List ANote) → F.has filter.old notes → OnOk result (TakesNotes (F.has filter.new) (F.plan filter.old) notes reader.old reader.new text.old.items text.new.items) }
+    ensures held { OnOk result (reader.new.ended ≡ false → length reader.new.bytes ≤ most_held) }
     ensures spent { OnOk result (IsSpent reader.new.ended reader.new.bytes) }
     ensures ended { reader.new.ended ≡ reader.old.ended }
     ensures plan { OnOk result (F.plan filter.new ≡ F.plan filter.old) }
