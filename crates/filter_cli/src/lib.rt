@@ -23,3 +23,6 @@ pub use of_notes::OfNotes;
 pub use pass::{PumpFault, pump};
 pub use stats::Stats;
 pub use through::pass_notes;
+
+#[cfg(test)]
+mod tests;
