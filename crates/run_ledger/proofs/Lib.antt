@@ -1,6 +1,7 @@
 pub mod FoldLemmas
 pub mod ClosesLemmas
 pub mod PieceLemmas
+pub mod CostLemmas
 pub mod TakingLemmas
 pub mod LedgerLemmas
 pub mod ReplaceLemmas

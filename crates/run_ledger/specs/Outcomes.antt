@@ -2,6 +2,7 @@
 use Rattle.std.specs.Prelude.{◌≡◌, ◌↔◌, Bool, true, false, Option, Some, Result, Ok, Err}
 use Rattle.run_shelf.specs.declared.faults.ShelfCall.{ShelfCall}
 use Rattle.run_shelf.specs.declared.faults.StoreFault.TheVariants.{Shelf, Closed}
+use Rattle.run_shelf.specs.Stores.{StoreSeen, Reads}
 use Rattle.run_ledger.specs.declared.fault.LedgerFault.{LedgerFault}
 use Rattle.run_ledger.specs.declared.fault.LedgerFault.TheVariants.{Store, NoMemory}
 
@@ -23,3 +24,7 @@ closed_by before (Err NoMemory) = before
 pub record LedgerCloses {T : Type 0} (before after : Option ShelfCall) (result : Result T LedgerFault) : Type 0 where
   pub closed : (call : ShelfCall) → (result ≡ Err (Store (Closed call))) ↔ (before ≡ Some call)
   pub kept : after ≡ closed_by before result
+
+-- the store was only read, or closed by a fault
+abbrev pub LedgerReads : {T : Type 0} → StoreSeen → StoreSeen → Result T LedgerFault → Type 0
+LedgerReads before after result = Reads before after (λ old new. LedgerCloses old new result) (ledger_failed result)

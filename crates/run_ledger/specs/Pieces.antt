@@ -1,19 +1,27 @@
 -- What a reader has of a run of a folder that is read in pieces.
-use Rattle.std.specs.Prelude.{ℕ, List, ◌++◌, take, drop, IsSomeAnd}
+use Rattle.std.specs.Prelude.{◌≡◌, ℕ, ◌≤◌, List, ◌++◌, take, drop, length, IsSomeAnd}
 use Rattle.edge_io.specs.Disk.{Folder}
-use Rattle.run_shelf.specs.Repository.{run_at}
+use Rattle.run_shelf.specs.Repository.{Run, run_at}
 use Rattle.run_ledger.specs.declared.run_reader.RunReader.{RunReader}
 use Rattle.run_ledger.specs.Reading.{HasRead}
 
--- the first bytes of the run of this number, which there is, up to that place
-abbrev pub HasReadTo : ℕ → ℕ → RunReader → Folder → Type 0
-HasReadTo number place run s = IsSomeAnd (run_at s.disk.published number) (λ r. HasRead run (take place r.bytes))
+-- the first bytes of a run, up to that place, which is not past its end
+abbrev pub HasFront : ℕ → RunReader → Run → Type 0
+HasFront place reader run = (place ≤ length run.bytes) × HasRead reader (take place run.bytes)
 
--- the bytes of the run of this number, which there is, from this place on, at most so many, came behind those before
-abbrev pub ReadsOn : ℕ → ℕ → ℕ → RunReader → RunReader → Folder → Type 0
-ReadsOn number place room old new s =
-    IsSomeAnd (run_at s.disk.published number) (λ r. (front : List ℕ) → HasRead old front → HasRead new (front ++ take room (drop place r.bytes)))
+-- the same of the run of this number, which there is
+abbrev pub HasReadTo : ℕ → ℕ → RunReader → Folder → Type 0
+HasReadTo number place reader s = IsSomeAnd (run_at s.disk.published number) (HasFront place reader)
+
+-- the bytes of a run from this place on, as many as there are and fit, came behind those before
+pub record TakesPiece (place room count : ℕ) (old new : RunReader) (run : Run) : Type 0 where
+  pub size : count ≡ length (take room (drop place run.bytes))
+  pub read : (front : List ℕ) → HasRead old front → HasRead new (front ++ take room (drop place run.bytes))
+
+-- the same of the run of this number, which there is
+abbrev pub ReadsOn : ℕ → ℕ → ℕ → ℕ → RunReader → RunReader → Folder → Type 0
+ReadsOn number place room count old new s = IsSomeAnd (run_at s.disk.published number) (TakesPiece place room count old new)
 
 -- all of the run of this number, which there is
 abbrev pub HasReadWhole : ℕ → RunReader → Folder → Type 0
-HasReadWhole number run s = IsSomeAnd (run_at s.disk.published number) (λ r. HasRead run r.bytes)
+HasReadWhole number reader s = IsSomeAnd (run_at s.disk.published number) (λ run. HasRead reader run.bytes)

@@ -1,12 +1,11 @@
 //! The failing set of the runs of a store.
 
-ghost use Rattle.std.specs.Prelude.{◌≡◌, IfSome, IfOk};
-ghost use Rattle.edge_io.specs.Steps.{Goes, Stays};
-ghost use Rattle.run_shelf.specs.Faults.{RisesExactlyIf};
-ghost use Rattle.run_shelf.specs.Stores.{store_kinds, store_fault, FitsUnlessBroken};
+ghost use Rattle.std.specs.Prelude.{◌≡◌, ℕ, IfSome, IfOk};
+ghost use Rattle.run_shelf.specs.Stores.{store_kinds, store_fault, FitsUnlessBroken, seen_store};
 ghost use Rattle.run_ledger.specs.Ledger.{IsFailingSet};
 ghost use Rattle.run_ledger.specs.Starts.{IsStart};
-ghost use Rattle.run_ledger.specs.Outcomes.{ledger_failed, LedgerCloses};
+ghost use Rattle.run_ledger.specs.Outcomes.{LedgerReads};
+ghost use Rattle.run_ledger.specs.Costs.{ReadsFrom};
 
 use crate::fault::{LedgerFault, check_open};
 use crate::rows::rows_of;
@@ -27,11 +26,8 @@ pub fn failing<H: Shelf>(alloc: Global, store: &mut Store<'_, H>) -> Result<IdLi
     requires fits { FitsUnlessBroken (store_kinds store.old) (store_fault store.old) (H.seen store.old.shelf.now).told }
     ensures same_reference { store.new.shelf.ghost_name ≡ store.old.shelf.ghost_name }
     ensures ids { IfOk result (λ ids. IfSome (H.seen store.old.shelf.now).told (IsFailingSet ids)) }
-    ensures closes { LedgerCloses (store_fault store.old) (store_fault store.new) result }
-    ensures kinds { store_kinds store.new ≡ store_kinds store.old }
-    ensures same { Goes (H.seen store.old.shelf.now).told (H.seen store.new.shelf.now).told Stays }
-    ensures fits { FitsUnlessBroken (store_kinds store.new) (store_fault store.new) (H.seen store.new.shelf.now).told }
-    ensures cause { RisesExactlyIf (H.seen store.old.shelf.now).faults (H.seen store.new.shelf.now).faults (ledger_failed result) }
+    ensures reads { LedgerReads (seen_store store.old (H.seen store.old.shelf.now)) (seen_store store.new (H.seen store.new.shelf.now)) result }
+    ensures time { IfSome (H.seen store.old.shelf.now).told (λ s. (start : ℕ) → IsStart (store_kinds store.old) start → ReadsFrom start (H.clock store.old.shelf.now) (H.clock store.new.shelf.now) s) }
 {
     check_open(store)?;
     let mut failed = TextSet::new(alloc);

@@ -1,13 +1,12 @@
 //! The times of the ids in the runs of a store.
 
 ghost use Rattle.std.specs.Prelude.{◌≡◌, IfSome, IfOk, OnOk};
-ghost use Rattle.edge_io.specs.Steps.{Goes, Stays};
-ghost use Rattle.run_shelf.specs.Faults.{RisesExactlyIf};
-ghost use Rattle.run_shelf.specs.Stores.{store_kinds, store_fault, FitsUnlessBroken};
+ghost use Rattle.run_shelf.specs.Stores.{store_kinds, store_fault, FitsUnlessBroken, seen_store};
 ghost use Rattle.outcome_fold.specs.Answers.{times_of};
 ghost use Rattle.run_ledger.specs.Ledger.{AreTimes, replaced};
 ghost use Rattle.run_ledger.specs.Replacing.{ReplacedAt};
-ghost use Rattle.run_ledger.specs.Outcomes.{ledger_failed, LedgerCloses};
+ghost use Rattle.run_ledger.specs.Outcomes.{LedgerReads};
+ghost use Rattle.run_ledger.specs.Costs.{ReadsFrom};
 
 use crate::fault::{LedgerFault, check_open};
 use crate::rows::rows_of;
@@ -26,11 +25,8 @@ pub fn times<H: Shelf>(alloc: Global, store: &mut Store<'_, H>) -> Result<TimeMa
     requires fits { FitsUnlessBroken (store_kinds store.old) (store_fault store.old) (H.seen store.old.shelf.now).told }
     ensures same_reference { store.new.shelf.ghost_name ≡ store.old.shelf.ghost_name }
     ensures times { IfOk result (λ times. IfSome (H.seen store.old.shelf.now).told (AreTimes times)) }
-    ensures closes { LedgerCloses (store_fault store.old) (store_fault store.new) result }
-    ensures kinds { store_kinds store.new ≡ store_kinds store.old }
-    ensures same { Goes (H.seen store.old.shelf.now).told (H.seen store.new.shelf.now).told Stays }
-    ensures fits { FitsUnlessBroken (store_kinds store.new) (store_fault store.new) (H.seen store.new.shelf.now).told }
-    ensures cause { RisesExactlyIf (H.seen store.old.shelf.now).faults (H.seen store.new.shelf.now).faults (ledger_failed result) }
+    ensures reads { LedgerReads (seen_store store.old (H.seen store.old.shelf.now)) (seen_store store.new (H.seen store.new.shelf.now)) result }
+    ensures time { IfSome (H.seen store.old.shelf.now).told (ReadsFrom 0 (H.clock store.old.shelf.now) (H.clock store.new.shelf.now)) }
 {
     check_open(store)?;
     let mut latest = TimeMap::new(alloc);

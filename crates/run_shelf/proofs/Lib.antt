@@ -6,5 +6,6 @@ pub mod MarkLemmas
 pub mod LookSteps
 pub mod DraftLemmas
 pub mod Joining
+pub mod ReadingLemmas
 pub mod KeepSteps
 pub mod MakeSteps

@@ -1,5 +1,5 @@
 -- What the calls of a store do to the folder, by what they answer (docs/FORMATS.md, "Files of a store").
-use Rattle.std.specs.Prelude.{◌≡◌, ◌⊎◌, ℕ, Bool, None, IsSome, IsSomeAnd, List, length}
+use Rattle.std.specs.Prelude.{◌≡◌, ◌⊎◌, ℕ, ◌+◌, ◌≤◌, Bool, None, IsSome, IsSomeAnd, List, length}
 use Rattle.edge_io.specs.Causes.{one_more}
 use Rattle.edge_io.specs.Disk.{Folder, at_rest}
 use Rattle.edge_io.specs.Steps.{Stays, Settled, IsPart}
@@ -87,3 +87,7 @@ IsRunPart number place buf count s = IsSomeAnd (run_at s.disk.published number) 
 -- at most one call
 abbrev pub TicksAtMost : ℕ → ℕ → Type 0
 TicksAtMost before now = (now ≡ before) ⊎ (now ≡ one_more before)
+
+-- at most so many calls; a clock stands still at its last value
+abbrev pub TicksUpTo : ℕ → ℕ → ℕ → Type 0
+TicksUpTo calls before now = now ≤ before + calls

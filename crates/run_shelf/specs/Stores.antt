@@ -1,7 +1,8 @@
 -- What is seen of a store and of its recorder.
 use Rattle.std.specs.Prelude.{◌≡◌, ◌⊎◌, ◌↔◌, ⊤, ℕ, ◌<◌, Bool, true, false, Option, Some, None, IfSome, IsSome, List, length, Result, Ok, Err}
 use Rattle.edge_io.specs.Disk.{Folder}
-use Rattle.edge_io.specs.Steps.{Stays, Dropped, GrownInPart}
+use Rattle.edge_io.specs.Steps.{Goes, Stays, Dropped, GrownInPart}
+use Rattle.edge_io.specs.Seen.{Seen}
 use Rattle.run_shelf.specs.declared.faults.ShelfCall.{ShelfCall}
 use Rattle.run_shelf.specs.declared.faults.ShelfCall.TheVariants.{StartDraft, Append}
 use Rattle.run_shelf.specs.declared.faults.StoreFault.{StoreFault}
@@ -13,6 +14,7 @@ use Rattle.run_shelf.specs.declared.faults.StartFault.TheVariants as start_fault
 use Rattle.run_shelf.specs.declared.store.Store.{Store}
 use Rattle.run_shelf.specs.declared.recorder.Recorder.{Recorder}
 use Rattle.run_shelf.specs.Drafts.{OfDraft, PlaceFails}
+use Rattle.run_shelf.specs.Faults.{RisesExactlyIf}
 use Rattle.run_shelf.specs.Holds.{FitsFolder, kinds_of}
 use Rattle.run_shelf.specs.Images.{PassesOld, PassesRun}
 use Rattle.run_shelf.specs.Repository.{run_of, HasFormat, HasOtherFormat, IsGap, format_name, most_runs}
@@ -62,6 +64,28 @@ store_failed (Err (Closed call)) = false
 pub record Closes {T : Type 0} (before after : Option ShelfCall) (result : Result T StoreFault) : Type 0 where
   pub closed : (call : ShelfCall) → (result ≡ Err (Closed call)) ↔ (before ≡ Some call)
   pub kept : after ≡ fault_after before result
+
+-- what is seen of a store at one moment
+pub record StoreSeen : Type 0 where
+  pub kinds : List Bool
+  pub fault : Option ShelfCall
+  pub folder : Seen Folder
+
+abbrev pub seen_store : {H : Type 0} → Store H → Seen Folder → StoreSeen
+seen_store store folder = record { kinds = store_kinds store; fault = store_fault store; folder = folder }
+
+-- The store was only read, or closed by a fault: `Closed` says how the fault is kept, and `failed` whether a call of the
+-- folder failed.
+pub record Reads (before after : StoreSeen) (Closed : Option ShelfCall → Option ShelfCall → Type 0) (failed : Bool) : Type 0 where
+  pub closes : Closed before.fault after.fault
+  pub kinds : after.kinds ≡ before.kinds
+  pub same : Goes before.folder.told after.folder.told Stays
+  pub fits : FitsUnlessBroken after.kinds after.fault after.folder.told
+  pub cause : RisesExactlyIf before.folder.faults after.folder.faults failed
+
+-- the same of a call that answers a fault of the store
+abbrev pub StoreReads : {T : Type 0} → StoreSeen → StoreSeen → Result T StoreFault → Type 0
+StoreReads before after result = Reads before after (λ old new. Closes old new result) (store_failed result)
 
 -- why a folder was not taken for a repository
 abbrev pub HasOpenCause : OpenFault → Folder → Type 0

@@ -3,7 +3,7 @@
 ghost use Rattle.std.specs.Prelude.{◌≡◌, ◌<◌, None, Some, length, slice_get, IfSome, IfOk, IfErr, OnOk};
 ghost use Rattle.std.specs.Borrow.{sem, RestsIfErr};
 ghost use Rattle.std.specs.Io.{ReadsAtMost};
-ghost use Rattle.edge_io.specs.Steps.{Goes, Stays, Opened};
+ghost use Rattle.edge_io.specs.Steps.{Goes, Opened};
 ghost use Rattle.run_shelf.specs.Faults.{RisesExactlyIf, init_failed};
 ghost use Rattle.run_shelf.specs.Holds.{kinds_of};
 ghost use Rattle.run_shelf.specs.Images.{MakesRepository, PassesFormat, PassesOld};
@@ -11,7 +11,7 @@ ghost use Rattle.run_shelf.specs.Openings.{IsNotOpened};
 ghost use Rattle.run_shelf.specs.Outcomes.{InitFails, Surveys, IsRunLength, IsRunPart, TicksAtMost};
 ghost use Rattle.run_shelf.specs.declared.faults.ShelfCall.TheVariants.{Length, ReadAt};
 ghost use Rattle.run_shelf.specs.declared.faults.StoreFault.TheVariants.{Shelf as ShelfFailed};
-ghost use Rattle.run_shelf.specs.Stores.{store_kinds, store_fault, store_failed, FitsUnlessBroken, Closes, TellsOf, HasOpenCause, HasStartCause, StartsFrom, StartFails, start_failed, fault_after_start, recorder_kinds, recorder_fault, RecordsUnlessBroken};
+ghost use Rattle.run_shelf.specs.Stores.{store_kinds, store_fault, FitsUnlessBroken, seen_store, StoreReads, TellsOf, HasOpenCause, HasStartCause, StartsFrom, StartFails, start_failed, fault_after_start, recorder_kinds, recorder_fault, RecordsUnlessBroken};
 
 use crate::opening::open_or_hand_back;
 use crate::recorder::Recorder;
@@ -102,12 +102,8 @@ impl<'h, H: Shelf> Store<'h, H> {
         ensures same_reference { self.new.shelf.ghost_name ≡ self.old.shelf.ghost_name }
         ensures size { IfOk result (λ size. IfSome (H.seen self.old.shelf.now).told (IsRunLength number size)) }
         ensures failed { IfErr result (TellsOf Length) }
-        ensures closes { Closes (store_fault self.old) (store_fault self.new) result }
-        ensures kinds { store_kinds self.new ≡ store_kinds self.old }
-        ensures same { Goes (H.seen self.old.shelf.now).told (H.seen self.new.shelf.now).told Stays }
-        ensures fits { FitsUnlessBroken (store_kinds self.new) (store_fault self.new) (H.seen self.new.shelf.now).told }
+        ensures reads { StoreReads (seen_store self.old (H.seen self.old.shelf.now)) (seen_store self.new (H.seen self.new.shelf.now)) result }
         ensures time { TicksAtMost (H.clock self.old.shelf.now) (H.clock self.new.shelf.now) }
-        ensures cause { RisesExactlyIf (H.seen self.old.shelf.now).faults (H.seen self.new.shelf.now).faults (store_failed result) }
     {
         if let Some(call) = self.fault {
             return Err(StoreFault::Closed(call));
@@ -127,12 +123,8 @@ impl<'h, H: Shelf> Store<'h, H> {
         ensures bound { ReadsAtMost result buf.new }
         ensures part { IfOk result (λ count. IfSome (H.seen self.old.shelf.now).told (IsRunPart number place buf.new count)) }
         ensures failed { IfErr result (TellsOf ReadAt) }
-        ensures closes { Closes (store_fault self.old) (store_fault self.new) result }
-        ensures kinds { store_kinds self.new ≡ store_kinds self.old }
-        ensures same { Goes (H.seen self.old.shelf.now).told (H.seen self.new.shelf.now).told Stays }
-        ensures fits { FitsUnlessBroken (store_kinds self.new) (store_fault self.new) (H.seen self.new.shelf.now).told }
+        ensures reads { StoreReads (seen_store self.old (H.seen self.old.shelf.now)) (seen_store self.new (H.seen self.new.shelf.now)) result }
         ensures time { TicksAtMost (H.clock self.old.shelf.now) (H.clock self.new.shelf.now) }
-        ensures cause { RisesExactlyIf (H.seen self.old.shelf.now).faults (H.seen self.new.shelf.now).faults (store_failed result) }
     {
         if let Some(call) = self.fault {
             return Err(StoreFault::Closed(call));

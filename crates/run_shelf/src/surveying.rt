@@ -6,7 +6,7 @@ ghost use Rattle.run_shelf.specs.Faults.{RisesExactlyIf, open_failed};
 ghost use Rattle.run_shelf.specs.Holds.{kinds_of, HasRoom};
 ghost use Rattle.run_shelf.specs.Images.{PassesOld};
 ghost use Rattle.run_shelf.specs.Looking.{LooksLike, LookFails, FormatFails};
-ghost use Rattle.run_shelf.specs.Outcomes.{Surveys, OpenFails};
+ghost use Rattle.run_shelf.specs.Outcomes.{Surveys, OpenFails, TicksUpTo};
 ghost use Rattle.run_shelf.specs.Repository.{HasFormat, format_bytes};
 
 use crate::making::{FORMAT_BYTES, FORMAT_NAME};
@@ -18,8 +18,8 @@ use std::alloc::Global;
 // How many bytes the file `format` has.
 const FORMAT_SIZE: usize = 16;
 
-/// Looks which runs the folder has: brings what is pending to the disk, reads `format`, and lists the names. Each name is
-/// read once. What it found has room for one run more.
+/// Looks which runs the folder has: brings what is pending to the disk, reads `format`, and lists the names, in at most four
+/// calls of the folder. Each name is read once. What it found has room for one run more.
 ///
 /// `NoStore` comes exactly where the file `format` is not there, `UnknownFormat` exactly where it has other bytes, and
 /// `Gap(k)` exactly where it is right, k is the least number without a run, and a greater number has one. `Shelf` comes
@@ -30,6 +30,7 @@ pub fn survey<H: Shelf>(alloc: Global, shelf: &mut H) -> Result<Found, OpenFault
     ensures room { IfOk result HasRoom }
     ensures refused { IfErr result (λ fault. Goes (H.seen shelf.old).told (H.seen shelf.new).told (OpenFails fault)) }
     ensures any_moment { Goes (H.seen shelf.old).told (H.seen shelf.new).told PassesOld }
+    ensures time { TicksUpTo 4 (H.clock shelf.old) (H.clock shelf.new) }
     ensures cause { RisesExactlyIf (H.seen shelf.old).faults (H.seen shelf.new).faults (open_failed result) }
 {
     let Ok(()) = shelf.sync_folder() else {
@@ -44,6 +45,7 @@ fn look<H: Shelf>(alloc: Global, shelf: &mut H) -> Result<Found, OpenFault>
     ensures room { IfOk result HasRoom }
     ensures refused { IfErr result (λ fault. Goes (H.seen shelf.old).told (H.seen shelf.new).told (LookFails fault)) }
     ensures same { Goes (H.seen shelf.old).told (H.seen shelf.new).told Stays }
+    ensures time { TicksUpTo 3 (H.clock shelf.old) (H.clock shelf.new) }
     ensures cause { RisesExactlyIf (H.seen shelf.old).faults (H.seen shelf.new).faults (open_failed result) }
 {
     check_format(shelf)?;
@@ -60,6 +62,7 @@ fn check_format<H: Shelf>(shelf: &mut H) -> Result<(), OpenFault>
     ensures right { OnOk result (IfSome (H.seen shelf.old).told (λ s. HasFormat s.disk.published)) }
     ensures refused { IfErr result (λ fault. Goes (H.seen shelf.old).told (H.seen shelf.new).told (FormatFails fault)) }
     ensures same { Goes (H.seen shelf.old).told (H.seen shelf.new).told Stays }
+    ensures time { TicksUpTo 2 (H.clock shelf.old) (H.clock shelf.new) }
     ensures cause { RisesExactlyIf (H.seen shelf.old).faults (H.seen shelf.new).faults (open_failed result) }
 {
     let Ok(found) = shelf.length(FORMAT_NAME) else {

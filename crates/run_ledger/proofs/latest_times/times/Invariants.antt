@@ -1,18 +1,16 @@
-use Rattle.std.proofs.Common.{◌≡◌, None, IfSome}
-use Rattle.edge_io.specs.Steps.{Goes, Stays}
-use Rattle.run_shelf.specs.Stores.{store_kinds, store_fault, FitsUnlessBroken}
+use Rattle.std.proofs.Common.{◌≡◌, false, IfSome}
+use Rattle.run_shelf.specs.Stores.{seen_store, Reads}
+use Rattle.run_shelf.proofs.ReadingLemmas.{StaysOpen}
+use Rattle.run_ledger.specs.Costs.{ReadsTo}
 use Rattle.run_ledger.specs.Ledger.{times_after}
 use Rattle.run_ledger.proofs.LedgerLemmas.{SaysTo}
 use Rattle.run_ledger.proofs.latest_times.times.Given as goal
 
--- the times are those of the runs so far, and the store is as it was
+-- the times are those of the runs so far, each was read once, and the store is as it was
 abbrev pub invariant-loop-number : goal.invariant-loop-number
 invariant-loop-number g l = record {
   times : IfSome (g.H.Shelf.seen l.fn.store.shelf.now).told (SaysTo times_after l.number l.latest);
   same_reference : l.store.shelf.ghost_name ≡ l.fn.store.shelf.ghost_name;
-  open_still : store_fault l.store ≡ None;
-  kinds : store_kinds l.store ≡ store_kinds l.fn.store;
-  same : Goes (g.H.Shelf.seen l.fn.store.shelf.now).told (g.H.Shelf.seen l.store.shelf.now).told Stays;
-  fits : FitsUnlessBroken (store_kinds l.store) (store_fault l.store) (g.H.Shelf.seen l.store.shelf.now).told;
-  faults : (g.H.Shelf.seen l.store.shelf.now).faults ≡ (g.H.Shelf.seen l.fn.store.shelf.now).faults;
+  reads : Reads (seen_store l.fn.store (g.H.Shelf.seen l.fn.store.shelf.now)) (seen_store l.store (g.H.Shelf.seen l.store.shelf.now)) StaysOpen false;
+  time : IfSome (g.H.Shelf.seen l.fn.store.shelf.now).told (ReadsTo 0 l.number (g.H.Shelf.clock l.fn.store.shelf.now) (g.H.Shelf.clock l.store.shelf.now));
 }

@@ -1,22 +1,26 @@
-use Rattle.std.proofs.Common.{◌∙◌, sym, arith, refl}
-use Rattle.run_ledger.proofs.ClosesLemmas.{done, stays_then}
-use Rattle.run_ledger.proofs.PieceLemmas.{read_on}
+use Rattle.std.proofs.Common.{◌∙◌, arith}
+use Rattle.run_shelf.proofs.ReadingLemmas.{reads_then}
+use Rattle.run_ledger.proofs.ClosesLemmas.{done_telling, tells_again}
+use Rattle.run_ledger.proofs.PieceLemmas.{read_on, read_last}
 use Rattle.run_ledger.proofs.rows.read_pieces.Goals as goal
+
+pub returns-in_err-count-clause-reads : goal.returns-in_err-count-clause-reads
+returns-in_err-count-clause-reads g c =
+    tells_again _ _ _ _ (reads_then _ _ _ _ _ c.loop-piece.invariant.reads c.in_err-count.ensures.reads) c.from_residual.ensures.1
+
+pub returns-then-count-buf-clause-read : goal.returns-then-count-buf-clause-read
+returns-then-count-buf-clause-read g c =
+    let before = c.loop-piece.invariant in
+    read_last _ _ _ _ _ _ _ _ before.read before.reads.same c.in_ok-count.ensures.read (omega (arith, before.room, c.if-count-buf.true, c.read_piece.auto.buf))
 
 pub loop-piece-preserved : goal.loop-piece-preserved
 loop-piece-preserved g c =
     let before = c.loop-piece.invariant in
-    let step = c.in_ok-read_piece.ensures in
+    let step = c.in_ok-count.ensures in
     record {
       room = omega (arith, before.room, c.read_piece.auto.buf);
-      read = read_on _ _ _ _ _ _ _ _ (omega (arith, before.room)) before.read before.same step.read;
+      read = read_on _ _ _ _ _ _ _ _ before.read before.reads.same step.read _ (omega (arith, before.room)) (omega (arith, before.room, c.if-count-buf.false, c.read_piece.auto.buf));
       same_reference = step.same_reference ∙ before.same_reference;
-      open_still = step.closes.kept ∙ before.open_still;
-      kinds = step.kinds ∙ before.kinds;
-      same = stays_then _ _ _ before.same step.same;
-      fits = step.fits;
-      faults = step.cause.stands refl ∙ before.faults;
+      reads = reads_then _ _ _ _ _ before.reads (done_telling _ _ _ step.reads);
+      time = omega (arith, before.time, step.time);
     }
-
-pub returns-clause-closes : goal.returns-clause-closes
-returns-clause-closes g c = done _ _ _ c.requires.open (c.loop-piece.invariant.open_still ∙ sym c.requires.open)

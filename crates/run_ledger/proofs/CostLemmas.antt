@@ -1,0 +1,91 @@
+-- How many calls it takes to read several runs.
+use Rattle.std.proofs.Common.{◌≡◌, inl, inr, ℕ, zero, suc, ◌+◌, ◌*◌, ◌<◌, ◌≤◌, Bool, List, [], ◌∷◌, drop, length, Option, Some, None, IfSome, IsSome, refl, ap, ◌∙◌, subst, arith}
+use Rattle.std.specs.Prelude.{slice_get}
+use Rattle.std.proofs.lemmas.Bool.{cases_lt}
+use Rattle.std.proofs.lemmas.List.{length-map}
+use Rattle.edge_io.specs.Disk.{Folder}
+use Rattle.edge_io.specs.Steps.{Goes, Stays}
+use Rattle.run_shelf.specs.Holds.{FitsFolder}
+use Rattle.run_shelf.specs.Repository.{Run, run_at, most_runs}
+use Rattle.run_shelf.proofs.ReadingLemmas.{same_state}
+use Rattle.run_shelf.proofs.RunLemmas.{within_items}
+use Rattle.run_shelf.proofs.ShowsLemmas.{kinds_of_runs}
+use Rattle.run_ledger.specs.Costs.{asked_for, asked_for_each, ReadsOnce, ReadsFrom, ReadsTo}
+use Rattle.run_ledger.specs.Starts.{IsStart}
+
+drop_here : (runs : List Run) (n : ℕ) (run : Run) → slice_get runs n ≡ Some run → drop n runs ≡ run ∷ drop (suc n) runs
+drop_here [] n run is = cc
+drop_here (r ∷ runs) zero run is = let same : r ≡ run = cc in ap (λ x. x ∷ runs) same
+drop_here (r ∷ runs) (suc n) run is = drop_here runs n run is
+
+item_of : (o : Option Run) → IsSome o → (run : Run) × (o ≡ Some run)
+item_of None some = cc
+item_of (Some run) some = (run, refl)
+
+here_of : (o : Option Run) (run : Run) (P : Run → Type 0) → o ≡ Some run → IfSome o P → P run
+here_of None run P is at = cc
+here_of (Some r) run P is at = let same : r ≡ run = cc in subst P same at
+
+-- no call was made
+pub costs_nothing : (state : Option Folder) (start number before now : ℕ) → now ≡ before → number ≡ start → IfSome state (ReadsTo start number before now)
+costs_nothing None start number before now same begin = tt
+costs_nothing (Some s) start number before now same begin = λ runs shown. omega (arith, same, ap (λ (n : ℕ). asked_for_each (drop n runs)) begin)
+
+-- what was read so far is within all
+pub costs_so_far : (state : Option Folder) (start number before now : ℕ) → IfSome state (ReadsTo start number before now) → IfSome state (ReadsFrom start before now)
+costs_so_far None start number before now so_far = tt
+costs_so_far (Some s) start number before now so_far = λ runs shown. omega (arith, so_far runs shown)
+
+-- one run more
+module _ (first before : Option Folder) (kinds : List Bool) (start number began old now : ℕ) (fits : IfSome first (FitsFolder kinds)) (known : number < length kinds)
+    (so_far : IfSome first (ReadsTo start number began old)) (same : Goes first before Stays) (step : IfSome before (ReadsOnce number old now)) where
+  pub costs_more : (next : ℕ) → next ≡ number + 1 → IfSome first (ReadsTo start next began now)
+  costs_more next is =
+      there first fits so_far (subst (λ (o : Option Folder). IfSome o (ReadsOnce number old now)) (same_state first before same) step)
+    where
+      there : (state : Option Folder) → IfSome state (FitsFolder kinds) → IfSome state (ReadsTo start number began old) → IfSome state (ReadsOnce number old now) → IfSome state (ReadsTo start next began now)
+      there None f t o = tt
+      there (Some s) f t o = λ runs shown.
+          let size : length kinds ≡ length runs = ap length (kinds_of_runs s.disk.published runs kinds shown f.kinds_are) ∙ length-map runs (λ (run : Run). run.partial) in
+          let item = item_of (slice_get runs number) (within_items runs number (omega (arith, known, size))) in
+          let few : number < most_runs = omega (arith, known, f.kinds_are.few) in
+          let one : now * 65536 ≤ old * 65536 + asked_for item.0 = here_of (run_at s.disk.published number) item.0 (λ run. now * 65536 ≤ old * 65536 + asked_for run) (shown.each number few ∙ item.1) o in
+          let at : suc number ≡ next = omega (arith, is) in
+          let rest : asked_for_each (drop number runs) ≡ asked_for item.0 + asked_for_each (drop next runs) =
+          ap asked_for_each (drop_here runs number item.0 item.1) ∙ ap (λ (n : ℕ). asked_for item.0 + asked_for_each (drop n runs)) at in
+          omega (arith, one, rest, t runs shown)
+
+-- there is one run from which on is read
+pub one_start : (kinds : List Bool) (a b : ℕ) → IsStart kinds a → IsStart kinds b → a ≡ b
+one_start kinds a b first second = elim (cases_lt a b) [
+  | inl less ↦ absurd (not_behind kinds a b first second less)
+  | inr most ↦ elim (cases_lt b a) [
+    | inl less ↦ absurd (not_behind kinds b a second first less)
+    | inr least ↦ omega (arith, most, least)
+  ]
+]
+  where
+    not_behind : (kinds : List Bool) (a b : ℕ) → IsStart kinds a → IsStart kinds b → a < b → ⊥
+    not_behind kinds a b first second less = elim second.full [
+      | inl begin ↦ omega (arith, begin, less)
+      | inr full ↦ first.last b less full
+    ]
+
+-- the same from the first run that is to be read
+abbrev pub FromStart : List Bool → (ℕ → Folder → Type 0) → Folder → Type 0
+FromStart kinds Costs s = (start : ℕ) → IsStart kinds start → Costs start s
+
+pub start_nothing : (state : Option Folder) (kinds : List Bool) (number before now : ℕ) → now ≡ before → IsStart kinds number → IfSome state (FromStart kinds (λ start. ReadsTo start number before now))
+start_nothing None kinds number before now same begin = tt
+start_nothing (Some s) kinds number before now same begin = λ start is. costs_nothing (Some s) start number before now same (one_start kinds number start begin is)
+
+pub start_so_far : (state : Option Folder) (kinds : List Bool) (number before now : ℕ) → IfSome state (FromStart kinds (λ start. ReadsTo start number before now)) → IfSome state (FromStart kinds (λ start. ReadsFrom start before now))
+start_so_far None kinds number before now so_far = tt
+start_so_far (Some s) kinds number before now so_far = λ start is. costs_so_far (Some s) start number before now (so_far start is)
+
+pub start_more : (first before : Option Folder) (kinds : List Bool) (number began old now : ℕ) → IfSome first (FitsFolder kinds) → number < length kinds
+    → IfSome first (FromStart kinds (λ start. ReadsTo start number began old)) → Goes first before Stays → IfSome before (ReadsOnce number old now)
+    → (next : ℕ) → next ≡ number + 1 → IfSome first (FromStart kinds (λ start. ReadsTo start next began now))
+start_more None before kinds number began old now fits known so_far same step next is = tt
+start_more (Some s) before kinds number began old now fits known so_far same step next is =
+    λ start begin. costs_more (Some s) before kinds start number began old now fits known (so_far start begin) same step next is
