@@ -145,8 +145,8 @@ fn runs_before_the_last_full_one_do_not_count(rt: HostRuntime) -> Result<(), Fai
 
 // Whether b and c fail behind two full runs, where the folder fails after the calls that read one of them.
 fn reads_one(alloc: Global) -> Result<Option<bool>, Fail> {
-    // Eighteen calls keep three files, four look at the folder, and two read a run.
-    let mut shelf = repository(alloc, &[25])?;
+    // Eighteen calls keep three files, four look at the folder, and one reads a run.
+    let mut shelf = repository(alloc, &[23])?;
     let kept = keep_ended(
         alloc,
         &mut shelf,
@@ -239,8 +239,8 @@ fn refused<H: Shelf>(
 #[test]
 fn a_closed_store_is_not_read(rt: HostRuntime) -> Result<(), Fail> {
     let alloc = rt.alloc();
-    // Twelve calls keep two files, four look at the folder, and then one asks for the length of the run.
-    let mut shelf = repository(alloc, &[17])?;
+    // Twelve calls keep two files, four look at the folder, and then one reads the run.
+    let mut shelf = repository(alloc, &[16])?;
     keep(&mut shelf, "0", b"x")?;
     let (first, second) = refused(alloc, &mut shelf)?;
     let shelf_failed = LedgerFault::Store(StoreFault::Shelf(ShelfCall::ReadAt));
