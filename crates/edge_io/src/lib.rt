@@ -9,10 +9,12 @@
 //! - `list_source`, `list_sink`, `mem_shelf`: the forms in memory, which fail at the calls that they are told to.
 //! - `names`: the list of a folder's names.
 //! - `plan`, `kept`: which calls of these fail, and the files and moments that a shelf in memory keeps.
+//! - `laws`: the last moment of such a shelf is now.
 #![tactic(auto)]
 
 mod failed;
 mod kept;
+mod laws;
 mod list_sink;
 mod list_source;
 mod mem_shelf;
@@ -23,6 +25,7 @@ mod sink;
 mod source;
 
 pub use failed::Failed;
+pub use laws::the_last_moment_is_now;
 pub use list_sink::ListSink;
 pub use list_source::ListSource;
 pub use mem_shelf::MemShelf;
