@@ -8,6 +8,9 @@ use std::alloc::Global;
 use stream_reader::Reader;
 use sub_number::NoMemory;
 
+// So many bytes are fed before notes are folded.
+const PART: usize = 65_536;
+
 /// A run that is read in pieces. Its rows are those of all its bytes, however they were cut.
 #[derive(Drop)]
 pub struct RunReader {
@@ -18,7 +21,8 @@ pub struct RunReader {
 }
 
 impl RunReader {
-    ghost use Rattle.std.specs.Prelude.{◌++◌, [], ℕ, List, IfOk, OnOk};
+    ghost use Rattle.std.specs.Prelude.{◌≤◌, ◌++◌, [], ℕ, List, length, IfOk, OnOk};
+    ghost use Rattle.stream_reader.specs.Room.{most_held};
     ghost use Rattle.run_ledger.specs.Reading.{HasRead, AreRowsOf};
 
     /// A run of which nothing was read.
@@ -41,7 +45,32 @@ impl RunReader {
     pub fn feed(&mut self, piece: &[u8]) -> Result<(), NoMemory>
         ensures { (bytes : List ℕ) → HasRead self.old bytes → OnOk result (HasRead self.new (bytes ++ piece.now)) }
     {
-        self.reader.feed(piece)?;
+        self.settle()?;
+        let mut left = piece;
+        while !left.is_empty() {
+            let (part, behind) = left.split_at(left.len().min(PART));
+            self.feed_part(part)?;
+            left = behind;
+        }
+        Ok(())
+    }
+
+    // Folds what the bytes so far decide: an earlier call may have stopped for want of memory. So there is room.
+    fn settle(&mut self) -> Result<(), NoMemory>
+        ensures read { (bytes : List ℕ) → HasRead self.old bytes → OnOk result (HasRead self.new bytes) }
+        ensures held { OnOk result (length self.new.reader.bytes ≤ most_held) }
+    {
+        fold_notes(self.alloc, &mut self.reader, &mut self.outcomes)
+    }
+
+    // Takes the next bytes, for which there is room.
+    fn feed_part(&mut self, part: &[u8]) -> Result<(), NoMemory>
+        requires held { length self.old.reader.bytes ≤ most_held }
+        requires short { length part.now ≤ 65536 }
+        ensures read { (bytes : List ℕ) → HasRead self.old bytes → OnOk result (HasRead self.new (bytes ++ part.now)) }
+        ensures held { OnOk result (length self.new.reader.bytes ≤ most_held) }
+    {
+        self.reader.feed(part);
         fold_notes(self.alloc, &mut self.reader, &mut self.outcomes)
     }
 

@@ -1,6 +1,15 @@
-use Rattle.stream_reader.proofs.FrontLemmas.{are_from_fits}
-use Rattle.run_ledger.proofs.FoldLemmas.{read_more}
+use Rattle.stream_reader.proofs.TurnLemmas.{split_parts}
+use Rattle.run_ledger.proofs.FoldLemmas.{read_to_none, read_to_more, read_to_end}
 use Rattle.run_ledger.proofs.run_reader.RunReader.feed.Goals as goal
 
-pub returns : goal.returns
-returns c = λ bytes read. read_more _ bytes _ _ _ _ (are_from_fits _ c.type_inv.piece) read c.in_ok-feed.ensures.ok c.fold_notes.ensures.folded
+pub loop-left-init : goal.loop-left-init
+loop-left-init c = record {
+  held = c.in_ok-settle.ensures.held;
+  read = read_to_none c.settle.result _ _ c.args.piece.now _ c.in_ok-settle.was c.settle.ensures.read;
+}
+
+pub loop-left-preserved : goal.loop-left-preserved
+loop-left-preserved c = record {
+  held = c.in_ok-feed_part.ensures.held;
+  read = read_to_more c.feed_part.result _ _ _ c.args.piece.now _ _ _ _ c.in_ok-feed_part.was (split_parts _ _ _ _ c.split_at.ensures.front c.split_at.ensures.back) c.feed_part.ensures.read c.loop-left.invariant.read;
+}
