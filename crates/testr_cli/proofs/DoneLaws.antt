@@ -112,9 +112,9 @@ load_did partial a b v loads =
     let report : IsReport number (rows_of recorded.events) told.value = subst (λ (list : List Row). IsReport number list told.value) rows told.done.says.told in
     let run_is : all.run ≡ run_bytes recorded.events = recorded.packets in
     let keeps : Goes opened.between.folder.told b.folder.told (KeepsRun number (run_of partial (run_bytes recorded.events))) =
-        subst (λ (l : List ℕ). Goes opened.between.folder.told b.folder.told (KeepsRun number (run_of partial l))) run_is
-        (subst (λ (o : Option Folder). Goes opened.between.folder.told o (KeepsRun number (run_of partial all.run))) (sym folder_left)
-        (run_kept number partial all.run opened.between.folder.told told.between.folder.told kept.between.folder.told (goes_writes opened.between.folder.told begun.between.folder.told told.between.folder.told all.run begins grows) kept.done.at.kept)) in
+    subst (λ (l : List ℕ). Goes opened.between.folder.told b.folder.told (KeepsRun number (run_of partial l))) run_is
+    (subst (λ (o : Option Folder). Goes opened.between.folder.told o (KeepsRun number (run_of partial all.run))) (sym folder_left)
+    (run_kept number partial all.run opened.between.folder.told told.between.folder.told kept.between.folder.told (goes_writes opened.between.folder.told begun.between.folder.told told.between.folder.told all.run begins grows) kept.done.at.kept)) in
     let stored = kept_through number (run_of partial (run_bytes recorded.events)) a.folder.told opened.between.folder.told b.folder.told (open_quiet a opened.between (Ok opened.value) opened.done.at) keeps in
     let prints : Appends a.out.told b.out.told (report_of (rows_of recorded.events) number []) = appended {z = printed.between.out.told} out (λ i. (sym gives.same i).out.told) report.text printed.done.at.whole in
     told_all (LoadsAll partial a b (verdict_code v)) a.input.told read.between.input.told bytes reads.read reads.at_end (record {

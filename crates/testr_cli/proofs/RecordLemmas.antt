@@ -44,8 +44,7 @@ module _ (before : Fed) (between after : Seen Folder) (input : Seen (List ℕ)) 
   recorded is lane none =
       let fed : Recording pieces.bytes ended pieces.run = recording_ended pieces.bytes pieces.run scribe ended is pieces.recording in
       let whole : Recording pieces.bytes last (pieces.run ++ packets) = subst (λ (l : List ℕ). Recording pieces.bytes last (pieces.run ++ l)) (sym given.new_is) (given.recording pieces.bytes pieces.run fed) in
-      let under : last.lane ≡ 0 = given.lane ∙ ap (λ (s : Scribing). s.lane) is ∙ lane in
-      (
+      let under : last.lane ≡ 0 = given.lane ∙ ap (λ (s : Scribing). s.lane) is ∙ lane in (
         pieces.bytes,
         record { read = pieces.read; at_end = pieces.at_end; size = pieces.size; are_bytes = pieces.recording.are_bytes },
         subst (λ (n : ℕ). IsRecorded n pieces.bytes (pieces.run ++ packets)) under (recording_whole pieces.bytes (pieces.run ++ packets) last (given.ended ∙ ap (λ (s : Scribing). s.held.ended) is) none whole),

@@ -10,7 +10,7 @@ use Rattle.worker_lane.specs.Recorded.{HasRecorded}
 use Rattle.worker_lane.proofs.NoteLemmas.{notes_have_packets, HavePackets}
 use Rattle.outcome_fold.specs.declared.row.Row.{Row}
 use Rattle.outcome_fold.specs.Rows.{rows_of}
-use Rattle.run_ledger.specs.Recording.{AreRowsOf}
+use Rattle.run_ledger.specs.Reading.{AreRowsOf}
 use Rattle.testr_cli.specs.Runs.{run_bytes}
 
 -- bytes have one list of events

@@ -12,7 +12,7 @@ use Rattle.run_ledger.specs.declared.fault.LedgerFault.TheVariants as ledger_fau
 use Rattle.run_ledger.specs.Outcomes.{LedgerCloses, ledger_failed}
 use Rattle.run_shelf.specs.Repository.{Run, run_at}
 use Rattle.outcome_fold.specs.declared.row.Row.{Row}
-use Rattle.run_ledger.specs.Recording.{AreRowsOf}
+use Rattle.run_ledger.specs.Reading.{AreRowsOf}
 use Rattle.run_ledger.specs.Ledger.{HasRowsAt}
 use Rattle.sub_text.specs.Texts.{report_of}
 use Rattle.testr_cli.specs.Verdicts.{verdict_of}

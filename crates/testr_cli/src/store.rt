@@ -11,7 +11,8 @@ use crate::command::Question;
 use crate::telling::Line;
 use edge_io::Shelf;
 use run_shelf::{
-    Found, InitFault, MOST_RUNS, OpenFault, ShelfCall, begin_run, finish_run, make_repository, survey,
+    Found, InitFault, MOST_RUNS, OpenFault, ShelfCall, begin_run, finish_run, make_repository,
+    survey,
 };
 use std::alloc::Global;
 
