@@ -1,0 +1,82 @@
+-- What clauses see of the belt, of its passes and of its taker.
+use Rattle.std.specs.Prelude.{◌≡◌, ℕ, List, [], ◌∷◌, ◌++◌, ◌<◌, length}
+use Rattle.crossbeam_queue.specs.Passes.{view, IsPassOf, ruled_capacity}
+use Rattle.worker_lane.specs.declared.lot.Lot.{Lot}
+use Rattle.worker_mux.specs.declared.belt.Belt.{Belt}
+use Rattle.worker_mux.specs.declared.knowledge.Parcel.{Parcel}
+use Rattle.worker_mux.specs.declared.knowledge.Settled.{Settled}
+use Rattle.worker_mux.specs.declared.pass.LanePass.{LanePass}
+use Rattle.worker_mux.specs.declared.pass.Taker.{Taker}
+use Rattle.worker_mux.specs.Rule.{put_of, taken_of, settled_of, count_of, IsLane, IsTaker, Stood, Tells, FirstPartsTaken, AllTaken, OfLanes}
+
+-- how many lots the belt may hold
+abbrev pub room_of : Belt → ℕ
+room_of belt = ruled_capacity belt.queue
+
+-- a pass's lane, and the lots that it has put
+abbrev pub number_of : LanePass → ℕ
+number_of pass = pass.number
+
+abbrev pub lots_put : LanePass → List Lot
+lots_put pass = put_of (view pass.pass)
+
+-- how many lanes there are, what was taken, and the table of settled lanes, the last one first
+abbrev pub lane_count : Taker → ℕ
+lane_count taker = count_of (view taker.pass)
+
+abbrev pub lots_taken : Taker → List Parcel
+lots_taken taker = taken_of (view taker.pass)
+
+abbrev pub settled_lanes : Taker → List Settled
+settled_lanes taker = settled_of (view taker.pass)
+
+-- a pass of this belt, of its lane
+pub record IsPassFor (belt : Belt) (pass : LanePass) : Type 0 where
+  pub made_here : IsPassOf belt.queue pass.pass
+  pub lane : IsLane pass.number (view pass.pass)
+
+-- the taker of this belt
+pub record IsTakerFor (belt : Belt) (taker : Taker) : Type 0 where
+  pub made_here : IsPassOf belt.queue taker.pass
+  pub reads : IsTaker (view taker.pass)
+
+-- a pass of this belt that has put nothing
+pub record IsFresh (belt : Belt) (pass : LanePass) : Type 0 where
+  pub ready : IsPassFor belt pass
+  pub empty : lots_put pass ≡ []
+
+-- what the table of settled lanes has of a pass
+abbrev pub entry_of : LanePass → Settled
+entry_of pass = record { lane = pass.number; list = lots_put pass }
+
+-- at a step of the call the lot came to the belt's back, where room was left, and the pass knew its list with it
+abbrev pub CameOn : Belt → LanePass → Lot → Type 0
+CameOn belt pass lot = (items : List Parcel) × (length items < room_of belt) × Stood (view pass.pass) (items ++ record { lane = pass.number; lot = lot } ∷ [])
+
+-- at a step of the call the belt held as many lots as it has room for
+abbrev pub WasFull : Belt → LanePass → Type 0
+WasFull belt pass = (items : List Parcel) × (length items ≡ room_of belt) × Stood (view pass.pass) items
+
+-- at a step of the call the lot left the belt's front
+abbrev pub LeftFront : Taker → Parcel → Taker → Type 0
+LeftFront before parcel after = (items : List Parcel) × Tells (view before.pass) (parcel ∷ items) × Tells (view after.pass) items
+
+-- at a step of the call the rule held, and the taker knew what it shows
+abbrev pub WasAtStep : Taker → Type 0
+WasAtStep taker = (items : List Parcel) × Tells (view taker.pass) items
+
+-- at a step of the call the belt was empty
+abbrev pub WasEmpty : Taker → Type 0
+WasEmpty taker = Tells (view taker.pass) []
+
+-- of each settled lane, what was taken is a first part of its list
+abbrev pub HasFirstParts : Taker → Type 0
+HasFirstParts taker = FirstPartsTaken (view taker.pass)
+
+-- of each settled lane, what was taken is its list
+abbrev pub HasAll : Taker → Type 0
+HasAll taker = AllTaken (view taker.pass)
+
+-- each lot that was taken is of one of the lanes
+abbrev pub IsOfLanes : Taker → Type 0
+IsOfLanes taker = OfLanes (view taker.pass)

@@ -1,0 +1,121 @@
+//! The queue, and its calls.
+
+ghost use Rattle.std.specs.Prelude.{◌≡◌, ◌∷◌, ◌++◌, [], ◌≤◌, map, IfSome, IfNone, OnOk, OnErr, IfErr, IfOk};
+ghost use Rattle.std.specs.List.{AllByRecursion, range_with_len};
+ghost use Rattle.worker_mux.specs.Passes.{room_of, number_of, lots_put, lane_count, lots_taken, settled_lanes, IsPassFor, IsTakerFor, IsFresh, entry_of, CameOn, WasFull, LeftFront, WasAtStep, WasEmpty, HasFirstParts, HasAll, IsOfLanes};
+
+use crate::knowledge::{Carried, Parcel};
+use crate::pass::{LanePass, Taker};
+use crate::rule::{Lanes, Line, Puts, Takes};
+use std::alloc::Global;
+use std::snapshot::Snapshot;
+use std::sync::Wait;
+use sub_number::NoMemory;
+use worker_lane::Lot;
+
+/// A bounded queue of lots, shared by the threads that put and the one that takes. It holds at most as many lots as it
+/// was made with room for.
+///
+/// `put`, `take` and `settle` take no memory, and move each lot. Where another thread is in the middle of a step of the
+/// queue they may wait for it; what they ensure holds if they return.
+#[derive(Drop)]
+pub struct Belt {
+    pub(crate) queue: Line,
+}
+
+impl Belt {
+    /// A belt with room for so many lots, its taker, and a pass for each lane, with the numbers 0, 1 and so on. There are
+    /// 1 to 64 lanes, and room for 1 to 1,024 lots.
+    ///
+    /// `NoMemory` comes only for want of memory.
+    pub fn new(
+        alloc: Global,
+        lanes: u32,
+        room: usize,
+    ) -> Result<(Belt, Taker, Vec<LanePass>), NoMemory>
+        requires lanes { (1 ≤ lanes) × (lanes ≤ 64) }
+        requires room { (1 ≤ room) × (room ≤ 1024) }
+        ensures room { IfOk result (λ made. room_of made.0 ≡ room) }
+        ensures taker { IfOk result (λ made. IsTakerFor made.0 made.1) }
+        ensures lanes { IfOk result (λ made. lane_count made.1 ≡ lanes) }
+        ensures nothing_taken { IfOk result (λ made. lots_taken made.1 ≡ []) }
+        ensures nothing_settled { IfOk result (λ made. settled_lanes made.1 ≡ []) }
+        ensures numbers { IfOk result (λ made. map number_of made.2.items ≡ range_with_len 0 lanes) }
+        ensures fresh { IfOk result (λ made. AllByRecursion (IsFresh made.0) made.2.items) }
+    {
+        let (queue, mut pass) = Line::ruled(alloc, room)?;
+        let mut passes = Vec::with_capacity(alloc, lanes as usize)?;
+        for number in 0..lanes {
+            passes.push(LanePass {
+                number,
+                pass: queue.another::<Lanes>(&mut pass),
+            })?;
+        }
+        Ok((Belt { queue }, Taker { pass }, passes))
+    }
+
+    /// Puts a lot behind all that is on the belt: it is then the last of the pass's list. The pass is one of this belt.
+    ///
+    /// The same lot comes back where the belt was full at a step of this call, and nothing has changed.
+    pub fn put<R: Wait>(&self, rt: &R, pass: &mut LanePass, lot: Lot) -> Result<(), Lot>
+        requires made_here { IsPassFor self.now pass.old }
+        ensures made_here { IsPassFor self.now pass.new }
+        ensures number { number_of pass.new ≡ number_of pass.old }
+        ensures put { OnOk result (lots_put pass.new ≡ lots_put pass.old ++ lot ∷ []) }
+        ensures came_on { OnOk result (CameOn self.now pass.new lot) }
+        ensures handed_back { IfErr result (λ same. same ≡ lot) }
+        ensures unchanged { OnErr result (lots_put pass.new ≡ lots_put pass.old) }
+        ensures full { OnErr result (WasFull self.now pass.old) }
+    {
+        let room = self.queue.capacity();
+        let parcel = Parcel {
+            lane: pass.number,
+            lot,
+        };
+        let carried = Carried {
+            parcel,
+            room: Snapshot::of(&room),
+        };
+        match self.queue.push_as::<Puts, R>(rt, &mut pass.pass, carried) {
+            Ok(()) => Ok(()),
+            Err(back) => Err(back.parcel.lot),
+        }
+    }
+
+    /// Takes the lot at the front, with its lane: it is then the last of what was taken. The taker is this belt's.
+    ///
+    /// None comes where the belt was empty at a step of this call, and nothing has changed.
+    pub fn take<R: Wait>(&self, rt: &R, taker: &mut Taker) -> Option<(u32, Lot)>
+        requires made_here { IsTakerFor self.now taker.old }
+        ensures made_here { IsTakerFor self.now taker.new }
+        ensures lanes { lane_count taker.new ≡ lane_count taker.old }
+        ensures settled { settled_lanes taker.new ≡ settled_lanes taker.old }
+        ensures taken { IfSome result (λ lot. lots_taken taker.new ≡ lots_taken taker.old ++ record { lane = lot.0; lot = lot.1 } ∷ []) }
+        ensures left_front { IfSome result (λ lot. LeftFront taker.old (record { lane = lot.0; lot = lot.1 }) taker.new) }
+        ensures unchanged { IfNone result (lots_taken taker.new ≡ lots_taken taker.old) }
+        ensures empty { IfNone result (WasEmpty taker.old) }
+        ensures first_parts { HasFirstParts taker.new }
+        ensures all { IfNone result (HasAll taker.new) }
+        ensures of_lanes { IsOfLanes taker.new }
+    {
+        let Carried { parcel, room: _ } = self.queue.pop_as::<Takes, R>(rt, &mut taker.pass)?;
+        let Parcel { lane, lot } = parcel;
+        Some((lane, lot))
+    }
+
+    /// Ends a lane: from then on the taker knows all that its pass has put. The pass and the taker are of this belt.
+    pub fn settle<R>(&self, _rt: &R, taker: &mut Taker, pass: LanePass)
+        requires made_here { IsTakerFor self.now taker.old × IsPassFor self.now pass }
+        ensures made_here { IsTakerFor self.now taker.new }
+        ensures lanes { lane_count taker.new ≡ lane_count taker.old }
+        ensures taken { lots_taken taker.new ≡ lots_taken taker.old }
+        ensures settled { settled_lanes taker.new ≡ entry_of pass ∷ settled_lanes taker.old }
+        ensures told { WasAtStep taker.new }
+        ensures first_parts { HasFirstParts taker.new }
+        ensures of_lanes { IsOfLanes taker.new }
+    {
+        let LanePass { number: _, pass } = pass;
+        self.queue.absorb::<Lanes>(&mut taker.pass, pass);
+        self.queue.learn_as::<Takes>(&mut taker.pass);
+    }
+}

@@ -1,0 +1,20 @@
+//! The belt: a bounded queue of lots between the threads that read workers and the one that records.
+//!
+//! This room knows threads, and that each lane stays whole; it knows nothing of what is in a packet. Of each lane one
+//! thread puts lots by that lane's pass. One thread takes them by the taker. In any schedule, at each step, the lots that
+//! were taken of a lane and then those on the belt, from front to back, are the lots that its pass has put.
+//!
+//! - `belt`: the queue, and its calls
+//! - `pass`: who puts and who takes
+//! - `knowledge`: what clauses see of both; no value of it is made
+//! - `rule`: the steps of the belt, which keep its rule
+#![tactic(auto)]
+
+mod belt;
+mod knowledge;
+mod pass;
+mod rule;
+
+pub use belt::Belt;
+pub use knowledge::{Carried, Knowledge, Parcel, Settled};
+pub use pass::{LanePass, Taker};
