@@ -1,3 +1,4 @@
+pub mod EveryStep
 pub mod Lists
 pub mod Steps
 pub mod Told

@@ -26,7 +26,7 @@ accounts_of count taken items seat sent each [] table = tt
 accounts_of count taken items seat sent each (s ∷ rest) table = (each s.lane ∙ sym table.0.1, accounts_of count taken items seat sent each rest table.1)
 
 -- a list that has no lot of a lane past the last has lots of the lanes alone
-all_known : (count : ℕ) (ps : List Parcel) → ((n : ℕ) → count ≤ n → lots_of n ps ≡ []) → AllByRecursion (λ p. p.lane < count) ps
+pub all_known : (count : ℕ) (ps : List Parcel) → ((n : ℕ) → count ≤ n → lots_of n ps ≡ []) → AllByRecursion (λ p. p.lane < count) ps
 all_known count [] without = tt
 all_known count (p ∷ ps) without =
     let before : p.lane < count = ⊎_elim (λ (here : p.lane < count). here) (λ (past : count ≤ p.lane). absurd (not_here p.lane p.lane p.lot (lots_of p.lane ps) refl (without p.lane past))) (either_side p.lane count) in
@@ -41,7 +41,7 @@ all_known count (p ∷ ps) without =
     elsewhere : (a n : ℕ) (lot : Lot) (rest : List Lot) → a ≢ n → cond (eqb a n) (lot ∷ rest) rest ≡ [] → rest ≡ []
     elsewhere a n lot rest other empty = grind (arith, nat_tests)
 
-left_nil : (xs ys : List Lot) → xs ++ ys ≡ [] → xs ≡ []
+pub left_nil : (xs ys : List Lot) → xs ++ ys ≡ [] → xs ≡ []
 left_nil [] ys empty = refl
 left_nil (x ∷ xs) ys empty = cc
 

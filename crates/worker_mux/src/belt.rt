@@ -105,7 +105,8 @@ impl Belt {
 
     /// Ends a lane: from then on the taker knows all that its pass has put. The pass and the taker are of this belt.
     pub fn settle<R>(&self, _rt: &R, taker: &mut Taker, pass: LanePass)
-        requires made_here { IsTakerFor self.now taker.old × IsPassFor self.now pass }
+        requires taker { IsTakerFor self.now taker.old }
+        requires pass { IsPassFor self.now pass }
         ensures made_here { IsTakerFor self.now taker.new }
         ensures lanes { lane_count taker.new ≡ lane_count taker.old }
         ensures taken { lots_taken taker.new ≡ lots_taken taker.old }

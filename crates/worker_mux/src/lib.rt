@@ -8,13 +8,18 @@
 //! - `pass`: who puts and who takes
 //! - `knowledge`: what clauses see of both; no value of it is made
 //! - `rule`: the steps of the belt, which keep its rule
+//! - `laws`: what the rule says of each step
 #![tactic(auto)]
 
 mod belt;
 mod knowledge;
+mod laws;
 mod pass;
 mod rule;
+#[cfg(test)]
+mod tests;
 
 pub use belt::Belt;
 pub use knowledge::{Carried, Knowledge, Parcel, Settled};
+pub use laws::lanes_stay_whole;
 pub use pass::{LanePass, Taker};
