@@ -2,6 +2,9 @@
 
 ghost use Rattle.std.specs.Prelude.{◌≡◌, ◌∷◌, ◌++◌, [], ◌≤◌, map, IfSome, IfNone, OnOk, OnErr, IfErr, IfOk};
 ghost use Rattle.std.specs.List.{AllByRecursion, range_with_len};
+ghost use Rattle.crossbeam_queue.specs.Passes.{view};
+ghost use Rattle.worker_mux.specs.declared.knowledge.Knowledge.TheVariants.{Taker as Seen};
+ghost use Rattle.worker_mux.specs.Rule.{WasTaken};
 ghost use Rattle.worker_mux.specs.Passes.{room_of, number_of, lots_put, lane_count, lots_taken, settled_lanes, IsPassFor, IsTakerFor, IsFresh, entry_of, CameOn, WasFull, LeftFront, WasAtStep, WasEmpty, HasFirstParts, HasAll, IsOfLanes};
 
 use crate::knowledge::{Carried, Parcel};
@@ -98,8 +101,7 @@ impl Belt {
         ensures all { IfNone result (HasAll taker.new) }
         ensures of_lanes { IsOfLanes taker.new }
     {
-        let Carried { parcel, room: _ } = self.queue.pop_as::<Takes, R>(rt, &mut taker.pass)?;
-        let Parcel { lane, lot } = parcel;
+        let Parcel { lane, lot } = self.front(rt, taker)?;
         Some((lane, lot))
     }
 
@@ -115,8 +117,44 @@ impl Belt {
         ensures first_parts { HasFirstParts taker.new }
         ensures of_lanes { IsOfLanes taker.new }
     {
+        self.absorb(taker, pass);
+        self.look(taker);
+    }
+
+    // The step of a take.
+    fn front<R: Wait>(&self, rt: &R, taker: &mut Taker) -> Option<Parcel>
+        requires taker { IsTakerFor self.now taker.old }
+        ensures taker { IsTakerFor self.now taker.new }
+        ensures some { IfSome result (λ parcel. WasTaken (view taker.old.pass) parcel (view taker.new.pass)) }
+        ensures none { IfNone result ((view taker.new.pass ≡ view taker.old.pass) × WasEmpty taker.old) }
+        ensures first_parts { HasFirstParts taker.new }
+        ensures all { IfNone result (HasAll taker.new) }
+        ensures of_lanes { IsOfLanes taker.new }
+    {
+        let carried = self.queue.pop_as::<Takes, R>(rt, &mut taker.pass)?;
+        Some(carried.parcel)
+    }
+
+    // The step at which a pass ends.
+    fn absorb(&self, taker: &mut Taker, pass: LanePass)
+        requires taker { IsTakerFor self.now taker.old }
+        requires pass { IsPassFor self.now pass }
+        ensures taker { IsTakerFor self.now taker.new }
+        ensures settled { view taker.new.pass ≡ Seen (lane_count taker.old) (lots_taken taker.old) (entry_of pass ∷ settled_lanes taker.old) }
+    {
         let LanePass { number: _, pass } = pass;
         self.queue.absorb::<Lanes>(&mut taker.pass, pass);
+    }
+
+    // A step at which the taker looks at the belt, and nothing changes.
+    fn look(&self, taker: &mut Taker)
+        requires taker { IsTakerFor self.now taker.old }
+        ensures taker { IsTakerFor self.now taker.new }
+        ensures same { view taker.new.pass ≡ view taker.old.pass }
+        ensures told { WasAtStep taker.new }
+        ensures first_parts { HasFirstParts taker.new }
+        ensures of_lanes { IsOfLanes taker.new }
+    {
         self.queue.learn_as::<Takes>(&mut taker.pass);
     }
 }

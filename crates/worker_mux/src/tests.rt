@@ -1,4 +1,4 @@
-ghost use Rattle.std.specs.Prelude.{◌≤◌};
+ghost use Rattle.std.specs.Prelude.{◌≤◌, IfSome, All};
 ghost use Rattle.std.specs.List.{AllByRecursion};
 ghost use Rattle.worker_mux.specs.Passes.{IsPassFor, IsTakerFor, IsFresh};
 
@@ -22,25 +22,81 @@ fn is_packet(lot: &Lot, bytes: &[u8]) -> bool {
     }
 }
 
-#[test]
-fn a_full_belt_hands_the_lot_back_and_an_empty_one_gives_none(rt: HostRuntime) -> Result<(), Fail> {
-    let (belt, mut taker, passes) = Belt::new(rt.alloc(), 2, 1).ok().ok_or("no memory")?;
+// The passes of lanes 0 and 1.
+fn first_two(belt: &Belt, passes: Vec<LanePass>) -> Option<(LanePass, LanePass)>
+    requires { AllByRecursion (IsFresh belt.now) passes.items }
+    ensures { IfSome result (λ two. IsPassFor belt.now two.0 × IsPassFor belt.now two.1) }
+{
+    let _ = belt;
     let mut passes = passes.into_iter();
-    let mut first = passes.next().ok_or("no pass 0")?;
-    let mut second = passes.next().ok_or("no pass 1")?;
-    assert!(rt; passes.next().is_none());
-    let lot = packet(rt.alloc(), b"p").ok_or("no memory")?;
-    assert!(rt; belt.put(&rt, &mut first, lot).is_ok());
-    match belt.put(&rt, &mut second, Lot::End(Ending::Exit(3))) {
-        Ok(()) => return Err("no room was left".into()),
-        Err(lot) => assert!(rt; matches!(lot, Lot::End(Ending::Exit(3)))),
+    let first = passes.next()?;
+    let second = passes.next()?;
+    Some((first, second))
+}
+
+fn puts<R: Wait>(rt: &R, belt: &Belt, pass: &mut LanePass, lot: Lot) -> bool
+    requires { IsPassFor belt.now pass.old }
+    ensures { IsPassFor belt.now pass.new }
+{
+    belt.put(rt, pass, lot).is_ok()
+}
+
+// Whether the lot comes back, and is the same.
+fn is_refused<R: Wait>(rt: &R, belt: &Belt, pass: &mut LanePass, status: i32) -> bool
+    requires { IsPassFor belt.now pass.old }
+    ensures { IsPassFor belt.now pass.new }
+{
+    match belt.put(rt, pass, Lot::End(Ending::Exit(status))) {
+        Err(Lot::End(Ending::Exit(same))) => same == status,
+        _ => false,
     }
-    let (lane, lot) = belt.take(&rt, &mut taker).ok_or("a lot was there")?;
-    assert_eq!(rt; lane, 0);
-    assert!(rt; is_packet(&lot, b"p"));
-    assert!(rt; belt.take(&rt, &mut taker).is_none());
-    belt.settle(&rt, &mut taker, first);
-    assert!(rt; belt.take(&rt, &mut taker).is_none());
+}
+
+fn takes_packet<R: Wait>(rt: &R, belt: &Belt, taker: &mut Taker, from: u32, bytes: &[u8]) -> bool
+    requires { IsTakerFor belt.now taker.old }
+    ensures { IsTakerFor belt.now taker.new }
+{
+    match belt.take(rt, taker) {
+        Some((lane, lot)) => lane == from && is_packet(&lot, bytes),
+        None => false,
+    }
+}
+
+fn is_empty<R: Wait>(rt: &R, belt: &Belt, taker: &mut Taker) -> bool
+    requires { IsTakerFor belt.now taker.old }
+    ensures { IsTakerFor belt.now taker.new }
+{
+    belt.take(rt, taker).is_none()
+}
+
+// One lot is put, the next one finds no room; it is taken, and then there is none; the lane is settled.
+fn goes_over<R: Wait>(
+    rt: &R,
+    belt: &Belt,
+    mut taker: Taker,
+    two: (LanePass, LanePass),
+    lot: Lot,
+) -> [bool; 5]
+    requires taker { IsTakerFor belt.now taker }
+    requires two { IsPassFor belt.now two.0 × IsPassFor belt.now two.1 }
+{
+    let (mut first, mut second) = two;
+    let put = puts(rt, belt, &mut first, lot);
+    let refused = is_refused(rt, belt, &mut second, 3);
+    let taken = takes_packet(rt, belt, &mut taker, 0, b"p");
+    let empty = is_empty(rt, belt, &mut taker);
+    belt.settle(rt, &mut taker, first);
+    [put, refused, taken, empty, is_empty(rt, belt, &mut taker)]
+}
+
+#[test]
+fn a_full_belt_hands_the_lot_back_and_an_empty_one_gives_none(
+    rt: HostRuntime,
+) -> Result<(), Fail> {
+    let (belt, taker, passes) = Belt::new(rt.alloc(), 2, 1).ok().ok_or("no memory")?;
+    let two = first_two(&belt, passes).ok_or("no pass")?;
+    let lot = packet(rt.alloc(), b"p").ok_or("no memory")?;
+    assert_eq!(rt; goes_over(&rt, &belt, taker, two, lot), [true; 5]);
     Ok(())
 }
 
@@ -125,121 +181,64 @@ fn sixty_four_lanes_fill_a_room_of_1024(rt: HostRuntime) -> Result<(), Fail> {
     put_each(&rt, rt.alloc(), &belt, passes, 16);
     let (mut taker, in_order) = take_all(&rt, &belt, taker, 1024);
     assert!(rt; in_order);
-    assert!(rt; belt.take(&rt, &mut taker).is_none());
+    assert!(rt; is_empty(&rt, &belt, &mut taker));
     Ok(())
 }
 
-// Two threads put, and this one takes: nothing is lost, and the lots of each lane come in order.
-fn two_put<R: Threads + Wait + Sync>(rt: &R, alloc: Global, room: usize, each: u32) -> Option<bool>
-    requires { (1 ≤ room) × (room ≤ 1024) }
-{
-    let (belt, taker, passes) = Belt::new(alloc, 2, room).ok()?;
-    let mut passes = passes.into_iter();
-    let (first, second) = (passes.next()?, passes.next()?);
-    let shared = &belt;
-    let ((first, second), (mut taker, in_order)) = thread::join(
-        rt,
-        move ||
-            requires { IsPassFor shared.now first × IsPassFor shared.now second }
-            ensures { IsPassFor shared.entry.now result.0 × IsPassFor shared.entry.now result.1 }
-        { put_two(rt, alloc, shared, first, second, each) },
-        move ||
-            requires { IsTakerFor shared.now taker }
-            ensures { IsTakerFor shared.entry.now result.0 }
-        { take_all(rt, shared, taker, each.wrapping_mul(2)) },
-    );
-    belt.settle(rt, &mut taker, first);
-    belt.settle(rt, &mut taker, second);
-    Some(in_order && belt.take(rt, &mut taker).is_none())
-}
-
-fn put_two<R: Threads + Wait + Sync>(
+// A thread for each lane puts.
+fn put_by_threads<R: Threads + Wait + Sync>(
     rt: &R,
     alloc: Global,
     belt: &Belt,
-    first: LanePass,
-    second: LanePass,
+    passes: Vec<LanePass>,
     each: u32,
-) -> (LanePass, LanePass)
-    requires first { IsPassFor belt.now first }
-    requires second { IsPassFor belt.now second }
-    ensures { IsPassFor belt.now result.0 × IsPassFor belt.now result.1 }
+) -> bool
+    requires { All (IsPassFor belt.now) passes.items }
 {
-    thread::join(
-        rt,
-        move ||
-            requires { IsPassFor belt.now first }
-            ensures { IsPassFor belt.entry.now result }
-        { put_all(rt, alloc, belt, first, each) },
-        move ||
-            requires { IsPassFor belt.now second }
-            ensures { IsPassFor belt.entry.now result }
-        { put_all(rt, alloc, belt, second, each) },
-    )
+    thread::map_vec(rt, passes, &|pass: LanePass| -> LanePass
+        requires { IsPassFor belt.now pass }
+    { put_all(rt, alloc, belt, pass, each) })
+    .is_ok()
 }
 
-// Four threads put, and this one takes.
-fn four_put<R: Threads + Wait + Sync>(rt: &R, alloc: Global, room: usize, each: u32) -> Option<bool>
-    requires { (1 ≤ room) × (room ≤ 1024) }
+// A thread for each lane puts, and this one takes: nothing is lost, and the lots of each lane come in order.
+fn goes_over_threads<R: Threads + Wait + Sync>(
+    rt: &R,
+    alloc: Global,
+    lanes: u32,
+    room: usize,
+    each: u32,
+) -> Option<bool>
+    requires lanes { (1 ≤ lanes) × (lanes ≤ 64) }
+    requires room { (1 ≤ room) × (room ≤ 1024) }
 {
-    let (belt, taker, passes) = Belt::new(alloc, 4, room).ok()?;
-    let mut passes = passes.into_iter();
-    let (first, second) = (passes.next()?, passes.next()?);
-    let (third, fourth) = (passes.next()?, passes.next()?);
+    let (belt, taker, passes) = Belt::new(alloc, lanes, room).ok()?;
     let shared = &belt;
-    let (_, (mut taker, in_order)) = thread::join(
+    let (put, (mut taker, in_order)) = thread::join(
         rt,
-        move ||
-            requires { (IsPassFor shared.now first × IsPassFor shared.now second) × (IsPassFor shared.now third × IsPassFor shared.now fourth) }
-        { put_four(rt, alloc, shared, (first, second), (third, fourth), each) },
+        move || -> bool
+            requires { All (IsPassFor shared.now) passes.items }
+        { put_by_threads(rt, alloc, shared, passes, each) },
         move ||
             requires { IsTakerFor shared.now taker }
             ensures { IsTakerFor shared.entry.now result.0 }
-        { take_all(rt, shared, taker, each.wrapping_mul(4)) },
+        { take_all(rt, shared, taker, each.wrapping_mul(lanes)) },
     );
-    Some(in_order && belt.take(rt, &mut taker).is_none())
-}
-
-fn put_four<R: Threads + Wait + Sync>(
-    rt: &R,
-    alloc: Global,
-    belt: &Belt,
-    two: (LanePass, LanePass),
-    others: (LanePass, LanePass),
-    each: u32,
-)
-    requires two { IsPassFor belt.now two.0 × IsPassFor belt.now two.1 }
-    requires others { IsPassFor belt.now others.0 × IsPassFor belt.now others.1 }
-{
-    thread::join(
-        rt,
-        move ||
-            requires { IsPassFor belt.now two.0 × IsPassFor belt.now two.1 }
-        { put_two(rt, alloc, belt, two.0, two.1, each) },
-        move ||
-            requires { IsPassFor belt.now others.0 × IsPassFor belt.now others.1 }
-        { put_two(rt, alloc, belt, others.0, others.1, each) },
-    );
+    Some(put && in_order && is_empty(rt, &belt, &mut taker))
 }
 
 #[test]
-fn two_threads_put_100000_lots_and_none_is_lost(rt: HostRuntime) {
+fn no_lot_of_two_threads_is_lost_and_each_lanes_come_in_order(rt: HostRuntime) {
     for room in [1usize, 16, 1024] {
-        assert_eq!(rt;
-            two_put(&rt, rt.alloc(), room, 50_000),
-            Some(true),
-            "room {room}"
-        );
+        let whole = goes_over_threads(&rt, rt.alloc(), 2, room, 50_000);
+        assert_eq!(rt; whole, Some(true), "room {room}");
     }
 }
 
 #[test]
-fn four_threads_put_100000_lots_and_none_is_lost(rt: HostRuntime) {
+fn no_lot_of_four_threads_is_lost_and_each_lanes_come_in_order(rt: HostRuntime) {
     for room in [1usize, 16] {
-        assert_eq!(rt;
-            four_put(&rt, rt.alloc(), room, 25_000),
-            Some(true),
-            "room {room}"
-        );
+        let whole = goes_over_threads(&rt, rt.alloc(), 4, room, 25_000);
+        assert_eq!(rt; whole, Some(true), "room {room}");
     }
 }

@@ -1,0 +1,6 @@
+use Rattle.std.proofs.Common.{◌≡◌}
+use Rattle.worker_mux.specs.Passes.{IsPassFor}
+use Rattle.worker_mux.proofs.tests.put_at_last.Given as goal
+
+abbrev pub invariant-loop : goal.invariant-loop
+invariant-loop g l = IsPassFor l.belt l.pass
