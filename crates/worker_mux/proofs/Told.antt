@@ -64,7 +64,7 @@ puts_at : (cap pass : ℕ) (v : Knowledge) (parcel : Parcel) → IsLane parcel.l
 puts_at cap pass v parcel is =
     subst (λ (y : Knowledge). Pushes Kept cap pass y parcel (λ w. w ≡ Lane parcel.lane (put_of y ++ parcel.lot ∷ []))) (sym is) (puts cap pass (put_of v) parcel)
 
-pub puts_as : (cap pass : ℕ) (v : Knowledge) (carried : Carried) → IsLane carried.parcel.lane v → carried.room.value ≡ cap → Pushes Rule cap pass v carried (WasAdded carried.room.value v carried.parcel)
+pub puts_as : (cap pass : ℕ) (v : Knowledge) (carried : Carried) → IsLane carried.parcel.lane v → carried.room ≡ cap → Pushes Rule cap pass v carried (WasAdded carried.room v carried.parcel)
 puts_as cap pass v carried is room items views short rule at =
     let shorter : length (parcels_of items) < cap = rw (length-map items (λ (c : Carried). c.parcel)) short in
     let step = puts_at cap pass v carried.parcel is (parcels_of items) views shorter rule at in (

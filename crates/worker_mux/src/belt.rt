@@ -11,7 +11,6 @@ use crate::knowledge::{Carried, Parcel};
 use crate::pass::{LanePass, Taker};
 use crate::rule::{Lanes, Line, Puts, Takes};
 use std::alloc::Global;
-use std::snapshot::Snapshot;
 use std::sync::Wait;
 use sub_number::NoMemory;
 use worker_lane::Lot;
@@ -70,14 +69,13 @@ impl Belt {
         ensures unchanged { OnErr result (lots_put pass.new ≡ lots_put pass.old) }
         ensures full { OnErr result (WasFull self.now pass.old) }
     {
-        let room = self.queue.capacity();
         let parcel = Parcel {
             lane: pass.number,
             lot,
         };
         let carried = Carried {
             parcel,
-            room: Snapshot::of(&room),
+            room: self.queue.capacity(),
         };
         match self.queue.push_as::<Puts, R>(rt, &mut pass.pass, carried) {
             Ok(()) => Ok(()),

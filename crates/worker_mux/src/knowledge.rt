@@ -1,7 +1,6 @@
 //! What clauses see of the belt and of its passes.
 
 use std::collections::LinkedList;
-use std::snapshot::Snapshot;
 use worker_lane::Lot;
 
 /// A lot, and the lane whose pass put it.
@@ -11,12 +10,12 @@ pub struct Parcel {
     pub lot: Lot,
 }
 
-/// A lot on the belt. The belt's room goes with it in proofs alone, so that a clause can tell how full the belt was when
-/// the lot was put.
+/// A lot on the belt. The belt's room goes with it, so that a clause can tell how full the belt was when the lot was put.
+/// No code reads it.
 #[derive(Drop)]
 pub struct Carried {
     pub parcel: Parcel,
-    pub room: Snapshot<usize>,
+    pub room: usize,
 }
 
 /// A lane whose pass is spent, and all that it has put. No value of it is made.

@@ -23,7 +23,7 @@ pub(crate) struct Puts;
 impl Outcome<Carried, Knowledge> for Puts {
     ghost use Rattle.worker_mux.specs.Rule.{WasAdded};
 
-    ghost then = { λ before carried after. WasAdded carried.room.value before carried.parcel after };
+    ghost then = { λ before carried after. WasAdded carried.room before carried.parcel after };
 }
 
 impl Lesson<Carried, Knowledge> for Puts {

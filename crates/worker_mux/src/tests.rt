@@ -90,9 +90,7 @@ fn goes_over<R: Wait>(
 }
 
 #[test]
-fn a_full_belt_hands_the_lot_back_and_an_empty_one_gives_none(
-    rt: HostRuntime,
-) -> Result<(), Fail> {
+fn a_full_belt_hands_the_lot_back_and_an_empty_one_gives_none(rt: HostRuntime) -> Result<(), Fail> {
     let (belt, taker, passes) = Belt::new(rt.alloc(), 2, 1).ok().ok_or("no memory")?;
     let two = first_two(&belt, passes).ok_or("no pass")?;
     let lot = packet(rt.alloc(), b"p").ok_or("no memory")?;
@@ -195,9 +193,13 @@ fn put_by_threads<R: Threads + Wait + Sync>(
 ) -> bool
     requires { All (IsPassFor belt.now) passes.items }
 {
-    thread::map_vec(rt, passes, &|pass: LanePass| -> LanePass
-        requires { IsPassFor belt.now pass }
-    { put_all(rt, alloc, belt, pass, each) })
+    thread::map_vec(
+        rt,
+        passes,
+        &|pass: LanePass| -> LanePass
+            requires { IsPassFor belt.now pass }
+        { put_all(rt, alloc, belt, pass, each) },
+    )
     .is_ok()
 }
 
