@@ -18,8 +18,8 @@ use worker_lane::Lot;
 /// A bounded queue of lots, shared by the threads that put and the one that takes. It holds at most as many lots as it
 /// was made with room for.
 ///
-/// `put`, `take` and `settle` take no memory, and move each lot. Where another thread is in the middle of a step of the
-/// queue they may wait for it; what they ensure holds if they return.
+/// `put`, `take` and `settle` take no memory, and move each lot. `put` and `take` may wait for a step of the queue that
+/// another thread has begun; what they ensure holds if they return.
 #[derive(Drop)]
 pub struct Belt {
     pub(crate) queue: Line,
