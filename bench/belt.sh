@@ -162,7 +162,7 @@ fn goes_over<R: Threads + Wait + Sync>(
 }
 
 // The number that this word spells, or 0.
-fn number_at<R: Env>(rt: &R, place: usize) -> u32 {
+fn number_at<R: Env + AllocGlobal>(rt: &R, place: usize) -> u32 {
     match env::args(rt) {
         Ok(mut words) => words.nth(place).and_then(|word| word.parse().ok()).unwrap_or(0),
         Err(_) => 0,

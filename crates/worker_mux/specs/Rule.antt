@@ -1,4 +1,13 @@
 -- The rule of the belt, over what it holds and what each of its passes knows. Each step keeps it, in any schedule.
+-- The kinds of step, and no other; each changes the view of its own caller and the belt, and the first and the last one
+-- the view of the other pass, too:
+--     a pass is made       the taker's count grows, and a lane begins (with_lane, new_lane)
+--     a packet is put      it comes to the back, and to the end of the pass's list (WasAdded)
+--     an end is put        the same
+--     a put is refused     nothing changes; the belt holds its room (Stood)
+--     a lot is taken       the front goes to the end of what was taken (WasTaken)
+--     none is taken        nothing changes; the belt is empty (Tells)
+--     a pass is settled    it is spent, and its list goes into the taker's table (with_settled)
 use Rattle.std.specs.Prelude.{◌≡◌, ℕ, ◌+◌, ◌<◌, ◌≤◌, List, [], ◌∷◌, ◌++◌, map, length, Contains, ◌⊎◌, if◌then◌else◌, ◌==◌}
 use Rattle.std.specs.List.{AllByRecursion}
 use mathlib.Core.Option.{Option, some, none}
