@@ -1,0 +1,204 @@
+-- What a list of lines of the Test Anything Protocol means as events (docs/FORMATS.md, "TAP").
+use Rattle.std.specs.Prelude.{ℕ, ◌+◌, ◌-◌, ◌*◌, ◌/◌, ◌^◌, ◌==◌, ◌&&◌, Bool, true, false, Option, Some, None, List, [], ◌∷◌, ◌++◌, map, take, drop, length, min, max, nat_eq, nat_lt, is_some, codes, if◌then◌else◌}
+use Rattle.std.specs.List.{ends_with, filter, filter_map, flat_map, fold, last_or, before_last, after_last, range_with_len}
+use Rattle.std.specs.Option.{option_map, option_to_list, unwrap_or}
+use Rattle.packet_codec.specs.declared.event.Event.{Event}
+use Rattle.packet_codec.specs.declared.event.FilePart.{FilePart}
+use Rattle.packet_codec.specs.declared.status.Status.{Status}
+use Rattle.packet_codec.specs.declared.status.Status.TheVariants as status
+use Rattle.stream_reader.specs.Notes.{stdout_event}
+use Rattle.tap_bridge.specs.declared.directive.Directive.{Directive}
+use Rattle.tap_bridge.specs.declared.directive.Directive.TheVariants as directive
+use Rattle.tap_bridge.specs.declared.plan.Plan.{Plan}
+use Rattle.tap_bridge.specs.Grammar.{Test, Line, plan, test, comment, bail_out, other, line_of}
+use Rattle.tap_bridge.specs.Ids.{id_of, test_name}
+
+-- The lines of a list.
+
+-- the most bytes of a line, its carriage return counted
+abbrev pub longest_line : ℕ
+longest_line = 65536
+
+-- without a carriage return at the end
+abbrev pub without_return : List ℕ → List ℕ
+without_return bytes = if ends_with nat_eq bytes (13 ∷ []) then take (length bytes - 1) bytes else bytes
+
+-- a line of the protocol, or bytes that are too many for one
+pub data Input : Type 0 where
+  line : Line → Input
+  too_long : List ℕ → Input
+
+abbrev pub input_of : List ℕ → Input
+input_of bytes = if nat_lt longest_line (length bytes) then too_long bytes else line (line_of (without_return bytes))
+
+-- Numbers.
+
+-- one more, which stands still at the greatest number of 64 bits
+abbrev pub one_more : ℕ → ℕ
+one_more count = min (count + 1) (2 ^ 64 - 1)
+
+-- the test's own number, or else the next one
+abbrev pub number_in : ℕ → Test → ℕ
+number_in next t = unwrap_or t.number next
+
+abbrev pub number_after : ℕ → Input → ℕ
+number_after next (line (plan p)) = next
+number_after next (line (test t)) = max next (one_more (number_in next t))
+number_after next (line (comment bytes)) = next
+number_after next (line (bail_out id)) = next
+number_after next (line (other bytes)) = next
+number_after next (too_long bytes) = next
+
+-- the next number behind these lines: 1 at first, and one more than the greatest that was given
+abbrev pub next_number : List Input → ℕ
+next_number lines = fold number_after 1 lines
+
+-- The plan.
+
+abbrev pub planned : Option ℕ → Input → Option ℕ
+planned before (line (plan p)) = Some p.tests
+planned before (line (test t)) = before
+planned before (line (comment bytes)) = before
+planned before (line (bail_out id)) = before
+planned before (line (other bytes)) = before
+planned before (too_long bytes) = before
+
+-- how many tests the last plan has
+abbrev pub planned_tests : List Input → Option ℕ
+planned_tests lines = fold planned None lines
+
+-- The test that waits for its comments.
+
+-- a plan, a test line or a bail out, behind which no comment belongs to an earlier test
+abbrev pub is_heading : Input → Bool
+is_heading (line (plan p)) = true
+is_heading (line (test t)) = true
+is_heading (line (comment bytes)) = false
+is_heading (line (bail_out id)) = true
+is_heading (line (other bytes)) = false
+is_heading (too_long bytes) = false
+
+abbrev pub comment_in : Input → Option (List ℕ)
+comment_in (line (plan p)) = None
+comment_in (line (test t)) = None
+comment_in (line (comment bytes)) = Some bytes
+comment_in (line (bail_out id)) = None
+comment_in (line (other bytes)) = None
+comment_in (too_long bytes) = None
+
+-- a test line with its number and the comment lines behind it
+pub record Waiting : Type 0 where
+  pub number : ℕ
+  pub shown : Test
+  pub comments : List (List ℕ)
+
+-- the test of the heading, if it is one, with the comment lines behind it
+abbrev pub waiting_with : ℕ → List Input → Option Input → Option Waiting
+waiting_with next behind None = None
+waiting_with next behind (Some (line (plan p))) = None
+waiting_with next behind (Some (line (test t))) = Some (record { number = number_in next t; shown = t; comments = filter_map comment_in behind })
+waiting_with next behind (Some (line (comment bytes))) = None
+waiting_with next behind (Some (line (bail_out id))) = None
+waiting_with next behind (Some (line (other bytes))) = None
+waiting_with next behind (Some (too_long bytes)) = None
+
+-- the test that waits behind these lines: that of the last heading
+abbrev pub waiting : List Input → Option Waiting
+waiting lines = waiting_with (next_number (before_last is_heading lines)) (after_last is_heading lines) (last_or None (filter is_heading lines))
+
+-- Events.
+
+abbrev pub mime_type : List ℕ
+mime_type = codes "text/plain; charset=UTF8"
+
+-- an event of the test of this name, with this file
+abbrev pub event_with : List ℕ → Status → Option FilePart → Event
+event_with name how file = record {
+  stamp = None;
+  id = Some (id_of name);
+  tags = None;
+  runnable = true;
+  status = how;
+  mime = option_map (λ part. mime_type) file;
+  file = file;
+  eof = false;
+  route = None;
+}
+
+abbrev pub status_of : Bool → Option Directive → Status
+status_of passed (Some directive.Skip) = status.Skip
+status_of passed (Some directive.Todo) = status.XFail
+status_of true None = status.Success
+status_of false None = status.Fail
+
+abbrev pub with_newline : List ℕ → List ℕ
+with_newline bytes = bytes ++ 10 ∷ []
+
+-- the reason, where there is one, as the first comment line
+abbrev pub reason_line : List ℕ → List (List ℕ)
+reason_line reason = if length reason == 0 then [] else reason ∷ []
+
+-- the bytes of a comment that are kept
+abbrev pub comment_limit : ℕ
+comment_limit = 65536
+
+-- the reason and the comment lines, each with a newline, of which the first bytes are kept
+abbrev pub comment_of : List ℕ → List (List ℕ) → List ℕ
+comment_of reason comments = take comment_limit (flat_map with_newline (reason_line reason ++ comments))
+
+-- the comment as a file, where it is not empty
+abbrev pub comment_file : List ℕ → Option FilePart
+comment_file bytes = if length bytes == 0 then None else Some (record { name = codes "tap comment"; bytes = bytes })
+
+abbrev pub test_event : Waiting → Event
+test_event w = event_with (test_name w.number w.shown.description) (status_of w.shown.passed w.shown.directive) (comment_file (comment_of w.shown.reason w.comments))
+
+abbrev pub missing_event : ℕ → Event
+missing_event number = event_with (test_name number []) status.Fail (Some (record { name = codes "tap meta"; bytes = codes "test missing from TAP output" }))
+
+-- the tests from the one number up to the other, without it, are missing
+abbrev pub missing_events : ℕ → ℕ → List Event
+missing_events first behind = map missing_event (range_with_len first (behind - first))
+
+-- a plan of no tests that skips them
+abbrev pub skipped_file : Plan → List Event
+skipped_file p = if p.skipped && p.tests == 0 then event_with (codes "file skip") status.Skip None ∷ [] else []
+
+-- the pieces of 65,536 bytes, the last of which may be shorter
+abbrev pub pieces_of : List ℕ → List (List ℕ)
+pieces_of bytes = map (λ k. take longest_line (drop (longest_line * k) bytes)) (range_with_len 0 ((length bytes + (longest_line - 1)) / longest_line))
+
+-- the event of the waiting test, where one waits
+abbrev pub waiting_events : List Input → List Event
+waiting_events before = map test_event (option_to_list (waiting before))
+
+-- what the line gives where these came before it
+abbrev pub events_at : List Input → Input → List Event
+events_at before (line (plan p)) = waiting_events before ++ skipped_file p
+events_at before (line (test t)) = waiting_events before ++ missing_events (next_number before) (number_in (next_number before) t)
+events_at before (line (comment bytes)) = if is_some (waiting before) then [] else stdout_event (with_newline bytes) ∷ []
+events_at before (line (bail_out id)) = waiting_events before ++ event_with id status.Fail None ∷ []
+events_at before (line (other bytes)) = stdout_event (with_newline bytes) ∷ []
+events_at before (too_long bytes) = map stdout_event (pieces_of bytes)
+
+-- the tests up to the plan's last one that were not seen
+abbrev pub missing_at_end : Option ℕ → ℕ → List Event
+missing_at_end None next = []
+missing_at_end (Some tests) next = missing_events next (tests + 1)
+
+-- what the end gives behind these lines
+abbrev pub events_at_end : List Input → List Event
+events_at_end lines = waiting_events lines ++ missing_at_end (planned_tests lines) (next_number lines)
+
+-- what the lines give, one after another, where these came before them
+abbrev pub events_behind : List Input → List Input → List Event
+events_behind before [] = []
+events_behind before (this ∷ later) = events_at before this ++ events_behind (before ++ this ∷ []) later
+
+-- what the lines give before the end
+abbrev pub events_so_far : List (List ℕ) → List Event
+events_so_far lines = events_behind [] (map input_of lines)
+
+-- what the lines and the end give
+abbrev pub tap_events : List (List ℕ) → List Event
+tap_events lines = events_so_far lines ++ events_at_end (map input_of lines)

@@ -1,0 +1,65 @@
+//! The comment of a test.
+
+ghost use Rattle.std.specs.Prelude.{◌≡◌, [], ◌++◌, take, length, IfOk, OnOk, ◌==◌, if◌then◌else◌};
+ghost use Rattle.tap_bridge.specs.Events.{comment_limit, with_newline, comment_file};
+
+use packet_codec::FilePart;
+use std::alloc::Global;
+use std::marker::Model;
+use sub_number::{Bytes, NoMemory, Text};
+
+/// The bytes of a comment that are kept.
+const COMMENT_LIMIT: usize = 65_536;
+
+/// The first bytes of some lines. Contracts see them as a list of bytes.
+#[derive(Drop)]
+pub(crate) struct Comment {
+    bytes: Vec<u8>,
+}
+
+impl Model for Comment {
+    ghost use Rattle.std.specs.Prelude.{List, ℕ};
+
+    ghost Value = { List ℕ };
+
+    ghost view = { λ c. c.bytes.items };
+}
+
+impl Comment {
+    /// No bytes. It takes no memory.
+    pub(crate) fn new(alloc: Global) -> Self
+        ensures { result ≡ [] }
+    {
+        Comment {
+            bytes: Vec::new(alloc),
+        }
+    }
+
+    /// Appends the line and a newline, and keeps the first bytes.
+    ///
+    /// `NoMemory` comes only for want of memory.
+    pub(crate) fn add_line(&mut self, line: &[u8]) -> Result<(), NoMemory>
+        ensures { OnOk result (self.new ≡ take comment_limit (self.old ++ with_newline line.now)) }
+    {
+        self.bytes.extend_from_slice(line)?;
+        self.bytes.push(b'\n')?;
+        self.bytes.truncate(COMMENT_LIMIT);
+        Ok(())
+    }
+
+    /// The comment as a file, where it is not empty.
+    ///
+    /// `NoMemory` comes only for want of memory.
+    pub(crate) fn into_file(self, alloc: Global) -> Result<Option<FilePart>, NoMemory>
+        ensures { IfOk result (λ file. file ≡ comment_file self) }
+    {
+        if self.bytes.is_empty() {
+            return Ok(None);
+        }
+        let name = Text::new(alloc, b"tap comment").map_err(|_| NoMemory)?;
+        Ok(Some(FilePart {
+            name,
+            bytes: Bytes::from_vec(self.bytes),
+        }))
+    }
+}

@@ -1,0 +1,30 @@
+//! The Test Anything Protocol both ways: its lines as Subunit events, and rows as its lines.
+//!
+//! The rules stand in docs/FORMATS.md under "TAP". `specs/` states the grammar of one line apart from what a list of
+//! lines means.
+//!
+//! - `blanks`, `number`, `directive`: the parts of a line
+//! - `plan`, `test_line`, `line`: what one line is
+//! - `ids`, `comment`, `event`: the parts of the events, and the events
+//! - `waiting`, `reader`: lines in turn, and the events that they give
+//! - `writer`: rows as lines
+#![tactic(auto)]
+
+mod blanks;
+mod comment;
+mod directive;
+mod event;
+mod ids;
+mod line;
+mod number;
+mod plan;
+mod reader;
+mod test_line;
+mod waiting;
+mod writer;
+
+pub use reader::TapReader;
+pub use writer::TapWriter;
+
+#[cfg(test)]
+mod tests;

@@ -1,0 +1,54 @@
+//! What one line is.
+
+ghost use Rattle.std.specs.Prelude.{◌≡◌};
+ghost use Rattle.tap_bridge.specs.Grammar as grammar;
+ghost use Rattle.tap_bridge.specs.Events as spec;
+ghost use Rattle.tap_bridge.specs.Read.{line_meant};
+
+use crate::blanks::trim;
+use crate::plan::{Plan, plan_of};
+use crate::test_line::{TestLine, test_of};
+
+/// What one line is.
+pub(crate) enum Line<'a> {
+    /// How many tests there are.
+    Plan(Plan),
+    /// How a test ended.
+    Test(TestLine<'a>),
+    /// A comment, with its `#`.
+    Comment(&'a [u8]),
+    /// The run was given up; the line without blanks at its ends.
+    BailOut(&'a [u8]),
+    /// Anything else.
+    Other(&'a [u8]),
+}
+
+/// The line without a carriage return at its end.
+pub(crate) fn without_return(line: &[u8]) -> &[u8]
+    ensures { result.now ≡ spec.without_return line.now }
+{
+    if line.ends_with(b"\r") {
+        &line[..line.len() - 1]
+    } else {
+        line
+    }
+}
+
+/// What the line is, which has no newline and no carriage return at its end.
+pub(crate) fn line_of(line: &[u8]) -> Line<'_>
+    ensures { line_meant result ≡ grammar.line_of line.now }
+{
+    if let Some(plan) = plan_of(line) {
+        return Line::Plan(plan);
+    }
+    if let Some(test) = test_of(line) {
+        return Line::Test(test);
+    }
+    if line.starts_with(b"#") {
+        Line::Comment(line)
+    } else if line.starts_with(b"Bail out!") {
+        Line::BailOut(trim(line))
+    } else {
+        Line::Other(line)
+    }
+}

@@ -1,0 +1,1 @@
+//! Lines as events, and rows as lines.
