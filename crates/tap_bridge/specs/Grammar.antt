@@ -1,7 +1,8 @@
 -- The grammar of one line of the Test Anything Protocol, versions 12 to 14 (docs/FORMATS.md, "TAP").
 use Rattle.std.specs.Prelude.{ℕ, ◌+◌, Bool, true, false, not, ◌&&◌, ◌||◌, ◌==◌, Option, None, Some, List, [], ◌∷◌, length, take, drop, nat_eq, nat_lt, nat_le, is_some, codes, if◌then◌else◌}
-use Rattle.std.specs.List.{starts_with}
-use Rattle.std.specs.Str.{all_ascii_digits, str_eq_ignore_ascii_case}
+use Rattle.std.specs.Char.{is_ascii_digit}
+use Rattle.std.specs.List.{starts_with, list_all}
+use Rattle.std.specs.Str.{str_eq_ignore_ascii_case}
 use Rattle.std.specs.Str.Parse.{digits_value}
 use Rattle.tap_bridge.specs.declared.directive.Directive.{Directive}
 use Rattle.tap_bridge.specs.declared.directive.Directive.TheVariants.{Skip, Todo}
@@ -25,11 +26,14 @@ is_blank_text bytes = length (trim_start bytes) == 0
 abbrev pub most_tests : ℕ
 most_tests = 1000000
 
+abbrev pub is_digits : List ℕ → Bool
+is_digits bytes = list_all is_ascii_digit bytes
+
 abbrev pub is_number : List ℕ → Bool
-is_number digits = all_ascii_digits digits && (nat_le 1 (length digits) && (nat_le (length digits) 7 && nat_le (digits_value 10 digits) most_tests))
+is_number bytes = is_digits bytes && (nat_le 1 (length bytes) && (nat_le (length bytes) 7 && nat_le (digits_value 10 bytes) most_tests))
 
 abbrev pub number_of : List ℕ → Option ℕ
-number_of digits = if is_number digits then Some (digits_value 10 digits) else None
+number_of bytes = if is_number bytes then Some (digits_value 10 bytes) else None
 
 -- The plan: `1..`, a number, and nothing more or a directive that skips all.
 
@@ -101,7 +105,7 @@ test_with passed number rest = record {
 
 -- digits up to a blank or the end
 abbrev pub begins_with_digits : List ℕ → Bool
-begins_with_digits bytes = all_ascii_digits (first_word bytes) && nat_le 1 (length (first_word bytes))
+begins_with_digits bytes = is_digits (first_word bytes) && nat_le 1 (length (first_word bytes))
 
 -- a test's number is 1 at least
 abbrev pub test_with_number : Bool → Option ℕ → List ℕ → Option Test

@@ -1,6 +1,6 @@
 //! White space of a line: spaces and tabs.
 
-ghost use Rattle.std.specs.Prelude.{◌≡◌, drop};
+ghost use Rattle.std.specs.Prelude.{◌≡◌, ◌≤◌, length, drop};
 ghost use Rattle.std.specs.List.{prefix_len, position_or_len};
 ghost use Rattle.tap_bridge.specs.Blanks as blank;
 
@@ -12,7 +12,8 @@ fn is_blank(byte: u8) -> bool
 
 // How many blanks stand at the front.
 fn leading_blanks(bytes: &[u8]) -> usize
-    ensures { result ≡ prefix_len blank.is_blank bytes.now }
+    ensures count { result ≡ prefix_len blank.is_blank bytes.now }
+    ensures within { result ≤ length bytes.now }
 {
     let mut count = 0;
     while count < bytes.len() && is_blank(bytes[count]) {
@@ -23,7 +24,8 @@ fn leading_blanks(bytes: &[u8]) -> usize
 
 // How many bytes stand in front of the first blank.
 fn word_size(bytes: &[u8]) -> usize
-    ensures { result ≡ position_or_len blank.is_blank bytes.now }
+    ensures count { result ≡ position_or_len blank.is_blank bytes.now }
+    ensures within { result ≤ length bytes.now }
 {
     let mut count = 0;
     while count < bytes.len() && !is_blank(bytes[count]) {

@@ -1,6 +1,6 @@
 //! Directives of test lines.
 
-ghost use Rattle.std.specs.Prelude.{◌≡◌};
+ghost use Rattle.std.specs.Prelude.{◌≡◌, ◌≤◌, length};
 ghost use Rattle.tap_bridge.specs.Grammar as grammar;
 
 use crate::blanks::{begins_blank, behind, trim, trim_start};
@@ -47,7 +47,8 @@ pub(crate) fn directive_at(bytes: &[u8]) -> Option<Directive>
 
 /// How many bytes stand in front of the first directive, or all of them where there is none.
 pub(crate) fn directive_place(bytes: &[u8]) -> usize
-    ensures { result ≡ grammar.directive_place bytes.now }
+    ensures place { result ≡ grammar.directive_place bytes.now }
+    ensures within { result ≤ length bytes.now }
 {
     let mut from = 0;
     while let Some(ahead) = memchr(b'#', &bytes[from..]) {

@@ -1,7 +1,6 @@
 //! Numbers of tests.
 
 ghost use Rattle.std.specs.Prelude.{◌≡◌, ◌≤◌, IsTrue, length};
-ghost use Rattle.std.specs.Str.{all_ascii_digits};
 ghost use Rattle.std.specs.Str.Parse.{digits_value};
 ghost use Rattle.tap_bridge.specs.Grammar as grammar;
 
@@ -13,14 +12,14 @@ const MOST_TESTS: u32 = 1_000_000;
 
 /// Whether each byte is a digit.
 pub(crate) fn is_digits(bytes: &[u8]) -> bool
-    ensures { result ≡ all_ascii_digits bytes.now }
+    ensures { result ≡ grammar.is_digits bytes.now }
 {
     bytes.iter().all(|byte| byte.is_ascii_digit())
 }
 
 // The number that so few digits write.
 fn value_of(digits: &[u8]) -> u32
-    requires digits { IsTrue (all_ascii_digits digits.now) }
+    requires digits { IsTrue (grammar.is_digits digits.now) }
     requires few { length digits.now ≤ 7 }
     ensures { result ≡ digits_value 10 digits.now }
 {

@@ -2,6 +2,7 @@
 
 ghost use Rattle.std.specs.Prelude.{◌≡◌, ℕ, None, List, [], ◌∷◌, ◌++◌, ◌≤◌, length, map, IfOk, OnOk};
 ghost use Rattle.std.specs.Option.{unwrap_or};
+ghost use Rattle.stream_reader.specs.Notes.{stdout_event};
 ghost use Rattle.tap_bridge.specs.Grammar as grammar;
 ghost use Rattle.tap_bridge.specs.Events as spec;
 ghost use Rattle.tap_bridge.specs.Kept.{Knows, HasRead, kept_events};
@@ -80,12 +81,13 @@ impl TapReader {
         ensures events { (before : List spec.Input) → Knows self.old before → IfOk result (λ events. events.items ≡ spec.events_at before (spec.line (grammar.comment line.now))) }
         ensures read { (before : List spec.Input) → Knows self.old before → OnOk result (Knows self.new (before ++ spec.line (grammar.comment line.now) ∷ [])) }
     {
-        let mut events = Vec::new(self.alloc);
         match &mut self.waiting {
-            Some(waiting) => waiting.comment.add_line(line)?,
-            None => events.push(output_event(self.alloc, line)?)?,
+            Some(waiting) => {
+                waiting.comment.add_line(line)?;
+                Ok(Vec::new(self.alloc))
+            }
+            None => output(self.alloc, line),
         }
-        Ok(events)
     }
 
     fn take_bail_out(&mut self, id: &[u8]) -> Result<Vec<Event>, NoMemory>
@@ -101,9 +103,23 @@ impl TapReader {
         ensures events { (before : List spec.Input) → Knows self.old before → IfOk result (λ events. events.items ≡ spec.events_at before (spec.line (grammar.other line.now))) }
         ensures read { (before : List spec.Input) → Knows self.old before → OnOk result (Knows self.new (before ++ spec.line (grammar.other line.now) ∷ [])) }
     {
-        let mut events = Vec::new(self.alloc);
-        events.push(output_event(self.alloc, line)?)?;
+        let events = output(self.alloc, line)?;
         Ok(events)
+    }
+
+    // Takes the next line, without its newline.
+    fn take_line(&mut self, line: &[u8]) -> Result<Vec<Event>, NoMemory>
+        requires { length line.now ≤ spec.longest_line }
+        ensures events { (lines : List (List ℕ)) → HasRead self.old lines → IfOk result (λ events. events.items ≡ spec.events_at (map spec.input_of lines) (spec.input_of line.now)) }
+        ensures read { (lines : List (List ℕ)) → HasRead self.old lines → OnOk result (HasRead self.new (lines ++ line.now ∷ [])) }
+    {
+        match line_of(without_return(line)) {
+            Line::Plan(plan) => self.take_plan(plan),
+            Line::Test(test) => self.take_test(&test),
+            Line::Comment(comment) => self.take_comment(comment),
+            Line::BailOut(id) => self.take_bail_out(id),
+            Line::Other(other) => self.take_other(other),
+        }
     }
 
     /// Takes the next line, without its newline, and gives what it decides. A carriage return at its end is no part of
@@ -117,13 +133,8 @@ impl TapReader {
         ensures so_far { (lines : List (List ℕ)) → HasRead self.old lines → IfOk result (λ events. spec.events_so_far (lines ++ line.now ∷ []) ≡ spec.events_so_far lines ++ events.items) }
         ensures read { (lines : List (List ℕ)) → HasRead self.old lines → OnOk result (HasRead self.new (lines ++ line.now ∷ [])) }
     {
-        match line_of(without_return(line)) {
-            Line::Plan(plan) => self.take_plan(plan),
-            Line::Test(test) => self.take_test(&test),
-            Line::Comment(comment) => self.take_comment(comment),
-            Line::BailOut(id) => self.take_bail_out(id),
-            Line::Other(other) => self.take_other(other),
-        }
+        let events = self.take_line(line)?;
+        Ok(events)
     }
 
     /// Ends the lines, and gives what the end decides: the event of the test that waits, and of each test that the plan
@@ -140,6 +151,15 @@ impl TapReader {
         }
         Ok(events)
     }
+}
+
+// The event of a line that is no part of a test.
+fn output(alloc: Global, line: &[u8]) -> Result<Vec<Event>, NoMemory>
+    ensures { IfOk result (λ events. events.items ≡ stdout_event (spec.with_newline line.now) ∷ []) }
+{
+    let mut events = Vec::new(alloc);
+    events.push(output_event(alloc, line)?)?;
+    Ok(events)
 }
 
 // The test's own number, or else the next one.

@@ -29,9 +29,10 @@ fn comment_with(alloc: Global, reason: &[u8]) -> Result<Comment, NoMemory>
     ensures { IfOk result (λ comment. comment ≡ comment_of reason.now []) }
 {
     let mut comment = Comment::new(alloc);
-    if !reason.is_empty() {
-        comment.add_line(reason)?;
+    if reason.is_empty() {
+        return Ok(comment);
     }
+    comment.add_line(reason)?;
     Ok(comment)
 }
 

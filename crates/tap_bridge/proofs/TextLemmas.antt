@@ -1,0 +1,15 @@
+-- The lines of rows, one row more.
+use Rattle.std.proofs.Common.{◌≡◌, ℕ, Bool, true, false, cond, List, [], ◌∷◌, ◌++◌, map, refl, sym, ◌∙◌, ap, append_assoc, nat_lt}
+use Rattle.std.proofs.lemmas.List.{append-nil}
+use Rattle.outcome_fold.specs.declared.row.Row.{Row}
+use Rattle.tap_bridge.specs.Texts.{text_at, text_behind, text_so_far}
+
+behind_push : (before rows : List Row) (row : Row) → text_behind before (rows ++ row ∷ []) ≡ text_behind before rows ++ text_at (before ++ rows) row
+behind_push before [] row = append-nil (text_at before row) ∙ ap (λ rows. text_at rows row) (sym (append-nil before))
+behind_push before (first ∷ rows) row =
+    ap (λ text. text_at before first ++ text) (behind_push (before ++ first ∷ []) rows row ∙ ap (λ all. text_behind (before ++ first ∷ []) rows ++ text_at all row) (append_assoc before (first ∷ []) rows))
+    ∙ sym (append_assoc (text_at before first) (text_behind (before ++ first ∷ []) rows) (text_at (before ++ first ∷ rows) row))
+
+-- the lines of the rows, one row more
+pub so_far_push : (rows : List Row) (row : Row) → text_so_far (rows ++ row ∷ []) ≡ text_so_far rows ++ text_at rows row
+so_far_push rows row = behind_push [] rows row
