@@ -1,5 +1,5 @@
 -- What the code's lines mean, which borrow the bytes that they were read from.
-use Rattle.std.specs.Prelude.{List, ℕ}
+use Rattle.std.specs.Prelude.{List, ℕ, ◌≤◌, length}
 use Rattle.tap_bridge.specs.declared.test_line.TestLine.{TestLine}
 use Rattle.tap_bridge.specs.declared.line.Line.{Line as Read}
 use Rattle.tap_bridge.specs.declared.line.Line.TheVariants as read
@@ -20,3 +20,11 @@ line_meant (read.Test t) = test (test_meant t)
 line_meant (read.Comment bytes) = comment bytes.now
 line_meant (read.BailOut id) = bail_out id.now
 line_meant (read.Other bytes) = other bytes.now
+
+-- What becomes part of an id has at most so many bytes.
+abbrev pub HasShortParts : Read → ℕ → Type 0
+HasShortParts (read.Plan p) most = Unit {0}
+HasShortParts (read.Test t) most = length t.description.now ≤ most
+HasShortParts (read.Comment bytes) most = Unit {0}
+HasShortParts (read.BailOut id) most = length id.now ≤ most
+HasShortParts (read.Other bytes) most = Unit {0}

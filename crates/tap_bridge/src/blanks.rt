@@ -36,7 +36,8 @@ fn word_size(bytes: &[u8]) -> usize
 
 /// The bytes behind so many, none where there are fewer.
 pub(crate) fn behind(bytes: &[u8], count: usize) -> &[u8]
-    ensures { result.now ≡ drop count bytes.now }
+    ensures rest { result.now ≡ drop count bytes.now }
+    ensures within { length result.now ≤ length bytes.now }
 {
     &bytes[count.min(bytes.len())..]
 }
@@ -53,14 +54,16 @@ pub(crate) fn begins_blank(bytes: &[u8]) -> bool
 
 /// The bytes without the blanks at the front.
 pub(crate) fn trim_start(bytes: &[u8]) -> &[u8]
-    ensures { result.now ≡ blank.trim_start bytes.now }
+    ensures trimmed { result.now ≡ blank.trim_start bytes.now }
+    ensures within { length result.now ≤ length bytes.now }
 {
     &bytes[leading_blanks(bytes)..]
 }
 
 // The bytes without the blanks at the end.
 fn trim_end(bytes: &[u8]) -> &[u8]
-    ensures { result.now ≡ blank.trim_end bytes.now }
+    ensures trimmed { result.now ≡ blank.trim_end bytes.now }
+    ensures within { length result.now ≤ length bytes.now }
 {
     let mut end = bytes.len();
     while end > 0 && is_blank(bytes[end - 1]) {
@@ -71,7 +74,8 @@ fn trim_end(bytes: &[u8]) -> &[u8]
 
 /// The bytes without the blanks at both ends.
 pub(crate) fn trim(bytes: &[u8]) -> &[u8]
-    ensures { result.now ≡ blank.trim bytes.now }
+    ensures trimmed { result.now ≡ blank.trim bytes.now }
+    ensures within { length result.now ≤ length bytes.now }
 {
     trim_end(trim_start(bytes))
 }
@@ -80,6 +84,7 @@ pub(crate) fn trim(bytes: &[u8]) -> &[u8]
 pub(crate) fn split_word(bytes: &[u8]) -> (&[u8], &[u8])
     ensures word { result.0.now ≡ blank.first_word bytes.now }
     ensures rest { result.1.now ≡ blank.behind_word bytes.now }
+    ensures within { length result.1.now ≤ length bytes.now }
 {
     bytes.split_at(word_size(bytes))
 }

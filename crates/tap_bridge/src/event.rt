@@ -1,6 +1,6 @@
 //! The events of lines.
 
-ghost use Rattle.std.specs.Prelude.{◌≡◌, [], ◌++◌, None, IfOk, OnOk};
+ghost use Rattle.std.specs.Prelude.{◌≡◌, [], ◌++◌, None, ◌≤◌, length, IfOk, OnOk};
 ghost use Rattle.std.specs.Option.{option_map};
 ghost use Rattle.tap_bridge.specs.Events as spec;
 ghost use Rattle.packet_codec.specs.declared.status.Status.TheVariants.{Fail};
@@ -117,6 +117,7 @@ pub(crate) fn add_skipped_file(
 ///
 /// `NoMemory` comes only for want of memory.
 pub(crate) fn bail_out_event(alloc: Global, line: &[u8]) -> Result<Event, NoMemory>
+    requires { length line.now ≤ spec.longest_line }
     ensures { IfOk result (λ event. event ≡ spec.event_with line.now Fail None) }
 {
     let id = id_of(alloc, line)?;

@@ -1,7 +1,8 @@
 //! The ids of tests.
 
-ghost use Rattle.std.specs.Prelude.{◌≡◌, ◌++◌, IfOk, OnOk};
+ghost use Rattle.std.specs.Prelude.{◌≡◌, ◌++◌, ◌<◌, ◌≤◌, ◌^◌, ◌≢◌, All, length, IfOk, OnOk};
 ghost use Rattle.std.specs.String.{string_bytes};
+ghost use Rattle.tap_bridge.specs.Events.{longest_line};
 ghost use Rattle.tap_bridge.specs.Ids as spec;
 
 use bstr::ByteSlice;
@@ -21,10 +22,24 @@ fn lossy(alloc: Global, bytes: &[u8]) -> Result<String, NoMemory>
     Ok(text)
 }
 
-/// The bytes as an id, with U+FFFD for what is no UTF-8 and for each NUL.
+// The text, which is short enough and has no NUL.
+fn text_of(alloc: Global, text: &str) -> Result<Text, NoMemory>
+    requires no_nul { All (λ byte. byte ≢ 0) text.now }
+    requires short { length text.now < 2 ^ 30 }
+    ensures { IfOk result (λ id. id ≡ text.now) }
+{
+    match Text::new(alloc, text.as_bytes()) {
+        Ok(id) => Ok(id),
+        Err(TextFault::NoMemory) => Err(NoMemory),
+        Err(TextFault::NotText) => unreachable!(),
+    }
+}
+
+/// The bytes, which are not too many for it, as an id, with U+FFFD for what is no UTF-8 and for each NUL.
 ///
 /// `NoMemory` comes only for want of memory.
 pub(crate) fn id_of(alloc: Global, bytes: &[u8]) -> Result<Text, NoMemory>
+    requires { length bytes.now < 2 ^ 28 }
     ensures { IfOk result (λ id. id ≡ spec.id_of bytes.now) }
 {
     match Text::new(alloc, bytes) {
@@ -32,7 +47,7 @@ pub(crate) fn id_of(alloc: Global, bytes: &[u8]) -> Result<Text, NoMemory>
         Err(TextFault::NoMemory) => Err(NoMemory),
         Err(TextFault::NotText) => {
             let text = lossy(alloc, bytes)?;
-            Text::new(alloc, text.as_bytes()).map_err(|_| NoMemory)
+            text_of(alloc, text.as_str())
         }
     }
 }
@@ -52,9 +67,11 @@ fn describe(description: &[u8], name: &mut Vec<u8>) -> Result<(), NoMemory>
 ///
 /// `NoMemory` comes only for want of memory.
 pub(crate) fn test_id(alloc: Global, number: u64, description: &[u8]) -> Result<Text, NoMemory>
+    requires { length description.now ≤ longest_line }
     ensures { IfOk result (λ id. id ≡ spec.id_of (spec.test_name number description.now)) }
 {
-    let mut name = Vec::from_slice(alloc, b"test ")?;
+    let mut name = Vec::with_capacity(alloc, description.len() + 32)?;
+    name.extend_from_slice(b"test ")?;
     name.extend_from_slice(Buffer::new().format(number).as_bytes())?;
     describe(description, &mut name)?;
     id_of(alloc, &name)

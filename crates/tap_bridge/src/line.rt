@@ -1,9 +1,9 @@
 //! What one line is.
 
-ghost use Rattle.std.specs.Prelude.{◌≡◌};
+ghost use Rattle.std.specs.Prelude.{◌≡◌, ◌≤◌, length};
 ghost use Rattle.tap_bridge.specs.Grammar as grammar;
 ghost use Rattle.tap_bridge.specs.Events as spec;
-ghost use Rattle.tap_bridge.specs.Read.{line_meant};
+ghost use Rattle.tap_bridge.specs.Read.{line_meant, HasShortParts};
 
 use crate::blanks::trim;
 use crate::plan::{Plan, plan_of};
@@ -25,7 +25,8 @@ pub(crate) enum Line<'a> {
 
 /// The line without a carriage return at its end.
 pub(crate) fn without_return(line: &[u8]) -> &[u8]
-    ensures { result.now ≡ spec.without_return line.now }
+    ensures line { result.now ≡ spec.without_return line.now }
+    ensures within { length result.now ≤ length line.now }
 {
     if line.ends_with(b"\r") {
         &line[..line.len() - 1]
@@ -36,7 +37,8 @@ pub(crate) fn without_return(line: &[u8]) -> &[u8]
 
 /// What the line is, which has no newline and no carriage return at its end.
 pub(crate) fn line_of(line: &[u8]) -> Line<'_>
-    ensures { line_meant result ≡ grammar.line_of line.now }
+    ensures meant { line_meant result ≡ grammar.line_of line.now }
+    ensures within { HasShortParts result (length line.now) }
 {
     if let Some(plan) = plan_of(line) {
         return Line::Plan(plan);

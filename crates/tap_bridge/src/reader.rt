@@ -66,6 +66,7 @@ impl TapReader {
     }
 
     fn take_test(&mut self, test: &TestLine<'_>) -> Result<Vec<Event>, NoMemory>
+        requires { length test.now.description.now ≤ spec.longest_line }
         ensures events { (before : List spec.Input) → Knows self.old before → IfOk result (λ events. events.items ≡ spec.events_at before (spec.line (grammar.test (test_meant test.now)))) }
         ensures read { (before : List spec.Input) → Knows self.old before → OnOk result (Knows self.new (before ++ spec.line (grammar.test (test_meant test.now)) ∷ [])) }
     {
@@ -91,6 +92,7 @@ impl TapReader {
     }
 
     fn take_bail_out(&mut self, id: &[u8]) -> Result<Vec<Event>, NoMemory>
+        requires { length id.now ≤ spec.longest_line }
         ensures events { (before : List spec.Input) → Knows self.old before → IfOk result (λ events. events.items ≡ spec.events_at before (spec.line (grammar.bail_out id.now))) }
         ensures read { (before : List spec.Input) → Knows self.old before → OnOk result (Knows self.new (before ++ spec.line (grammar.bail_out id.now) ∷ [])) }
     {
@@ -110,8 +112,8 @@ impl TapReader {
     // Takes the next line, without its newline.
     fn take_line(&mut self, line: &[u8]) -> Result<Vec<Event>, NoMemory>
         requires { length line.now ≤ spec.longest_line }
-        ensures events { (lines : List (List ℕ)) → HasRead self.old lines → IfOk result (λ events. events.items ≡ spec.events_at (map spec.input_of lines) (spec.input_of line.now)) }
-        ensures read { (lines : List (List ℕ)) → HasRead self.old lines → OnOk result (HasRead self.new (lines ++ line.now ∷ [])) }
+        ensures events { (before : List spec.Input) → Knows self.old before → IfOk result (λ events. events.items ≡ spec.events_at before (spec.input_of line.now)) }
+        ensures read { (before : List spec.Input) → Knows self.old before → OnOk result (Knows self.new (before ++ spec.input_of line.now ∷ [])) }
     {
         match line_of(without_return(line)) {
             Line::Plan(plan) => self.take_plan(plan),

@@ -1,6 +1,6 @@
 //! Test lines.
 
-ghost use Rattle.std.specs.Prelude.{◌≡◌};
+ghost use Rattle.std.specs.Prelude.{◌≡◌, ◌≤◌, length, IfSome};
 ghost use Rattle.std.specs.Option.{option_map};
 ghost use Rattle.tap_bridge.specs.Grammar as grammar;
 ghost use Rattle.tap_bridge.specs.Read.{test_meant};
@@ -26,7 +26,8 @@ pub(crate) struct TestLine<'a> {
 
 // The test line that says this first, with this behind it.
 fn test_with(passed: bool, number: Option<u32>, rest: &[u8]) -> TestLine<'_>
-    ensures { test_meant result ≡ grammar.test_with passed number rest.now }
+    ensures meant { test_meant result ≡ grammar.test_with passed number rest.now }
+    ensures within { length result.description.now ≤ length rest.now }
 {
     let (description, from) = rest.split_at(directive_place(rest));
     let directive = directive_at(from);
@@ -41,7 +42,8 @@ fn test_with(passed: bool, number: Option<u32>, rest: &[u8]) -> TestLine<'_>
 
 // The test line with this behind its first words.
 fn test_behind(passed: bool, rest: &[u8]) -> Option<TestLine<'_>>
-    ensures { option_map test_meant result ≡ grammar.test_behind passed rest.now }
+    ensures meant { option_map test_meant result ≡ grammar.test_behind passed rest.now }
+    ensures within { IfSome result (λ test. length test.description.now ≤ length rest.now) }
 {
     let (word, behind_number) = split_word(trim_start(rest));
     if word.is_empty() || !is_digits(word) {
@@ -64,7 +66,8 @@ fn begins_with_word(line: &[u8], word: &[u8]) -> bool
 
 /// The test line that the line is. `None` comes exactly where it is none.
 pub(crate) fn test_of(line: &[u8]) -> Option<TestLine<'_>>
-    ensures { option_map test_meant result ≡ grammar.test_of line.now }
+    ensures meant { option_map test_meant result ≡ grammar.test_of line.now }
+    ensures within { IfSome result (λ test. length test.description.now ≤ length line.now) }
 {
     if begins_with_word(line, b"ok") {
         test_behind(true, behind(line, 2))

@@ -1,7 +1,7 @@
 //! The test that waits for its comments.
 
-ghost use Rattle.std.specs.Prelude.{◌≡◌, [], IfOk};
-ghost use Rattle.tap_bridge.specs.Events.{comment_of};
+ghost use Rattle.std.specs.Prelude.{◌≡◌, ◌≤◌, [], length, IfOk};
+ghost use Rattle.tap_bridge.specs.Events.{comment_of, longest_line};
 ghost use Rattle.tap_bridge.specs.Kept.{kept_of, kept_event};
 ghost use Rattle.tap_bridge.specs.Read.{test_meant};
 
@@ -41,6 +41,7 @@ impl Waiting {
     ///
     /// `NoMemory` comes only for want of memory.
     pub(crate) fn begun(alloc: Global, number: u64, test: &TestLine<'_>) -> Result<Self, NoMemory>
+        requires { length test.now.description.now ≤ longest_line }
         ensures { IfOk result (λ waiting. waiting ≡ kept_of (record { number = number; shown = test_meant test.now; comments = [] })) }
     {
         Ok(Waiting {

@@ -87,7 +87,8 @@ fn write_shown(id: &[u8], text: &mut Vec<u8>) -> Result<(), NoMemory>
 fn line_of_row(alloc: Global, number: u64, row: &Row) -> Result<Vec<u8>, NoMemory>
     ensures { IfOk result (λ text. text.items ≡ spec.line_of_row number row.now) }
 {
-    let mut text = Vec::from_slice(alloc, verdict(row.ended))?;
+    let mut text = Vec::with_capacity(alloc, row.id.bytes().len() + 48)?;
+    text.extend_from_slice(verdict(row.ended))?;
     text.extend_from_slice(Buffer::new().format(number).as_bytes())?;
     text.push(b' ')?;
     write_shown(row.id.bytes(), &mut text)?;
