@@ -189,7 +189,7 @@ fn longest_lines(alloc: Global) -> Option<bool> {
         None => 0,
     };
     let typed = match &test.mime {
-        Some(mime) => mime.bytes() == b"text/plain; charset=UTF8",
+        Some(mime) => mime.bytes() == b"text/plain; charset=UTF8".as_slice(),
         None => false,
     };
     Some(first == 65_537 && kept == 65_536 && typed && test.runnable && !test.eof)
