@@ -1,3 +1,4 @@
+pub mod LongLines
 pub mod NumberLemmas
 pub mod DirectiveLemmas
 pub mod IdLemmas

@@ -144,8 +144,8 @@ impl TapWriter {
         ensures whole { (rows : List ARow) → spec.tap_text rows ≡ spec.text_so_far rows ++ spec.plan_line (spec.lines_in rows) }
         ensures nothing { OnErr result (out.new.items ≡ out.old.items) }
     {
-        let text = plan_line(*out.allocator(), self.lines)?;
-        out.extend_from_slice(&text)?;
+        let plan = plan_line(*out.allocator(), self.lines)?;
+        out.extend_from_slice(&plan)?;
         Ok(())
     }
 }
