@@ -1,5 +1,5 @@
 -- Where the first directive stands.
-use Rattle.std.proofs.Common.{◌≡◌, ◌⊎◌, ℕ, zero, suc, ◌+◌, ◌-◌, ◌<◌, ◌≤◌, Bool, true, false, cond, Option, Some, None, List, [], ◌∷◌, length, drop, get_or, is_some, nat_eq, refl, sym, ◌∙◌, ap, arith, ⊎_elim, true≢false, eqb-true, eq-eqb, length-drop}
+use Rattle.std.proofs.Common.{◌≡◌, ℕ, zero, suc, ◌+◌, ◌-◌, ◌<◌, ◌≤◌, Bool, true, false, cond, Option, None, List, [], ◌∷◌, length, drop, get_or, is_some, nat_eq, refl, sym, ◌∙◌, ap, arith, ⊎_elim, true≢false, eqb-true, eq-eqb, length-drop}
 use Rattle.std.specs.Prelude.{codes}
 use Rattle.std.proofs.lemmas.Bool.{and_parts, cases_Bool, cases_lt}
 use Rattle.std.proofs.lemmas.List.{get_or-drop}

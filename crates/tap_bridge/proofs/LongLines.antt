@@ -1,5 +1,5 @@
 -- Lines that are too long, for what reads the lines: they change nothing that a reader knows, and give their pieces.
-use Rattle.std.proofs.Common.{◌≡◌, ℕ, zero, suc, ◌+◌, ◌-◌, ◌*◌, ◌/◌, ◌<◌, ◌≤◌, List, [], ◌∷◌, ◌++◌, map, take, drop, length, refl, sym, ◌∙◌, ap, subst, arith, lt-ltb, length-append, drop-drop, drop_at, take_all}
+use Rattle.std.proofs.Common.{◌≡◌, ℕ, zero, suc, ◌+◌, ◌*◌, ◌/◌, ◌<◌, ◌≤◌, List, [], ◌∷◌, ◌++◌, map, take, drop, length, refl, sym, ◌∙◌, ap, subst, arith, lt-ltb, length-append, drop-drop, drop_at, take_all}
 use Rattle.std.proofs.lemmas.Bool.{cond-true}
 use Rattle.std.proofs.lemmas.List.{map_push, take_at}
 use Rattle.std.specs.List.{range_with_len}
@@ -47,4 +47,4 @@ piece_in_front piece bytes full some =
     ap (λ n. map (λ k. take 65536 (drop (65536 * k) (piece ++ bytes))) (range_with_len 0 n)) count
     ∙ ap (λ first. first ∷ map (λ k. take 65536 (drop (65536 * k) (piece ++ bytes))) (range_with_len 1 ((length bytes + 65535) / 65536))) (take_at piece bytes 65536 full)
     ∙ ap (λ pieces. piece ∷ pieces) (shifted (λ k. take 65536 (drop (65536 * k) (piece ++ bytes))) 0 ((length bytes + 65535) / 65536)
-        ∙ (λ i. map (λ k. rest k i) (range_with_len 0 ((length bytes + 65535) / 65536))))
+    ∙ (λ i. map (λ k. rest k i) (range_with_len 0 ((length bytes + 65535) / 65536))))

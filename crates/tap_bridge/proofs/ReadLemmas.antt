@@ -1,16 +1,15 @@
 -- What a reader knows, one line more.
-use Rattle.std.proofs.Common.{◌≡◌, ℕ, zero, suc, ◌+◌, ◌-◌, ◌≤◌, max, Bool, true, false, cond, not, Option, Some, None, List, [], ◌∷◌, ◌++◌, map, take, drop, length, reverse, refl, sym, ◌∙◌, ap, append_assoc, arith, length-append}
+use Rattle.std.proofs.Common.{◌≡◌, ℕ, ◌+◌, ◌-◌, max, Bool, true, false, cond, not, Option, Some, None, List, [], ◌∷◌, ◌++◌, map, take, drop, length, refl, sym, ◌∙◌, ap, append_assoc, arith, length-append}
 use Rattle.std.proofs.lemmas.List.{reverse-append, take_at, drop_all, take-append-le, drop-append-le, append-nil, map_push}
 use Rattle.std.proofs.lemmas.List.Elements.{filter-append, filter_map-append}
-use Rattle.std.proofs.lemmas.List.Sums.{fold_push, suffix_len-le-length}
+use Rattle.std.proofs.lemmas.List.Sums.{fold_push}
 use Rattle.std.specs.List.{suffix_len, prefix_len, before_last, after_last, filter, filter_map, last_or}
 use Rattle.std.specs.Option.{option_map, option_to_list}
-use Rattle.packet_codec.specs.declared.event.Event.{Event}
 use Rattle.tap_bridge.specs.declared.plan.Plan.{Plan}
 use Rattle.tap_bridge.specs.declared.waiting.Waiting.{Waiting as Kept}
 use Rattle.tap_bridge.specs.declared.reader.TapReader.{TapReader}
-use Rattle.tap_bridge.specs.Grammar.{Test, Line, plan, test, comment, bail_out, other}
-use Rattle.tap_bridge.specs.Events.{Input, line, too_long, Waiting, one_more, number_in, number_after, next_number, planned, planned_tests, is_heading, comment_in, waiting_with, waiting, with_newline, comment_limit, events_at, events_behind, events_so_far, input_of}
+use Rattle.tap_bridge.specs.Grammar.{Test, plan, test, comment, bail_out, other}
+use Rattle.tap_bridge.specs.Events.{Input, line, too_long, one_more, number_in, number_after, next_number, planned, is_heading, comment_in, waiting_with, waiting, with_newline, comment_limit, events_at, events_behind, events_so_far, input_of}
 use Rattle.tap_bridge.specs.Kept.{Knows, kept_of}
 use Rattle.tap_bridge.proofs.CommentLemmas.{comment_push}
 

@@ -1,5 +1,5 @@
 -- The lines of rows, one row more.
-use Rattle.std.proofs.Common.{◌≡◌, ℕ, Bool, true, false, cond, List, [], ◌∷◌, ◌++◌, map, refl, sym, ◌∙◌, ap, append_assoc, nat_lt}
+use Rattle.std.proofs.Common.{◌≡◌, List, [], ◌∷◌, ◌++◌, sym, ◌∙◌, ap, append_assoc}
 use Rattle.std.proofs.lemmas.List.{append-nil}
 use Rattle.outcome_fold.specs.declared.row.Row.{Row}
 use Rattle.tap_bridge.specs.Texts.{text_at, text_behind, text_so_far}

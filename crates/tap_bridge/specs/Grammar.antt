@@ -1,5 +1,5 @@
 -- The grammar of one line of the Test Anything Protocol, versions 12 to 14 (docs/FORMATS.md, "TAP").
-use Rattle.std.specs.Prelude.{ℕ, ◌+◌, Bool, true, false, not, ◌&&◌, ◌||◌, ◌==◌, Option, None, Some, List, [], ◌∷◌, length, take, drop, nat_eq, nat_lt, nat_le, is_some, codes, if◌then◌else◌}
+use Rattle.std.specs.Prelude.{ℕ, ◌+◌, Bool, true, false, ◌&&◌, ◌||◌, ◌==◌, Option, None, Some, List, [], ◌∷◌, length, take, drop, nat_eq, nat_le, is_some, codes, if◌then◌else◌}
 use Rattle.std.specs.Char.{is_ascii_digit}
 use Rattle.std.specs.List.{starts_with, list_all}
 use Rattle.std.specs.Str.{str_eq_ignore_ascii_case}
@@ -7,7 +7,7 @@ use Rattle.std.specs.Str.Parse.{digits_value}
 use Rattle.tap_bridge.specs.declared.directive.Directive.{Directive}
 use Rattle.tap_bridge.specs.declared.directive.Directive.TheVariants.{Skip, Todo}
 use Rattle.tap_bridge.specs.declared.plan.Plan.{Plan}
-use Rattle.tap_bridge.specs.Blanks.{is_blank, begins_blank, trim_start, trim, first_word, behind_word}
+use Rattle.tap_bridge.specs.Blanks.{begins_blank, trim_start, trim, first_word, behind_word}
 
 -- the bytes begin with this word
 abbrev pub begins : List ℕ → List ℕ → Bool

@@ -1,5 +1,5 @@
 -- What a reader knows of the lines that it was given.
-use Rattle.std.specs.Prelude.{◌≡◌, ℕ, ◌++◌, true, false, Option, Some, None, Result, List, [], ◌∷◌, map, IfOk, OnOk}
+use Rattle.std.specs.Prelude.{◌≡◌, ℕ, true, false, Option, Some, None, List, [], ◌∷◌, map}
 use Rattle.std.specs.Option.{option_map}
 use Rattle.packet_codec.specs.declared.event.Event.{Event}
 use Rattle.packet_codec.specs.declared.event.FilePart.{FilePart}

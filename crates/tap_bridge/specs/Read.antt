@@ -1,5 +1,5 @@
 -- What the code's lines mean, which borrow the bytes that they were read from.
-use Rattle.std.specs.Prelude.{List, ℕ, ◌≤◌, length}
+use Rattle.std.specs.Prelude.{ℕ, ◌≤◌, length}
 use Rattle.tap_bridge.specs.declared.test_line.TestLine.{TestLine}
 use Rattle.tap_bridge.specs.declared.line.Line.{Line as Read}
 use Rattle.tap_bridge.specs.declared.line.Line.TheVariants as read

@@ -72,16 +72,34 @@ fn lines_give_events(rt: HostRuntime) -> Result<(), Fail> {
     let alloc = rt.alloc();
     let lines = b"1..3\nok 1 - first\nnot ok 3 third # TODO later";
     assert!(rt; gives(alloc, lines, MISSING));
-    assert!(rt; gives(alloc, b"1..2\nok", b"success test 1\nfail test 2 <tap meta:test missing from TAP output\n"));
+    assert!(rt;
+        gives(
+            alloc,
+            b"1..2\nok",
+            b"success test 1\nfail test 2 <tap meta:test missing from TAP output\n"
+        )
+    );
     assert!(rt; gives(alloc, b"1..0 # skip none", b"skip file skip\n"));
-    assert!(rt; gives(alloc, b"Bail out! disk full \t", b"fail Bail out! disk full\n"));
+    assert!(rt;
+        gives(
+            alloc,
+            b"Bail out! disk full \t",
+            b"fail Bail out! disk full\n"
+        )
+    );
     Ok(())
 }
 
 #[test]
 fn a_carriage_return_ends_no_line_but_is_none_of_it(rt: HostRuntime) -> Result<(), Fail> {
     let alloc = rt.alloc();
-    assert!(rt; gives(alloc, b"1..1\r\nok 1 - a\r\n# why\r", b"success test 1 - a <tap comment:# why\n\n"));
+    assert!(rt;
+        gives(
+            alloc,
+            b"1..1\r\nok 1 - a\r\n# why\r",
+            b"success test 1 - a <tap comment:# why\n\n"
+        )
+    );
     assert!(rt; gives(alloc, b"\r", b"unset <stdout:\n\n"));
     assert!(rt; gives(alloc, b"a\r\r", b"unset <stdout:a\r\n\n"));
     assert!(rt; gives(alloc, b"Bail out!\r", b"fail Bail out!\n"));
@@ -92,12 +110,36 @@ fn a_carriage_return_ends_no_line_but_is_none_of_it(rt: HostRuntime) -> Result<(
 fn directives_stand_in_each_case_of_letters(rt: HostRuntime) -> Result<(), Fail> {
     let alloc = rt.alloc();
     assert!(rt; gives(alloc, b"ok 1 a # SKIP", b"skip test 1 a\n"));
-    assert!(rt; gives(alloc, b"ok # skip  no disk ", b"skip test 1 <tap comment:no disk\n\n"));
+    assert!(rt;
+        gives(
+            alloc,
+            b"ok # skip  no disk ",
+            b"skip test 1 <tap comment:no disk\n\n"
+        )
+    );
     assert!(rt; gives(alloc, b"not ok 1 #\tSkIp", b"skip test 1\n"));
     assert!(rt; gives(alloc, b"not ok a # todo", b"xfail test 1 a\n"));
-    assert!(rt; gives(alloc, b"ok 1 # Todo: soon", b"xfail test 1 <tap comment:: soon\n\n"));
-    assert!(rt; gives(alloc, b"ok # SKIPPED now", b"skip test 1 <tap comment:PED now\n\n"));
-    assert!(rt; gives(alloc, b"ok a #SKIP # x # TODO y", b"xfail test 1 a #SKIP # x <tap comment:y\n\n"));
+    assert!(rt;
+        gives(
+            alloc,
+            b"ok 1 # Todo: soon",
+            b"xfail test 1 <tap comment:: soon\n\n"
+        )
+    );
+    assert!(rt;
+        gives(
+            alloc,
+            b"ok # SKIPPED now",
+            b"skip test 1 <tap comment:PED now\n\n"
+        )
+    );
+    assert!(rt;
+        gives(
+            alloc,
+            b"ok a #SKIP # x # TODO y",
+            b"xfail test 1 a #SKIP # x <tap comment:y\n\n"
+        )
+    );
     assert!(rt; gives(alloc, b"ok\t# SKIP", b"success test 1 # SKIP\n"));
     Ok(())
 }
@@ -106,22 +148,48 @@ fn directives_stand_in_each_case_of_letters(rt: HostRuntime) -> Result<(), Fail>
 fn numbers_jump_repeat_and_are_missing(rt: HostRuntime) -> Result<(), Fail> {
     let alloc = rt.alloc();
     let jump = b"ok 2\nok\nok 2\nnot ok";
-    let jumped = b"fail test 1 <tap meta:test missing from TAP output\nsuccess test 2\nsuccess test 3\nsuccess test 2\nfail test 4\n";
+    let jumped =
+        b"fail test 1 <tap meta:test missing from TAP output\nsuccess test 2\nsuccess test 3\nsuccess test 2\nfail test 4\n";
     assert!(rt; gives(alloc, jump, jumped));
-    assert!(rt; gives(alloc, b"ok 0\nok 1000001\nok 12345678", b"unset <stdout:ok 0\n\nunset <stdout:ok 1000001\n\nunset <stdout:ok 12345678\n\n"));
+    assert!(rt;
+        gives(
+            alloc,
+            b"ok 0\nok 1000001\nok 12345678",
+            b"unset <stdout:ok 0\n\nunset <stdout:ok 1000001\n\nunset <stdout:ok 12345678\n\n"
+        )
+    );
     assert!(rt; gives(alloc, b"ok 0000001 a", b"success test 1 a\n"));
-    assert!(rt; gives(alloc, b"ok 1a\nok1\nnot  ok", b"unset <stdout:ok1\n\nunset <stdout:not  ok\n\nsuccess test 1 1a\n"));
+    assert!(rt;
+        gives(
+            alloc,
+            b"ok 1a\nok1\nnot  ok",
+            b"unset <stdout:ok1\n\nunset <stdout:not  ok\n\nsuccess test 1 1a\n"
+        )
+    );
     Ok(())
 }
 
 #[test]
 fn the_last_plan_stands_wherever_it_does(rt: HostRuntime) -> Result<(), Fail> {
     let alloc = rt.alloc();
-    let behind = b"success test 1\nsuccess test 2\nfail test 3 <tap meta:test missing from TAP output\n";
+    let behind =
+        b"success test 1\nsuccess test 2\nfail test 3 <tap meta:test missing from TAP output\n";
     assert!(rt; gives(alloc, b"ok\nok\n1..3", behind));
     assert!(rt; gives(alloc, b"1..9\nok\n1..0\n1..1", b"success test 1\n"));
-    assert!(rt; gives(alloc, b"1..0 # SKIP\n1..0\n1..2 # skip\nok 2", b"skip file skip\nfail test 1 <tap meta:test missing from TAP output\nsuccess test 2\n"));
-    assert!(rt; gives(alloc, b"1..1x\n1..1 # no\n1..1000001", b"unset <stdout:1..1x\n\nunset <stdout:1..1 # no\n\nunset <stdout:1..1000001\n\n"));
+    assert!(rt;
+        gives(
+            alloc,
+            b"1..0 # SKIP\n1..0\n1..2 # skip\nok 2",
+            b"skip file skip\nfail test 1 <tap meta:test missing from TAP output\nsuccess test 2\n"
+        )
+    );
+    assert!(rt;
+        gives(
+            alloc,
+            b"1..1x\n1..1 # no\n1..1000001",
+            b"unset <stdout:1..1x\n\nunset <stdout:1..1 # no\n\nunset <stdout:1..1000001\n\n"
+        )
+    );
     Ok(())
 }
 
@@ -129,7 +197,8 @@ fn the_last_plan_stands_wherever_it_does(rt: HostRuntime) -> Result<(), Fail> {
 fn comments_belong_to_the_test_before_them(rt: HostRuntime) -> Result<(), Fail> {
     let alloc = rt.alloc();
     let lines = b"# early\nnot ok 1 # TODO x\n# one\nmore\n#two\nok\n1..2\n# late";
-    let events = b"unset <stdout:# early\n\nunset <stdout:more\n\nxfail test 1 <tap comment:x\n# one\n#two\n\nsuccess test 2\nunset <stdout:# late\n\n";
+    let events =
+        b"unset <stdout:# early\n\nunset <stdout:more\n\nxfail test 1 <tap comment:x\n# one\n#two\n\nsuccess test 2\nunset <stdout:# late\n\n";
     assert!(rt; gives(alloc, lines, events));
     Ok(())
 }
@@ -166,7 +235,13 @@ fn runs_of_the_specification_give_events(rt: HostRuntime) -> Result<(), Fail> {
 #[test]
 fn ids_alone_are_made_texts(rt: HostRuntime) -> Result<(), Fail> {
     let alloc = rt.alloc();
-    assert!(rt; gives(alloc, b"ok a\xFFb\0c\xE2\x82 # SKIP \xFF", b"skip test 1 a\xEF\xBF\xBDb\xEF\xBF\xBDc\xEF\xBF\xBD <tap comment:\xFF\n\n"));
+    assert!(rt;
+        gives(
+            alloc,
+            b"ok a\xFFb\0c\xE2\x82 # SKIP \xFF",
+            b"skip test 1 a\xEF\xBF\xBDb\xEF\xBF\xBDc\xEF\xBF\xBD <tap comment:\xFF\n\n"
+        )
+    );
     assert!(rt; gives(alloc, b"\xFF\0", b"unset <stdout:\xFF\0\n\n"));
     Ok(())
 }
@@ -240,7 +315,13 @@ fn rows_are_written_as_lines(rt: HostRuntime) -> Result<(), Fail> {
         (b"test 2", Ended::Fail),
         (b"test 3 third", Ended::XFail),
     ];
-    assert!(rt; writes(alloc, &three, b"ok 1 test 1 - first\nnot ok 2 test 2\nnot ok 3 test 3 third # TODO\n1..3\n"));
+    assert!(rt;
+        writes(
+            alloc,
+            &three,
+            b"ok 1 test 1 - first\nnot ok 2 test 2\nnot ok 3 test 3 third # TODO\n1..3\n"
+        )
+    );
     let kinds: [(&[u8], Ended); 7] = [
         (b"a", Ended::Success),
         (b"z", Ended::Exists),

@@ -1,4 +1,4 @@
-use Rattle.std.proofs.Common.{◌≡◌, ◌⊎◌, ℕ, ◌+◌, ◌-◌, ◌<◌, ◌≤◌, true, false, length, drop, is_some, sym, ◌∙◌, ap, arith, ⊎_elim, length-drop}
+use Rattle.std.proofs.Common.{◌≡◌, ℕ, ◌+◌, ◌-◌, ◌<◌, ◌≤◌, false, length, drop, is_some, sym, ◌∙◌, ap, arith, ⊎_elim, length-drop}
 use Rattle.std.proofs.lemmas.Bool.{cases_lt}
 use Rattle.std.proofs.lemmas.List.{take_rest}
 use Rattle.tap_bridge.specs.Grammar.{directive_at}
@@ -27,9 +27,9 @@ loop-ahead-preserved c =
     let last : (k : ℕ) → k + 1 ≡ from + c.in-Some.ahead → is_some (directive_at (drop k bytes)) ≡ false = λ k is.
     elim c.else-place-gt0.branch [
       | else-place-gt0-via-then-place-gt0+else-is_some w ↦
-        let place : k ≡ from + c.in-Some.ahead - 1 = omega arith in
-        ap (λ n. is_some (directive_at (drop n bytes))) place
-        ∙ ap is_some (ap directive_at (sym (take_rest bytes (from + c.in-Some.ahead - 1))) ∙ sym w.directive_at.ensures) ∙ sym w.is_some.ensures ∙ w.if-is_some.false
+          let place : k ≡ from + c.in-Some.ahead - 1 = omega arith in
+          ap (λ n. is_some (directive_at (drop n bytes))) place
+          ∙ ap is_some (ap directive_at (sym (take_rest bytes (from + c.in-Some.ahead - 1))) ∙ sym w.directive_at.ensures) ∙ sym w.is_some.ensures ∙ w.if-is_some.false
       | else-place-gt0-via-else-place-gt0 w ↦ absurd (omega (arith, w.if-place-gt0.false))
     ] in
     record {

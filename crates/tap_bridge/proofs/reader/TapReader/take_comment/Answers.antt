@@ -1,6 +1,5 @@
 use Rattle.std.proofs.Common.{ap, refl, Some, sym, ◌∙◌}
 use Rattle.std.specs.Option.{option_map}
-use Rattle.tap_bridge.specs.declared.waiting.Waiting.{Waiting as Kept}
 use Rattle.tap_bridge.proofs.ReadLemmas.{knows_comment, commented}
 use Rattle.tap_bridge.proofs.reader.TapReader.take_comment.Goals as goal
 

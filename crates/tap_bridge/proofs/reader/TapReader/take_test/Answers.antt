@@ -1,4 +1,4 @@
-use Rattle.std.proofs.Common.{◌≡◌, ◌∙◌, ap, refl, rules, Some, max, [], sym}
+use Rattle.std.proofs.Common.{◌≡◌, ◌∙◌, ap, rules, Some, max, []}
 use Rattle.tap_bridge.specs.declared.reader.TapReader.{TapReader}
 use Rattle.tap_bridge.specs.Read.{test_meant}
 use Rattle.tap_bridge.specs.Events.{one_more, number_in}
