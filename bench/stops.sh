@@ -1,7 +1,8 @@
 #!/bin/sh
 # Kills `testr load` of a large stream at random moments, and looks what each kill left in the repository: the earlier
 # runs byte for byte, and the new one wholly or not at all. This tries kills, and no power cuts. A load that ends before
-# its kill is tried again, at most as often as there are kills.
+# its kill must have kept its run, and is tried again, at most as often as there are kills. Fewer kills than asked for are
+# a failure.
 # usage: bench/stops.sh [KILLS [EVENTS [SEED]]]: by default 200 kills of the load of 650000 events, which are 50 MB.
 set -eu
 
@@ -22,6 +23,7 @@ import streams
 # A load that takes longer, in seconds, is an error, and none is begun once all together have taken longer.
 ONE_LOAD, ALL_LOADS = 120, 3600
 FORMAT = b"subunit-store 1\n"
+KILLED = -9
 
 
 def stream_of(count):
@@ -108,9 +110,9 @@ class Load:
         return time.monotonic() - self.start
 
     def kill(self):
-        """Whether the kill was what ended it."""
+        """The status of its end, which is that of the kill where the load had not ended before."""
         self.child.kill()
-        return self.child.wait() == -9
+        return self.child.wait()
 
 
 def look(program, folder, large):
@@ -156,7 +158,7 @@ def main(program, work, kills, events, seed):
     whole, tail = times_of(program, first, work, stream, large)
     size = os.path.getsize(stream)
     print(f"{size} bytes; a load takes {whole:.2f} s, {tail:.3f} s of it from its draft on", flush=True)
-    counts = dict.fromkeys(("ended first", "killed", "before", "after", "damaged"), 0)
+    counts = dict.fromkeys(("ended first", "killed", "before", "after", "damaged", "failed"), 0)
     begun = time.monotonic()
     for place in range(2 * kills):
         if counts["killed"] == kills or time.monotonic() - begun > ALL_LOADS:
@@ -165,16 +167,21 @@ def main(program, work, kills, events, seed):
         shutil.copytree(first, folder)
         load = Load(program, folder, stream)
         load.wait_at_random(place % 3, chance, whole, tail)
-        was_killed = load.kill()
+        end = load.kill()
         is_there, is_sound = look(program, folder, large)
         counts["damaged"] += not is_sound
-        counts["killed" if was_killed else "ended first"] += 1
-        if was_killed:
+        if end == KILLED:
+            counts["killed"] += 1
             counts["after" if is_there else "before"] += 1
+        else:
+            counts["ended first"] += 1
+            counts["failed"] += not (end in (0, 1) and is_there)
         shutil.rmtree(folder)
     print("{killed} kills: {before} before the publish (new run absent), {after} after it (new run whole);"
-          " {ended first} loads ended first; {damaged} damaged".format(**counts))
-    sys.exit(1 if counts["damaged"] else 0)
+          " {ended first} loads ended first, {failed} of them failed; {damaged} damaged".format(**counts))
+    if counts["killed"] < kills:
+        fail(f"{kills} kills were asked for")
+    sys.exit(1 if counts["damaged"] or counts["failed"] else 0)
 
 
 main(*sys.argv[1:])

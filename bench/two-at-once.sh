@@ -16,7 +16,9 @@ import streams
 
 LIMIT, AT_ONCE = 120, 8
 FORMAT = b"subunit-store 1\n"
-REFUSED = (4, b"", b"testr: fault of the repository folder\n")
+REFUSED = (4, b"", b"testr: fault of the repository folder\n"
+           b"testr: cause: lock .testrepository/lock: another testr is at work in this repository;"
+           b" try again when it has ended\n")
 
 
 def stream(count):

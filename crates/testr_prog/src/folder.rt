@@ -2,17 +2,16 @@
 
 ghost use Rattle.std.specs.Io.{ReadsAtMost};
 
-use crate::lock::{Lock, MODE};
+use crate::cause::{Cause, told};
+use crate::identity::is_at;
+use crate::lock::{FOLDER, Lock, Sharing};
+use crate::published::{is_stranger, length_of, link, read_from};
 use std::alloc::Global;
 use std::collections::BTreeSet;
 use std::fs::{DirEntry, File, Files};
 use std::io::{BufWriter, ErrorKind, Write};
-use std::os::unix::fs::{FileExt, OpenOptionsExt};
 use std::{fs, io};
 use sub_number::{Text, TextFault};
-
-// The folder that holds the published files, in the current folder.
-const FOLDER: &str = ".testrepository";
 
 // The draft's file. No published file has this name.
 const DRAFT_NAME: &str = "draft";
@@ -21,8 +20,6 @@ const DRAFT: &str = ".testrepository/draft";
 
 // The file whose lock keeps other programs out. No published file has this name.
 const LOCK_NAME: &str = "lock";
-
-const LOCK: &str = ".testrepository/lock";
 
 // How many bytes of a draft may wait in memory for one write.
 const ROOM: usize = 65_536;
@@ -33,166 +30,208 @@ const ROOM: usize = 65_536;
 pub struct Folder<'r, R> {
     rt: &'r R,
     alloc: Global,
+    sharing: Sharing,
     lock: Lock,
     draft: Option<BufWriter<File>>,
     is_settled: bool,
 }
 
 impl<'r, R: Files<File = File>> Folder<'r, R> {
-    /// The folder as it stands, without a draft. It need not be there.
-    pub fn new(alloc: Global, rt: &'r R) -> Self {
+    /// The folder as it stands, without a draft. It need not be there. Where the lock is shared, no draft can be begun.
+    pub fn new(alloc: Global, rt: &'r R, sharing: Sharing) -> Self {
         Folder {
             rt,
             alloc,
+            sharing,
             lock: Lock::Unasked,
             draft: None,
             is_settled: false,
         }
     }
 
-    /// The names in the folder that are texts, each once, in the order of their bytes, without the draft's and the lock's.
-    /// An absent folder has none. Fails with `OutOfMemory` only for want of memory.
-    pub fn names(&mut self, alloc: Global) -> io::Result<Vec<Text>>
+    /// The names of regular files in the folder that are texts, each once, in the order of their bytes, without the draft's
+    /// and the lock's. A name that leads nowhere is one of them, so that whoever reads it fails. An absent folder has
+    /// none. The cause is want of memory only for want of memory.
+    pub fn names(&mut self, alloc: Global) -> Result<Vec<Text>, Cause>
     where
         R: AllocGlobal + Clone + Drop,
     {
-        self.lock.ask(self.rt, LOCK)?;
-        let found = match self.found_names(alloc) {
-            Err(error) if error.kind() == ErrorKind::NotFound => BTreeSet::new(alloc),
-            result => result?,
+        self.lock.ask(self.rt, self.sharing)?;
+        let found = match self.lock {
+            Lock::NoFolder => BTreeSet::new(alloc),
+            _ => told("list", FOLDER, found_names(alloc, self.rt))?,
         };
-        let mut names = Vec::new(alloc);
-        for name in found {
-            names.push(name)?;
-        }
-        Ok(names)
+        told("list", FOLDER, in_order(alloc, found))
     }
 
     /// How many bytes the file of this name has, or `None` where there is none. Fails at a name that is there and is no
-    /// file, as a folder.
-    pub fn length(&mut self, name: &str) -> io::Result<Option<u64>> {
-        self.lock.ask(self.rt, LOCK)?;
+    /// file that can be read, as a folder, and where reads find another end than the system says.
+    pub fn length(&mut self, name: &str) -> Result<Option<u64>, Cause> {
+        self.lock.ask(self.rt, self.sharing)?;
         let path = self.path_of(name)?;
-        match fs::metadata(self.rt, &path) {
-            Ok(found) if found.is_file() => Ok(Some(found.len())),
-            Ok(_) => Err(io::Error::from(ErrorKind::InvalidData)),
-            Err(error) if error.kind() == ErrorKind::NotFound => Ok(None),
-            Err(error) => Err(error),
+        match length_of(self.rt, &path) {
+            Ok(length) => Ok(length),
+            Err(error) => Err(Cause::of_path("read", path, error)),
         }
     }
 
     /// Fills `buf` from the file of this name, from the byte number `place` on, as far as there are bytes. Answers how
     /// many there were.
-    pub fn read_at(&mut self, name: &str, place: u64, buf: &mut [u8]) -> io::Result<usize>
+    pub fn read_at(&mut self, name: &str, place: u64, buf: &mut [u8]) -> Result<usize, Cause>
         ensures { ReadsAtMost result buf.new }
     {
-        self.lock.ask(self.rt, LOCK)?;
-        let file = File::open(self.rt, &self.path_of(name)?)?;
-        let mut done = 0;
-        for _ in 0..u64::MAX {
-            if done == buf.len() {
-                break;
-            }
-            match file.read_at(&mut buf[done..], place.saturating_add(done as u64)) {
-                Ok(0) => break,
-                Ok(count) => done += count,
-                Err(error) if error.kind() == ErrorKind::Interrupted => {}
-                Err(error) => return Err(error),
-            }
+        self.lock.ask(self.rt, self.sharing)?;
+        let path = self.path_of(name)?;
+        match read_from(self.rt, &path, place, buf) {
+            Ok(count) => Ok(count),
+            Err(error) => Err(Cause::of_path("read", path, error)),
         }
-        Ok(done)
     }
 
-    /// Makes the folder where it is absent, and opens an empty draft in place of an earlier one. There is no draft
-    /// where it fails.
-    pub fn start_draft(&mut self) -> io::Result<()> {
-        self.draft = None;
-        self.lock.take(self.rt, FOLDER, LOCK)?;
-        let file = File::options()
-            .write(true)
-            .create(true)
-            .truncate(true)
-            .mode(MODE)
-            .open(self.rt, DRAFT)?;
-        self.draft = Some(BufWriter::with_capacity(self.alloc, ROOM, file)?);
+    /// Makes the folder where it is absent, and a new file for an empty draft, in place of whatever had its name. There
+    /// is no draft where it fails.
+    pub fn start_draft(&mut self) -> Result<(), Cause> {
+        self.give_up();
+        if self.sharing == Sharing::Together {
+            return Err(Cause::new("write", DRAFT, io::Error::from(ErrorKind::PermissionDenied)));
+        }
+        self.lock.take(self.rt)?;
+        told("remove", DRAFT, removed(self.rt))?;
+        let file = told("make", DRAFT, File::create_new(self.rt, DRAFT))?;
+        let draft = BufWriter::with_capacity(self.alloc, ROOM, file);
+        self.draft = Some(told("write", DRAFT, draft)?);
         Ok(())
     }
 
-    /// Adds `piece` to the draft. A small one waits in memory. Fails where there is no draft.
-    pub fn append(&mut self, piece: &[u8]) -> io::Result<()> {
-        match &mut self.draft {
-            Some(draft) => draft.write_all(piece),
-            None => Err(no_draft()),
+    /// Adds `piece` to the draft. A small one waits in memory. There is no draft where it fails.
+    pub fn append(&mut self, piece: &[u8]) -> Result<(), Cause> {
+        let Some(draft) = &mut self.draft else {
+            return Err(no_draft());
+        };
+        let outcome = draft.write_all(piece);
+        if outcome.is_err() {
+            self.give_up();
         }
+        told("write", DRAFT, outcome)
     }
 
     /// Brings the draft to the disk. There is no draft where it fails.
-    pub fn sync_draft(&mut self) -> io::Result<()> {
-        let Some(mut draft) = self.draft.take() else {
+    pub fn sync_draft(&mut self) -> Result<(), Cause> {
+        let Some(draft) = &mut self.draft else {
             return Err(no_draft());
         };
-        draft.flush()?;
-        draft.get_ref().sync_all()?;
-        self.draft = Some(draft);
-        Ok(())
+        let outcome = synced(draft);
+        if outcome.is_err() {
+            self.give_up();
+        }
+        outcome
     }
 
-    /// Makes the draft the file of this name, in place of an earlier one. There is no draft afterwards.
-    pub fn publish(&mut self, name: &str) -> io::Result<()> {
+    /// Makes the draft the file of this name, which no other file may have. There is no draft afterwards.
+    pub fn publish(&mut self, name: &str) -> Result<(), Cause> {
         let Some(mut draft) = self.draft.take() else {
             return Err(no_draft());
         };
-        let path = self.path_of(name)?;
-        draft.flush()?;
-        fs::rename(self.rt, DRAFT, &path)
+        let outcome = self.place(&mut draft, name);
+        self.discard(draft.get_ref());
+        outcome
+    }
+
+    /// Removes the draft, where there is one. A failure of that leaves its file to the next draft.
+    pub fn give_up(&mut self) {
+        if let Some(draft) = self.draft.take() {
+            self.discard(draft.get_ref());
+        }
     }
 
     /// Brings the folder's names to the disk, and the first time the folder's own name too: whoever made the folder may
     /// have been stopped before that. An absent folder has no names.
-    pub fn sync(&mut self) -> io::Result<()> {
-        self.lock.ask(self.rt, LOCK)?;
-        match self.sync_path(FOLDER) {
-            Ok(()) => {}
-            Err(error) if error.kind() == ErrorKind::NotFound => return Ok(()),
-            Err(error) => return Err(error),
+    pub fn sync(&mut self) -> Result<(), Cause> {
+        self.lock.ask(self.rt, self.sharing)?;
+        if matches!(self.lock, Lock::NoFolder) {
+            return Ok(());
         }
+        told("sync", FOLDER, sync_path(self.rt, FOLDER))?;
         if !self.is_settled {
-            self.sync_path(".")?;
+            told("sync", ".", sync_path(self.rt, "."))?;
             self.is_settled = true;
         }
         Ok(())
     }
 
-    // The names in the folder that are texts, without the draft's and the lock's.
-    fn found_names(&self, alloc: Global) -> io::Result<BTreeSet<Text>>
-    where
-        R: AllocGlobal + Clone + Drop,
-    {
-        let mut found = BTreeSet::new(alloc);
-        for entry in fs::read_dir(self.rt, FOLDER)? {
-            if let Some(name) = name_of(alloc, entry)? {
-                found.insert(name)?;
-            }
+    // Writes what waits, and gives the draft's file this name, while the lock is still the one that others find.
+    fn place(&mut self, draft: &mut BufWriter<File>, name: &str) -> Result<(), Cause> {
+        told("write", DRAFT, draft.flush())?;
+        self.lock.confirm(self.rt)?;
+        let path = self.path_of(name)?;
+        match link(self.rt, draft.get_ref(), DRAFT, &path) {
+            Ok(()) => Ok(()),
+            Err(error) => Err(Cause::of_path("make", path, error)),
         }
-        Ok(found)
     }
 
-    fn sync_path(&self, path: &str) -> io::Result<()> {
-        File::open(self.rt, path)?.sync_all()
+    // Removes the draft's name, where it is still this file's.
+    fn discard(&self, file: &File) {
+        if let Ok(true) = is_at(self.rt, file, DRAFT) {
+            let _ = fs::remove_file(self.rt, DRAFT);
+        }
     }
 
-    fn path_of(&self, name: &str) -> io::Result<String> {
-        Ok(format!(in self.alloc; "{FOLDER}/{name}")?)
+    fn path_of(&self, name: &str) -> Result<String, Cause> {
+        match format!(in self.alloc; "{FOLDER}/{name}") {
+            Ok(path) => Ok(path),
+            Err(error) => Err(Cause::new("name", FOLDER, io::Error::from(error))),
+        }
     }
 }
 
-fn no_draft() -> io::Error {
-    io::Error::from(ErrorKind::NotFound)
+fn no_draft() -> Cause {
+    Cause::new("write", DRAFT, io::Error::from(ErrorKind::NotFound))
+}
+
+// Removes whatever has the draft's name. It is not opened, so that it may be a link or a pipe.
+fn removed<R: Files>(rt: &R) -> io::Result<()> {
+    match fs::remove_file(rt, DRAFT) {
+        Err(error) if error.kind() == ErrorKind::NotFound => Ok(()),
+        result => result,
+    }
+}
+
+fn synced(draft: &mut BufWriter<File>) -> Result<(), Cause> {
+    told("write", DRAFT, draft.flush())?;
+    told("sync", DRAFT, draft.get_ref().sync_all())
+}
+
+fn sync_path<R: Files<File = File>>(rt: &R, path: &str) -> io::Result<()> {
+    File::open(rt, path)?.sync_all()
+}
+
+fn in_order(alloc: Global, found: BTreeSet<Text>) -> io::Result<Vec<Text>> {
+    let mut names = Vec::new(alloc);
+    for name in found {
+        names.push(name)?;
+    }
+    Ok(names)
+}
+
+// The names of files in the folder that are texts, without the draft's and the lock's.
+fn found_names<R>(alloc: Global, rt: &R) -> io::Result<BTreeSet<Text>>
+where
+    R: Files<File = File> + AllocGlobal + Clone + Drop,
+{
+    let mut found = BTreeSet::new(alloc);
+    for entry in fs::read_dir(rt, FOLDER)? {
+        if let Some(name) = name_of(alloc, rt, entry)? {
+            found.insert(name)?;
+        }
+    }
+    Ok(found)
 }
 
 // The name of an entry, where it is a text that may be published.
 fn name_of<R: Files + Drop>(
     alloc: Global,
+    rt: &R,
     entry: io::Result<DirEntry<R>>,
 ) -> io::Result<Option<Text>> {
     let entry = match entry {
@@ -202,7 +241,7 @@ fn name_of<R: Files + Drop>(
         Err(error) => return Err(error),
     };
     let name = entry.file_name();
-    if name == DRAFT_NAME || name == LOCK_NAME {
+    if name == DRAFT_NAME || name == LOCK_NAME || is_stranger(rt, entry.path()) {
         return Ok(None);
     }
     match Text::new(alloc, name.as_bytes()) {

@@ -1,8 +1,10 @@
 // The repository's folder as a shelf.
 ghost use Rattle.std.specs.Prelude.{None};
 
-use crate::counting::{counted, counted_names};
+use crate::cause::Cause;
+use crate::counting::Faults;
 use crate::folder::Folder;
+use crate::lock::Sharing;
 use edge_io::{Failed, NamesFault, Shelf};
 use std::alloc::Global;
 use std::fs::{File, Files};
@@ -15,80 +17,91 @@ use sub_number::Text;
 pub struct FolderShelf<'r, R> {
     folder: Folder<'r, R>,
     calls: u64,
-    faults: u64,
+    faults: Faults,
 }
 
 impl<'r, R: Files<File = File>> FolderShelf<'r, R> {
-    /// The folder as it stands, before any call.
-    pub fn new(alloc: Global, rt: &'r R) -> Self {
+    /// The folder as it stands, before any call. Where the lock is shared, no draft can be begun.
+    pub fn new(alloc: Global, rt: &'r R, sharing: Sharing) -> Self {
         FolderShelf {
-            folder: Folder::new(alloc, rt),
+            folder: Folder::new(alloc, rt, sharing),
             calls: 0,
-            faults: 0,
+            faults: Faults::new(),
         }
+    }
+
+    /// Removes a draft that was not published.
+    pub fn give_up(&mut self) {
+        self.folder.give_up();
+    }
+
+    /// Why the last call that failed did so.
+    pub fn cause(&self) -> Option<&Cause> {
+        self.faults.cause.as_ref()
     }
 }
 
 impl<R: Files<File = File> + AllocGlobal + Clone + Drop> Shelf for FolderShelf<'_, R> {
-    ghost seen = { λ s. record { told = None; faults = s.faults } };
+    ghost seen = { λ s. record { told = None; faults = s.faults.count } };
 
     ghost clock = { λ s. s.calls };
 
     ghost published_counts = { λ _. tt };
 
-    /// Lists the folder, without the files `draft` and `lock`.
+    /// Lists the regular files of the folder, without `draft` and `lock`.
     fn names(&mut self, alloc: Global) -> Result<Vec<Text>, NamesFault> {
         self.calls = self.calls.saturating_add(1);
         let result = self.folder.names(alloc);
-        counted_names(&mut self.faults, result)
+        self.faults.counted_names(result)
     }
 
-    /// The length of the published file in bytes, from its metadata.
+    /// The length of the published file in bytes, as the system says it and reads find it.
     fn length(&mut self, name: &str) -> Result<Option<u64>, Failed> {
         self.calls = self.calls.saturating_add(1);
         let result = self.folder.length(name);
-        counted(&mut self.faults, result)
+        self.faults.counted(result)
     }
 
     /// Reads from the file at an offset, until `buf` is full or the file ends.
     fn read_at(&mut self, name: &str, place: u64, buf: &mut [u8]) -> Result<usize, Failed> {
         self.calls = self.calls.saturating_add(1);
         let result = self.folder.read_at(name, place, buf);
-        counted(&mut self.faults, result)
+        self.faults.counted(result)
     }
 
-    /// Opens the file `draft`, empty, and makes the folder where it is absent.
+    /// Makes the file `draft` anew, empty, and the folder where it is absent.
     fn start_draft(&mut self) -> Result<(), Failed> {
         self.calls = self.calls.saturating_add(1);
         let result = self.folder.start_draft();
-        counted(&mut self.faults, result)
+        self.faults.counted(result)
     }
 
-    /// Adds to the draft. What is small waits in memory until more comes, or until the draft is synced or published.
+    /// Adds to the draft. What is small waits in memory until more comes, or until the draft is synced or published. The
+    /// file is removed where it fails.
     fn append(&mut self, piece: &[u8]) -> Result<(), Failed> {
         self.calls = self.calls.saturating_add(1);
         let result = self.folder.append(piece);
-        counted(&mut self.faults, result)
+        self.faults.counted(result)
     }
 
-    /// Writes what waits, and syncs the file.
+    /// Writes what waits, and syncs the file. The file is removed where it fails.
     fn sync_draft(&mut self) -> Result<(), Failed> {
         self.calls = self.calls.saturating_add(1);
         let result = self.folder.sync_draft();
-        counted(&mut self.faults, result)
+        self.faults.counted(result)
     }
 
-    /// Writes what waits, and renames the file.
+    /// Writes what waits, and gives the file this name, where no other file has it; it fails where one does.
     fn publish(&mut self, name: &str) -> Result<(), Failed> {
         self.calls = self.calls.saturating_add(1);
         let result = self.folder.publish(name);
-        counted(&mut self.faults, result)
+        self.faults.counted(result)
     }
 
     /// Syncs the folder, where it is there, and the first time the folder that it stands in.
     fn sync_folder(&mut self) -> Result<(), Failed> {
         self.calls = self.calls.saturating_add(1);
         let result = self.folder.sync();
-        counted(&mut self.faults, result)
+        self.faults.counted(result)
     }
 }

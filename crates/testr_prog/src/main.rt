@@ -1,45 +1,134 @@
 //! The program: the real input, outputs, arguments and folder behind the top call.
 #![tactic(auto)]
 
+mod cause;
 mod counting;
+mod descriptors;
 mod folder;
 mod folder_shelf;
+mod help;
+mod identity;
 mod lock;
+mod published;
 mod stream_sink;
 mod stream_source;
 #[cfg(test)]
 mod tests;
 
+use cause::Cause;
+use descriptors::hold_closed;
 use edge_io::write_whole;
 use folder_shelf::FolderShelf;
+use help::help;
+use lock::Sharing;
 use std::alloc::Global;
 use std::env;
 use std::env::Env;
-use std::io::ErrorKind;
+use std::io::{ErrorKind, Stderr, Stdout};
 use std::process::ExitCode;
 use stream_sink::StreamSink;
 use stream_source::StreamSource;
 use testr_cli::program;
 
+// The exit status of a fault of the outside.
+const FAULT: u8 = 4;
+
 // The exit status for want of memory.
 const NO_MEMORY: u8 = 5;
 
 fn main(rt: HostRuntime) -> ExitCode {
-    let alloc = rt.alloc();
-    let mut shelf = FolderShelf::new(alloc, &rt);
-    let mut input = StreamSource::new(rt.stdin());
-    let mut out = StreamSink::new(rt.stdout());
-    let mut err = StreamSink::new(rt.stderr());
-    let status = match words(&rt) {
-        Ok(words) => program(alloc, &words, &mut shelf, &mut input, &mut out, &mut err),
+    let held = hold_closed(&rt);
+    let mut out = StreamSink::new(rt.stdout(), "standard output");
+    let mut err = StreamSink::new(rt.stderr(), "standard error");
+    let status = match (&held, words(&rt)) {
+        (Err(error), _) => {
+            tell(
+                rt.alloc(),
+                Some(&Cause::new("open", "/", *error)),
+                &mut err,
+            );
+            FAULT
+        }
+        (Ok(_), Ok(words)) => run(&rt, &words, &mut out, &mut err),
         // Words that are not text are no command, as no words are.
-        Err(NoWords::NotText) => program(alloc, &[], &mut shelf, &mut input, &mut out, &mut err),
-        Err(NoWords::NoMemory) => {
+        (Ok(_), Err(NoWords::NotText)) => run(&rt, &[], &mut out, &mut err),
+        (Ok(_), Err(NoWords::NoMemory)) => {
             let _ = write_whole(&mut err, b"testr: out of memory\n");
             NO_MEMORY
         }
     };
+    drop(held);
     ExitCode::from(status)
+}
+
+// Tells of the program, where the words ask for that, or does what they say.
+fn run(
+    rt: &HostRuntime,
+    words: &[String],
+    out: &mut StreamSink<Stdout>,
+    err: &mut StreamSink<Stderr>,
+) -> u8 {
+    match help(words) {
+        Some(text) => print_help(rt.alloc(), text, out, err),
+        None => run_program(rt, words, out, err),
+    }
+}
+
+fn print_help(
+    alloc: Global,
+    text: &str,
+    out: &mut StreamSink<Stdout>,
+    err: &mut StreamSink<Stderr>,
+) -> u8 {
+    match write_whole(out, text.as_bytes()) {
+        Ok(()) => 0,
+        Err(_) => {
+            let _ = write_whole(err, b"testr: fault writing output\n");
+            tell(alloc, out.cause(), err);
+            FAULT
+        }
+    }
+}
+
+// Calls the program on the real objects. After a fault the line that says which object failed has one more behind it,
+// that says why.
+fn run_program(
+    rt: &HostRuntime,
+    words: &[String],
+    out: &mut StreamSink<Stdout>,
+    err: &mut StreamSink<Stderr>,
+) -> u8 {
+    let alloc = rt.alloc();
+    let mut shelf = FolderShelf::new(alloc, rt, sharing(words));
+    let mut input = StreamSource::new(rt.stdin(), "standard input");
+    let status = program(alloc, words, &mut shelf, &mut input, out, err);
+    shelf.give_up();
+    if status == FAULT {
+        tell(alloc, shelf.cause(), err);
+        tell(alloc, input.cause(), err);
+        tell(alloc, out.cause(), err);
+    }
+    status
+}
+
+// Writes the cause of a fault, where there is one.
+fn tell(alloc: Global, cause: Option<&Cause>, err: &mut StreamSink<Stderr>) {
+    if let Some(cause) = cause
+        && let Ok(line) = format!(in alloc; "testr: cause: {cause}\n")
+    {
+        let _ = write_whole(err, line.as_bytes());
+    }
+}
+
+// Commands that only ask do not keep each other out. The folder refuses to write for them.
+fn sharing(words: &[String]) -> Sharing {
+    match words.get(1) {
+        Some(word) => match word.as_str() {
+            "last" | "failing" | "slowest" | "stats" => Sharing::Together,
+            _ => Sharing::Alone,
+        },
+        None => Sharing::Alone,
+    }
 }
 
 // Why the arguments cannot be had.

@@ -3,7 +3,8 @@ ghost use Rattle.std.specs.Prelude.{◌<◌, length, IfOk};
 ghost use Rattle.std.specs.Io.{WritesAtMost};
 ghost use Rattle.std.specs.Io.KnownBytes.{WriteAppends};
 
-use crate::counting::counted;
+use crate::cause::{Cause, told};
+use crate::counting::Faults;
 use edge_io::{Failed, Sink};
 use std::io;
 use std::io::{ErrorKind, Write};
@@ -12,23 +13,33 @@ use std::io::{ErrorKind, Write};
 #[derive(Drop)]
 pub struct StreamSink<W> {
     stream: W,
-    faults: u64,
+    name: &'static str,
+    faults: Faults,
 }
 
 impl<W: Write> StreamSink<W> {
-    /// A sink over this writer, which has not failed yet.
-    pub fn new(stream: W) -> Self {
-        StreamSink { stream, faults: 0 }
+    /// A sink over this writer, which has not failed yet. A cause calls it by this name.
+    pub fn new(stream: W, name: &'static str) -> Self {
+        StreamSink {
+            stream,
+            name,
+            faults: Faults::new(),
+        }
+    }
+
+    /// Why the last write that failed did so.
+    pub fn cause(&self) -> Option<&Cause> {
+        self.faults.cause.as_ref()
     }
 }
 
 impl<W: Write> Sink for StreamSink<W> {
-    ghost seen = { λ s. record { told = W.contents s.stream; faults = s.faults } };
+    ghost seen = { λ s. record { told = W.contents s.stream; faults = s.faults.count } };
 
     /// One write of the whole piece, of which the writer may take a part.
     fn write(&mut self, piece: &[u8]) -> Result<usize, Failed> {
         let result = write_retried(&mut self.stream, piece);
-        counted(&mut self.faults, result)
+        self.faults.counted(told("write", self.name, result))
     }
 }
 

@@ -2,7 +2,8 @@
 ghost use Rattle.std.specs.Io.{ReadsAtMost};
 ghost use Rattle.std.specs.Io.KnownBytes.{ReadConsumes};
 
-use crate::counting::counted;
+use crate::cause::{Cause, told};
+use crate::counting::Faults;
 use edge_io::{Failed, Source};
 use std::io;
 use std::io::{ErrorKind, Read};
@@ -11,23 +12,33 @@ use std::io::{ErrorKind, Read};
 #[derive(Drop)]
 pub struct StreamSource<R> {
     stream: R,
-    faults: u64,
+    name: &'static str,
+    faults: Faults,
 }
 
 impl<R: Read> StreamSource<R> {
-    /// A source over this reader, which has not failed yet.
-    pub fn new(stream: R) -> Self {
-        StreamSource { stream, faults: 0 }
+    /// A source over this reader, which has not failed yet. A cause calls it by this name.
+    pub fn new(stream: R, name: &'static str) -> Self {
+        StreamSource {
+            stream,
+            name,
+            faults: Faults::new(),
+        }
+    }
+
+    /// Why the last read that failed did so.
+    pub fn cause(&self) -> Option<&Cause> {
+        self.faults.cause.as_ref()
     }
 }
 
 impl<R: Read> Source for StreamSource<R> {
-    ghost seen = { λ s. record { told = R.remaining s.stream; faults = s.faults } };
+    ghost seen = { λ s. record { told = R.remaining s.stream; faults = s.faults.count } };
 
     /// One read straight into `buf`.
     fn read(&mut self, buf: &mut [u8]) -> Result<usize, Failed> {
         let result = read_retried(&mut self.stream, buf);
-        counted(&mut self.faults, result)
+        self.faults.counted(told("read", self.name, result))
     }
 }
 

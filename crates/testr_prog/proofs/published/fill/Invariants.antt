@@ -1,6 +1,6 @@
 -- What was read stands in the buffer.
 use Rattle.std.proofs.Common.{◌≤◌, length}
-use Rattle.testr_prog.proofs.folder.Folder.read_at.Given as goal
+use Rattle.testr_prog.proofs.published.fill.Given as goal
 
 abbrev pub invariant-loop : goal.invariant-loop
-invariant-loop g l = l.done ≤ length l.buf
+invariant-loop l = l.done ≤ length l.buf

@@ -1,0 +1,658 @@
+#!/bin/sh
+# Tries the program where something outside is wrong: links, pipes and folders in place of files, closed descriptors, a
+# full disk, a limit on files, a file system without some call, modes, several users, a removed lock, two at once, killed
+# programs, and a build that fails. What cannot be tried here is skipped with a word: some cases want to be run by root,
+# some want `strace`.
+# usage: bench/faults.sh [CASE..]: by default all cases.
+set -eu
+
+root=$(CDPATH='' cd -- "$(dirname -- "$0")/.." && pwd -P)
+. "$root/bench/prepare.sh"
+
+chmod 755 "$work"
+PYTHONDONTWRITEBYTECODE=1 PYTHONPATH=$root/bench \
+    python3 - "$program" "$root/bin/testr" "$work" "$@" <<'PYTHON'
+import os
+import shutil
+import signal
+import stat
+import subprocess
+import sys
+import time
+
+import streams
+
+PROGRAM, LAUNCHER, WORK = sys.argv[1:4]
+LIMIT = 60
+NOBODY = 65534
+IS_ROOT = os.geteuid() == 0
+HAS_STRACE = shutil.which("strace") is not None
+FORMAT = b"subunit-store 1\n"
+USAGE = b"testr: wrong usage\n"
+FOLDER_FAULT = b"testr: fault of the repository folder\n"
+INPUT_FAULT = b"testr: fault reading standard input\n"
+OUTPUT_FAULT = b"testr: fault writing output\n"
+CASES = []
+
+
+class Wrong(Exception):
+    pass
+
+
+class Skipped(Exception):
+    pass
+
+
+def case(function):
+    CASES.append(function)
+    return function
+
+
+def check(holds, text):
+    if not holds:
+        raise Wrong(text)
+
+
+def need(holds, text):
+    if not holds:
+        raise Skipped(text)
+
+
+def stream(count):
+    return b"".join(streams.small(count))
+
+
+def kept(count):
+    """What is kept of that stream: each event in its shortest form, under the route 0."""
+    return b"".join(streams.small(count, b"0"))
+
+
+def run(folder, *words, given=b"", before=(), program=None, limit=LIMIT, **how):
+    """The status, the output and the errors of `testr WORDS..` in this folder, behind the words `before`."""
+    command = [*before, *(program or [PROGRAM, "testr"]), *words]
+    how = {"stdout": subprocess.PIPE, "stderr": subprocess.PIPE, **how}
+    if "stdin" not in how:
+        how["input"] = given
+    try:
+        done = subprocess.run(command, cwd=folder, timeout=limit, **how)
+    except subprocess.TimeoutExpired:
+        raise Wrong(f"{' '.join(words)} hangs")
+    return done.returncode, done.stdout, done.stderr
+
+
+def start(folder, *words, before=(), **how):
+    pipe = subprocess.PIPE
+    how = {"stdin": pipe, "stdout": pipe, "stderr": pipe, **how}
+    return subprocess.Popen([*before, PROGRAM, "testr", *words], cwd=folder, **how)
+
+
+def shell(folder, script, given=b"", **how):
+    """Runs a line of shell, in which $T is the program."""
+    done = subprocess.run(["sh", "-c", script], cwd=folder, input=given, capture_output=True, timeout=LIMIT,
+                          env={**os.environ, "T": f"{PROGRAM} testr"}, **how)
+    return done.returncode, done.stdout, done.stderr
+
+
+def new_folder(mode=0o755):
+    folder = os.path.join(WORK, f"home-{len(os.listdir(WORK))}")
+    os.mkdir(folder)
+    os.chmod(folder, mode)
+    return folder
+
+
+def new_repository(*counts):
+    """A folder with a repository that has runs of so many events."""
+    folder = new_folder()
+    check(run(folder, "init") == (0, b"", b""), "init fails")
+    for count in counts:
+        check(run(folder, "load", given=stream(count))[0] <= 1, "a load fails")
+    return folder
+
+
+def at(folder, name):
+    return os.path.join(folder, ".testrepository", name)
+
+
+def bytes_at(folder, name):
+    with open(at(folder, name), "rb") as file:
+        return file.read()
+
+
+def check_runs(folder, *counts):
+    """The runs have so many events, each is whole, and no draft is left."""
+    files = set(os.listdir(os.path.join(folder, ".testrepository"))) - {"lock"}
+    wanted = {"format", *(str(place) for place in range(len(counts)))}
+    check(files == wanted, f"the files are {sorted(files)}, not {sorted(wanted)}")
+    check(bytes_at(folder, "format") == FORMAT, "format is damaged")
+    for place, count in enumerate(counts):
+        check(bytes_at(folder, str(place)) == kept(count), f"run {place} is damaged")
+    check(os.path.getsize(at(folder, "lock")) == 0, "the lock's file is not empty")
+
+
+def check_refused(done, line, *words):
+    """A fault: its line, and one line more that has its cause in these words."""
+    status, out, err = done
+    check((status, out or b"") == (4, b""), f"status {status}, output {out!r}, errors {err!r}")
+    lines = err.splitlines(True)
+    check(lines[:1] == [line], f"the line is {err!r}")
+    check(len(lines) == 2 and lines[1].startswith(b"testr: cause: "), f"the cause is {lines[1:]}")
+    for word in words:
+        check(word in lines[1], f"the cause is {lines[1]!r}, without {word!r}")
+
+
+def loads(folder, count, number, **how):
+    status, out, err = run(folder, "load", given=stream(count), **how)
+    check(status <= 1 and b"id=%d" % number in out, f"a load answers {status}, {out!r}, {err!r}")
+
+
+def mode_of(path):
+    return stat.S_IMODE(os.stat(path).st_mode)
+
+
+def wait_until(holds, text):
+    end = time.monotonic() + LIMIT
+    while not holds():
+        check(time.monotonic() < end, text)
+        time.sleep(0.002)
+
+
+def slow_load(folder, given):
+    """A load that has read a part of its input, more than a pipe holds, and waits for the rest."""
+    slow = start(folder, "load")
+    slow.stdin.write(given[:500_001])
+    slow.stdin.flush()
+    return slow
+
+
+# What stands at the draft's name.
+
+@case
+def draft_is_a_link():
+    folder = new_repository(2)
+    with open(os.path.join(folder, "dotfile"), "wb") as file:
+        file.write(b"mine\n")
+    os.symlink("../dotfile", at(folder, "draft"))
+    loads(folder, 4, 1)
+    with open(os.path.join(folder, "dotfile"), "rb") as file:
+        check(file.read() == b"mine\n", "a file elsewhere is overwritten")
+    check_runs(folder, 2, 4)
+
+
+@case
+def draft_is_a_run():
+    folder = new_repository(2)
+    os.link(at(folder, "0"), at(folder, "draft"))
+    loads(folder, 4, 1)
+    check_runs(folder, 2, 4)
+
+
+@case
+def draft_is_a_pipe():
+    folder = new_repository(2)
+    os.mkfifo(at(folder, "draft"))
+    loads(folder, 4, 1, limit=10)
+    check_runs(folder, 2, 4)
+
+
+@case
+def draft_is_a_folder():
+    folder = new_repository(2)
+    os.mkdir(at(folder, "draft"))
+    check_refused(run(folder, "load", given=stream(4)), FOLDER_FAULT, b"remove .testrepository/draft: ")
+
+
+@case
+def draft_is_another_users():
+    need(IS_ROOT, "want of root")
+    folder = new_folder()
+    os.chown(folder, NOBODY, NOBODY)
+    user = {"user": NOBODY, "group": NOBODY, "extra_groups": ()}
+    check(run(folder, "init", **user)[0] == 0, "init fails")
+    with open(at(folder, "draft"), "wb"):
+        os.chmod(at(folder, "draft"), 0o600)
+    loads(folder, 4, 0, **user)
+    check_runs(folder, 4)
+
+
+@case
+def draft_is_open_elsewhere():
+    folder = new_repository()
+    with open(at(folder, "draft"), "wb", buffering=0) as file:
+        os.chmod(at(folder, "draft"), 0o4777)
+        loads(folder, 4, 0, umask=0o022)
+        file.write(b"more")
+    check_runs(folder, 4)
+    check(mode_of(at(folder, "0")) == 0o644, f"the run's mode is {mode_of(at(folder, '0')):o}")
+
+
+# Descriptors that are closed.
+
+@case
+def output_is_closed():
+    folder = new_repository()
+    done = shell(folder, "$T load >&-", stream(2))
+    check_refused(done, OUTPUT_FAULT, b"write standard output: ")
+    check_runs(folder, 2)
+
+
+@case
+def errors_are_closed():
+    folder = new_repository()
+    check(shell(folder, "$T last 2>&-")[0] == 3, "a refusal has another status")
+    check(shell(folder, "$T load --list 2>&-")[0] == 2, "wrong usage has another status")
+    check_runs(folder)
+
+
+@case
+def input_is_closed():
+    folder = new_repository()
+    check_refused(shell(folder, "$T load <&-"), INPUT_FAULT, b"read standard input: ")
+    check_runs(folder)
+
+
+@case
+def all_is_closed():
+    folder = new_repository(2)
+    check(shell(folder, "$T load <&- >&- 2>&-")[0] == 4, "a load has another status")
+    check(shell(folder, "$T last <&- >&- 2>&-")[0] == 4, "last has another status")
+    check_runs(folder, 2)
+
+
+# Runs and names.
+
+@case
+def run_is_a_link_to_nothing():
+    folder = new_repository()
+    os.symlink("/nonexistent", at(folder, "0"))
+    for words in (["last"], ["last", "--subunit"], ["failing"], ["slowest"]):
+        check_refused(run(folder, *words), FOLDER_FAULT, b"read .testrepository/0: ")
+    loads(folder, 2, 1)
+
+
+@case
+def run_is_a_link_to_a_file():
+    folder = new_repository(2, 4)
+    os.rename(at(folder, "0"), os.path.join(folder, "moved"))
+    os.symlink("../moved", at(folder, "0"))
+    loads(folder, 6, 2)
+    check_runs(folder, 2, 4, 6)
+
+
+@case
+def run_cannot_be_read():
+    need(IS_ROOT, "want of root")
+    folder = new_folder()
+    os.chown(folder, NOBODY, NOBODY)
+    user = {"user": NOBODY, "group": NOBODY, "extra_groups": ()}
+    check(run(folder, "init", **user)[0] == 0, "init fails")
+    loads(folder, 2, 0, **user)
+    os.chmod(at(folder, "0"), 0)
+    for size in (os.path.getsize(at(folder, "0")), 0):
+        os.truncate(at(folder, "0"), size)
+        check_refused(run(folder, "last", **user), FOLDER_FAULT, b"read .testrepository/0: Permission denied")
+
+
+@case
+def names_of_other_things():
+    folder = new_repository(2)
+    os.mkdir(at(folder, "1"))
+    os.mkfifo(at(folder, "2"))
+    os.symlink("..", at(folder, "3"))
+    check(run(folder, "stats") == (0, b"runs=1\n", b""), "stats counts what is no run")
+    check(run(folder, "last", "--subunit") == (0, kept(2), b""), "last does not tell of run 0")
+    check_refused(run(folder, "load", given=stream(4)), FOLDER_FAULT, b"make .testrepository/1: File exists")
+    check(not os.path.lexists(at(folder, "draft")), "a draft is left")
+
+
+# The lock.
+
+@case
+def lock_is_no_file():
+    for name, make in (("a pipe", os.mkfifo), ("a folder", os.mkdir),
+                       ("a link", lambda path: os.symlink("../elsewhere", path)),
+                       ("a link to a file", lambda path: os.symlink("format", path))):
+        folder = new_repository(2)
+        os.remove(at(folder, "lock"))
+        make(at(folder, "lock"))
+        for words in (["stats"], ["load"], ["init"]):
+            check_refused(run(folder, *words, given=stream(2), limit=10), FOLDER_FAULT,
+                          b"lock .testrepository/lock: it is no regular file")
+        check(not os.path.lexists(os.path.join(folder, "elsewhere")), f"{name} makes a file elsewhere")
+
+
+@case
+def lock_is_removed():
+    folder, given = new_repository(), stream(8000)
+    slow = slow_load(folder, given)
+    wait_until(lambda: os.path.exists(at(folder, "lock")), "a load takes no lock")
+    os.remove(at(folder, "lock"))
+    loads(folder, 4, 0)
+    out, err = slow.communicate(given[500_001:], LIMIT)
+    check_refused((slow.returncode, out, err), FOLDER_FAULT, b"lock .testrepository/lock: it was removed or replaced")
+    check_runs(folder, 4)
+
+
+@case
+def lock_is_held():
+    folder, given = new_repository(2), stream(8000)
+    slow = slow_load(folder, given)
+    for words in (["load"], ["init"], ["stats"], ["last"]):
+        check_refused(run(folder, *words, given=stream(2)), FOLDER_FAULT,
+                      b"lock .testrepository/lock: another testr is at work in this repository")
+    out, _ = slow.communicate(given[500_001:], LIMIT)
+    check(slow.returncode <= 1 and b"id=1" in out, "the slow load fails")
+    check_runs(folder, 2, 8000)
+
+
+@case
+def questions_share_the_lock():
+    """One question waits for its output to be read. Another one is answered, and a load is not."""
+    folder = new_repository(8000)
+    slow = start(folder, "last", "--subunit")
+    check(slow.stdout.read(1) == kept(1)[:1], "last prints nothing")
+    check(run(folder, "stats") == (0, b"runs=1\n", b""), "a second question is refused")
+    check_refused(run(folder, "load", given=stream(2)), FOLDER_FAULT, b"another testr is at work")
+    out, _ = slow.communicate(timeout=LIMIT)
+    check(slow.returncode == 0 and out == kept(8000)[1:], "the slow question fails")
+    loads(folder, 2, 1)
+
+
+@case
+def lock_is_of_root():
+    """Root looks first, in an old repository without a lock. Its owner works on."""
+    need(IS_ROOT, "want of root")
+    folder = new_folder()
+    os.chown(folder, NOBODY, NOBODY)
+    user = {"user": NOBODY, "group": NOBODY, "extra_groups": ()}
+    check(run(folder, "init", **user)[0] == 0, "init fails")
+    os.remove(at(folder, "lock"))
+    check(run(folder, "stats", umask=0o022)[0] == 0, "stats fails")
+    check(os.stat(at(folder, "lock")).st_uid == 0, "the lock is not of root")
+    loads(folder, 2, 0, **user)
+    check_runs(folder, 2)
+
+
+# Two at once.
+
+@case
+def two_make_the_folder():
+    """The first `init` is slow between making the folder and taking the lock. Meanwhile another one makes the repository,
+    and a run is loaded."""
+    need(HAS_STRACE, "want of strace")
+    folder = new_folder()
+    delay = ["strace", "-o", "/dev/null", "-e", "trace=mkdir,mkdirat", "-e", "inject=mkdir,mkdirat:delay_exit=2000000"]
+    slow = start(folder, "init", before=delay)
+    wait_until(lambda: os.path.exists(os.path.join(folder, ".testrepository")), "init makes no folder")
+    check(run(folder, "init") == (0, b"", b""), "the second init is refused")
+    first = os.stat(at(folder, "format")).st_ino
+    loads(folder, 4, 0)
+    out, err = slow.communicate(timeout=LIMIT)
+    check_refused((slow.returncode, out, err), FOLDER_FAULT, b"lock .testrepository/lock: ")
+    check(os.stat(at(folder, "format")).st_ino == first, "format is replaced")
+    check_runs(folder, 4)
+
+
+# Disks and limits.
+
+@case
+def disk_is_full():
+    need(IS_ROOT, "want of root")
+    folder = new_folder()
+    mount = ["mount", "-t", "tmpfs", "-o", "size=1m,mode=755", "testr", folder]
+    need(subprocess.run(mount, capture_output=True).returncode == 0, "want of a small tmpfs")
+    try:
+        check(run(folder, "init")[0] == 0, "init fails")
+        loads(folder, 100, 0)
+        check_refused(run(folder, "load", given=stream(20_000)), FOLDER_FAULT, b".testrepository/draft: No space left")
+        check_runs(folder, 100)
+        loads(folder, 100, 1)
+        check_runs(folder, 100, 100)
+    finally:
+        subprocess.run(["umount", folder])
+
+
+@case
+def files_are_limited():
+    """A limit on a file's size, of 64 blocks of 512 or 1024 bytes. The launcher has the system answer an error in place of
+    the signal that would end the program."""
+    folder = new_repository(2)
+    with open(os.path.join(folder, "given"), "wb") as file:
+        file.write(stream(20_000))
+    done = shell(folder, f"ulimit -f 64; exec '{LAUNCHER}' load < given")
+    check_refused(done, FOLDER_FAULT, b"write .testrepository/draft: File too large")
+    check_runs(folder, 2)
+    loads(folder, 4, 1)
+
+
+def with_error(call, error, folder, *words, given=b"", when=None):
+    """Runs the program where this call of the system fails."""
+    need(HAS_STRACE, "want of strace")
+    inject = f"inject={call}:error={error}" + (f":when={when}" if when else "")
+    before = ["strace", "-o", "/dev/null", "-e", f"trace={call}", "-e", inject]
+    return run(folder, *words, given=given, before=before)
+
+
+@case
+def syncs_fail():
+    """Of the syncs of a load the first two are of the folder and of the one above it, then come the draft and the
+    folder again. After the last of them the run may be kept or not."""
+    for when, names in ((1, b"sync .testrepository: "), (2, b"sync .: "), (3, b"sync .testrepository/draft: "),
+                        (4, b"sync .testrepository: ")):
+        folder = new_repository(2)
+        check_refused(with_error("fsync", "EIO", folder, "load", given=stream(4), when=when), FOLDER_FAULT,
+                      names, b"Input/output error")
+        check_runs(folder, 2, *([4] if when == 4 else []))
+
+
+@case
+def there_are_no_hard_links():
+    for error in ("EPERM", "ENOSYS", "EOPNOTSUPP"):
+        folder = new_repository(2)
+        status, out, _ = with_error("link,linkat", error, folder, "load", given=stream(4))
+        check(status <= 1 and b"id=1" in out, "a load fails where there are no hard links")
+        check_runs(folder, 2, 4)
+
+
+@case
+def there_are_no_locks():
+    folder = new_repository(2)
+    check_refused(with_error("flock", "ENOLCK", folder, "load", given=stream(4)), FOLDER_FAULT,
+                  b"lock .testrepository/lock: No locks available")
+    check_runs(folder, 2)
+
+
+@case
+def folder_cannot_be_written():
+    """Root made the folder, and another user asks and loads."""
+    need(IS_ROOT, "want of root")
+    folder = new_repository(2)
+    user = {"user": NOBODY, "group": NOBODY, "extra_groups": ()}
+    check(run(folder, "stats", **user) == (0, b"runs=1\n", b""), "stats is refused")
+    check(run(folder, "last", "--subunit", **user) == (0, kept(2), b""), "last is refused")
+    check_refused(run(folder, "load", given=stream(4), **user), FOLDER_FAULT, b"make .testrepository/draft: ",
+                  b"Permission denied")
+    os.remove(at(folder, "lock"))
+    check_refused(run(folder, "stats", **user), FOLDER_FAULT, b"lock .testrepository/lock: Permission denied")
+
+
+@case
+def folder_cannot_be_listed():
+    need(IS_ROOT, "want of root")
+    folder = new_repository(2)
+    os.chmod(os.path.join(folder, ".testrepository"), 0o711)
+    user = {"user": NOBODY, "group": NOBODY, "extra_groups": ()}
+    check_refused(run(folder, "stats", **user), FOLDER_FAULT, b"sync .testrepository: Permission denied")
+
+
+@case
+def file_system_is_read_only():
+    need(IS_ROOT, "want of root")
+    folder = new_folder()
+    mount = ["mount", "-t", "tmpfs", "-o", "size=1m,mode=755", "testr", folder]
+    need(subprocess.run(mount, capture_output=True).returncode == 0, "want of a small tmpfs")
+    try:
+        check(run(folder, "init")[0] == 0, "init fails")
+        loads(folder, 2, 0)
+        need(subprocess.run(["mount", "-o", "remount,ro", folder], capture_output=True).returncode == 0,
+             "want of a read only tmpfs")
+        check(run(folder, "stats") == (0, b"runs=1\n", b""), "stats is refused")
+        check_refused(run(folder, "load", given=stream(2)), FOLDER_FAULT, b"Read-only file system")
+        check_runs(folder, 2)
+    finally:
+        subprocess.run(["umount", folder])
+
+
+# Modes and users.
+
+@case
+def modes_follow_the_umask():
+    for umask in (0o022, 0o002, 0o077):
+        folder = new_folder()
+        check(run(folder, "init", umask=umask)[0] == 0, "init fails")
+        loads(folder, 2, 0, umask=umask)
+        home = os.path.join(folder, ".testrepository")
+        check(mode_of(home) == 0o777 & ~umask, f"the folder's mode is {mode_of(home):o} under {umask:o}")
+        for name in ("format", "0", "lock"):
+            check(mode_of(at(folder, name)) == 0o666 & ~umask, f"{name} is {mode_of(at(folder, name)):o} under {umask:o}")
+
+
+@case
+def a_group_shares_the_folder():
+    need(IS_ROOT, "want of root")
+    folder, group = new_folder(0o2775), 12345
+    os.chown(folder, 1001, group)
+    os.chmod(folder, 0o2775)
+    first, second = ({"user": user, "group": group, "extra_groups": (), "umask": 0o002} for user in (1001, 1002))
+    check(run(folder, "init", **first)[0] == 0, "init fails")
+    loads(folder, 2, 0, **first)
+    check(run(folder, "stats", **second) == (0, b"runs=1\n", b""), "the second user's stats fails")
+    loads(folder, 4, 1, **second)
+    loads(folder, 6, 2, **first)
+    check_runs(folder, 2, 4, 6)
+
+
+# Pipes and ends.
+
+@case
+def nobody_reads_the_output():
+    folder = new_repository(8000)
+    end, begin = os.pipe()
+    os.close(end)
+    status, _, err = run(folder, "last", "--subunit", stdout=begin, preexec_fn=lambda: signal.signal(
+        signal.SIGPIPE, signal.SIG_IGN), restore_signals=False)
+    check_refused((status, b"", err), OUTPUT_FAULT, b"write standard output: Broken pipe")
+    status, _, _ = run(folder, "last", "--subunit", stdout=begin)
+    check(status in (4, -signal.SIGPIPE), f"the status is {status}")
+    os.close(begin)
+    check_runs(folder, 8000)
+    loads(folder, 2, 1)
+
+
+@case
+def loads_are_killed():
+    """A load is killed when its draft is there. The next one is as ever."""
+    folder, killed = new_repository(2), 0
+    given = os.path.join(folder, "given")
+    with open(given, "wb") as file:
+        file.write(stream(100_000))
+    for _ in range(20):
+        with open(given, "rb") as file:
+            load = start(folder, "load", stdin=file)
+            while load.poll() is None and not os.path.exists(at(folder, "draft")):
+                time.sleep(0.0001)
+            load.kill()
+            load.communicate()
+            killed += load.returncode == -9
+        if os.path.exists(at(folder, "1")):
+            os.remove(at(folder, "1"))
+    check(killed > 0, "no load was killed")
+    loads(folder, 4, 1)
+    check_runs(folder, 2, 4)
+
+
+@case
+def the_writer_is_killed():
+    """The program that gives the stream is killed in a packet. What came is a run, and its end is foreign bytes."""
+    folder = new_repository()
+    text = "import sys, time; sys.stdout.buffer.write(sys.stdin.buffer.read()); sys.stdout.flush(); time.sleep(60)"
+    writer = subprocess.Popen([sys.executable, "-c", text], stdin=subprocess.PIPE, stdout=subprocess.PIPE)
+    load = start(folder, "load", stdin=writer.stdout)
+    writer.stdout.close()
+    writer.stdin.write(stream(4) + stream(1)[:7])
+    writer.stdin.close()
+    time.sleep(0.5)
+    writer.kill()
+    writer.wait(LIMIT)
+    out, _ = load.communicate(timeout=LIMIT)
+    check(load.returncode <= 1 and b"id=0" in out, "the load fails")
+    check(bytes_at(folder, "0").startswith(kept(4)), "what came is not kept")
+
+
+@case
+def input_does_not_wait():
+    """Standard input answers at once that nothing is there yet."""
+    folder = new_repository()
+    end, begin = os.pipe()
+    os.set_blocking(end, False)
+    check_refused(run(folder, "load", stdin=end), INPUT_FAULT, b"read standard input: Resource temporarily unavailable")
+    os.close(end)
+    os.close(begin)
+    check_runs(folder)
+
+
+# What the program tells of itself, and the launcher.
+
+@case
+def help_is_told():
+    folder = new_folder()
+    for words in (["--help"], ["--version"], ["load", "--help"], ["stats", "--help"]):
+        status, out, err = run(folder, *words)
+        check(status == 0 and out.endswith(b"\n") and err == b"", f"{words} answers {status}")
+    check(run(folder) == (2, b"", USAGE), "no words are no wrong usage")
+    check(run(folder, "unknown", "--help") == (2, b"", USAGE), "an unknown command has help")
+    check(run(folder, "load", "--help", "--help") == (2, b"", USAGE), "two words are help")
+    check(os.listdir(folder) == [], "help makes files")
+
+
+@case
+def the_build_fails():
+    top = new_folder()
+    os.makedirs(os.path.join(top, "crates", "testr_prog"))
+    os.mkdir(os.path.join(top, "bin"))
+    shutil.copy(LAUNCHER, os.path.join(top, "bin", "testr"))
+    for script, text in (("exit 1", "a failed build"), (None, "no `rt`")):
+        tools = os.path.join(top, f"tools-{script}")
+        os.mkdir(tools)
+        for name in ("sh", "dirname", "readlink", "sed"):
+            os.symlink(shutil.which(name), os.path.join(tools, name))
+        if script:
+            with open(os.path.join(tools, "rt"), "w") as file:
+                file.write(f"#!/bin/sh\n{script}\n")
+            os.chmod(file.name, 0o755)
+        status, out, err = run(top, "stats", program=[os.path.join(top, "bin", "testr")], env={"PATH": tools})
+        check((status, out) == (4, b""), f"{text} answers {status}")
+        check(err.endswith(b"testr: the build failed\n"), f"{text} says {err!r}")
+
+
+def main(*names):
+    counts = {"ok": 0, "wrong": 0, "skipped": 0}
+    for function in CASES:
+        name = function.__name__
+        if names and name not in names:
+            continue
+        try:
+            function()
+            counts["ok"] += 1
+            print(f"ok       {name}", flush=True)
+        except Skipped as why:
+            counts["skipped"] += 1
+            print(f"skipped  {name}: {why}", flush=True)
+        except Wrong as why:
+            counts["wrong"] += 1
+            print(f"WRONG    {name}: {why}", flush=True)
+    print("faults: {ok} cases as they must be, {wrong} wrong, {skipped} skipped".format(**counts))
+    sys.exit(1 if counts["wrong"] or not counts["ok"] else 0)
+
+
+main(*sys.argv[4:])
+PYTHON

@@ -1,0 +1,93 @@
+// What the program tells of itself.
+
+/// The text that these words ask for, where they are `testr --help`, `testr --version`, or a command of `testr` and `--help`.
+pub fn help(words: &[String]) -> Option<&'static str> {
+    let face = words.get(0)?;
+    let first = words.get(1)?;
+    if face.as_str() != "testr" || words.len() > 3 {
+        return None;
+    }
+    match words.get(2) {
+        None => of_program(first.as_str()),
+        Some(second) if second.as_str() == "--help" => of_command(first.as_str()),
+        Some(_) => None,
+    }
+}
+
+fn of_program(word: &str) -> Option<&'static str> {
+    match word {
+        "--help" => Some(PROGRAM),
+        "--version" => Some(VERSION),
+        _ => None,
+    }
+}
+
+fn of_command(word: &str) -> Option<&'static str> {
+    match word {
+        "init" => Some(INIT),
+        "load" => Some(LOAD),
+        "last" => Some(LAST),
+        "failing" => Some(FAILING),
+        "slowest" => Some(SLOWEST),
+        "stats" => Some(STATS),
+        _ => None,
+    }
+}
+
+const VERSION: &str = "testr 0.1, for repositories of the format `subunit-store 1`\n";
+
+const PROGRAM: &str = "\
+usage: testr COMMAND [OPTION]
+Keeps test results as numbered runs in the folder .testrepository of the current folder.
+
+  testr init                makes a repository
+  testr load [--partial]    reads a Subunit v2 stream from standard input and keeps it as the next run
+  testr last [--subunit]    prints the report of the last run, or the run itself
+  testr failing [--list]    prints the tests that fail by all runs, or their ids alone
+  testr slowest [--all]     prints the slowest ten tests of the last run, or all
+  testr stats               prints how many runs there are
+
+testr COMMAND --help tells more of a command, and testr --version which program this is.
+Statuses: 0 passed, 1 tests failed, 2 wrong usage, 3 refused, 4 a fault of the outside, 5 out of memory.
+";
+
+const INIT: &str = "\
+usage: testr init
+Makes a repository in the current folder, and prints nothing. Status 0; 3 where one is already here.
+Example: testr init
+";
+
+const LOAD: &str = "\
+usage: testr load [--partial]
+Reads a Subunit v2 stream from standard input, keeps it as the next run, and prints its report. Status 0 where no test
+failed, 1 where one did.
+  --partial    the run is marked as one of a part of the tests
+Example: testr load < stream
+";
+
+const LAST: &str = "\
+usage: testr last [--subunit]
+Prints the report of the last run. Status 0 where no test of it failed, 1 where one did.
+  --subunit    prints the last run itself, a stream of packets; status 0
+Example: testr last
+";
+
+const FAILING: &str = "\
+usage: testr failing [--list]
+Prints the tests that fail by all runs, and their number. Status 0 where there are none, else 1.
+  --list       prints their ids alone, as a list for other programs
+Example: testr failing --list > ids
+";
+
+const SLOWEST: &str = "\
+usage: testr slowest [--all]
+Prints the slowest ten tests of the last run. Status 0.
+  --all        prints all of its tests that have a time, the slowest first
+Example: testr slowest --all
+";
+
+const STATS: &str = "\
+usage: testr stats
+Prints how many runs there are. Status 0.
+Example: testr stats
+";

@@ -1,0 +1,137 @@
+// Files under their published names: what they are, what is in them, and how a draft gets such a name.
+
+ghost use Rattle.std.specs.Io.{ReadsAtMost};
+
+use crate::identity::is_at;
+use std::fs::{File, Files};
+use std::io::ErrorKind;
+use std::os::unix::fs::FileExt;
+use std::path::Path;
+use std::{fs, io};
+
+/// Whether a name is no published file's, since what it leads to is no regular file. A name that leads nowhere, or that
+/// can't be followed, is none such.
+pub fn is_stranger<R: Files>(rt: &R, path: Path<'_>) -> bool {
+    match fs::metadata(rt, path) {
+        Ok(found) => !found.is_file(),
+        Err(_) => false,
+    }
+}
+
+/// How many bytes the file of this path has, or `None` where there is none. What the system says counts only where a read
+/// finds the last byte and no byte behind it.
+pub fn length_of<R: Files<File = File>>(rt: &R, path: &str) -> io::Result<Option<u64>> {
+    let Some(file) = opened(rt, path)? else {
+        return Ok(None);
+    };
+    let length = file.metadata()?.len();
+    let ends = !has_byte(&file, length)?;
+    if ends && (length == 0 || has_byte(&file, length - 1)?) {
+        Ok(Some(length))
+    } else {
+        Err(io::Error::new(
+            ErrorKind::InvalidData,
+            "its length is another than reads find",
+        ))
+    }
+}
+
+/// Fills `buf` from the file of this path, from the byte number `place` on, as far as there are bytes. Answers how many
+/// there were.
+pub fn read_from<R: Files<File = File>>(
+    rt: &R,
+    path: &str,
+    place: u64,
+    buf: &mut [u8],
+) -> io::Result<usize>
+    ensures { ReadsAtMost result buf.new }
+{
+    match opened(rt, path)? {
+        Some(file) => fill(&file, place, buf),
+        None => Err(io::Error::from(ErrorKind::NotFound)),
+    }
+}
+
+/// Gives the file, which has the path `draft`, this path too, which no other file may have. It is never given to another
+/// file: where it was free, and `draft` is not this file's any more, it stays free or the call fails.
+pub fn link<R: Files>(rt: &R, file: &File, draft: &str, path: &str) -> io::Result<()> {
+    if !is_at(rt, file, draft)? {
+        return Err(replaced());
+    }
+    match fs::hard_link(rt, draft, path) {
+        Ok(()) => {}
+        Err(error) if error.kind() == ErrorKind::AlreadyExists => return Err(error),
+        // Not every file system has hard links.
+        Err(_) => rename(rt, draft, path)?,
+    }
+    if is_at(rt, file, path)? {
+        Ok(())
+    } else {
+        Err(replaced())
+    }
+}
+
+fn replaced() -> io::Error {
+    io::Error::new(
+        ErrorKind::NotFound,
+        "the draft was removed or replaced while this program ran",
+    )
+}
+
+// Renames the file, where the new name is free.
+fn rename<R: Files>(rt: &R, draft: &str, path: &str) -> io::Result<()> {
+    match fs::symlink_metadata(rt, path) {
+        Ok(_) => Err(io::Error::from(ErrorKind::AlreadyExists)),
+        Err(error) if error.kind() == ErrorKind::NotFound => fs::rename(rt, draft, path),
+        Err(error) => Err(error),
+    }
+}
+
+// The regular file at this path, open; none where there is nothing. A pipe is not opened, since that might wait.
+fn opened<R: Files<File = File>>(rt: &R, path: &str) -> io::Result<Option<File>> {
+    match fs::metadata(rt, path) {
+        Ok(found) if found.is_file() => Ok(Some(File::open(rt, path)?)),
+        Ok(_) => Err(io::Error::new(
+            ErrorKind::InvalidData,
+            "it is no regular file",
+        )),
+        Err(error) if error.kind() == ErrorKind::NotFound => absent(rt, path),
+        Err(error) => Err(error),
+    }
+}
+
+// None, where nothing stands at this path. A link that leads nowhere does.
+fn absent<R: Files>(rt: &R, path: &str) -> io::Result<Option<File>> {
+    match fs::symlink_metadata(rt, path) {
+        Ok(_) => Err(io::Error::new(
+            ErrorKind::NotFound,
+            "it is a link that leads nowhere",
+        )),
+        Err(error) if error.kind() == ErrorKind::NotFound => Ok(None),
+        Err(error) => Err(error),
+    }
+}
+
+// Whether the file has a byte at this place.
+fn has_byte(file: &File, place: u64) -> io::Result<bool> {
+    let mut byte = [0u8];
+    Ok(fill(file, place, &mut byte)? > 0)
+}
+
+fn fill(file: &File, place: u64, buf: &mut [u8]) -> io::Result<usize>
+    ensures { ReadsAtMost result buf.new }
+{
+    let mut done = 0;
+    for _ in 0..u64::MAX {
+        if done == buf.len() {
+            break;
+        }
+        match file.read_at(&mut buf[done..], place.saturating_add(done as u64)) {
+            Ok(0) => break,
+            Ok(count) => done += count,
+            Err(error) if error.kind() == ErrorKind::Interrupted => {}
+            Err(error) => return Err(error),
+        }
+    }
+    Ok(done)
+}
