@@ -348,7 +348,7 @@ def lock_is_held():
 def questions_share_the_lock():
     """One question waits for its output to be read. Another one is answered, and a load is not."""
     folder = new_repository(8000)
-    slow = start(folder, "last", "--subunit")
+    slow = start(folder, "last", "--subunit", bufsize=0)
     check(slow.stdout.read(1) == kept(1)[:1], "last prints nothing")
     check(run(folder, "stats") == (0, b"runs=1\n", b""), "a second question is refused")
     check_refused(run(folder, "load", given=stream(2)), FOLDER_FAULT, b"another testr is at work")

@@ -1,8 +1,8 @@
 #!/bin/sh
 # Kills `testr load` of a large stream at random moments, and looks what each kill left in the repository: the earlier
 # runs byte for byte, and the new one wholly or not at all. This tries kills, and no power cuts. A load that ends before
-# its kill must have kept its run, and is tried again, at most as often as there are kills. Fewer kills than asked for are
-# a failure.
+# its kill must have kept its run, and is tried again, at most three times as often as there are kills. Fewer kills than
+# asked for are a failure.
 # usage: bench/stops.sh [KILLS [EVENTS [SEED]]]: by default 200 kills of the load of 650000 events, which are 50 MB.
 set -eu
 
@@ -160,7 +160,7 @@ def main(program, work, kills, events, seed):
     print(f"{size} bytes; a load takes {whole:.2f} s, {tail:.3f} s of it from its draft on", flush=True)
     counts = dict.fromkeys(("ended first", "killed", "before", "after", "damaged", "failed"), 0)
     begun = time.monotonic()
-    for place in range(2 * kills):
+    for place in range(4 * kills):
         if counts["killed"] == kills or time.monotonic() - begun > ALL_LOADS:
             break
         folder = os.path.join(work, "killed")

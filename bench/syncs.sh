@@ -21,7 +21,7 @@ import streams
 
 LIMIT = 120
 CALLS = "mkdir,mkdirat,openat,write,pwrite64,fsync,fdatasync,link,linkat,rename,renameat,renameat2,unlink,unlinkat,flock"
-LINE = re.compile(r"(?:\d+ +)?(\w+)\((.*)\) = (-?\d+)")
+LINE = re.compile(r"(\w+)\((.*)\) += (-?\d+)")
 PATH = re.compile(r'"([^"]*)"|\d+<([^>]*)>')
 
 # What must be brought to the disk before what: a file before it gets its name, and the name before the program ends. The
@@ -30,7 +30,7 @@ INIT = ["mkdir .testrepository", "make lock", "flock lock", "make draft", "write
         "link draft format", "unlink draft", "sync .testrepository", "sync ."]
 LOAD = ["flock lock", "sync .testrepository", "sync .", "make draft", "write draft", "sync draft",
         "link draft NUMBER", "unlink draft", "sync .testrepository", "write output"]
-ASK = ["flock lock", "sync .testrepository", "sync .", "write output"]
+ASK = ["share lock", "sync .testrepository", "sync .", "write output"]
 
 
 def short(path, folder):
@@ -52,6 +52,8 @@ def step(line, folder):
         return f"sync {names[0]}"
     if call in ("write", "pwrite64"):
         return f"write {names[0]}"
+    if call == "flock" and "LOCK_SH" in words:
+        return f"share {names[0]}"
     return f"{call} {' '.join(names)}"
 
 
@@ -77,7 +79,7 @@ def compare(found, wanted, text):
 
 
 def main(program, work):
-    folder = os.path.join(work, "traced")
+    folder = os.path.join(os.path.realpath(work), "traced")
     os.mkdir(folder)
     compare(steps_of(program, folder, ["init"]), INIT, "init")
     for words, count, name in ((["load"], 2, "0"), (["load"], 4000, "1"), (["load", "--partial"], 2, "2.part")):
