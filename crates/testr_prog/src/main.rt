@@ -42,6 +42,8 @@ fn main(rt: HostRuntime) -> ExitCode {
     let mut err = StreamSink::new(rt.stderr(), "standard error");
     let status = match (&held, words(&rt)) {
         (Err(error), _) => {
+            // No folder can be opened then.
+            let _ = write_whole(&mut err, b"testr: fault of the repository folder\n");
             tell(
                 rt.alloc(),
                 Some(&Cause::new("open", "/", *error)),
