@@ -430,6 +430,23 @@ def two_make_the_folder():
     check_runs(folder, 4)
 
 
+@case
+def folder_comes_later():
+    """A question finds no folder, and is slow then. Meanwhile another program makes the repository, whose names this one
+    never brought to the disk."""
+    need(HAS_STRACE, "want of strace")
+    folder = new_folder()
+    delay = ["strace", "-o", "/dev/null", "-P", ".testrepository/lock", "-e", "trace=openat",
+             "-e", "inject=openat:delay_exit=2000000:when=1"]
+    slow = start(folder, "stats", before=delay)
+    time.sleep(1)
+    check(run(folder, "init") == (0, b"", b""), "init is refused")
+    loads(folder, 4, 0)
+    out, err = slow.communicate(timeout=LIMIT)
+    check_refused((slow.returncode, out, err), FOLDER_FAULT, b"lock .testrepository/lock: the folder was made by another")
+    check_runs(folder, 4)
+
+
 # Disks and limits.
 
 @case

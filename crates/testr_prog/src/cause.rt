@@ -2,10 +2,9 @@
 
 ghost use Rattle.std.specs.Prelude.{◌≡◌, Ok, IsErr, MatchResult};
 
-use std::fmt;
 use std::fmt::{Display, Formatter};
-use std::io;
 use std::io::ErrorKind;
+use std::{fmt, io};
 
 /// A call of the system that failed: what it was to do, on what, and the system's words.
 #[derive(Drop)]
@@ -50,11 +49,7 @@ impl Cause {
 }
 
 /// What the call gave, and where it failed, the cause.
-pub fn told<T>(
-    call: &'static str,
-    object: &'static str,
-    outcome: io::Result<T>,
-) -> Result<T, Cause>
+pub fn told<T>(call: &'static str, object: &'static str, outcome: io::Result<T>) -> Result<T, Cause>
     ensures { MatchResult outcome (λ value. result ≡ Ok value) (λ _. IsErr result) }
 {
     match outcome {

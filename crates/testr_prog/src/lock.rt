@@ -171,10 +171,7 @@ fn in_use() -> io::Error {
 fn opened<R: Files<File = File>>(rt: &R) -> io::Result<Option<File>> {
     match fs::symlink_metadata(rt, LOCK) {
         Ok(found) if found.is_file() => Ok(Some(open(rt)?)),
-        Ok(_) => Err(io::Error::new(
-            ErrorKind::InvalidData,
-            "it is no regular file",
-        )),
+        Ok(_) => Err(io::Error::new(ErrorKind::InvalidData, "it is no regular file")),
         Err(error) if error.kind() == ErrorKind::NotFound => match create(rt) {
             Ok(file) => Ok(Some(file)),
             Err(error) if error.kind() == ErrorKind::NotFound => Ok(None),

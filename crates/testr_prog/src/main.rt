@@ -44,11 +44,7 @@ fn main(rt: HostRuntime) -> ExitCode {
         (Err(error), _) => {
             // No folder can be opened then.
             let _ = write_whole(&mut err, b"testr: fault of the repository folder\n");
-            tell(
-                rt.alloc(),
-                Some(&Cause::new("open", "/", *error)),
-                &mut err,
-            );
+            tell(rt.alloc(), Some(&Cause::new("open", "/", *error)), &mut err);
             FAULT
         }
         (Ok(_), Ok(words)) => run(&rt, &words, &mut out, &mut err),

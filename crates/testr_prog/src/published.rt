@@ -91,10 +91,7 @@ fn rename<R: Files>(rt: &R, draft: &str, path: &str) -> io::Result<()> {
 fn opened<R: Files<File = File>>(rt: &R, path: &str) -> io::Result<Option<File>> {
     match fs::metadata(rt, path) {
         Ok(found) if found.is_file() => Ok(Some(File::open(rt, path)?)),
-        Ok(_) => Err(io::Error::new(
-            ErrorKind::InvalidData,
-            "it is no regular file",
-        )),
+        Ok(_) => Err(io::Error::new(ErrorKind::InvalidData, "it is no regular file")),
         Err(error) if error.kind() == ErrorKind::NotFound => absent(rt, path),
         Err(error) => Err(error),
     }
@@ -103,10 +100,7 @@ fn opened<R: Files<File = File>>(rt: &R, path: &str) -> io::Result<Option<File>>
 // None, where nothing stands at this path. A link that leads nowhere does.
 fn absent<R: Files>(rt: &R, path: &str) -> io::Result<Option<File>> {
     match fs::symlink_metadata(rt, path) {
-        Ok(_) => Err(io::Error::new(
-            ErrorKind::NotFound,
-            "it is a link that leads nowhere",
-        )),
+        Ok(_) => Err(io::Error::new(ErrorKind::NotFound, "it is a link that leads nowhere")),
         Err(error) if error.kind() == ErrorKind::NotFound => Ok(None),
         Err(error) => Err(error),
     }

@@ -158,7 +158,8 @@ fn shell(rt: &HostRuntime, text: &str) -> io::Result<()> {
     }
 }
 
-const STRANGERS: &str = "mkdir .testrepository && cd .testrepository && touch notes 9 draft lock 10 0 \"$(printf '5\\377')\" && \
+const STRANGERS: &str =
+    "mkdir .testrepository && cd .testrepository && touch notes 9 draft lock 10 0 \"$(printf '5\\377')\" && \
 mkdir 1 && mkfifo 2 && ln -s .. 3 && ln -s nowhere 4";
 
 fn names_of_folder(rt: &HostRuntime) -> Result<Vec<Text>, NamesFault> {
@@ -394,10 +395,16 @@ fn a_fault_has_its_cause(rt: HostRuntime) -> Result<(), Fail> {
     assert_eq!(rt; said(&rt, &first)?.as_str(), "no cause");
     let mut second = FolderShelf::new(rt.alloc(), &rt, Sharing::Alone);
     assert_eq!(rt; second.length("0"), Err(Failed));
-    assert_eq!(rt; said(&rt, &second)?.as_str(), "lock .testrepository/lock: another testr is at work in this repository; try again when it has ended");
+    assert_eq!(rt;
+        said(&rt, &second)?.as_str(),
+        "lock .testrepository/lock: another testr is at work in this repository; try again when it has ended"
+    );
     symlink(&rt, "nowhere", ".testrepository/0")?;
     assert_eq!(rt; first.publish("0"), Err(Failed));
-    assert_eq!(rt; said(&rt, &first)?.as_str(), "make .testrepository/0: File exists (os error 17)");
+    assert_eq!(rt;
+        said(&rt, &first)?.as_str(),
+        "make .testrepository/0: File exists (os error 17)"
+    );
     leave_home(&rt, &home)?;
     Ok(())
 }
