@@ -22,7 +22,9 @@ import time
 
 import streams
 
-PROGRAM, LAUNCHER, WORK = sys.argv[1:4]
+BUILT, LAUNCHER, WORK = sys.argv[1:4]
+# A copy where other users may run it, too.
+PROGRAM = shutil.copy(BUILT, os.path.join(WORK, "program"))
 LIMIT = 60
 NOBODY = 65534
 IS_ROOT = os.geteuid() == 0
