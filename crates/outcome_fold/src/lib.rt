@@ -16,11 +16,15 @@ mod sorting;
 mod test_key;
 mod text_set;
 
-pub use ended::Ended;
+pub use ended::{Ended, ended_by};
 pub use fold::Fold;
+pub use kept_text::KeptText;
 pub use outcomes::Outcomes;
+pub use part::{elapsed, instant_of, text_in};
 pub use row::{Counts, Row};
 pub use rows::Rows;
+pub use sorting::sorted_tags;
+pub use test_key::{TestKey, key_of};
 pub use text_set::TextSet;
 
 #[cfg(test)]

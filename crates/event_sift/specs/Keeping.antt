@@ -1,0 +1,35 @@
+-- Which rows are kept (docs/FORMATS.md, "subunit-filter").
+use Rattle.std.specs.Prelude.{ℕ, Bool, true, ◌&&◌, ◌||◌, not, List, length, nat_eq, ◌==◌}
+use Rattle.std.specs.List.{list_any, list_all}
+use Rattle.std.specs.Cmp.Lexicographic.{pointwise}
+use Rattle.outcome_fold.specs.declared.ended.Ended.{Ended}
+use Rattle.outcome_fold.specs.declared.ended.Ended.TheVariants as ended
+use Rattle.outcome_fold.specs.declared.row.Row.{Row}
+use Rattle.outcome_fold.specs.Answers.{has_one_of}
+use Rattle.partition_times.specs.Patterns.{is_found}
+use Rattle.event_sift.specs.declared.rules.Rules.{Rules}
+
+-- A test that is only known to exist goes always. A failure, a success that was not expected and a test that was left
+-- open go by one rule.
+abbrev pub allows : Rules → Ended → Bool
+allows rules ended.Exists = true
+allows rules ended.Success = rules.success
+allows rules ended.UxSuccess = rules.failure
+allows rules ended.Skip = rules.skip
+allows rules ended.Fail = rules.failure
+allows rules ended.XFail = rules.xfail
+allows rules ended.Open = rules.failure
+
+abbrev pub has_tag : Row → List ℕ → Bool
+has_tag row tag = list_any (λ own. pointwise nat_eq own tag) row.tags
+
+-- the row has every tag that is asked for, and none of those that are not wanted
+abbrev pub keeps_tags : Rules → Row → Bool
+keeps_tags rules row = list_all (has_tag row) rules.with_tags && not (has_one_of rules.without_tags row)
+
+-- some of the patterns that are asked for is found in the id, where there are any
+abbrev pub has_wanted_id : Rules → List ℕ → Bool
+has_wanted_id rules id = (length rules.with_ids == 0) || is_found rules.with_ids id
+
+abbrev pub keeps : Rules → Row → Bool
+keeps rules row = allows rules row.ended && (keeps_tags rules row && (has_wanted_id rules row.id && not (is_found rules.without_ids row.id)))

@@ -1,0 +1,4 @@
+pub mod Keeping
+pub mod Released
+pub mod Sifted
+pub mod Tagging

@@ -1,0 +1,24 @@
+-- What a sift has taken so far (docs/FORMATS.md, "subunit-filter").
+use Rattle.std.specs.Prelude.{◌≡◌, List}
+use Rattle.std.specs.FinMap as fin
+use Rattle.std.specs.FinMap.{FinMap}
+use Rattle.packet_codec.specs.declared.event.Event.{Event}
+use Rattle.outcome_fold.specs.declared.test_key.TestKey.{TestKey}
+use Rattle.outcome_fold.specs.Order.{test_cmp, table}
+use Rattle.outcome_fold.specs.Rows.{open_tests}
+use Rattle.event_sift.specs.declared.rules.Rules.{Rules}
+use Rattle.event_sift.specs.declared.held.Held.{Held}
+use Rattle.event_sift.specs.declared.sift.Sift.{Sift}
+use Rattle.event_sift.specs.Released.{part_at}
+
+-- the events that are held, by test
+abbrev pub parts_in : Held → FinMap test_cmp (List Event)
+parts_in held = fin.from_entries {R = test_cmp} held.parts.entries
+
+-- the last part of each open test
+abbrev pub open_parts : List Event → FinMap test_cmp (List Event)
+open_parts seen = table {R = test_cmp} (part_at seen) (open_tests seen)
+
+-- what is held of these events is the last part of each test that is open
+abbrev pub Holds : Held → List Event → Type 0
+Holds held seen = parts_in held ≡ open_parts seen

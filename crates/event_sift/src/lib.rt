@@ -1,0 +1,26 @@
+//! Which events of a stream a filter lets through, and what tags it gives them.
+//!
+//! The rules stand in docs/FORMATS.md under "subunit-filter" and "subunit-tags". `specs/` states them of rows, of single
+//! events, and of whole lists of events. Events are held from the first one of a test until one completes it, and are
+//! moved on as they are.
+//!
+//! - `rules`: which rows are kept
+//! - `part`, `held`: the events of the open tests
+//! - `part_row`: the row of some events of a test
+//! - `sift`: what is released as events come, and at the end
+//! - `whole`: what is released of a whole list of events
+//! - `tagger`: the tags of an event
+#![tactic(auto)]
+
+mod held;
+mod part;
+mod part_row;
+mod rules;
+mod sift;
+mod tagger;
+mod whole;
+
+pub use rules::{Rules, keep};
+pub use sift::Sift;
+pub use tagger::Tagger;
+pub use whole::filtered_events;

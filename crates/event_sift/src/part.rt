@@ -1,0 +1,68 @@
+//! The events of a part of a test.
+
+ghost use Rattle.std.specs.Prelude.{◌≡◌, [], ◌∷◌, ◌++◌, OnOk};
+
+use packet_codec::Event;
+use std::alloc::Global;
+use std::marker::Model;
+use sub_number::NoMemory;
+
+/// Events of one test, in order. Contracts see them as a list.
+#[derive(Drop)]
+pub struct Part {
+    events: Vec<Event>,
+}
+
+impl Model for Part {
+    ghost use Rattle.std.specs.Prelude.{List};
+    ghost use Rattle.packet_codec.specs.declared.event.Event.{Event as AnEvent};
+
+    ghost Value = { List AnEvent };
+
+    ghost view = { λ p. p.events.items };
+}
+
+impl Part {
+    /// No event. It takes no memory.
+    pub fn new(alloc: Global) -> Self
+        ensures { result ≡ [] }
+    {
+        Part {
+            events: Vec::new(alloc),
+        }
+    }
+
+    /// Takes one event more.
+    ///
+    /// `NoMemory` comes only for want of memory, and the event is lost then.
+    pub fn push(&mut self, event: Event) -> Result<(), NoMemory>
+        ensures { OnOk result (self.new ≡ self.old ++ event ∷ []) }
+    {
+        self.events.push(event)?;
+        Ok(())
+    }
+
+    /// The events, in order.
+    pub fn events(&self) -> &[Event]
+        ensures { result.now ≡ self.now }
+    {
+        &self.events
+    }
+
+    /// The events, moved out.
+    pub fn into_events(self) -> Vec<Event>
+        ensures { result.items ≡ self }
+    {
+        self.events
+    }
+
+    /// Moves the events to the end of the others.
+    ///
+    /// `NoMemory` comes only for want of memory.
+    pub fn move_to(mut self, events: &mut Vec<Event>) -> Result<(), NoMemory>
+        ensures { OnOk result (events.new.items ≡ events.old.items ++ self) }
+    {
+        events.append(&mut self.events)?;
+        Ok(())
+    }
+}

@@ -1,0 +1,80 @@
+//! The row of some events of a test.
+
+ghost use Rattle.std.specs.Prelude.{◌≡◌, [], IfOk, if◌then◌else◌};
+ghost use Rattle.outcome_fold.specs.Parts as parts;
+ghost use Rattle.outcome_fold.specs.Rows as rows;
+
+use outcome_fold::{Ended, KeptText, Row, TestKey, instant_of, sorted_tags, text_in};
+use packet_codec::Event;
+use std::alloc::Global;
+use sub_number::{Bytes, NoMemory, Text};
+
+/// The instant of the first event, in nanoseconds since 1970 in UTC, where it has one.
+pub fn start_of(part: &[Event]) -> Option<u64>
+    ensures { result ≡ parts.start_of part.now }
+{
+    match part.first() {
+        Some(event) => instant_of(event),
+        None => None,
+    }
+}
+
+// The tags of the last event that has tags.
+fn last_tags(part: &[Event]) -> &[Text]
+    ensures { result.now ≡ parts.last_tags part.now }
+{
+    let mut last: &[Text] = &[];
+    for event in part {
+        if let Some(tags) = &event.tags {
+            last = tags.list();
+        }
+    }
+    last
+}
+
+// The first bytes of the files of text, joined.
+fn text_of(alloc: Global, part: &[Event]) -> Result<Bytes, NoMemory>
+    ensures { IfOk result (λ text. text ≡ parts.text_of part.now) }
+{
+    let mut text = KeptText::new(alloc);
+    for event in part {
+        text.append(text_in(event))?;
+    }
+    Ok(text.into_bytes())
+}
+
+// The text of a row that ended so: that of its events where the row fails, else none.
+fn row_text(alloc: Global, ended: Ended, part: &[Event]) -> Result<Bytes, NoMemory>
+    ensures { IfOk result (λ text. text ≡ (if rows.is_failure ended then parts.text_of part.now else [])) }
+{
+    if ended.fails() {
+        text_of(alloc, part)
+    } else {
+        Ok(Bytes::from_vec(Vec::new(alloc)))
+    }
+}
+
+/// The row of a part of the test, which ended so and took this long.
+///
+/// `NoMemory` comes only for want of memory.
+pub fn part_row(
+    alloc: Global,
+    key: TestKey,
+    ended: Ended,
+    nanos: Option<u64>,
+    part: &[Event],
+) -> Result<Row, NoMemory>
+    ensures { IfOk result (λ row. row ≡ rows.row_of key ended nanos part.now) }
+{
+    let tags = sorted_tags(alloc, last_tags(part))?;
+    let text = row_text(alloc, ended, part)?;
+    let TestKey { route, id } = key;
+    Ok(Row {
+        id,
+        route,
+        ended,
+        tags,
+        nanos,
+        text,
+    })
+}

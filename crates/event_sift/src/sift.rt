@@ -1,0 +1,155 @@
+//! Events that are held until their test completes.
+
+ghost use Rattle.std.specs.Prelude.{◌≡◌, List, Result, Bool, [], ◌∷◌, ◌++◌, IfOk, OnOk};
+ghost use Rattle.packet_codec.specs.declared.event.Event.{Event as AnEvent};
+ghost use Rattle.event_sift.specs.Keeping.{keeps};
+ghost use Rattle.std.specs.FinMap as map;
+ghost use Rattle.outcome_fold.specs.Parts as parts;
+ghost use Rattle.outcome_fold.specs.Rows.{part_with, row_of};
+ghost use Rattle.event_sift.specs.Released.{completed_part_row, if_kept, released, released_at_end};
+ghost use Rattle.event_sift.specs.Sifted.{Holds, parts_in};
+
+use crate::held::Held;
+use crate::part::Part;
+use crate::part_row::{part_row, start_of};
+use crate::rules::Rules;
+use outcome_fold::{Ended, Row, TestKey, elapsed, ended_by, instant_of, key_of};
+use packet_codec::Event;
+use std::alloc::Global;
+use sub_number::NoMemory;
+
+/// The tests that are open, with their events, and a predicate that says which tests are kept. The predicate answers
+/// what the rules say of a row.
+///
+/// A sift is not dropped, since what drops a predicate beside other things can't be stated. It ends by `close` or by
+/// `let_go`.
+pub struct Sift<'a, P: Fn(&Row) -> Result<bool, NoMemory> + Drop> {
+    alloc: Global,
+    rules: &'a Rules,
+    predicate: P,
+    held: Held,
+}
+
+impl<'a, P: Fn(&Row) -> Result<bool, NoMemory> + Drop> Sift<'a, P> {
+    /// A sift that has taken no event. The predicate may borrow the same rules. It takes no memory yet.
+    pub fn new(alloc: Global, rules: &'a Rules, predicate: P) -> Self
+        requires callable { P.IsAlwaysCallable predicate }
+        requires faithful { (row : _) (answer : Result Bool _) → P.post predicate row answer → IfOk answer (λ kept. kept ≡ keeps rules.now row.now) }
+        ensures rules { result.rules.now ≡ rules.now }
+        ensures predicate { result.predicate ≡ predicate }
+        ensures taken { Holds result.held [] }
+    {
+        Sift {
+            alloc,
+            rules,
+            predicate,
+            held: Held::new(alloc),
+        }
+    }
+
+    // Whether the part's row is kept, by the predicate.
+    fn is_kept(&self, row: &Row) -> Result<bool, NoMemory>
+        requires callable { P.IsAlwaysCallable self.now.predicate }
+        requires faithful { (row : _) (answer : Result Bool _) → P.post self.now.predicate row answer → IfOk answer (λ kept. kept ≡ keeps self.now.rules.now row.now) }
+        ensures { IfOk result (λ kept. kept ≡ keeps self.now.rules.now row.now) }
+    {
+        (self.predicate)(row)
+    }
+
+    // The events of the part of the test that ended so at this instant, where its row is kept, else none.
+    fn if_kept(&self, key: TestKey, ended: Ended, end: Option<u64>, part: Part) -> Result<Vec<Event>, NoMemory>
+        requires callable { P.IsAlwaysCallable self.now.predicate }
+        requires faithful { (row : _) (answer : Result Bool _) → P.post self.now.predicate row answer → IfOk answer (λ kept. kept ≡ keeps self.now.rules.now row.now) }
+        ensures { IfOk result (λ events. events.items ≡ if_kept (keeps self.now.rules.now) (row_of key ended (parts.elapsed (parts.start_of part) end) part) part) }
+    {
+        let nanos = elapsed(start_of(part.events()), end);
+        let row = part_row(self.alloc, key, ended, nanos, part.events())?;
+        if self.is_kept(&row)? {
+            Ok(part.into_events())
+        } else {
+            Ok(Vec::new(self.alloc))
+        }
+    }
+
+    // Takes the event, which completes its test.
+    fn complete(&mut self, key: TestKey, ended: Ended, event: Event) -> Result<Vec<Event>, NoMemory>
+        requires callable { P.IsAlwaysCallable self.old.predicate }
+        requires faithful { (row : _) (answer : Result Bool _) → P.post self.old.predicate row answer → IfOk answer (λ kept. kept ≡ keeps self.old.rules.now row.now) }
+        ensures released { (seen : List AnEvent) → Holds self.old.held seen → IfOk result (λ events. events.items ≡ if_kept (keeps self.old.rules.now) (completed_part_row key ended seen event) (part_with key seen event)) }
+        ensures taken { OnOk result (parts_in self.new.held ≡ map.remove (parts_in self.old.held) key) }
+        ensures rules { self.new.rules.now ≡ self.old.rules.now }
+        ensures predicate { self.new.predicate ≡ self.old.predicate }
+    {
+        let end = instant_of(&event);
+        let part = self.held.finish(&key, event)?;
+        self.if_kept(key, ended, end, part)
+    }
+
+    /// Takes the event, and gives the events that are released now: an event without an id at once, all events of a
+    /// test, in order, where this one completes it and it is kept, and else none.
+    ///
+    /// `NoMemory` comes only for want of memory. The sift is given up then: its rules and its predicate are as before,
+    /// and of the events that it held nothing is known.
+    pub fn add(&mut self, event: Event) -> Result<Vec<Event>, NoMemory>
+        requires callable { P.IsAlwaysCallable self.old.predicate }
+        requires faithful { (row : _) (answer : Result Bool _) → P.post self.old.predicate row answer → IfOk answer (λ kept. kept ≡ keeps self.old.rules.now row.now) }
+        ensures released { (seen : List AnEvent) → Holds self.old.held seen → IfOk result (λ events. events.items ≡ released (keeps self.old.rules.now) seen event) }
+        ensures taken { (seen : List AnEvent) → Holds self.old.held seen → OnOk result (Holds self.new.held (seen ++ event ∷ [])) }
+        ensures rules { self.new.rules.now ≡ self.old.rules.now }
+        ensures predicate { self.new.predicate ≡ self.old.predicate }
+    {
+        let Some(key) = key_of(&event)? else {
+            return only(self.alloc, event);
+        };
+        match ended_by(event.status) {
+            Some(ended) => self.complete(key, ended, event),
+            None => {
+                self.held.go_on(key, event)?;
+                Ok(Vec::new(self.alloc))
+            }
+        }
+    }
+
+    /// Ends the sift, and gives the events of the open tests that are kept, by route, no route first, and then by id.
+    ///
+    /// `NoMemory` comes only for want of memory. The sift is given up then too.
+    pub fn close(self) -> Result<Vec<Event>, NoMemory>
+        requires callable { P.IsAlwaysCallable self.predicate }
+        requires faithful { (row : _) (answer : Result Bool _) → P.post self.predicate row answer → IfOk answer (λ kept. kept ≡ keeps self.rules.now row.now) }
+        ensures { (seen : List AnEvent) → Holds self.entry.held seen → IfOk result (λ events. events.items ≡ released_at_end (keeps self.entry.rules.now) seen) }
+    {
+        let Sift {
+            alloc,
+            rules: _rules,
+            predicate,
+            held,
+        } = self;
+        let mut events = Vec::new(alloc);
+        for (key, part) in held.into_parts() {
+            let row = part_row(alloc, key, Ended::Open, None, part.events())?;
+            if predicate(&row)? {
+                part.move_to(&mut events)?;
+            }
+        }
+        Ok(events)
+    }
+
+    /// Gives the sift up, with the events that it holds.
+    pub fn let_go(self) {
+        let Sift {
+            alloc: _alloc,
+            rules: _rules,
+            predicate: _predicate,
+            held: _held,
+        } = self;
+    }
+}
+
+// A list of this event alone.
+fn only(alloc: Global, event: Event) -> Result<Vec<Event>, NoMemory>
+    ensures { IfOk result (λ events. events.items ≡ event ∷ []) }
+{
+    let mut events = Vec::new(alloc);
+    events.push(event)?;
+    Ok(events)
+}
