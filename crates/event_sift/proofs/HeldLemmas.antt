@@ -14,7 +14,8 @@ use Rattle.outcome_fold.specs.Parts.{test_of, speaks_of, events_of_test, ended_b
 use Rattle.outcome_fold.specs.Rows.{is_part, is_open, open_tests, part_with}
 use Rattle.outcome_fold.proofs.OrderLemmas.{tests_total, exact_tests}
 use Rattle.outcome_fold.proofs.TableLemmas.{tied_is, get-table, inserted, lookup_in_map}
-use Rattle.outcome_fold.proofs.FoldLemmas.{filter_push, append_none, last_part_ends, last_part_goes, among_open}
+use Rattle.outcome_fold.proofs.FoldLemmas.{last_part_ends, last_part_goes, among_open}
+use Rattle.outcome_fold.proofs.StepLemmas.{part_other, part_of_its}
 use Rattle.event_sift.specs.Released.{part_at}
 use Rattle.event_sift.specs.Sifted.{open_parts}
 
@@ -48,12 +49,6 @@ part_is seen t = ap (λ part. unwrap_or part []) (get-open_parts seen t) ∙ or_
 held_push : (part : List Event) (e : Event) → held_of (part ++ e ∷ []) ≡ Some (part ++ e ∷ [])
 held_push [] e = refl
 held_push (x ∷ es) e = refl
-
-part_other : (seen : List Event) (e : Event) (q : TestKey) → speaks_of q (test_of e) ≡ false → part_at (seen ++ e ∷ []) q ≡ part_at seen q
-part_other seen e q other = ap last_part (filter_push (λ e. speaks_of q (test_of e)) seen e ∙ ap (λ b. events_of_test q seen ++ cond b (e ∷ []) []) other ∙ append_none (events_of_test q seen))
-
-part_of_its : (seen : List Event) (e : Event) (q : TestKey) → speaks_of q (test_of e) ≡ true → part_at (seen ++ e ∷ []) q ≡ last_part (events_of_test q seen ++ e ∷ [])
-part_of_its seen e q its = ap last_part (filter_push (λ e. speaks_of q (test_of e)) seen e ∙ ap (λ b. events_of_test q seen ++ cond b (e ∷ []) []) its)
 
 -- an event without an id changes nothing
 pub stays : (seen : List Event) (e : Event) (held : Parts) → held ≡ open_parts seen → None ≡ test_of e → held ≡ open_parts (seen ++ e ∷ [])

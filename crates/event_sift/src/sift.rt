@@ -110,6 +110,20 @@ impl<'a, P: Fn(&Row) -> Result<bool, NoMemory> + Drop> Sift<'a, P> {
         }
     }
 
+    // The events of the open tests that are kept.
+    fn release(&self, held: Held) -> Result<Vec<Event>, NoMemory>
+        requires callable { P.IsAlwaysCallable self.now.predicate }
+        requires faithful { (row : _) (answer : Result Bool _) → P.post self.now.predicate row answer → IfOk answer (λ kept. kept ≡ keeps self.now.rules.now row.now) }
+        ensures { (seen : List AnEvent) → Holds held seen → IfOk result (λ events. events.items ≡ released_at_end (keeps self.now.rules.now) seen) }
+    {
+        let mut events = Vec::new(self.alloc);
+        for (key, part) in held.into_parts() {
+            let mut kept = self.if_kept(key, Ended::Open, None, part)?;
+            events.append(&mut kept)?;
+        }
+        Ok(events)
+    }
+
     /// Ends the sift, and gives the events of the open tests that are kept, by route, no route first, and then by id.
     ///
     /// `NoMemory` comes only for want of memory. The sift is given up then too.
@@ -120,18 +134,19 @@ impl<'a, P: Fn(&Row) -> Result<bool, NoMemory> + Drop> Sift<'a, P> {
     {
         let Sift {
             alloc,
-            rules: _rules,
+            rules,
             predicate,
             held,
         } = self;
-        let mut events = Vec::new(alloc);
-        for (key, part) in held.into_parts() {
-            let row = part_row(alloc, key, Ended::Open, None, part.events())?;
-            if predicate(&row)? {
-                part.move_to(&mut events)?;
-            }
-        }
-        Ok(events)
+        let rest = Sift {
+            alloc,
+            rules,
+            predicate,
+            held: Held::new(alloc),
+        };
+        let events = rest.release(held);
+        rest.let_go();
+        events
     }
 
     /// Gives the sift up, with the events that it holds.

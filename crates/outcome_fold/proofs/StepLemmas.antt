@@ -21,16 +21,16 @@ use Rattle.outcome_fold.proofs.FoldLemmas.{filter_push, append_none, last_part_e
 no_tags : in_byte_order [] ≡ []
 no_tags = ap (λ (es : List (List ℕ × Unit {0})). map (λ e. e.0) es) (none_of_length (fin.entries (text_table [])) (sym (len-entries (text_table [])) ∙ len-empty text_cmp (Unit {0})))
 
-take_again : (n : ℕ) (xs ys : List ℕ) → take n (take n xs ++ ys) ≡ take n (xs ++ ys)
+pub take_again : (n : ℕ) (xs ys : List ℕ) → take n (take n xs ++ ys) ≡ take n (xs ++ ys)
 take_again zero xs ys = refl
 take_again (suc n) [] ys = refl
 take_again (suc n) (x ∷ xs) ys = ap (λ l. x ∷ l) (take_again n xs ys)
 
-flat_map_push : (f : Event → List ℕ) (es : List Event) (e : Event) → flat_map f (es ++ e ∷ []) ≡ flat_map f es ++ f e
+pub flat_map_push : (f : Event → List ℕ) (es : List Event) (e : Event) → flat_map f (es ++ e ∷ []) ≡ flat_map f es ++ f e
 flat_map_push f [] e = append_none (f e)
 flat_map_push f (x ∷ es) e = ap (λ l. f x ++ l) (flat_map_push f es e) ∙ sym (append_assoc (f x) (flat_map f es) (f e))
 
-last_tags_at : (tags : Option (List (List ℕ))) (es : List Event) (e : Event) → e.tags ≡ tags → last_tags (es ++ e ∷ []) ≡ unwrap_or tags (last_tags es)
+pub last_tags_at : (tags : Option (List (List ℕ))) (es : List Event) (e : Event) → e.tags ≡ tags → last_tags (es ++ e ∷ []) ≡ unwrap_or tags (last_tags es)
 last_tags_at tags [] e is = ap (λ t. unwrap_or t []) is
 last_tags_at None (x ∷ es) e is =
     ap (λ b. cond b (last_tags (es ++ e ∷ [])) (unwrap_or x.tags [])) (any_push (λ e. is_some e.tags) es e ∙ ap (λ t. cond (is_some t) true (list_any (λ e. is_some e.tags) es)) is)
@@ -64,10 +64,10 @@ said_push : (part : List Event) (e : Event) → said (part ++ e ∷ []) ≡ Some
 said_push [] e = ap Some (started_push [] e)
 said_push (x ∷ es) e = ap Some (started_push (x ∷ es) e)
 
-part_other : (seen : List Event) (e : Event) (q : TestKey) → speaks_of q (test_of e) ≡ false → part_at (seen ++ e ∷ []) q ≡ part_at seen q
+pub part_other : (seen : List Event) (e : Event) (q : TestKey) → speaks_of q (test_of e) ≡ false → part_at (seen ++ e ∷ []) q ≡ part_at seen q
 part_other seen e q other = ap last_part (filter_push (λ e. speaks_of q (test_of e)) seen e ∙ ap (λ b. events_of_test q seen ++ cond b (e ∷ []) []) other ∙ append_none (events_of_test q seen))
 
-part_of_its : (seen : List Event) (e : Event) (q : TestKey) → speaks_of q (test_of e) ≡ true → part_at (seen ++ e ∷ []) q ≡ last_part (events_of_test q seen ++ e ∷ [])
+pub part_of_its : (seen : List Event) (e : Event) (q : TestKey) → speaks_of q (test_of e) ≡ true → part_at (seen ++ e ∷ []) q ≡ last_part (events_of_test q seen ++ e ∷ [])
 part_of_its seen e q its = ap last_part (filter_push (λ e. speaks_of q (test_of e)) seen e ∙ ap (λ b. events_of_test q seen ++ cond b (e ∷ []) []) its)
 
 -- an event without an id changes nothing

@@ -1,0 +1,26 @@
+-- What the events of a part say together, event by event.
+use Rattle.std.proofs.Common.{◌≡◌, ℕ, ◌+◌, ◌<◌, List, [], ◌∷◌, ◌++◌, Option, take, length, get_or, refl, sym, ◌∙◌, ap}
+use Rattle.std.specs.List.{flat_map}
+use Rattle.std.specs.Option.{unwrap_or}
+use Rattle.std.proofs.lemmas.List.{take_more}
+use Rattle.packet_codec.specs.declared.event.Event.{Event}
+use Rattle.outcome_fold.specs.Parts.{last_tags, text_in, text_limit, text_of}
+use Rattle.outcome_fold.proofs.StepLemmas.{last_tags_at, flat_map_push, take_again}
+
+abbrev At : List Event → ℕ → Event → Type 0
+At part i e = e ≡ get_or part i e
+
+next_is : (part : List Event) (i : ℕ) (e : Event) → i < length part → At part i e → take (i + 1) part ≡ take i part ++ e ∷ []
+next_is part i e below is = take_more part i e below ∙ ap (λ x. take i part ++ x ∷ []) (sym is)
+
+-- the tags of the last event that has tags, with one event more
+pub tags_take : (part : List Event) (i : ℕ) (e : Event) (tags : Option (List (List ℕ))) → i < length part → At part i e → e.tags ≡ tags → last_tags (take (i + 1) part) ≡ unwrap_or tags (last_tags (take i part))
+tags_take part i e tags below is own = ap last_tags (next_is part i e below is) ∙ last_tags_at tags (take i part) e own
+
+-- the text that is kept, with one event more
+pub text_take : (part : List Event) (i : ℕ) (e : Event) (text next : List ℕ) → i < length part → At part i e → text ≡ text_of (take i part) → next ≡ take text_limit (text ++ text_in e.mime e.file) → next ≡ text_of (take (i + 1) part)
+text_take part i e text next below is before kept =
+    let piece = λ (e : Event). text_in e.mime e.file in
+    kept ∙ ap (λ t. take text_limit (t ++ piece e)) before
+    ∙ take_again text_limit (flat_map piece (take i part)) (piece e)
+    ∙ ap (take text_limit) (sym (flat_map_push piece (take i part) e) ∙ ap (flat_map piece) (sym (next_is part i e below is)))

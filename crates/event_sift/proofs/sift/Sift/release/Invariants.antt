@@ -1,0 +1,8 @@
+use Rattle.std.proofs.Common.{◌≡◌, ◌++◌}
+use Rattle.std.specs.List.{flat_map}
+use Rattle.event_sift.specs.Keeping.{keeps}
+use Rattle.event_sift.proofs.SiftLemmas.{kept_entry}
+use Rattle.event_sift.proofs.sift.Sift.release.Given as goal
+
+abbrev pub invariant-loop-key : goal.invariant-loop-key
+invariant-loop-key g l = l.events.items ++ flat_map (kept_entry (keeps l.fn.self.rules.now)) l.key-iterator ≡ flat_map (kept_entry (keeps l.fn.self.rules.now)) l.initial.key-iterator
