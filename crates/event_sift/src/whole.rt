@@ -27,6 +27,23 @@ fn take<P: Fn(&Row) -> Result<bool, NoMemory> + Drop>(sift: &mut Sift<'_, P>, ev
     Ok(())
 }
 
+// Takes the events one after another. Nothing was released before.
+fn take_all<P: Fn(&Row) -> Result<bool, NoMemory> + Drop>(sift: &mut Sift<'_, P>, events: Vec<Event>, released: &mut Vec<Event>) -> Result<(), NoMemory>
+    requires callable { P.IsAlwaysCallable sift.old.predicate }
+    requires faithful { (row : _) (answer : Result Bool _) → P.post sift.old.predicate row answer → IfOk answer (λ kept. kept ≡ keeps sift.old.rules.now row.now) }
+    requires new { Holds sift.old.held [] }
+    requires none { released.old.items ≡ [] }
+    ensures released { OnOk result (released.new.items ≡ released_by (keeps sift.old.rules.now) events.items) }
+    ensures taken { OnOk result (Holds sift.new.held events.items) }
+    ensures rules { sift.new.rules.now ≡ sift.old.rules.now }
+    ensures predicate { sift.new.predicate ≡ sift.old.predicate }
+{
+    for event in events {
+        take(sift, event, released)?;
+    }
+    Ok(())
+}
+
 /// What a sift of these rules releases of the events, in order: while they come, and then at the end.
 ///
 /// `NoMemory` comes only for want of memory.
@@ -45,11 +62,9 @@ pub fn filtered_events(
         { keep(alloc, rules, row) },
     );
     let mut released = Vec::new(alloc);
-    for event in events {
-        if take(&mut sift, event, &mut released).is_err() {
-            sift.let_go();
-            return Err(NoMemory);
-        }
+    if take_all(&mut sift, events, &mut released).is_err() {
+        sift.let_go();
+        return Err(NoMemory);
     }
     let mut last = sift.close()?;
     released.append(&mut last)?;
