@@ -7,7 +7,7 @@ ghost use Rattle.std.specs.FinMap as map;
 ghost use Rattle.outcome_fold.specs.Parts as parts;
 ghost use Rattle.outcome_fold.specs.Rows.{part_with, row_of};
 ghost use Rattle.event_sift.specs.Released.{completed_part_row, if_kept, released, released_at_end};
-ghost use Rattle.event_sift.specs.Sifted.{Holds, parts_in};
+ghost use Rattle.event_sift.specs.Sifted.{HasSifted, Holds, IsFaithful, parts_in, predicate_of, rules_of};
 
 use crate::held::Held;
 use crate::part::Part;
@@ -34,10 +34,10 @@ impl<'a, P: Fn(&Row) -> Result<bool, NoMemory> + Drop> Sift<'a, P> {
     /// A sift that has taken no event. The predicate may borrow the same rules. It takes no memory yet.
     pub fn new(alloc: Global, rules: &'a Rules, predicate: P) -> Self
         requires callable { P.IsAlwaysCallable predicate }
-        requires faithful { (row : _) (answer : Result Bool _) → P.post predicate row answer → IfOk answer (λ kept. kept ≡ keeps rules.now row.now) }
-        ensures rules { result.rules.now ≡ rules.now }
-        ensures predicate { result.predicate ≡ predicate }
-        ensures taken { Holds result.held [] }
+        requires faithful { IsFaithful (P.post predicate) rules.now }
+        ensures rules { rules_of result ≡ rules.now }
+        ensures predicate { predicate_of result ≡ predicate }
+        ensures taken { HasSifted result [] }
     {
         Sift {
             alloc,
@@ -49,18 +49,18 @@ impl<'a, P: Fn(&Row) -> Result<bool, NoMemory> + Drop> Sift<'a, P> {
 
     // Whether the part's row is kept, by the predicate.
     fn is_kept(&self, row: &Row) -> Result<bool, NoMemory>
-        requires callable { P.IsAlwaysCallable self.now.predicate }
-        requires faithful { (row : _) (answer : Result Bool _) → P.post self.now.predicate row answer → IfOk answer (λ kept. kept ≡ keeps self.now.rules.now row.now) }
-        ensures { IfOk result (λ kept. kept ≡ keeps self.now.rules.now row.now) }
+        requires callable { P.IsAlwaysCallable (predicate_of self.now) }
+        requires faithful { IsFaithful (P.post (predicate_of self.now)) (rules_of self.now) }
+        ensures { IfOk result (λ kept. kept ≡ keeps (rules_of self.now) row.now) }
     {
         (self.predicate)(row)
     }
 
     // The events of the part of the test that ended so at this instant, where its row is kept, else none.
     fn if_kept(&self, key: TestKey, ended: Ended, end: Option<u64>, part: Part) -> Result<Vec<Event>, NoMemory>
-        requires callable { P.IsAlwaysCallable self.now.predicate }
-        requires faithful { (row : _) (answer : Result Bool _) → P.post self.now.predicate row answer → IfOk answer (λ kept. kept ≡ keeps self.now.rules.now row.now) }
-        ensures { IfOk result (λ events. events.items ≡ if_kept (keeps self.now.rules.now) (row_of key ended (parts.elapsed (parts.start_of part) end) part) part) }
+        requires callable { P.IsAlwaysCallable (predicate_of self.now) }
+        requires faithful { IsFaithful (P.post (predicate_of self.now)) (rules_of self.now) }
+        ensures { IfOk result (λ events. events.items ≡ if_kept (keeps (rules_of self.now)) (row_of key ended (parts.elapsed (parts.start_of part) end) part) part) }
     {
         let nanos = elapsed(start_of(part.events()), end);
         let row = part_row(self.alloc, key, ended, nanos, part.events())?;
@@ -73,12 +73,12 @@ impl<'a, P: Fn(&Row) -> Result<bool, NoMemory> + Drop> Sift<'a, P> {
 
     // Takes the event, which completes its test.
     fn complete(&mut self, key: TestKey, ended: Ended, event: Event) -> Result<Vec<Event>, NoMemory>
-        requires callable { P.IsAlwaysCallable self.old.predicate }
-        requires faithful { (row : _) (answer : Result Bool _) → P.post self.old.predicate row answer → IfOk answer (λ kept. kept ≡ keeps self.old.rules.now row.now) }
-        ensures released { (seen : List AnEvent) → Holds self.old.held seen → IfOk result (λ events. events.items ≡ if_kept (keeps self.old.rules.now) (completed_part_row key ended seen event) (part_with key seen event)) }
+        requires callable { P.IsAlwaysCallable (predicate_of self.old) }
+        requires faithful { IsFaithful (P.post (predicate_of self.old)) (rules_of self.old) }
+        ensures released { (seen : List AnEvent) → HasSifted self.old seen → IfOk result (λ events. events.items ≡ if_kept (keeps (rules_of self.old)) (completed_part_row key ended seen event) (part_with key seen event)) }
         ensures taken { OnOk result (parts_in self.new.held ≡ map.remove (parts_in self.old.held) key) }
-        ensures rules { self.new.rules.now ≡ self.old.rules.now }
-        ensures predicate { self.new.predicate ≡ self.old.predicate }
+        ensures rules { rules_of self.new ≡ rules_of self.old }
+        ensures predicate { predicate_of self.new ≡ predicate_of self.old }
     {
         let end = instant_of(&event);
         let part = self.held.finish(&key, event)?;
@@ -91,12 +91,12 @@ impl<'a, P: Fn(&Row) -> Result<bool, NoMemory> + Drop> Sift<'a, P> {
     /// `NoMemory` comes only for want of memory. The sift is given up then: its rules and its predicate are as before,
     /// and of the events that it held nothing is known.
     pub fn add(&mut self, event: Event) -> Result<Vec<Event>, NoMemory>
-        requires callable { P.IsAlwaysCallable self.old.predicate }
-        requires faithful { (row : _) (answer : Result Bool _) → P.post self.old.predicate row answer → IfOk answer (λ kept. kept ≡ keeps self.old.rules.now row.now) }
-        ensures released { (seen : List AnEvent) → Holds self.old.held seen → IfOk result (λ events. events.items ≡ released (keeps self.old.rules.now) seen event) }
-        ensures taken { (seen : List AnEvent) → Holds self.old.held seen → OnOk result (Holds self.new.held (seen ++ event ∷ [])) }
-        ensures rules { self.new.rules.now ≡ self.old.rules.now }
-        ensures predicate { self.new.predicate ≡ self.old.predicate }
+        requires callable { P.IsAlwaysCallable (predicate_of self.old) }
+        requires faithful { IsFaithful (P.post (predicate_of self.old)) (rules_of self.old) }
+        ensures released { (seen : List AnEvent) → HasSifted self.old seen → IfOk result (λ events. events.items ≡ released (keeps (rules_of self.old)) seen event) }
+        ensures taken { (seen : List AnEvent) → HasSifted self.old seen → OnOk result (HasSifted self.new (seen ++ event ∷ [])) }
+        ensures rules { rules_of self.new ≡ rules_of self.old }
+        ensures predicate { predicate_of self.new ≡ predicate_of self.old }
     {
         let Some(key) = key_of(&event)? else {
             return only(self.alloc, event);
@@ -112,9 +112,9 @@ impl<'a, P: Fn(&Row) -> Result<bool, NoMemory> + Drop> Sift<'a, P> {
 
     // The events of the open tests that are kept.
     fn release(&self, held: Held) -> Result<Vec<Event>, NoMemory>
-        requires callable { P.IsAlwaysCallable self.now.predicate }
-        requires faithful { (row : _) (answer : Result Bool _) → P.post self.now.predicate row answer → IfOk answer (λ kept. kept ≡ keeps self.now.rules.now row.now) }
-        ensures { (seen : List AnEvent) → Holds held seen → IfOk result (λ events. events.items ≡ released_at_end (keeps self.now.rules.now) seen) }
+        requires callable { P.IsAlwaysCallable (predicate_of self.now) }
+        requires faithful { IsFaithful (P.post (predicate_of self.now)) (rules_of self.now) }
+        ensures { (seen : List AnEvent) → Holds held seen → IfOk result (λ events. events.items ≡ released_at_end (keeps (rules_of self.now)) seen) }
     {
         let mut events = Vec::new(self.alloc);
         for (key, part) in held.into_parts() {
@@ -128,9 +128,9 @@ impl<'a, P: Fn(&Row) -> Result<bool, NoMemory> + Drop> Sift<'a, P> {
     ///
     /// `NoMemory` comes only for want of memory. The sift is given up then too.
     pub fn close(self) -> Result<Vec<Event>, NoMemory>
-        requires callable { P.IsAlwaysCallable self.predicate }
-        requires faithful { (row : _) (answer : Result Bool _) → P.post self.predicate row answer → IfOk answer (λ kept. kept ≡ keeps self.rules.now row.now) }
-        ensures { (seen : List AnEvent) → Holds self.entry.held seen → IfOk result (λ events. events.items ≡ released_at_end (keeps self.entry.rules.now) seen) }
+        requires callable { P.IsAlwaysCallable (predicate_of self) }
+        requires faithful { IsFaithful (P.post (predicate_of self)) (rules_of self) }
+        ensures { (seen : List AnEvent) → HasSifted self.entry seen → IfOk result (λ events. events.items ≡ released_at_end (keeps (rules_of self.entry)) seen) }
     {
         let Sift {
             alloc,

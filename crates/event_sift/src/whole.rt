@@ -4,7 +4,7 @@ ghost use Rattle.std.specs.Prelude.{◌≡◌, List, Result, Bool, ◌∷◌, �
 ghost use Rattle.packet_codec.specs.declared.event.Event.{Event as AnEvent};
 ghost use Rattle.event_sift.specs.Keeping.{keeps};
 ghost use Rattle.event_sift.specs.Released.{filtered, released_by};
-ghost use Rattle.event_sift.specs.Sifted.{Holds};
+ghost use Rattle.event_sift.specs.Sifted.{HasSifted, IsFaithful, predicate_of, rules_of};
 
 use crate::rules::{Rules, keep};
 use crate::sift::Sift;
@@ -15,12 +15,12 @@ use sub_number::NoMemory;
 
 // Takes the event, and puts what is released now behind what was released before.
 fn take<P: Fn(&Row) -> Result<bool, NoMemory> + Drop>(sift: &mut Sift<'_, P>, event: Event, released: &mut Vec<Event>) -> Result<(), NoMemory>
-    requires callable { P.IsAlwaysCallable sift.old.predicate }
-    requires faithful { (row : _) (answer : Result Bool _) → P.post sift.old.predicate row answer → IfOk answer (λ kept. kept ≡ keeps sift.old.rules.now row.now) }
-    ensures released { (seen : List AnEvent) → Holds sift.old.held seen → released.old.items ≡ released_by (keeps sift.old.rules.now) seen → OnOk result (released.new.items ≡ released_by (keeps sift.old.rules.now) (seen ++ event ∷ [])) }
-    ensures taken { (seen : List AnEvent) → Holds sift.old.held seen → OnOk result (Holds sift.new.held (seen ++ event ∷ [])) }
-    ensures rules { sift.new.rules.now ≡ sift.old.rules.now }
-    ensures predicate { sift.new.predicate ≡ sift.old.predicate }
+    requires callable { P.IsAlwaysCallable (predicate_of sift.old) }
+    requires faithful { IsFaithful (P.post (predicate_of sift.old)) (rules_of sift.old) }
+    ensures released { (seen : List AnEvent) → HasSifted sift.old seen → released.old.items ≡ released_by (keeps (rules_of sift.old)) seen → OnOk result (released.new.items ≡ released_by (keeps (rules_of sift.old)) (seen ++ event ∷ [])) }
+    ensures taken { (seen : List AnEvent) → HasSifted sift.old seen → OnOk result (HasSifted sift.new (seen ++ event ∷ [])) }
+    ensures rules { rules_of sift.new ≡ rules_of sift.old }
+    ensures predicate { predicate_of sift.new ≡ predicate_of sift.old }
 {
     let mut events = sift.add(event)?;
     released.append(&mut events)?;
@@ -29,14 +29,14 @@ fn take<P: Fn(&Row) -> Result<bool, NoMemory> + Drop>(sift: &mut Sift<'_, P>, ev
 
 // Takes the events one after another. Nothing was released before.
 fn take_all<P: Fn(&Row) -> Result<bool, NoMemory> + Drop>(sift: &mut Sift<'_, P>, events: Vec<Event>, released: &mut Vec<Event>) -> Result<(), NoMemory>
-    requires callable { P.IsAlwaysCallable sift.old.predicate }
-    requires faithful { (row : _) (answer : Result Bool _) → P.post sift.old.predicate row answer → IfOk answer (λ kept. kept ≡ keeps sift.old.rules.now row.now) }
-    requires new { Holds sift.old.held [] }
+    requires callable { P.IsAlwaysCallable (predicate_of sift.old) }
+    requires faithful { IsFaithful (P.post (predicate_of sift.old)) (rules_of sift.old) }
+    requires new { HasSifted sift.old [] }
     requires none { released.old.items ≡ [] }
-    ensures released { OnOk result (released.new.items ≡ released_by (keeps sift.old.rules.now) events.items) }
-    ensures taken { OnOk result (Holds sift.new.held events.items) }
-    ensures rules { sift.new.rules.now ≡ sift.old.rules.now }
-    ensures predicate { sift.new.predicate ≡ sift.old.predicate }
+    ensures released { OnOk result (released.new.items ≡ released_by (keeps (rules_of sift.old)) events.items) }
+    ensures taken { OnOk result (HasSifted sift.new events.items) }
+    ensures rules { rules_of sift.new ≡ rules_of sift.old }
+    ensures predicate { predicate_of sift.new ≡ predicate_of sift.old }
 {
     for event in events {
         take(sift, event, released)?;
