@@ -24,3 +24,6 @@ pub use rules::{Rules, keep};
 pub use sift::Sift;
 pub use tagger::Tagger;
 pub use whole::filtered_events;
+
+#[cfg(test)]
+mod tests;

@@ -57,7 +57,13 @@ impl<'a, P: Fn(&Row) -> Result<bool, NoMemory> + Drop> Sift<'a, P> {
     }
 
     // The events of the part of the test that ended so at this instant, where its row is kept, else none.
-    fn if_kept(&self, key: TestKey, ended: Ended, end: Option<u64>, part: Part) -> Result<Vec<Event>, NoMemory>
+    fn if_kept(
+        &self,
+        key: TestKey,
+        ended: Ended,
+        end: Option<u64>,
+        part: Part,
+    ) -> Result<Vec<Event>, NoMemory>
         requires callable { P.IsAlwaysCallable (predicate_of self.now) }
         requires faithful { IsFaithful (P.post (predicate_of self.now)) (rules_of self.now) }
         ensures { IfOk result (λ events. events.items ≡ if_kept (keeps (rules_of self.now)) (row_of key ended (parts.elapsed (parts.start_of part) end) part) part) }

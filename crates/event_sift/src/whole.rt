@@ -14,7 +14,11 @@ use std::alloc::Global;
 use sub_number::NoMemory;
 
 // Takes the event, and puts what is released now behind what was released before.
-fn take<P: Fn(&Row) -> Result<bool, NoMemory> + Drop>(sift: &mut Sift<'_, P>, event: Event, released: &mut Vec<Event>) -> Result<(), NoMemory>
+fn take<P: Fn(&Row) -> Result<bool, NoMemory> + Drop>(
+    sift: &mut Sift<'_, P>,
+    event: Event,
+    released: &mut Vec<Event>,
+) -> Result<(), NoMemory>
     requires callable { P.IsAlwaysCallable (predicate_of sift.old) }
     requires faithful { IsFaithful (P.post (predicate_of sift.old)) (rules_of sift.old) }
     ensures released { (seen : List AnEvent) → HasSifted sift.old seen → released.old.items ≡ released_by (keeps (rules_of sift.old)) seen → OnOk result (released.new.items ≡ released_by (keeps (rules_of sift.old)) (seen ++ event ∷ [])) }
@@ -28,7 +32,11 @@ fn take<P: Fn(&Row) -> Result<bool, NoMemory> + Drop>(sift: &mut Sift<'_, P>, ev
 }
 
 // Takes the events one after another. Nothing was released before.
-fn take_all<P: Fn(&Row) -> Result<bool, NoMemory> + Drop>(sift: &mut Sift<'_, P>, events: Vec<Event>, released: &mut Vec<Event>) -> Result<(), NoMemory>
+fn take_all<P: Fn(&Row) -> Result<bool, NoMemory> + Drop>(
+    sift: &mut Sift<'_, P>,
+    events: Vec<Event>,
+    released: &mut Vec<Event>,
+) -> Result<(), NoMemory>
     requires callable { P.IsAlwaysCallable (predicate_of sift.old) }
     requires faithful { IsFaithful (P.post (predicate_of sift.old)) (rules_of sift.old) }
     requires new { HasSifted sift.old [] }
