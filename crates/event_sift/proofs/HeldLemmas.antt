@@ -1,5 +1,5 @@
 -- The events of the open tests, event by event.
-use Rattle.std.proofs.Common.{◌≡◌, Bool, true, false, cond, List, [], ◌∷◌, ◌++◌, Option, Some, None, map, is_some, refl, sym, ◌∙◌, ap}
+use Rattle.std.proofs.Common.{◌≡◌, Bool, true, false, cond, List, [], ◌∷◌, ◌++◌, Option, Some, None, is_some, refl, sym, ◌∙◌, ap}
 use Rattle.std.specs.BTreeMap.{is_at}
 use Rattle.std.specs.Map.{lookup}
 use Rattle.std.specs.FinMap as fin
@@ -9,9 +9,9 @@ use Rattle.std.specs.Option.{unwrap_or}
 use Rattle.packet_codec.specs.declared.event.Event.{Event}
 use Rattle.outcome_fold.specs.declared.ended.Ended.{Ended}
 use Rattle.outcome_fold.specs.declared.test_key.TestKey.{TestKey}
-use Rattle.outcome_fold.specs.Order.{test_cmp, table}
-use Rattle.outcome_fold.specs.Parts.{test_of, speaks_of, events_of_test, ended_by, completes, last_part}
-use Rattle.outcome_fold.specs.Rows.{is_part, is_open, open_tests, part_with}
+use Rattle.outcome_fold.specs.Order.{test_cmp}
+use Rattle.outcome_fold.specs.Parts.{test_of, speaks_of, events_of_test, ended_by, completes}
+use Rattle.outcome_fold.specs.Rows.{is_part, open_tests, part_with}
 use Rattle.outcome_fold.proofs.OrderLemmas.{tests_total, exact_tests}
 use Rattle.outcome_fold.proofs.TableLemmas.{tied_is, get-table, inserted, lookup_in_map}
 use Rattle.outcome_fold.proofs.FoldLemmas.{last_part_ends, last_part_goes, among_open}

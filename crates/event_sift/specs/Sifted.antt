@@ -5,7 +5,6 @@ use Rattle.std.specs.FinMap as fin
 use Rattle.std.specs.FinMap.{FinMap}
 use Rattle.packet_codec.specs.declared.event.Event.{Event}
 use Rattle.outcome_fold.specs.declared.row.Row.{Row}
-use Rattle.outcome_fold.specs.declared.test_key.TestKey.{TestKey}
 use Rattle.outcome_fold.specs.Order.{test_cmp, table}
 use Rattle.outcome_fold.specs.Rows.{open_tests}
 use Rattle.event_sift.specs.declared.rules.Rules.{Rules}

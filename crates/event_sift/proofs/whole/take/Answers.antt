@@ -1,6 +1,6 @@
 use Rattle.std.proofs.Common.{sym, ap, ◌∙◌, ◌++◌}
 use Rattle.event_sift.specs.Keeping.{keeps}
-use Rattle.event_sift.specs.Released.{released_by, released}
+use Rattle.event_sift.specs.Released.{released_by}
 use Rattle.event_sift.proofs.SiftLemmas.{released_push}
 use Rattle.event_sift.proofs.whole.take.Goals as goal
 

@@ -1,6 +1,4 @@
-use Rattle.std.proofs.Common.{◌≡◌, sym, ap, ◌∙◌}
-use Rattle.outcome_fold.specs.Parts as parts
-use Rattle.outcome_fold.specs.Rows.{row_of}
+use Rattle.std.proofs.Common.{sym, ◌∙◌}
 use Rattle.event_sift.specs.Keeping.{keeps}
 use Rattle.event_sift.proofs.SiftLemmas.{row_same, is_kept, is_not_kept}
 use Rattle.event_sift.proofs.sift.Sift.if_kept.Goals as goal
