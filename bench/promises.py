@@ -35,7 +35,7 @@ def has_function(crate, word):
 
 def has_clause(crate, word):
     places = CODE[crate] + SPECS[crate]
-    return re.search(r"ensures\*? " + re.escape(word) + r" \{|ghost " + re.escape(word) + r"\b|pub " + re.escape(word) + r" :", places) is not None
+    return re.search(r"(ensures\*?|requires) " + re.escape(word) + r" \{|ghost " + re.escape(word) + r"\b|pub " + re.escape(word) + r" :", places) is not None
 
 
 def rows_of(page):
