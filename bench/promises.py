@@ -68,7 +68,7 @@ def missing(page):
                     yield f"function {word} of {crate}"
             if len(head) > 1 and head[1] in ("Clause", "Clauses"):
                 for word in ticked(cells[1]):
-                    if re.fullmatch(r"[a-z_.]+", word) and not has_clause(crate, word.split(".")[-1]):
+                    if re.fullmatch(r"[a-z_.]+", word) and not has_function(crate, word) and not has_clause(crate, word.split(".")[-1]):
                         yield f"clause {word} of {cells[0]}"
 
 
