@@ -1,6 +1,6 @@
 #!/bin/sh
-# How long `testr load` takes, and how much memory, on four streams: small events, texts, log lines between events, and
-# heads of packets that are none.
+# How long `testr load` takes, and how much memory, on five streams: small events, texts, log lines between events, and
+# heads of packets that nest in one another and are none, of which the checksum alone tells, or that have many tags.
 # usage: bench/load.sh [RUNS [PERCENT [KIND..]]]: by default each stream is loaded 3 times, at most 20, and has 100
 # percent of its size, at most 1000.
 # Where the variable YARDSTICK names another program that keeps runs in the same way by `YARDSTICK testr load`, it is
@@ -21,8 +21,8 @@ import sys
 
 import streams
 
-SIZES = {"small": 1_000_000, "texts": 50_000, "logs": 1_000_000, "false": 8_000_000}
-EVENTS = {"small": 1, "texts": 6, "logs": 1, "false": 0}
+SIZES = {"small": 1_000_000, "texts": 50_000, "logs": 1_000_000, "sums": 8_000_000, "tags": 8_000_000}
+EVENTS = {"small": 1, "texts": 6, "logs": 1, "sums": 0, "tags": 0}
 LIMIT = 600
 TIME = "/usr/bin/time"
 

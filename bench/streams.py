@@ -6,7 +6,9 @@ usage: streams.py KIND COUNT >STREAM
   small COUNT   COUNT events: each test is in progress and then ends, both with a time
   texts COUNT   COUNT tests, each with a text of 4096 bytes in four pieces
   logs COUNT    COUNT events as in small, and log lines between them, which are a third of the bytes
-  false COUNT   COUNT bytes of heads of packets that are none
+  sums COUNT    COUNT bytes: heads of packets that nest in one another, each as long as can be, and zeros behind them.
+                Their lengths are right, and the checksum alone tells that there is no packet
+  tags COUNT    the same with heads that tell of millions of tags each
 """
 import struct
 import sys
@@ -99,16 +101,22 @@ def logs(count):
                 place % 60, place % 1000, place % 4, AREAS[place % 8], place, place % 900)
 
 
-def false(count):
-    head = b"\xb3\x29\x03\xbf\xff\xff"
-    whole = head * (BATCH // len(head))
-    while count:
-        part = whole[:count]
-        count -= len(part)
-        yield part
+def nested(unit, count):
+    """Heads in the first half, and zeros in the second."""
+    heads = count // 2 // len(unit)
+    yield unit * heads
+    yield bytes(count - heads * len(unit))
 
 
-KINDS = {"small": small, "texts": texts, "logs": logs, "false": false}
+def sums(count):
+    return nested(b"\xb3\x20\x40\xbf\xff\xff\x00\xbf\xff\xf1", count)
+
+
+def tags(count):
+    return nested(b"\x09\xb3\x20\x80\xbf\xff\xff\xbf\xff\xff", count)
+
+
+KINDS = {"small": small, "texts": texts, "logs": logs, "sums": sums, "tags": tags}
 
 
 def write(file, pieces):

@@ -183,23 +183,20 @@ fn foreign_size(reader: &mut Reader) -> Option<usize>
     }
 }
 
-// 300,000 foreign bytes: a full note as soon as there are enough, and the rest at the end.
 #[test]
-fn few_foreign_bytes_are_held(rt: HostRuntime) -> Result<(), Fail> {
+fn foreign_notes_of_300000_bytes(rt: HostRuntime) -> Result<(), Fail> {
     let stream = repeated(rt.alloc(), b"a", 300_000)?;
-    let mut reader = Reader::new(rt.alloc()).ok().ok_or("no memory")?;
-    for piece in stream.chunks(65_536) {
-        fed(&mut reader, piece).ok_or("no room")?;
-        if piece.len() == 65_536 {
-            assert_eq!(rt; foreign_size(&mut reader), Some(65_536));
-        }
-        assert_eq!(rt; foreign_size(&mut reader), None);
-        assert!(rt; reader.held() <= MOST_HELD);
-    }
-    assert_eq!(rt; reader.held(), 37_856);
-    reader.finish();
-    assert_eq!(rt; foreign_size(&mut reader), Some(37_856));
-    assert_eq!(rt; foreign_size(&mut reader), None);
+    let full = repeated(rt.alloc(), b"a", 65_536)?;
+    let last = repeated(rt.alloc(), b"a", 37_856)?;
+    let notes = notes_of(rt.alloc(), &stream, 65_536)?;
+    let wanted = [
+        Wanted::Foreign(&full),
+        Wanted::Foreign(&full),
+        Wanted::Foreign(&full),
+        Wanted::Foreign(&full),
+        Wanted::Foreign(&last),
+    ];
+    assert!(rt; are_wanted(&notes, &wanted));
     Ok(())
 }
 
@@ -213,31 +210,33 @@ fn the_most_bytes_are_held(rt: HostRuntime) -> Result<(), Fail> {
         .ok_or("no memory")?;
     stream.resize(MOST_HELD, 0).ok().ok_or("no memory")?;
     let mut reader = Reader::new(rt.alloc()).ok().ok_or("no memory")?;
-    for piece in stream.chunks(4_096) {
-        fed(&mut reader, piece).ok_or("no room")?;
-        assert_eq!(rt; foreign_size(&mut reader), None);
-    }
+    fed(&mut reader, &stream).ok_or("no room")?;
+    assert!(rt; foreign_size(&mut reader).is_none());
     assert_eq!(rt; reader.held(), MOST_HELD);
     fed(&mut reader, b"x").ok_or("no room")?;
-    assert_eq!(rt; foreign_size(&mut reader), Some(65_536));
+    assert!(rt; foreign_size(&mut reader) == Some(65_536));
     Ok(())
 }
 
-// Candidates that nest in one another, each of which fills its claim exactly: in the first kind the checksum alone
-// tells that there is no packet, in the second each walks along millions of tags of one byte.
+// Candidates for the longest packet that nest in one another, with zeros behind, so that each is whole.
+fn nested(alloc: Global, unit: &[u8]) -> Result<usize, Fail> {
+    let mut stream = repeated(alloc, unit, 200)?;
+    stream.resize(4_300_000, 0).ok().ok_or("no memory")?;
+    Ok(notes_of(alloc, &stream, 65_536)?.len())
+}
+
+// In the first kind the checksum alone tells that there is no packet, in the second each tells of millions of tags.
 #[test]
 fn candidates_that_nest(rt: HostRuntime) -> Result<(), Fail> {
-    let units: [&[u8]; 2] = [
-        b"\xb3\x20\x40\xbf\xff\xff\x00\xbf\xff\xf1",
-        b"\x09\xb3\x20\x80\xbf\xff\xff\xbf\xff\xff",
-    ];
-    for unit in units {
-        let mut stream = repeated(rt.alloc(), unit, 200)?;
-        stream.resize(4_300_000, 0).ok().ok_or("no memory")?;
-        let notes = notes_of(rt.alloc(), &stream, 65_536)?;
-        assert_eq!(rt; notes.len(), 66);
-        assert!(rt; matches!(&notes[65], Note::Foreign(bytes) if bytes.bytes().len() == 40_160));
-    }
+    let sums = nested(rt.alloc(), b"\xb3\x20\x40\xbf\xff\xff\x00\xbf\xff\xf1")?;
+    assert_eq!(rt; sums, 66);
+    let tags = nested(rt.alloc(), b"\x09\xb3\x20\x80\xbf\xff\xff\xbf\xff\xff")?;
+    assert_eq!(rt; tags, 66);
+    Ok(())
+}
+
+#[test]
+fn many_packets(rt: HostRuntime) -> Result<(), Fail> {
     let packets = repeated(rt.alloc(), SUCCESS_FOO, 100_000)?;
     assert_eq!(rt; notes_of(rt.alloc(), &packets, 65_536)?.len(), 100_000);
     Ok(())
