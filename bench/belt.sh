@@ -94,7 +94,7 @@ fn put_all<R: Wait>(
     requires { IsPassFor belt.now pass }
     ensures { IsPassFor belt.now result }
 {
-    for _number in 0..each {
+    for _ in 0..each {
         let lot = lot_of(alloc, bytes);
         put_at_last(rt, belt, &mut pass, lot);
     }
@@ -113,7 +113,7 @@ fn take_all<R: Wait>(rt: &R, belt: &Belt, mut taker: Taker, count: u32) -> u64
     requires { IsTakerFor belt.now taker }
 {
     let mut sum = 0u64;
-    for _number in 0..count {
+    for _ in 0..count {
         let (lane, lot) = take_at_last(rt, belt, &mut taker);
         sum = sum.wrapping_add(weight_of(lane, &lot));
     }
@@ -164,7 +164,10 @@ fn goes_over<R: Threads + Wait + Sync>(
 // The number that this word spells, or 0.
 fn number_at<R: Env + AllocGlobal>(rt: &R, place: usize) -> u32 {
     match env::args(rt) {
-        Ok(mut words) => words.nth(place).and_then(|word| word.parse().ok()).unwrap_or(0),
+        Ok(mut words) => match words.nth(place) {
+            Some(word) => word.parse().unwrap_or(0),
+            None => 0,
+        },
         Err(_) => 0,
     }
 }
@@ -198,8 +201,8 @@ ANTT
 }
 kept put_at_last loop IsPassFor pass
 kept take_at_last loop IsTakerFor taker
-kept put_all loop-_number IsPassFor pass
-kept take_all loop-_number IsTakerFor taker
+kept put_all loop IsPassFor pass
+kept take_all loop IsTakerFor taker
 
 cat > "$work/channel.rs" <<'RUST'
 use std::sync::mpsc::{Receiver, SyncSender, sync_channel};

@@ -1,5 +1,5 @@
 -- What the rule says, without the names of passes and lists that it is kept by.
-use Rattle.std.proofs.Common.{◌≡◌, ℕ, ◌+◌, ◌<◌, ◌≤◌, List, [], ◌∷◌, ◌++◌, refl, sym, ◌∙◌, ap, subst, ⊎_elim, ◌⊎◌, inl, inr, arith}
+use Rattle.std.proofs.Common.{◌≡◌, ℕ, ◌<◌, List, [], ◌∷◌, ◌++◌, sym, ◌∙◌, ap, subst, ⊎_elim, ◌⊎◌, inl, inr, arith}
 use Rattle.std.specs.Prelude.{Contains}
 use Rattle.std.specs.List.{AllByRecursion}
 use Rattle.std.proofs.lemmas.List.Elements.{All-contains, All-from_recursion}
@@ -9,9 +9,9 @@ use Rattle.worker_lane.specs.declared.lot.Lot.{Lot}
 use Rattle.worker_mux.specs.declared.knowledge.Parcel.{Parcel}
 use Rattle.worker_mux.specs.declared.knowledge.Settled.{Settled}
 use Rattle.worker_mux.specs.declared.knowledge.Knowledge.{Knowledge}
-use Rattle.worker_mux.specs.declared.knowledge.Knowledge.TheVariants.{Spent, Lane, Taker}
-use Rattle.worker_mux.specs.Rule.{lots_of, HasHolder, IsSettled, HasEachOnce, Knows, Kept, Stood, Accounts, OfLanes}
-use Rattle.worker_mux.proofs.Told.{tells_taker, all_known, left_nil}
+use Rattle.worker_mux.specs.declared.knowledge.Knowledge.TheVariants.{Lane, Taker}
+use Rattle.worker_mux.specs.Rule.{lots_of, IsSettled, HasEachOnce, Kept, Stood, Accounts, OfLanes}
+use Rattle.worker_mux.proofs.Told.{tells_taker, all_known}
 
 pub pass_whole : (n : ℕ) (list : List Lot) (items : List Parcel) → Stood (Lane n list) items → (count : ℕ) × (taken : List Parcel) × (settled : List Settled) × Stood (Taker count taken settled) items × (n < count) × (lots_of n taken ++ lots_of n items ≡ list)
 pass_whole n list items (views, pass, (reader, count, taken, settled, seat, sent, whole), at) =

@@ -8,14 +8,14 @@ use Rattle.std.proofs.lemmas.List.{append-nil}
 use Rattle.std.proofs.lemmas.List.Elements.{Contains-push, Contains-append_left, Contains-append_right}
 use mathlib.Core.Option.{Option, some, none, some-ne-none, some-injective}
 use lib.ListN.{get_elem?}
-use Rattle.crossbeam_queue.specs.Fifo.{Pushes, Pops, Forks, Merges, Learns}
+use Rattle.crossbeam_queue.specs.Fifo.{Pushes, Pops, Forks, Merges}
 use Rattle.crossbeam_queue.proofs.Lists.{at_set, set_here, set_else, at_longer, at_last}
 use Rattle.worker_lane.specs.declared.lot.Lot.{Lot}
 use Rattle.worker_mux.specs.declared.knowledge.Parcel.{Parcel}
 use Rattle.worker_mux.specs.declared.knowledge.Settled.{Settled}
 use Rattle.worker_mux.specs.declared.knowledge.Knowledge.{Knowledge}
 use Rattle.worker_mux.specs.declared.knowledge.Knowledge.TheVariants.{Spent, Lane, Taker}
-use Rattle.worker_mux.specs.Rule.{lots_of, HasHolder, HasEachOnce, Knows, IsSettled, Kept}
+use Rattle.worker_mux.specs.Rule.{lots_of, HasHolder, Knows, IsSettled, Kept}
 use Rattle.worker_mux.proofs.Lists.{changed, changed_here, changed_else, below}
 
 -- the lots of a lane in two lists, one after the other

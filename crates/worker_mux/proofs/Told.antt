@@ -1,5 +1,5 @@
 -- What each step tells, in the form in which the queue's calls ask for it.
-use Rattle.std.proofs.Common.{◌≡◌, ℕ, length, ◌+◌, ◌<◌, ◌≤◌, cond, List, [], ◌∷◌, ◌++◌, set, eqb, refl, sym, ◌∙◌, ap, subst, ⊎_elim, ◌⊎◌, ◌≢◌, zero, suc, arith}
+use Rattle.std.proofs.Common.{◌≡◌, ℕ, length, ◌<◌, ◌≤◌, cond, List, [], ◌∷◌, ◌++◌, set, eqb, refl, sym, ◌∙◌, ap, subst, ⊎_elim, ◌⊎◌, ◌≢◌, arith}
 use Rattle.std.specs.List.{AllByRecursion}
 use Rattle.std.proofs.lemmas.Bool.Decides.{nat_tests}
 use Rattle.std.proofs.lemmas.List.{map-append, length-map, append-nil}
@@ -12,7 +12,7 @@ use Rattle.worker_mux.specs.declared.knowledge.Parcel.{Parcel}
 use Rattle.worker_mux.specs.declared.knowledge.Settled.{Settled}
 use Rattle.worker_mux.specs.declared.knowledge.Knowledge.{Knowledge}
 use Rattle.worker_mux.specs.declared.knowledge.Knowledge.TheVariants.{Spent, Lane, Taker}
-use Rattle.worker_mux.specs.Rule.{lots_of, parcels_of, IsSettled, Kept, Rule, FirstPartsTaken, AllTaken, OfLanes, Stood, Tells, WasAdded, WasTaken, IsLane, IsTaker, put_of, taken_of, settled_of, count_of, with_settled, with_lane, new_lane}
+use Rattle.worker_mux.specs.Rule.{lots_of, parcels_of, IsSettled, Kept, Rule, FirstPartsTaken, AllTaken, Stood, Tells, WasAdded, WasTaken, IsLane, IsTaker, put_of, taken_of, settled_of, count_of, with_settled, with_lane, new_lane}
 use Rattle.worker_mux.proofs.Lists.{below}
 use Rattle.worker_mux.proofs.Steps.{puts, takes, settles, adds}
 

@@ -1,4 +1,3 @@
-use Rattle.std.proofs.Common.{◌≡◌}
 use Rattle.worker_mux.specs.Passes.{IsPassFor}
 use Rattle.worker_mux.proofs.tests.put_at_last.Given as goal
 
