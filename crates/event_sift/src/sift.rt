@@ -21,6 +21,9 @@ use sub_number::NoMemory;
 /// The tests that are open, with their events, and a predicate that says which tests are kept. The predicate answers
 /// what the rules say of a row.
 ///
+/// An event is held from the first one of its test until one completes it, and is moved on as it is. After want of
+/// memory a sift is given up.
+///
 /// A sift is not dropped, since what drops a predicate beside other things can't be stated. It ends by `close` or by
 /// `let_go`.
 pub struct Sift<'a, P: Fn(&Row) -> Result<bool, NoMemory> + Drop> {
@@ -144,6 +147,7 @@ impl<'a, P: Fn(&Row) -> Result<bool, NoMemory> + Drop> Sift<'a, P> {
             predicate,
             held,
         } = self;
+        // The held events are moved out, so that the rest can be given up whatever comes of them.
         let rest = Sift {
             alloc,
             rules,
