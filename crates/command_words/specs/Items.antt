@@ -1,4 +1,4 @@
--- Words cut into options, values and names (docs/FORMATS.md, "Words").
+-- Words cut into options, values and names (docs/COMMANDS.md, "Words").
 use Rattle.std.specs.Prelude.{ℕ, ◌^◌, Bool, not, ◌&&◌, ◌==◌, nat_lt, nat_eq, Option, Some, None, List, [], ◌∷◌, length, map, codes, String, string_bytes, if◌then◌else◌}
 use Rattle.std.specs.List.{list_any, starts_with, before_first, after_first, position_or_len}
 use Rattle.std.specs.Option.{option_map}

@@ -1,7 +1,7 @@
 //! The words of a command line behind the command's name, cut into options, their values and names.
 //!
 //! This room knows how options are written, and nothing of what a command does with them. The rules stand in
-//! docs/FORMATS.md, "Words".
+//! docs/COMMANDS.md, "Words".
 //!
 //! - `table`: which options a command has
 //! - `item`: what words are

@@ -1,4 +1,4 @@
--- What files in order, of which the first are on the disk for good, stand for (docs/FORMATS.md, the shelf).
+-- What files in order, of which the first are on the disk for good, stand for (docs/DISK.md, the shelf).
 use Rattle.std.specs.Prelude.{ℕ, zero, suc, ◌+◌, ◌≤◌, Bool, true, Option, Some, None, List, [], ◌∷◌, take, string_bytes, nat_lt, nat_le, if◌then◌else◌}
 use Rattle.std.specs.Str.{bytes_eq}
 use Rattle.std.proofs.Common.{inl, inr}

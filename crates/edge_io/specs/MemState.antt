@@ -1,4 +1,4 @@
--- The folder that a shelf in memory stands for, and what a stop leaves of it (docs/FORMATS.md, the shelf).
+-- The folder that a shelf in memory stands for, and what a stop leaves of it (docs/DISK.md, the shelf).
 use Rattle.std.specs.Prelude.{◌≡◌, ℕ, ◌<◌, ◌≤◌, Bool, List, [], ◌∷◌, ◌++◌, map, Some, None, if◌then◌else◌}
 use Rattle.edge_io.specs.Disk.{Files, put, Disk, Folder, IsImage, at_rest}
 use Rattle.edge_io.specs.Steps.{moved}

@@ -1,4 +1,4 @@
--- What a stop at each moment of a run of calls may leave (docs/FORMATS.md, the shelf).
+-- What a stop at each moment of a run of calls may leave (docs/DISK.md, the shelf).
 use Rattle.std.specs.Prelude.{◌≡◌, List, [], ◌∷◌, ◌++◌, All}
 use Rattle.edge_io.specs.Disk.{Files, Disk, Folder, IsImage}
 

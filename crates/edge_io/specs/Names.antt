@@ -1,4 +1,4 @@
--- The list of a folder's names (docs/FORMATS.md, the shelf).
+-- The list of a folder's names (docs/DISK.md, the shelf).
 use Rattle.std.specs.Prelude.{IsTrue, ◌≡◌, ◌↔◌, ℕ, ◌≤◌, Option, IfSome, IsSome, List, Contains, Result, Err, OnOk}
 use Rattle.std.specs.BTreeSet.{BTreeSet, contains}
 use Rattle.std.specs.Cmp.Lexicographic.{slice_cmp}

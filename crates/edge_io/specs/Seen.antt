@@ -1,4 +1,4 @@
--- What an object of the outside shows at one moment, and what a call of it does to that (docs/FORMATS.md, faults).
+-- What an object of the outside shows at one moment, and what a call of it does to that (docs/DISK.md, faults).
 use Rattle.std.specs.Prelude.{◌≡◌, ℕ, ◌≤◌, Option, Result, Ok, Err}
 use Rattle.edge_io.specs.Causes.{Rose}
 use Rattle.edge_io.specs.Steps.{Goes}

@@ -1,4 +1,4 @@
--- What the calls of a shelf do to its folder (docs/FORMATS.md, the table of the shelf's calls).
+-- What the calls of a shelf do to its folder (docs/DISK.md, the table of the shelf's calls).
 use Rattle.std.specs.Prelude.{◌≡◌, ◌⊎◌, ℕ, ◌<◌, ◌≤◌, ◌^◌, ⊤, Option, Some, None, IfSome, IsSome, List, [], ◌∷◌, ◌++◌, length, take, drop, ◌==◌}
 use Rattle.std.specs.Option.{option_map}
 use Rattle.edge_io.specs.Causes.{one_more}

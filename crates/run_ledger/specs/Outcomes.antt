@@ -1,4 +1,4 @@
--- What a call that reads the runs of a store says of the store (docs/FORMATS.md, "Faults").
+-- What a call that reads the runs of a store says of the store (docs/DISK.md, "Faults").
 use Rattle.std.specs.Prelude.{◌≡◌, ◌↔◌, Bool, true, false, Option, Some, Result, Ok, Err}
 use Rattle.run_shelf.specs.declared.faults.ShelfCall.{ShelfCall}
 use Rattle.run_shelf.specs.declared.faults.StoreFault.TheVariants.{Shelf, Closed}

@@ -1,4 +1,4 @@
--- When a count of faults may rise, by what a call answered (docs/FORMATS.md, faults).
+-- When a count of faults may rise, by what a call answered (docs/DISK.md, faults).
 use Rattle.std.specs.Prelude.{◌≡◌, ℕ, ◌≤◌, Bool, true, false, Result, Ok, Err}
 use Rattle.edge_io.specs.Causes.{Rose}
 use Rattle.run_shelf.specs.declared.faults.InitFault.{InitFault}

@@ -1,4 +1,4 @@
--- What a stop at a moment may leave of a repository (docs/FORMATS.md, the shelf).
+-- What a stop at a moment may leave of a repository (docs/DISK.md, the shelf).
 use Rattle.std.specs.Prelude.{◌≡◌, ◌⊎◌, ℕ, None, List, [], ◌∷◌, ◌++◌, length}
 use Rattle.edge_io.specs.Disk.{Files, put, Folder, IsImage, at_rest}
 use Rattle.edge_io.specs.Moments.{LeavesOnly, Passes}

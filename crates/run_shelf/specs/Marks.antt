@@ -1,4 +1,4 @@
--- Which runs a list of names has (docs/FORMATS.md, "Files of a store").
+-- Which runs a list of names has (docs/DISK.md, "Files of a store").
 use Rattle.std.specs.Prelude.{◌≡◌, ◌⊎◌, ⊤, ℕ, ◌+◌, ◌<◌, ◌≤◌, Bool, true, false, Option, Some, None, IsSome, List, length, Contains, get_or, slice_get, nat_eq, if◌then◌else◌}
 use Rattle.run_shelf.specs.Repository.{full_name, partial_name, most_runs}
 use Rattle.run_shelf.specs.declared.faults.OpenFault.{OpenFault}

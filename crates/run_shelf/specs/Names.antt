@@ -1,4 +1,4 @@
--- Which names are those of runs (docs/FORMATS.md, "Files of a store").
+-- Which names are those of runs (docs/DISK.md, "Files of a store").
 use Rattle.std.specs.Prelude.{◌≡◌, ℕ, ◌<◌, Bool, List}
 use Rattle.std.specs.Fmt.{decimal}
 use Rattle.run_shelf.specs.Repository.{run_name, most_runs}

@@ -1,4 +1,4 @@
--- What the calls of a store do to the folder, by what they answer (docs/FORMATS.md, "Files of a store").
+-- What the calls of a store do to the folder, by what they answer (docs/DISK.md, "Files of a store").
 use Rattle.std.specs.Prelude.{◌≡◌, ◌⊎◌, ℕ, ◌+◌, ◌≤◌, Bool, None, IsSome, IsSomeAnd, List, length}
 use Rattle.edge_io.specs.Causes.{one_more}
 use Rattle.edge_io.specs.Disk.{Folder, at_rest}

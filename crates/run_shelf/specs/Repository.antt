@@ -1,4 +1,4 @@
--- The runs that the files of a repository show (docs/FORMATS.md, "Files of a store").
+-- The runs that the files of a repository show (docs/DISK.md, "Files of a store").
 use Rattle.std.specs.Prelude.{◌≡◌, ◌≢◌, ℕ, ◌<◌, ◌≤◌, Bool, true, false, Option, Some, None, IsSome, List, [], ◌∷◌, ◌++◌, length, codes, slice_get}
 use Rattle.std.specs.Option.{option_map}
 use Rattle.std.specs.Fmt.{decimal}

@@ -1,4 +1,4 @@
--- The texts that are printed of a run (docs/FORMATS.md, "Printed texts").
+-- The texts that are printed of a run (docs/COMMANDS.md, "Printed texts").
 use Rattle.std.specs.Prelude.{ℕ, ◌+◌, ◌-◌, ◌/◌, ◌%◌, Bool, Option, None, Some, List, [], ◌∷◌, ◌++◌, map, take, length, replicate, codes, nat_eq, if◌then◌else◌, ◌==◌}
 use Rattle.std.specs.List.{filter, flat_map, ends_with}
 use Rattle.std.specs.Fmt.{decimal}

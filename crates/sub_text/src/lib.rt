@@ -1,6 +1,6 @@
 //! The texts that are printed of a run: its report and summary, its failing ids, and its slowest tests.
 //!
-//! The texts stand in docs/FORMATS.md under "Printed texts". `specs/` states each of them as a list of bytes that the
+//! The texts stand in docs/COMMANDS.md under "Printed texts". `specs/` states each of them as a list of bytes that the
 //! rows, ids and numbers decide.
 #![tactic(auto)]
 

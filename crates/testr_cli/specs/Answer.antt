@@ -1,4 +1,4 @@
--- The refusals, each of one step, with its status and its line, which are that step's (docs/FORMATS.md, "Refusals").
+-- The refusals, each of one step, with its status and its line, which are that step's (docs/COMMANDS.md, "Refusals").
 use Rattle.std.specs.Prelude.{ℕ, Option, None, Some, List, Result, Ok, Err}
 use Rattle.run_shelf.specs.declared.faults.InitFault.TheVariants as init_fault
 use Rattle.run_shelf.specs.declared.faults.OpenFault.TheVariants as open_fault

@@ -1,4 +1,4 @@
--- What a stop at each moment of a command leaves (docs/FORMATS.md, the shelf).
+-- What a stop at each moment of a command leaves (docs/DISK.md, the shelf).
 use Rattle.std.specs.Prelude.{◌≡◌, ◌⊎◌, ℕ, Bool, Option, Some, None, IfSome, List}
 use Rattle.edge_io.specs.Disk.{Files, Folder, IsImage}
 use Rattle.edge_io.specs.Steps.{Stays}

@@ -1,4 +1,4 @@
--- Whether the tests of a run passed, and the status that says so (docs/FORMATS.md, "Refusals").
+-- Whether the tests of a run passed, and the status that says so (docs/COMMANDS.md, "Refusals").
 use Rattle.std.specs.Prelude.{ℕ, List, if◌then◌else◌}
 use Rattle.std.specs.List.{list_any}
 use Rattle.outcome_fold.specs.declared.row.Row.{Row}

@@ -1,4 +1,4 @@
--- Which words are a command (docs/FORMATS.md, "Words").
+-- Which words are a command (docs/COMMANDS.md, "Words").
 use Rattle.std.specs.Prelude.{Bool, true, false, Option, Some, None, List, [], ◌∷◌, ℕ, map, codes, String, string_bytes, if◌then◌else◌}
 use Rattle.std.specs.List.{list_all}
 use Rattle.std.specs.Option.{option_map}
