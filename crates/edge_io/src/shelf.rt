@@ -11,7 +11,7 @@ use crate::{Failed, NamesFault};
 use std::alloc::Global;
 use sub_number::Text;
 
-/// A folder of named files, as docs/FORMATS.md describes it. A file is written as a draft, of which there is at most one,
+/// A folder of named files, as docs/DISK.md describes it. A file is written as a draft, of which there is at most one,
 /// brought to the disk by `sync_draft`, given its name by `publish`, and kept over any stop after `sync_folder`. Each call
 /// that answers `Failed` raises the count of faults, which never falls.
 pub trait Shelf {
