@@ -1,5 +1,5 @@
 pub mod PipeLemmas
 pub mod PumpLemmas
 pub mod NotedLemmas
-pub mod StepLemmas
 pub mod EventLemmas
+pub mod NotedPrefix

@@ -56,7 +56,7 @@ pumped_prefix sees ends first one before after (Err Input) bytes all status told
     let (rest, is) = told_front _ _ bytes p.bytes told p.moved.took in
     let (behind, front) = first_of sees ends first bytes p.bytes rest p.text all status is are p.seen whole in
     prefix_by _ _ all p.text behind front p.moved.wrote
-pumped_prefix sees ends first one before after (Err TooLong) bytes all status told are whole p = stopped_prefix sees ends first before after bytes all status told are whole p.0
+pumped_prefix sees ends first one before after (Err TooLong) bytes all status told are whole p = stopped_prefix sees ends first before after bytes all status told are whole p.stops
 pumped_prefix sees ends first one before after (Err Output) bytes all status told are whole p = failed_prefix sees ends first one before after bytes all status told are whole p
 pumped_prefix sees ends first one before after (Err NoMemory) bytes all status told are whole p = stopped_prefix sees ends first before after bytes all status told are whole p
 

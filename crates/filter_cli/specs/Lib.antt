@@ -7,8 +7,6 @@ pub mod ScriptLaws
 pub mod Plan
 pub mod Noted
 pub mod PlanLaws
--- Chains of steps.
-pub mod Steps
 -- The filters.
 pub mod Events
 pub mod Ls

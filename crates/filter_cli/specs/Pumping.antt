@@ -30,6 +30,7 @@ pub record ReadFails (sees : List ℕ → List ℕ → Type 0) (before after : P
   pub bytes : List ℕ
   pub text : List ℕ
   pub moved : Moves bytes text before after
+  pub size : length bytes ≤ most_bytes
   pub seen : sees bytes text
   pub rose : Rose before.input.faults after.input.faults
   pub out : after.out.faults ≡ before.out.faults
@@ -37,6 +38,7 @@ pub record ReadFails (sees : List ℕ → List ℕ → Type 0) (before after : P
 -- It stopped at a piece, with no fault. What was written is what the reads before that piece decide.
 pub record StopsBefore (sees : List ℕ → List ℕ → Type 0) (before after : Pipe) : Type 0 where
   pub front : List ℕ
+  pub few : length front ≤ most_bytes
   pub piece : List ℕ
   pub short : length piece ≤ most_at_once
   pub text : List ℕ
@@ -53,6 +55,7 @@ pub record WriteFails (sees : List ℕ → List ℕ → Type 0) (ends : List ℕ
   pub front : List ℕ
   pub piece : List ℕ
   pub short : length piece ≤ most_at_once
+  pub size : length (front ++ piece) ≤ most_bytes
   pub shown : List ℕ
   pub seen : sees front shown
   pub more : List ℕ
@@ -66,9 +69,15 @@ pub record WriteFails (sees : List ℕ → List ℕ → Type 0) (ends : List ℕ
 abbrev pub IsTooLong : Pipe → Type 0
 IsTooLong before = IfSome before.input.told (λ bytes. most_bytes < length bytes)
 
+-- It stopped at the piece with which more was read than an input may have.
+pub record PassesLimit (sees : List ℕ → List ℕ → Type 0) (before after : Pipe) : Type 0 where
+  pub stops : StopsBefore sees before after
+  pub longer : most_bytes < length (stops.front ++ stops.piece)
+  pub told : IsTooLong before
+
 abbrev pub Pumps : (sees : List ℕ → List ℕ → Type 0) (ends : List ℕ → List ℕ → ℕ → Type 0) → Pipe → Pipe → Result ℕ PumpFault → Type 0
 Pumps sees ends before after (Ok status) = PumpsAll ends before after status
 Pumps sees ends before after (Err Input) = ReadFails sees before after
-Pumps sees ends before after (Err TooLong) = StopsBefore sees before after × IsTooLong before
+Pumps sees ends before after (Err TooLong) = PassesLimit sees before after
 Pumps sees ends before after (Err Output) = WriteFails sees ends before after
 Pumps sees ends before after (Err NoMemory) = StopsBefore sees before after

@@ -13,6 +13,7 @@ returns-in_default g c =
       bytes = fed;
       text = shown;
       moved = record { took = Consumes-kept _ _ _ fed took c.in_default.ensures.bytes; wrote = wrote };
+      size = omega (arith, size, inv.few);
       seen = inv.seen fed shown (g.met.F.Filter.is_seen c.loop-count.filter fed shown has);
       rose = rose_later _ _ _ inv.input c.in_default.ensures.cause.failed;
       out = inv.out;
@@ -24,18 +25,21 @@ returns-then-total-gt-MOST_BYTES g c =
     let (fed, shown, took, wrote, size, has) = inv.read in
     let piece = take c.in-Ok.count c.read.new.buf in
     let all = Consumes-trans _ _ _ fed piece took c.in-Ok.ensures.bytes.0 in
-    let longer : most_bytes < length (fed ++ piece) = omega (arith, size, c.if-total-gt-MOST_BYTES.true, c.in-Ok.ensures.bound.1, length-append fed piece) in (
-      record {
+    let longer : most_bytes < length (fed ++ piece) = omega (arith, size, c.if-total-gt-MOST_BYTES.true, c.in-Ok.ensures.bound.1, length-append fed piece) in
+    record {
+      stops = record {
         front = fed;
+        few = omega (arith, size, inv.few);
         piece = piece;
         short = omega (arith, c.in-Ok.ensures.bound.1, c.in-Ok.ensures.bound.0);
         text = shown;
         moved = record { took = all; wrote = wrote };
         seen = inv.seen fed shown (g.met.F.Filter.is_seen c.loop-count.filter fed shown has);
         faults = record { input = c.in-Ok.ensures.cause.done ∙ inv.input; out = inv.out };
-      },
-      told_longer _ _ (fed ++ piece) most_bytes longer all,
-    )
+      };
+      longer = longer;
+      told = told_longer _ _ (fed ++ piece) most_bytes longer all;
+    }
 
 pub returns-in_default-feed : goal.returns-in_default-feed
 returns-in_default-feed g c =
@@ -44,6 +48,7 @@ returns-in_default-feed g c =
     let piece = take c.in-Ok.count c.read.new.buf in
     record {
       front = fed;
+      few = omega (arith, size, inv.few);
       piece = piece;
       short = omega (arith, c.in-Ok.ensures.bound.1, c.in-Ok.ensures.bound.0);
       text = shown;
@@ -64,6 +69,7 @@ returns-in_default-write_whole g c =
       front = fed;
       piece = piece;
       short = omega (arith, c.in-Ok.ensures.bound.1, c.in-Ok.ensures.bound.0);
+      size = omega (arith, size, c.if-total-gt-MOST_BYTES.false, c.in-Ok.ensures.bound.1, length-append fed piece);
       shown = shown;
       seen = inv.seen fed shown (g.met.F.Filter.is_seen c.loop-count.filter fed shown has);
       more = adds.more;
@@ -106,6 +112,7 @@ returns-in_err-status g c =
     let all = took_none _ _ _ fed _ c.in-Ok.count c.if-count-eq0.true took c.in-Ok.ensures.bytes.0 in
     stopped_by _ _ _ _ _ c.from_residual.ensures.1 (record {
       front = fed;
+      few = omega (arith, size, inv.few);
       piece = [];
       short = omega arith;
       text = shown;
@@ -126,6 +133,7 @@ returns-in_default-write_whole-2 g c =
       front = fed;
       piece = [];
       short = omega arith;
+      size = rw append-nil (omega (arith, size, inv.few));
       shown = shown;
       seen = inv.seen fed shown (g.met.F.Filter.is_seen c.loop-count.filter fed shown has);
       more = adds.more;
