@@ -86,25 +86,42 @@ fn streams_in_pieces_of_every_size(rt: HostRuntime) -> Result<(), Fail> {
     Ok(())
 }
 
+// Whether no note can be told by now.
+fn tells_nothing(reader: &mut Reader) -> bool
+    ensures { reader.new.ended ≡ reader.old.ended }
+{
+    match reader.next() {
+        Ok(None) => true,
+        _ => false,
+    }
+}
+
 #[test]
 fn a_packet_is_held_back_until_it_is_whole(rt: HostRuntime) -> Result<(), Fail> {
-    let stream = b"ab\xb3\x29\x03\x0c\x03foo\x45\x9d\xfe\x10";
     let mut reader = Reader::new(rt.alloc()).ok().ok_or("no memory")?;
-    fed(&mut reader, &stream[..3]).ok_or("no room")?;
-    assert!(rt; reader.next().ok().ok_or("no memory")?.is_none());
-    fed(&mut reader, &stream[3..13]).ok_or("no room")?;
-    assert!(rt; reader.next().ok().ok_or("no memory")?.is_none());
+    fed(&mut reader, b"ab\xb3\x29\x03\x0c\x03foo\x45\x9d\xfe").ok_or("no room")?;
+    assert!(rt; tells_nothing(&mut reader));
     assert_eq!(rt; reader.held(), 13);
-    fed(&mut reader, &stream[13..]).ok_or("no room")?;
+    reader.finish();
+    assert!(rt; !tells_nothing(&mut reader));
+    assert_eq!(rt; reader.held(), 0);
+    Ok(())
+}
+
+#[test]
+fn notes_are_given_in_turn(rt: HostRuntime) -> Result<(), Fail> {
+    let mut reader = Reader::new(rt.alloc()).ok().ok_or("no memory")?;
+    fed(&mut reader, b"ab\xb3\x29\x03\x0c\x03foo\x45\x9d\xfe\x10").ok_or("no room")?;
     let first = reader.next().ok().ok_or("no memory")?.ok_or("no note")?;
     assert!(rt; is_wanted(&first, Wanted::Foreign(b"ab")));
     assert_eq!(rt; reader.held(), 12);
     let second = reader.next().ok().ok_or("no memory")?.ok_or("no note")?;
     assert!(rt; is_wanted(&second, Wanted::PassedFoo));
     assert_eq!(rt; reader.held(), 0);
+    assert!(rt; tells_nothing(&mut reader));
     reader.finish();
     reader.finish();
-    assert!(rt; reader.next().ok().ok_or("no memory")?.is_none());
+    assert!(rt; tells_nothing(&mut reader));
     Ok(())
 }
 
@@ -123,7 +140,7 @@ fn foreign_bytes_are_cut_every_65536(rt: HostRuntime) -> Result<(), Fail> {
     let stream = repeated(rt.alloc(), b"a", 65_537)?;
     let mut reader = Reader::new(rt.alloc()).ok().ok_or("no memory")?;
     fed(&mut reader, &short).ok_or("no room")?;
-    assert!(rt; reader.next().ok().ok_or("no memory")?.is_none());
+    assert!(rt; tells_nothing(&mut reader));
     for size in [1_000, 65_535, 65_536, 65_537] {
         let notes = notes_of(rt.alloc(), &stream, size)?;
         assert!(rt;
@@ -173,16 +190,6 @@ fn the_longest_packet_is_one_note(rt: HostRuntime) -> Result<(), Fail> {
     Ok(())
 }
 
-// How many bytes the next note has, if it is a foreign one.
-fn foreign_size(reader: &mut Reader) -> Option<usize>
-    ensures { reader.new.ended ≡ reader.old.ended }
-{
-    match reader.next().ok()?? {
-        Note::Foreign(bytes) => Some(bytes.bytes().len()),
-        Note::Event(_) => None,
-    }
-}
-
 #[test]
 fn foreign_notes_of_300000_bytes(rt: HostRuntime) -> Result<(), Fail> {
     let stream = repeated(rt.alloc(), b"a", 300_000)?;
@@ -201,20 +208,24 @@ fn foreign_notes_of_300000_bytes(rt: HostRuntime) -> Result<(), Fail> {
 }
 
 // As many bytes as can be held where no note is told: 65,535 foreign ones, and a packet of which one byte is to come.
-#[test]
-fn the_most_bytes_are_held(rt: HostRuntime) -> Result<(), Fail> {
-    let mut stream = repeated(rt.alloc(), b"a", 65_535)?;
+fn most_held(alloc: Global) -> Result<Vec<u8>, Fail> {
+    let mut stream = repeated(alloc, b"a", 65_535)?;
     stream
         .extend_from_slice(LONGEST_HEADER)
         .ok()
         .ok_or("no memory")?;
-    stream.resize(MOST_HELD, 0).ok().ok_or("no memory")?;
+    let left = repeated(alloc, b"b", 4_194_296)?;
+    stream.extend_from_slice(&left).ok().ok_or("no memory")?;
+    Ok(stream)
+}
+
+#[test]
+fn the_most_bytes_are_held(rt: HostRuntime) -> Result<(), Fail> {
+    let stream = most_held(rt.alloc())?;
     let mut reader = Reader::new(rt.alloc()).ok().ok_or("no memory")?;
     fed(&mut reader, &stream).ok_or("no room")?;
-    assert!(rt; foreign_size(&mut reader).is_none());
+    assert!(rt; tells_nothing(&mut reader));
     assert_eq!(rt; reader.held(), MOST_HELD);
-    fed(&mut reader, b"x").ok_or("no room")?;
-    assert!(rt; foreign_size(&mut reader) == Some(65_536));
     Ok(())
 }
 
