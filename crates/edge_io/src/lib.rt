@@ -6,6 +6,7 @@
 //! - `failed`: the answer of a call that failed.
 //! - `source`, `sink`: where bytes come from and go, and the writing of a whole piece.
 //! - `shelf`: a folder, its drafts, and what a stop at each moment may leave of it.
+//! - `job`: what a program is started with.
 //! - `list_source`, `list_sink`, `mem_shelf`: the forms in memory, which fail at the calls that they are told to.
 //! - `names`: the list of a folder's names.
 //! - `plan`, `kept`: which calls of these fail, and the files and moments that a shelf in memory keeps.
@@ -13,6 +14,7 @@
 #![tactic(auto)]
 
 mod failed;
+mod job;
 mod kept;
 mod laws;
 mod list_sink;
@@ -25,6 +27,7 @@ mod sink;
 mod source;
 
 pub use failed::Failed;
+pub use job::{IdFile, Job};
 pub use laws::the_last_moment_is_now;
 pub use list_sink::ListSink;
 pub use list_source::ListSource;

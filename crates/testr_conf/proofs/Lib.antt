@@ -1,0 +1,2 @@
+pub mod WhiteLemmas
+pub mod SearchLemmas

@@ -1,0 +1,23 @@
+-- A text with variables, as the code goes through it.
+use Rattle.std.specs.Prelude.{◌≡◌, ◌≤◌, ◌+◌, ℕ, List, ◌∷◌, ◌++◌, length, take, drop, map}
+use Rattle.sub_number.specs.Texts.{IsText}
+use Rattle.testr_conf.specs.Variables as spec
+use Rattle.testr_conf.specs.declared.variable.Variable.{Variable}
+use Rattle.testr_conf.specs.declared.variable.Values.{Values}
+
+abbrev pub seen_values : Values → spec.Values
+seen_values values =
+    record { id_option = values.id_option.now; id_file = values.id_file.now; id_list = values.id_list.now; list_option = values.list_option.now }
+
+pub record AreTexts (values : spec.Values) : Type 0 where
+  pub id_option : IsText values.id_option
+  pub id_file : IsText values.id_file
+  pub id_list : IsText values.id_list
+  pub list_option : IsText values.list_option
+
+-- the first variable of the text is this one, and its name begins at this place
+pub record FirstVariable (text : List ℕ) (place : ℕ) (v : Variable) : Type 0 where
+  pub name : drop place text ≡ spec.name_of v ++ drop (place + length (spec.name_of v)) text
+  pub in_range : place + length (spec.name_of v) ≤ length text
+  pub pieces : spec.pieces_of text
+      ≡ map spec.byte (take place text) ++ spec.variable v ∷ spec.pieces_of (drop (place + length (spec.name_of v)) text)

@@ -1,0 +1,9 @@
+pub mod White
+pub mod Lines
+pub mod Seen
+pub mod Settings
+pub mod Keys
+pub mod Steps
+pub mod Variables
+pub mod Jobs
+pub mod Filled

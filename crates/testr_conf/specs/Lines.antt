@@ -1,0 +1,76 @@
+-- The lines of a `.testr.conf`, each by itself (docs/FORMATS.md, "The configuration").
+use Rattle.std.specs.Prelude.{ℕ, ◌-◌, Bool, false, ◌&&◌, ◌||◌, not, ◌==◌, nat_eq, List, [], ◌∷◌, length, take, map, slice_range, if◌then◌else◌}
+use Rattle.std.specs.List.{list_any, ends_with, before_first, after_first}
+use Rattle.std.specs.Str.{is_utf8}
+use Rattle.std.specs.Char.{to_ascii_lowercase}
+use Rattle.bstr.specs.Text.{lines_of}
+use Rattle.testr_conf.specs.White.{trimmed, has_bytes}
+
+-- what a line is: refused, skipped, more of the setting above it, the beginning of a section, or a setting with its key
+-- and its value
+pub data Line : Type 0 where
+  bad : Line
+  skipped : Line
+  more : List ℕ → Line
+  section : List ℕ → Line
+  setting : List ℕ → List ℕ → Line
+
+-- UTF-8 without NUL
+abbrev pub is_text : List ℕ → Bool
+is_text bytes = is_utf8 bytes && not (list_any (λ byte. byte == 0) bytes)
+
+abbrev pub begins_by : (ℕ → Bool) → List ℕ → Bool
+begins_by test [] = false
+begins_by test (byte ∷ bytes) = test byte
+
+-- `#` or `;`
+abbrev pub is_comment_sign : ℕ → Bool
+is_comment_sign byte = byte == 35 || byte == 59
+
+-- a space or a tab
+abbrev pub is_indent : ℕ → Bool
+is_indent byte = byte == 32 || byte == 9
+
+-- `[`
+abbrev pub is_bracket : ℕ → Bool
+is_bracket byte = byte == 91
+
+-- `=` or `:`
+abbrev pub is_sign : ℕ → Bool
+is_sign byte = byte == 61 || byte == 58
+
+-- the name of a section is what stands between the brackets, as it is
+abbrev pub section_line : List ℕ → Line
+section_line text = if ends_with nat_eq text (93 ∷ []) then section (slice_range text 1 (length text - 1)) else bad
+
+-- a key does not tell capital letters from small ones
+abbrev pub key_of : List ℕ → List ℕ
+key_of line = map to_ascii_lowercase (trimmed (before_first is_sign line))
+
+-- a key that is not empty, a sign, and the value
+abbrev pub setting_line : List ℕ → Line
+setting_line line =
+    if list_any is_sign line && has_bytes (key_of line) then setting (key_of line) (trimmed (after_first is_sign line))
+    else bad
+
+-- what a line of text is, which is so much without the white space at its ends
+abbrev pub text_line : List ℕ → List ℕ → Line
+text_line line text =
+    if not (has_bytes text) || begins_by is_comment_sign text then skipped
+    else (if begins_by is_indent line then more text
+    else (if begins_by is_bracket line then section_line text
+    else setting_line line))
+
+abbrev pub line_of : List ℕ → Line
+line_of line = if is_text line then text_line line (trimmed line) else bad
+
+-- the bytes without this last byte, where it is theirs
+abbrev pub without_last : ℕ → List ℕ → List ℕ
+without_last byte bytes = if ends_with nat_eq bytes (byte ∷ []) then take (length bytes - 1) bytes else bytes
+
+-- the same of a line with its newline, which is removed, and then a carriage return at its end
+abbrev pub ended_line_of : List ℕ → Line
+ended_line_of line = line_of (without_last 13 (without_last 10 line))
+
+abbrev pub lines_in : List ℕ → List Line
+lines_in text = map ended_line_of (lines_of text)

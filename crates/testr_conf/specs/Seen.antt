@@ -1,0 +1,14 @@
+-- The lines as the code has them.
+use Rattle.std.specs.Prelude.{List, ℕ, map}
+use Rattle.std.specs.Char.{to_ascii_lowercase}
+use Rattle.testr_conf.specs.Lines as spec
+use Rattle.testr_conf.specs.declared.line.Line.{Line}
+use Rattle.testr_conf.specs.declared.line.Line.TheVariants.{Bad, Skipped, More, Section, Setting}
+
+-- the key is compared as if its letters were small
+abbrev pub seen : Line → spec.Line
+seen Bad = spec.bad
+seen Skipped = spec.skipped
+seen (More text) = spec.more text.now
+seen (Section name) = spec.section name.now
+seen (Setting key value) = spec.setting (map to_ascii_lowercase key.now) value.now

@@ -1,0 +1,30 @@
+-- White space, and what stands between it (docs/FORMATS.md, "The configuration").
+use Rattle.std.specs.Prelude.{ℕ, ◌<◌, Bool, ◌||◌, ◌==◌, nat_lt, List, [], ◌∷◌, length, reverse, if◌then◌else◌}
+use Rattle.std.specs.List.{filter, slice_split}
+
+-- a space, a tab, a carriage return, a vertical tab or a form feed
+abbrev pub is_white : ℕ → Bool
+is_white byte = byte == 32 || byte == 9 || byte == 13 || byte == 11 || byte == 12
+
+-- the bytes without the white space at their front
+abbrev pub front_trimmed : List ℕ → List ℕ
+front_trimmed [] = []
+front_trimmed (byte ∷ bytes) = if is_white byte then front_trimmed bytes else byte ∷ bytes
+
+-- the same at their end
+abbrev pub end_trimmed : List ℕ → List ℕ
+end_trimmed bytes = reverse (front_trimmed (reverse bytes))
+
+abbrev pub trimmed : List ℕ → List ℕ
+trimmed bytes = end_trimmed (front_trimmed bytes)
+
+-- what separates the words of a list
+abbrev pub is_gap : ℕ → Bool
+is_gap byte = is_white byte || byte == 10
+
+abbrev pub has_bytes : List ℕ → Bool
+has_bytes bytes = nat_lt 0 (length bytes)
+
+-- the words between white space and newlines, in order
+abbrev pub words_of : List ℕ → List (List ℕ)
+words_of text = filter has_bytes (slice_split is_gap text)

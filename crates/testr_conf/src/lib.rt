@@ -1,0 +1,25 @@
+//! The `.testr.conf` of a project, and the jobs that it asks for.
+//!
+//! - `conf`: the configuration, read from a text, and its jobs.
+//! - `fault`: why no configuration was read, and why no job was made.
+//! - `line`: one line of the text.
+//! - `reading`: the lines one after another.
+//! - `name`, `found`: the keys that are used, and the values found for them.
+//! - `variable`: the variables of a command, and what stands in their place.
+//! - `white`: white space, and the words between it.
+//!
+//! What `specs/` says is the plain meaning: a configuration is a function of its text, and each job one of the settings.
+#![tactic(auto)]
+
+mod conf;
+mod fault;
+mod found;
+mod job;
+mod line;
+mod name;
+mod reading;
+mod variable;
+mod white;
+
+pub use conf::Conf;
+pub use fault::{ConfFault, JobFault, Key};

@@ -1,0 +1,89 @@
+//! One line of a `.testr.conf`.
+
+ghost use Rattle.std.specs.Prelude.{◌≡◌, ◌<◌, length, MatchOption, IsTrue};
+ghost use Rattle.std.specs.List.{position_or_len};
+ghost use Rattle.testr_conf.specs.Lines.{is_text, is_sign, is_comment_sign, begins_by, is_bracket, section_line, setting_line, text_line, line_of, ended_line_of, without_last};
+ghost use Rattle.testr_conf.specs.White.{trimmed};
+ghost use Rattle.testr_conf.specs.Seen.{seen};
+
+use crate::white::trim;
+use memchr::memchr2;
+
+// What a line is.
+#[derive(Clone, Copy)]
+pub(crate) enum Line<'a> {
+    // It is refused, wherever it stands.
+    Bad,
+    // It is empty, or a comment.
+    Skipped,
+    // It continues the setting above it by this text.
+    More(&'a [u8]),
+    // The section of this name begins.
+    Section(&'a [u8]),
+    // A key, and its value.
+    Setting(&'a [u8], &'a [u8]),
+}
+
+fn without_last(byte: u8, bytes: &[u8]) -> &[u8]
+    ensures { result.now ≡ without_last byte bytes.now }
+{
+    match bytes {
+        [before @ .., last] if *last == byte => before,
+        _ => bytes,
+    }
+}
+
+// What the line is, which may end in a newline.
+pub(crate) fn read_line(line: &[u8]) -> Line<'_>
+    ensures { seen result ≡ ended_line_of line.now }
+{
+    let line = without_last(b'\r', without_last(b'\n', line));
+    if sub_number::is_text(line) {
+        read_text_line(line)
+    } else {
+        Line::Bad
+    }
+}
+
+fn read_text_line(line: &[u8]) -> Line<'_>
+    ensures { seen result ≡ text_line line.now (trimmed line.now) }
+{
+    let text = trim(line);
+    match (text.first(), line.first()) {
+        (None | Some(b'#' | b';'), _) => Line::Skipped,
+        (_, Some(b' ' | b'\t')) => Line::More(text),
+        (_, Some(b'[')) => read_section(text),
+        _ => read_setting(line),
+    }
+}
+
+fn read_section(text: &[u8]) -> Line<'_>
+    requires { IsTrue (begins_by is_bracket text.now) }
+    ensures { seen result ≡ section_line text.now }
+{
+    if text.ends_with(b"]") {
+        Line::Section(&text[1..text.len() - 1])
+    } else {
+        Line::Bad
+    }
+}
+
+// The place of the first sign between a key and a value.
+fn find_sign(line: &[u8]) -> Option<usize>
+    ensures { MatchOption result (position_or_len is_sign line.now ≡ length line.now) (λ at. (at ≡ position_or_len is_sign line.now) × (at < length line.now)) }
+{
+    memchr2(b'=', b':', line)
+}
+
+fn read_setting(line: &[u8]) -> Line<'_>
+    ensures { seen result ≡ setting_line line.now }
+{
+    let Some(at) = find_sign(line) else {
+        return Line::Bad;
+    };
+    let key = trim(&line[..at]);
+    if key.is_empty() {
+        return Line::Bad;
+    }
+    Line::Setting(key, trim(&line[at + 1..]))
+}

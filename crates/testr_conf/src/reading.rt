@@ -1,0 +1,159 @@
+//! The lines one after another.
+
+ghost use Rattle.std.specs.Prelude.{◌≡◌, ◌<◌, ◌≤◌, ◌*◌, ◌+◌, ◌⊎◌, [], length, map, OnOk, IfOk, IfErr};
+ghost use Rattle.sub_number.specs.Texts.{IsText};
+ghost use Rattle.std.specs.Char.{to_ascii_lowercase};
+ghost use Rattle.testr_conf.specs.Lines.{lines_in, setting};
+ghost use Rattle.testr_conf.specs.Seen.{seen};
+ghost use Rattle.testr_conf.specs.Settings.{first_fault, settings_of, value_above};
+ghost use Rattle.testr_conf.specs.Keys.{found_of};
+ghost use Rattle.testr_conf.specs.Steps.{place_of, reading_of, fault_at, Takes};
+
+use crate::fault::ConfFault;
+use crate::found::Found;
+use crate::line::{Line, read_line};
+use crate::name::read_name;
+use bstr::ByteSlice;
+use std::alloc::Global;
+use sub_number::{NoMemory, Text, TextFault};
+
+// The section that a line stands in.
+#[derive(Clone, Copy)]
+pub(crate) enum Place {
+    Nowhere,
+    Default,
+    Elsewhere,
+}
+
+// What is known behind some lines.
+#[derive(Drop)]
+pub(crate) struct Reading {
+    place: Place,
+    // Whether a setting has come since the last section line.
+    is_open: bool,
+    found: Found,
+}
+
+fn place_of(name: &[u8]) -> Place
+    ensures { result ≡ place_of (Some name.now) }
+{
+    if name == b"DEFAULT".as_slice() {
+        Place::Default
+    } else {
+        Place::Elsewhere
+    }
+}
+
+// A setting's own value, and the continuations right below it.
+fn join_value(alloc: Global, own: &[u8], below: &[u8]) -> Result<Vec<u8>, NoMemory>
+    ensures { IfOk result (λ value. value.items ≡ value_above own.now (lines_in below.now)) }
+{
+    let mut value = Vec::from_slice(alloc, own)?;
+    let mut lines = below.lines_with_terminator();
+    while let Some(line) = lines.next() {
+        match read_line(line) {
+            Line::More(text) => {
+                value.push(b'\n')?;
+                value.extend_from_slice(text)?;
+            }
+            Line::Skipped => {}
+            Line::Bad | Line::Section(_) | Line::Setting(_, _) => break,
+        }
+    }
+    Ok(value)
+}
+
+// The same as a text.
+fn read_value(alloc: Global, own: &[u8], below: &[u8]) -> Result<Text, NoMemory>
+    ensures { IfOk result (λ value. value ≡ value_above own.now (lines_in below.now)) }
+{
+    let value = join_value(alloc, own, below)?;
+    match Text::new(alloc, &value) {
+        Ok(text) => Ok(text),
+        Err(TextFault::NotText | TextFault::NoMemory) => Err(NoMemory),
+    }
+}
+
+impl Reading {
+    fn new() -> Self
+        ensures { result ≡ reading_of [] [] }
+    {
+        Reading {
+            place: Place::Nowhere,
+            is_open: false,
+            found: Found::new(),
+        }
+    }
+
+    // Keeps the value of a setting of `[DEFAULT]`, if its key is used.
+    fn keep(
+        &mut self,
+        alloc: Global,
+        number: u32,
+        key: &[u8],
+        own: &[u8],
+        below: &[u8],
+    ) -> Result<(), ConfFault>
+        requires { self.old.place ≡ Place.Default }
+        ensures ok { OnOk result (Takes self.old self.new number (setting (map to_ascii_lowercase key.now) own.now) (lines_in below.now)) }
+        ensures err { IfErr result (λ fault. (fault_at self.old number (setting (map to_ascii_lowercase key.now) own.now) ≡ Some fault) ⊎ (fault ≡ ConfFault.NoMemory)) }
+    {
+        self.is_open = true;
+        let Some(name) = read_name(key) else {
+            return Ok(());
+        };
+        if self.found.has(name) {
+            return Err(ConfFault::Repeated(number));
+        }
+        let value = read_value(alloc, own, below)?;
+        self.found.put(name, value);
+        Ok(())
+    }
+
+    // Takes the line of this number, with what stands below it.
+    fn take(
+        &mut self,
+        alloc: Global,
+        number: u32,
+        line: Line<'_>,
+        below: &[u8],
+    ) -> Result<(), ConfFault>
+        ensures ok { OnOk result (Takes self.old self.new number (seen line.entry) (lines_in below.now)) }
+        ensures err { IfErr result (λ fault. (fault_at self.old number (seen line.entry) ≡ Some fault) ⊎ (fault ≡ ConfFault.NoMemory)) }
+    {
+        match (line, self.place) {
+            (Line::Bad, _) => Err(ConfFault::BadLine(number)),
+            (Line::Skipped, _) => Ok(()),
+            (Line::More(_), _) if self.is_open => Ok(()),
+            (Line::More(_), _) => Err(ConfFault::BadLine(number)),
+            (Line::Section(name), _) => {
+                self.place = place_of(name);
+                self.is_open = false;
+                Ok(())
+            }
+            (Line::Setting(_, _), Place::Nowhere) => Err(ConfFault::NoSection(number)),
+            (Line::Setting(_, _), Place::Elsewhere) => {
+                self.is_open = true;
+                Ok(())
+            }
+            (Line::Setting(key, own), Place::Default) => self.keep(alloc, number, key, own, below),
+        }
+    }
+}
+
+// The values that the text gives. The first line that is refused decides.
+pub(crate) fn read_lines(alloc: Global, text: &[u8]) -> Result<Found, ConfFault>
+    requires { length text.now ≤ 16777216 }
+    ensures none { OnOk result (first_fault [] (lines_in text.now) ≡ None) }
+    ensures found { IfOk result (λ found. found ≡ found_of (settings_of (lines_in text.now))) }
+    ensures err { IfErr result (λ fault. (first_fault [] (lines_in text.now) ≡ Some fault) ⊎ (fault ≡ ConfFault.NoMemory)) }
+{
+    let mut reading = Reading::new();
+    let mut lines = text.lines_with_terminator();
+    let mut number: u32 = 0;
+    while let Some(line) = lines.next() {
+        number += 1;
+        reading.take(alloc, number, read_line(line), lines.as_bytes())?;
+    }
+    Ok(reading.found)
+}

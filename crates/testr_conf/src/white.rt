@@ -1,0 +1,85 @@
+//! White space, which is spaces, tabs, carriage returns, vertical tabs and form feeds, and the words between it.
+
+ghost use Rattle.std.specs.Prelude.{◌≡◌, ◌<◌, [], ◌∷◌, ◌++◌, length, IfOk, OnOk, MatchOption};
+ghost use Rattle.std.specs.List.{position_or_len, filter};
+ghost use Rattle.testr_conf.specs.White.{is_white, is_gap, front_trimmed, end_trimmed, trimmed, has_bytes, words_of};
+
+use bstr::ByteSlice;
+use packet_codec::Tags;
+use std::alloc::Global;
+use sub_number::{NoMemory, Text};
+
+fn is_white(byte: u8) -> bool
+    ensures { result ≡ is_white byte }
+{
+    byte == b' ' || byte == b'\t' || byte == b'\r' || byte == 0x0b || byte == 0x0c
+}
+
+fn trim_front(bytes: &[u8]) -> &[u8]
+    ensures { result.now ≡ front_trimmed bytes.now }
+{
+    let mut rest = bytes;
+    while let [first, after @ ..] = rest {
+        if !is_white(*first) {
+            return rest;
+        }
+        rest = after;
+    }
+    rest
+}
+
+fn trim_end(bytes: &[u8]) -> &[u8]
+    ensures { result.now ≡ end_trimmed bytes.now }
+{
+    let mut rest = bytes;
+    while let [before @ .., last] = rest {
+        if !is_white(*last) {
+            return rest;
+        }
+        rest = before;
+    }
+    rest
+}
+
+// The bytes without the white space at both ends.
+pub(crate) fn trim(bytes: &[u8]) -> &[u8]
+    ensures { result.now ≡ trimmed bytes.now }
+{
+    trim_end(trim_front(bytes))
+}
+
+fn find_gap(text: &[u8]) -> Option<usize>
+    ensures { MatchOption result (position_or_len is_gap text.now ≡ length text.now) (λ at. (at ≡ position_or_len is_gap text.now) × (at < length text.now)) }
+{
+    text.find_byteset(b" \t\r\x0b\x0c\n")
+}
+
+// Adds the word, if it is one.
+fn push_word(alloc: Global, word: &[u8], words: &mut Tags) -> Result<(), NoMemory>
+    ensures { OnOk result (words.new ≡ words.old ++ filter has_bytes (word.now ∷ [])) }
+{
+    if word.is_empty() {
+        return Ok(());
+    }
+    let Ok(word) = Text::new(alloc, word) else {
+        return Err(NoMemory);
+    };
+    match words.push(word) {
+        Ok(()) => Ok(()),
+        Err(_) => Err(NoMemory),
+    }
+}
+
+// The words between white space and newlines.
+pub(crate) fn read_words(alloc: Global, text: &[u8]) -> Result<Tags, NoMemory>
+    ensures { IfOk result (λ words. words ≡ words_of text.now) }
+{
+    let mut words = Tags::new(alloc);
+    let mut rest = text;
+    while let Some(at) = find_gap(rest) {
+        push_word(alloc, &rest[..at], &mut words)?;
+        rest = &rest[at + 1..];
+    }
+    push_word(alloc, rest, &mut words)?;
+    Ok(words)
+}
