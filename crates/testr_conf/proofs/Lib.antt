@@ -1,2 +1,11 @@
 pub mod WhiteLemmas
 pub mod SearchLemmas
+pub mod WordLemmas
+pub mod TextLemmas
+pub mod LineLemmas
+pub mod PieceLemmas
+pub mod InnerLemmas
+pub mod KeyLemmas
+pub mod SettingLemmas
+pub mod StandLemmas
+pub mod JobLemmas

@@ -15,9 +15,10 @@ pub record AreTexts (values : spec.Values) : Type 0 where
   pub id_list : IsText values.id_list
   pub list_option : IsText values.list_option
 
--- the first variable of the text is this one, and its name begins at this place
+-- the first variable of the text is this one, and its name begins at this place; what stands in front of it and behind
+-- it are texts where the text is one
 pub record FirstVariable (text : List ℕ) (place : ℕ) (v : Variable) : Type 0 where
-  pub name : drop place text ≡ spec.name_of v ++ drop (place + length (spec.name_of v)) text
   pub in_range : place + length (spec.name_of v) ≤ length text
   pub pieces : spec.pieces_of text
       ≡ map spec.byte (take place text) ++ spec.variable v ∷ spec.pieces_of (drop (place + length (spec.name_of v)) text)
+  pub texts : IsText text → IsText (take place text) × IsText (drop (place + length (spec.name_of v)) text)

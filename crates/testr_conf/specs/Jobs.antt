@@ -1,6 +1,6 @@
 -- The jobs of a configuration (docs/FORMATS.md, "Jobs").
 use Rattle.std.specs.Prelude.{ℕ, Option, None, Some, Result, Ok, Err, List, [], ◌∷◌, ◌++◌, codes, if◌then◌else◌}
-use Rattle.std.specs.List.{flat_map, join_with_byte}
+use Rattle.std.specs.List.{flat_map, join_by}
 use Rattle.std.specs.Option.{option_map, unwrap_or}
 use Rattle.std.specs.Fmt.{decimal}
 use Rattle.edge_io.specs.declared.job.Job.{Job}
@@ -47,17 +47,21 @@ id_file_name lane = codes ".testr-ids." ++ decimal lane
 abbrev pub id_lines : List (List ℕ) → List ℕ
 id_lines ids = flat_map (λ id. id ++ 10 ∷ []) ids
 
+-- with a space between each two
+abbrev pub id_list_of : List (List ℕ) → List ℕ
+id_list_of ids = join_by (λ id. id) (32 ∷ []) ids
+
 abbrev pub id_file_of : List (List ℕ) → ℕ → IdFile
 id_file_of ids lane = record { name = id_file_name lane; bytes = id_lines ids }
 
 -- within the option no option is replaced, so that a `$IDOPTION` there is nothing
 abbrev pub option_values : List (List ℕ) → ℕ → Values
 option_values ids lane =
-    record { id_option = []; id_file = id_file_name lane; id_list = join_with_byte 32 ids; list_option = [] }
+    record { id_option = []; id_file = id_file_name lane; id_list = id_list_of ids; list_option = [] }
 
 abbrev pub ids_values : List ℕ → List (List ℕ) → ℕ → Values
 ids_values option ids lane =
-    record { id_option = filled (option_values ids lane) option; id_file = id_file_name lane; id_list = join_with_byte 32 ids; list_option = [] }
+    record { id_option = filled (option_values ids lane) option; id_file = id_file_name lane; id_list = id_list_of ids; list_option = [] }
 
 abbrev pub ids_job : List ℕ → List ℕ → List (List ℕ) → ℕ → Job
 ids_job command option ids lane =

@@ -1,5 +1,5 @@
 -- The lines of a `.testr.conf`, each by itself (docs/FORMATS.md, "The configuration").
-use Rattle.std.specs.Prelude.{ℕ, ◌-◌, Bool, false, ◌&&◌, ◌||◌, not, ◌==◌, nat_eq, List, [], ◌∷◌, length, take, map, slice_range, if◌then◌else◌}
+use Rattle.std.specs.Prelude.{ℕ, ◌-◌, Bool, false, ◌&&◌, ◌||◌, not, ◌==◌, nat_eq, List, [], ◌∷◌, length, take, drop, map, if◌then◌else◌}
 use Rattle.std.specs.List.{list_any, ends_with, before_first, after_first}
 use Rattle.std.specs.Str.{is_utf8}
 use Rattle.std.specs.Char.{to_ascii_lowercase}
@@ -39,9 +39,9 @@ is_bracket byte = byte == 91
 abbrev pub is_sign : ℕ → Bool
 is_sign byte = byte == 61 || byte == 58
 
--- the name of a section is what stands between the brackets, as it is
+-- what follows `[` ends with `]`, and the name of the section is what stands between, as it is
 abbrev pub section_line : List ℕ → Line
-section_line text = if ends_with nat_eq text (93 ∷ []) then section (slice_range text 1 (length text - 1)) else bad
+section_line behind = if ends_with nat_eq behind (93 ∷ []) then section (take (length behind - 1) behind) else bad
 
 -- a key does not tell capital letters from small ones
 abbrev pub key_of : List ℕ → List ℕ
@@ -58,7 +58,7 @@ abbrev pub text_line : List ℕ → List ℕ → Line
 text_line line text =
     if not (has_bytes text) || begins_by is_comment_sign text then skipped
     else (if begins_by is_indent line then more text
-    else (if begins_by is_bracket line then section_line text
+    else (if begins_by is_bracket line then section_line (drop 1 text)
     else setting_line line))
 
 abbrev pub line_of : List ℕ → Line

@@ -1,9 +1,9 @@
 //! The parts of a job.
 
-ghost use Rattle.std.specs.Prelude.{◌≡◌, ◌<◌, IfOk};
-ghost use Rattle.std.specs.List.{join_with_byte};
+ghost use Rattle.std.specs.Prelude.{◌≡◌, ◌<◌, ◌∷◌, ◌++◌, IfOk, OnOk};
+ghost use Rattle.std.specs.List.{flat_map};
 ghost use Rattle.sub_number.specs.Texts.{IsText};
-ghost use Rattle.testr_conf.specs.Jobs.{plain_job, id_file_name, id_lines, id_file_of};
+ghost use Rattle.testr_conf.specs.Jobs.{plain_job, id_file_name, id_lines, id_list_of, id_file_of};
 
 use edge_io::{IdFile, Job};
 use itoa::Buffer;
@@ -56,17 +56,28 @@ pub(crate) fn id_file(alloc: Global, ids: &IdList, lane: u32) -> Result<IdFile, 
     })
 }
 
-// The ids, with a space between each two.
-pub(crate) fn join_ids(alloc: Global, ids: &[Text]) -> Result<Vec<u8>, NoMemory>
-    ensures value { IfOk result (λ list. list.items ≡ join_with_byte 32 ids.now) }
-    ensures text { IfOk result (λ list. IsText list.items) }
+// Adds each id behind a space.
+fn add_ids(ids: &[Text], list: &mut Vec<u8>) -> Result<(), NoMemory>
+    requires { IsText list.old.items }
+    ensures value { OnOk result (list.new.items ≡ list.old.items ++ flat_map (λ id. 32 ∷ id) ids.now) }
+    ensures text { OnOk result (IsText list.new.items) }
 {
-    let mut list = Vec::new(alloc);
-    for (i, id) in ids.iter().enumerate() {
-        if i > 0 {
-            list.push(b' ')?;
-        }
+    for id in ids {
+        list.push(b' ')?;
         list.extend_from_slice(id.bytes())?;
     }
+    Ok(())
+}
+
+// The ids, with a space between each two.
+pub(crate) fn join_ids(alloc: Global, ids: &[Text]) -> Result<Vec<u8>, NoMemory>
+    ensures value { IfOk result (λ list. list.items ≡ id_list_of ids.now) }
+    ensures text { IfOk result (λ list. IsText list.items) }
+{
+    let Some((first, others)) = ids.split_first() else {
+        return Ok(Vec::new(alloc));
+    };
+    let mut list = Vec::from_slice(alloc, first.bytes())?;
+    add_ids(others, &mut list)?;
     Ok(list)
 }

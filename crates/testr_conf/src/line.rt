@@ -1,8 +1,8 @@
 //! One line of a `.testr.conf`.
 
-ghost use Rattle.std.specs.Prelude.{◌≡◌, ◌<◌, length, MatchOption, IsTrue};
+ghost use Rattle.std.specs.Prelude.{◌≡◌, ◌<◌, length, drop, MatchOption};
 ghost use Rattle.std.specs.List.{position_or_len};
-ghost use Rattle.testr_conf.specs.Lines.{is_text, is_sign, is_comment_sign, begins_by, is_bracket, section_line, setting_line, text_line, line_of, ended_line_of, without_last};
+ghost use Rattle.testr_conf.specs.Lines.{is_sign, section_line, setting_line, text_line, ended_line_of, without_last};
 ghost use Rattle.testr_conf.specs.White.{trimmed};
 ghost use Rattle.testr_conf.specs.Seen.{seen};
 
@@ -58,11 +58,13 @@ fn read_text_line(line: &[u8]) -> Line<'_>
 }
 
 fn read_section(text: &[u8]) -> Line<'_>
-    requires { IsTrue (begins_by is_bracket text.now) }
-    ensures { seen result ≡ section_line text.now }
+    ensures { seen result ≡ section_line (drop 1 text.now) }
 {
-    if text.ends_with(b"]") {
-        Line::Section(&text[1..text.len() - 1])
+    let Some((_, behind)) = text.split_first() else {
+        return Line::Bad;
+    };
+    if behind.ends_with(b"]") {
+        Line::Section(&behind[..behind.len() - 1])
     } else {
         Line::Bad
     }

@@ -1,0 +1,37 @@
+-- The jobs, and the configuration.
+use Rattle.std.proofs.Common.{◌≡◌, ℕ, Bool, true, Option, Some, None, Result, Ok, Err, List, [], refl, sym, ap, ◌∙◌}
+use Rattle.std.specs.Prelude.{codes}
+use Rattle.std.proofs.lemmas.Bool.{cond-true}
+use Rattle.edge_io.specs.declared.job.Job.{Job}
+use Rattle.testr_conf.specs.Lines.{lines_in}
+use Rattle.testr_conf.specs.Settings.{Setting, Settings, settings_of, set_of, with_command, first_fault, unless_refused, conf_of}
+use Rattle.testr_conf.specs.Keys.{found_of}
+use Rattle.testr_conf.specs.Steps.{settled, settled_with}
+use Rattle.testr_conf.specs.Variables.{has_variable, filled}
+use Rattle.testr_conf.specs.Jobs.{list_values, list_job_of, list_job_by, plain_job}
+use Rattle.testr_conf.specs.declared.fault.ConfFault.{ConfFault}
+use Rattle.testr_conf.specs.declared.fault.JobFault.TheVariants.{NoOption}
+use Rattle.testr_conf.specs.declared.fault.Key.TheVariants as key
+use Rattle.testr_conf.specs.declared.found.Found.{Found}
+use Rattle.testr_conf.specs.declared.variable.Variable.TheVariants as name
+
+pub list_told : (settings : Settings) (command option out : List ℕ) (job : Job) → settings.command ≡ command → settings.list_option ≡ Some option
+    → has_variable name.ListOption command ≡ true → out ≡ filled (list_values option) command → job ≡ plain_job out → list_job_of settings ≡ Ok job
+list_told settings command option out job command_is option_is has out_is job_is =
+    ap (list_job_by settings.command) option_is ∙ ap (λ c. list_job_by c (Some option)) command_is
+    ∙ cond-true (has_variable name.ListOption command) (Ok (plain_job (filled (list_values option) command))) (Err (NoOption key.ListOption)) has
+    ∙ ap (λ o. Ok (plain_job o)) (sym out_is) ∙ ap Ok (sym job_is)
+
+same_settled : (command : Option (List ℕ)) (settings : List Setting) → settled_with command (found_of settings) ≡ with_command command settings
+same_settled None settings = refl
+same_settled (Some command) settings = refl
+
+pub conf_told : (text : List ℕ) (found : Found) (said : Result Settings ConfFault) → first_fault [] (lines_in text) ≡ None → found ≡ found_of (settings_of (lines_in text))
+    → settled found ≡ said → conf_of text ≡ said
+conf_told text found said fine found_is is =
+    ap (λ f. unless_refused f (with_command (set_of (codes "test_command") (settings_of (lines_in text))) (settings_of (lines_in text)))) fine
+    ∙ sym (same_settled (set_of (codes "test_command") (settings_of (lines_in text))) (settings_of (lines_in text)))
+    ∙ ap settled (sym found_is) ∙ is
+
+pub conf_refused : (text : List ℕ) (fault : ConfFault) → first_fault [] (lines_in text) ≡ Some fault → conf_of text ≡ Err fault
+conf_refused text fault is = ap (λ f. unless_refused f (with_command (set_of (codes "test_command") (settings_of (lines_in text))) (settings_of (lines_in text)))) is

@@ -1,0 +1,7 @@
+use Rattle.std.proofs.Common.{map}
+use Rattle.testr_conf.specs.Lines.{lines_in, ended_line_of}
+use Rattle.testr_conf.proofs.StandLemmas.{Stands}
+use Rattle.testr_conf.proofs.reading.read_lines.Given as goal
+
+abbrev pub invariant-loop-line : goal.invariant-loop-line
+invariant-loop-line l = Stands (lines_in l.fn.text) (map ended_line_of l.lines) l.number l.reading

@@ -1,0 +1,8 @@
+use Rattle.testr_conf.specs.White.{is_gap}
+use Rattle.bstr.specs.Bytes.{is_in}
+use Rattle.testr_conf.proofs.SearchLemmas.{IsFirstByte-place}
+use Rattle.testr_conf.proofs.WordLemmas.{gap_test}
+use Rattle.testr_conf.proofs.white.find_gap.Goals as goal
+
+pub returns : goal.returns
+returns c = IsFirstByte-place _ is_gap gap_test c.args.text.now c.find_byteset.result c.find_byteset.ensures

@@ -1,0 +1,9 @@
+use Rattle.std.proofs.Common.{◌≡◌, ◌≤◌, ◌++◌, ℕ, length}
+use Rattle.testr_conf.specs.White.{words_of}
+use Rattle.testr_conf.proofs.white.read_words.Given as goal
+
+abbrev pub invariant-loop-at : goal.invariant-loop-at
+invariant-loop-at l = record { read : words_of l.text ≡ l.words ++ words_of l.rest; shorter : length l.rest ≤ length l.text }
+
+abbrev pub decreases-loop-at : goal.decreases-loop-at
+decreases-loop-at l = length l.rest
