@@ -1,5 +1,5 @@
 -- What is known behind some lines.
-use Rattle.std.proofs.Common.{◌≡◌, ◌<◌, ◌≤◌, ◌+◌, ℕ, Bool, true, false, cond, ◌&&◌, Option, Some, None, is_none, List, [], ◌∷◌, ◌++◌, length, map, refl, sym, ap, subst, ◌∙◌, arith, append_assoc}
+use Rattle.std.proofs.Common.{◌≡◌, ◌<◌, ◌≤◌, ◌+◌, ℕ, Bool, true, false, cond, ◌&&◌, Option, Some, None, is_none, List, [], ◌∷◌, ◌++◌, length, map, refl, sym, ap, subst, ◌∙◌, ◌⊎◌, ⊎_elim, inl, inr, arith, append_assoc}
 use Rattle.std.specs.List.{fold, list_any}
 use Rattle.std.specs.Str.{bytes_eq}
 use Rattle.std.proofs.lemmas.List.{append-nil, map-append, length-map, length_push}
@@ -11,7 +11,7 @@ use Rattle.testr_conf.specs.Settings.{Setting, section_after, section_of, is_def
 use Rattle.testr_conf.specs.Keys.{named, found_of}
 use Rattle.testr_conf.specs.Steps.{place_of, reading_of, is_taken, setting_fault, fault_at, kept, known_after, Takes}
 use Rattle.testr_conf.specs.declared.fault.ConfFault.{ConfFault}
-use Rattle.testr_conf.specs.declared.fault.ConfFault.TheVariants.{BadLine, NoSection, Repeated}
+use Rattle.testr_conf.specs.declared.fault.ConfFault.TheVariants.{BadLine, NoSection, Repeated, NoMemory}
 use Rattle.testr_conf.specs.declared.reading.Place.{Place}
 use Rattle.testr_conf.specs.declared.reading.Place.TheVariants.{Nowhere, Default, Elsewhere}
 use Rattle.testr_conf.specs.declared.reading.Reading.{Reading}
@@ -204,3 +204,7 @@ module _ (text : List ℕ) (lines rest : List (List ℕ)) (line : List ℕ) (num
   pub line_fault : (fault : ConfFault) (kind : Line) → kind ≡ ended_line_of line → fault_at reading (number + 1) kind ≡ Some fault → first_fault [] (lines_in text) ≡ Some fault
   line_fault fault kind kind_is is =
       stands_fault (lines_in text) (ended_line_of line) (map ended_line_of rest) number reading here fault (ap (fault_at reading (number + 1)) (sym kind_is) ∙ is)
+
+  pub line_refused : (fault : ConfFault) (kind : Line) → kind ≡ ended_line_of line → (fault_at reading (number + 1) kind ≡ Some fault) ⊎ (fault ≡ NoMemory)
+      → (first_fault [] (lines_in text) ≡ Some fault) ⊎ (fault ≡ NoMemory)
+  line_refused fault kind kind_is h = ⊎_elim (λ is. inl (line_fault fault kind kind_is is)) (λ is. inr is) h

@@ -23,3 +23,6 @@ mod white;
 
 pub use conf::Conf;
 pub use fault::{ConfFault, JobFault, Key};
+
+#[cfg(test)]
+mod tests;

@@ -153,7 +153,10 @@ pub(crate) fn read_lines(alloc: Global, text: &[u8]) -> Result<Found, ConfFault>
     let mut number: u32 = 0;
     while let Some(line) = lines.next() {
         number += 1;
-        reading.take(alloc, number, read_line(line), lines.as_bytes())?;
+        match reading.take(alloc, number, read_line(line), lines.as_bytes()) {
+            Ok(()) => {}
+            Err(fault) => return Err(fault),
+        }
     }
     Ok(reading.found)
 }
