@@ -65,7 +65,7 @@ fn ids_of(alloc: Global, first: &[u8], second: &[u8]) -> Option<IdList> {
 fn runs(
     alloc: Global,
     text: &[u8],
-    ids: &IdList,
+    ids: (&[u8], &[u8]),
     lane: u32,
     command: &[u8],
     name: &[u8],
@@ -73,7 +73,8 @@ fn runs(
 ) -> Option<bool>
     requires { lane < 64 }
 {
-    let job = read(alloc, text)?.run_job(alloc, Some(ids), lane).ok()?;
+    let ids = ids_of(alloc, ids.0, ids.1)?;
+    let job = read(alloc, text)?.run_job(alloc, Some(&ids), lane).ok()?;
     Some(is_job(&job, command, name, lines))
 }
 
@@ -116,11 +117,9 @@ fn the_jobs_of_an_example(rt: HostRuntime) -> Result<(), Fail> {
     let list = b"OS_STDOUT_CAPTURE=${OS_STDOUT_CAPTURE:-1} \\\n${PYTHON:-python} -m subunit.run discover -t ./ . --list ";
     assert_eq!(rt; lists(alloc, WHOLE, list), Some(true));
     let first = b"OS_STDOUT_CAPTURE=${OS_STDOUT_CAPTURE:-1} \\\n${PYTHON:-python} -m subunit.run discover -t ./ .  --load-list .testr-ids.0";
-    let a = ids_of(alloc, b"a", b"").ok_or(Fail)?;
-    assert_eq!(rt; runs(alloc, WHOLE, &a, 0, first, b".testr-ids.0", b"a\n"), Some(true));
+    assert_eq!(rt; runs(alloc, WHOLE, (b"a", b""), 0, first, b".testr-ids.0", b"a\n"), Some(true));
     let second = b"OS_STDOUT_CAPTURE=${OS_STDOUT_CAPTURE:-1} \\\n${PYTHON:-python} -m subunit.run discover -t ./ .  --load-list .testr-ids.1";
-    let b = ids_of(alloc, b"b", b"").ok_or(Fail)?;
-    assert_eq!(rt; runs(alloc, WHOLE, &b, 1, second, b".testr-ids.1", b"b\n"), Some(true));
+    assert_eq!(rt; runs(alloc, WHOLE, (b"b", b""), 1, second, b".testr-ids.1", b"b\n"), Some(true));
     Ok(())
 }
 
@@ -156,8 +155,7 @@ fn settings_go_on_and_comments_do_not_end_them(rt: HostRuntime) -> Result<(), Fa
 #[test]
 fn variables_are_replaced_once(rt: HostRuntime) -> Result<(), Fail> {
     let alloc = rt.alloc();
-    let ids = ids_of(alloc, b"a", b"$IDFILE").ok_or(Fail)?;
     let command = b"$.testr-ids.7 <a $IDFILE>X ${IDLIST} a $IDFILE";
-    assert_eq!(rt; runs(alloc, ODD, &ids, 7, command, b".testr-ids.7", b"a\n$IDFILE\n"), Some(true));
+    assert_eq!(rt; runs(alloc, ODD, (b"a", b"$IDFILE"), 7, command, b".testr-ids.7", b"a\n$IDFILE\n"), Some(true));
     Ok(())
 }
