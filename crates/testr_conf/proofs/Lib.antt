@@ -2,7 +2,9 @@ pub mod WhiteLemmas
 pub mod SearchLemmas
 pub mod WordLemmas
 pub mod TextLemmas
+pub mod TrimLemmas
 pub mod LineLemmas
+pub mod PartLemmas
 pub mod PieceLemmas
 pub mod InnerLemmas
 pub mod KeyLemmas

@@ -144,6 +144,12 @@ pub record Stands (all rest : List Line) (number : ℕ) (reading : Reading) : Ty
 pub stands_begin : (all : List Line) → Stands all all 0 (reading_of [] [])
 stands_begin all = record { before = []; done = []; known = refl; count = refl; faults = refl; settings = refl; keys = refl; size = omega arith }
 
+pub stands_start : (text : List ℕ) (lines : List (List ℕ)) (reading : Reading) → lines ≡ lines_of text → reading ≡ reading_of [] []
+    → Stands (lines_in text) (map ended_line_of lines) 0 reading
+stands_start text lines reading lines_are is =
+    subst (λ l. Stands (lines_in text) (map ended_line_of l) 0 reading) (sym lines_are)
+      (subst (Stands (lines_in text) (lines_in text) 0) (sym is) (stands_begin (lines_in text)))
+
 pub stands_at : (all rest : List Line) (number : ℕ) (reading other : Reading) → other ≡ reading → Stands all rest number reading → Stands all rest number other
 stands_at all rest number reading other is s = subst (Stands all rest number) (sym is) s
 

@@ -2,10 +2,11 @@
 use Rattle.std.proofs.Common.{◌≡◌, ◌<◌, ◌+◌, ◌-◌, ◌==◌, append_assoc, ℕ, Bool, true, false, cond, ◌||◌, List, [], ◌∷◌, ◌++◌, length, take, drop, get_or, refl, sym, ap, subst, ◌∙◌, arith}
 use Rattle.std.specs.List.{filter, slice_split, position_or_len, before_first, after_first, All}
 use Rattle.std.proofs.lemmas.List.Splits.{slice_split_first, slice_split_none}
-use Rattle.std.proofs.lemmas.List.Sums.{fails_before_first}
+use Rattle.std.proofs.lemmas.List.Sums.{fails_before_first, passes_at_first}
 use Rattle.std.proofs.lemmas.List.Elements.{filter-append}
 use Rattle.std.proofs.lemmas.List.{take_rest}
 use Rattle.bstr.specs.Bytes.{is_in}
+use Rattle.testr_conf.proofs.TrimLemmas.{gap_small}
 use Rattle.testr_conf.specs.White.{is_gap, has_bytes, words_of}
 
 pub words_first : (text : List ℕ) (at : ℕ) → at ≡ position_or_len is_gap text → at < length text
@@ -21,6 +22,12 @@ pub words_last : (text : List ℕ) → position_or_len is_gap text ≡ length te
 words_last text none =
     let gaps : All (λ b. is_gap b ≡ false) text = λ k d below. fails_before_first is_gap text k d (omega arith) in
     ap (filter has_bytes) (slice_split_none is_gap text gaps)
+
+-- a gap is ASCII
+pub gap_at : (text : List ℕ) (at : ℕ) → at ≡ position_or_len is_gap text → at < length text → get_or text at 0 < 128
+gap_at text at is in_range =
+    gap_small (get_or text at 0)
+      (ap (λ n. is_gap (get_or text n 0)) is ∙ passes_at_first is_gap text 0 (subst (λ n. n < length text) is in_range))
 
 -- in another order
 or_order : (a b c d e f : Bool) → (a || (b || (c || (d || (e || (f || false)))))) ≡ (((((a || b) || c) || d) || e) || f)

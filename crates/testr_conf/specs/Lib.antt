@@ -1,6 +1,7 @@
 pub mod White
 pub mod Lines
 pub mod Seen
+pub mod Parts
 pub mod Settings
 pub mod Keys
 pub mod Steps

@@ -29,7 +29,8 @@ fn id_file_name(alloc: Global, lane: u32) -> Result<Text, NoMemory>
     name.extend_from_slice(Buffer::new().format(lane).as_bytes())?;
     match Text::new(alloc, &name) {
         Ok(name) => Ok(name),
-        Err(TextFault::NotText | TextFault::NoMemory) => Err(NoMemory),
+        Err(TextFault::NotText) => unreachable!(),
+        Err(TextFault::NoMemory) => Err(NoMemory),
     }
 }
 

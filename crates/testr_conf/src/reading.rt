@@ -1,9 +1,10 @@
 //! The lines one after another.
 
-ghost use Rattle.std.specs.Prelude.{◌≡◌, ◌<◌, ◌≤◌, ◌*◌, ◌+◌, ◌⊎◌, [], length, map, OnOk, IfOk, IfErr};
+ghost use Rattle.std.specs.Prelude.{◌≡◌, ◌<◌, ◌≤◌, ◌+◌, ◌⊎◌, [], length, map, OnOk, IfOk, IfErr};
 ghost use Rattle.sub_number.specs.Texts.{IsText};
 ghost use Rattle.std.specs.Char.{to_ascii_lowercase};
-ghost use Rattle.testr_conf.specs.Lines.{lines_in, setting};
+ghost use Rattle.testr_conf.specs.Lines.{lines_in, more, setting};
+ghost use Rattle.testr_conf.specs.Parts.{FitsWithin};
 ghost use Rattle.testr_conf.specs.Seen.{seen};
 ghost use Rattle.testr_conf.specs.Settings.{first_fault, settings_of, value_above};
 ghost use Rattle.testr_conf.specs.Keys.{found_of};
@@ -46,7 +47,10 @@ fn place_of(name: &[u8]) -> Place
 
 // A setting's own value, and the continuations right below it.
 fn join_value(alloc: Global, own: &[u8], below: &[u8]) -> Result<Vec<u8>, NoMemory>
-    ensures { IfOk result (λ value. value.items ≡ value_above own.now (lines_in below.now)) }
+    requires { IsText own.now }
+    ensures value { IfOk result (λ value. value.items ≡ value_above own.now (lines_in below.now)) }
+    ensures text { IfOk result (λ value. IsText value.items) }
+    ensures room { IfOk result (λ value. length value.items ≤ length own.now + (length below.now + length below.now)) }
 {
     let mut value = Vec::from_slice(alloc, own)?;
     let mut lines = below.lines_with_terminator();
@@ -65,12 +69,15 @@ fn join_value(alloc: Global, own: &[u8], below: &[u8]) -> Result<Vec<u8>, NoMemo
 
 // The same as a text.
 fn read_value(alloc: Global, own: &[u8], below: &[u8]) -> Result<Text, NoMemory>
+    requires own { FitsWithin (more own.now) 16777216 }
+    requires below { length below.now ≤ 16777216 }
     ensures { IfOk result (λ value. value ≡ value_above own.now (lines_in below.now)) }
 {
     let value = join_value(alloc, own, below)?;
     match Text::new(alloc, &value) {
         Ok(text) => Ok(text),
-        Err(TextFault::NotText | TextFault::NoMemory) => Err(NoMemory),
+        Err(TextFault::NotText) => unreachable!(),
+        Err(TextFault::NoMemory) => Err(NoMemory),
     }
 }
 
@@ -94,7 +101,9 @@ impl Reading {
         own: &[u8],
         below: &[u8],
     ) -> Result<(), ConfFault>
-        requires { self.old.place ≡ Place.Default }
+        requires default { self.old.place ≡ Place.Default }
+        requires own { FitsWithin (more own.now) 16777216 }
+        requires below { length below.now ≤ 16777216 }
         ensures ok { OnOk result (Takes self.old self.new number (setting (map to_ascii_lowercase key.now) own.now) (lines_in below.now)) }
         ensures err { IfErr result (λ fault. (fault_at self.old number (setting (map to_ascii_lowercase key.now) own.now) ≡ Some fault) ⊎ (fault ≡ ConfFault.NoMemory)) }
     {
@@ -118,6 +127,8 @@ impl Reading {
         line: Line<'_>,
         below: &[u8],
     ) -> Result<(), ConfFault>
+        requires parts { FitsWithin (seen line) 16777216 }
+        requires below { length below.now ≤ 16777216 }
         ensures ok { OnOk result (Takes self.old self.new number (seen line.entry) (lines_in below.now)) }
         ensures err { IfErr result (λ fault. (fault_at self.old number (seen line.entry) ≡ Some fault) ⊎ (fault ≡ ConfFault.NoMemory)) }
     {

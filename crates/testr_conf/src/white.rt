@@ -2,12 +2,13 @@
 
 ghost use Rattle.std.specs.Prelude.{◌≡◌, ◌<◌, [], ◌∷◌, ◌++◌, length, IfOk, OnOk, MatchOption};
 ghost use Rattle.std.specs.List.{position_or_len, filter};
+ghost use Rattle.sub_number.specs.Texts.{IsShortText};
 ghost use Rattle.testr_conf.specs.White.{is_white, is_gap, front_trimmed, end_trimmed, trimmed, has_bytes, words_of};
 
 use bstr::ByteSlice;
 use packet_codec::Tags;
 use std::alloc::Global;
-use sub_number::{NoMemory, Text};
+use sub_number::{NoMemory, Text, TextFault};
 
 fn is_white(byte: u8) -> bool
     ensures { result ≡ is_white byte }
@@ -56,13 +57,16 @@ fn find_gap(text: &[u8]) -> Option<usize>
 
 // Adds the word, if it is one.
 fn push_word(alloc: Global, word: &[u8], words: &mut Tags) -> Result<(), NoMemory>
+    requires { IsShortText word.now }
     ensures { OnOk result (words.new ≡ words.old ++ filter has_bytes (word.now ∷ [])) }
 {
     if word.is_empty() {
         return Ok(());
     }
-    let Ok(word) = Text::new(alloc, word) else {
-        return Err(NoMemory);
+    let word = match Text::new(alloc, word) {
+        Ok(word) => word,
+        Err(TextFault::NotText) => unreachable!(),
+        Err(TextFault::NoMemory) => return Err(NoMemory),
     };
     match words.push(word) {
         Ok(()) => Ok(()),
@@ -72,6 +76,7 @@ fn push_word(alloc: Global, word: &[u8], words: &mut Tags) -> Result<(), NoMemor
 
 // The words between white space and newlines.
 pub(crate) fn read_words(alloc: Global, text: &[u8]) -> Result<Tags, NoMemory>
+    requires { IsShortText text.now }
     ensures { IfOk result (λ words. words ≡ words_of text.now) }
 {
     let mut words = Tags::new(alloc);
