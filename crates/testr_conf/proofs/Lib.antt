@@ -11,3 +11,4 @@ pub mod KeyLemmas
 pub mod SettingLemmas
 pub mod StandLemmas
 pub mod JobLemmas
+pub mod IdLemmas

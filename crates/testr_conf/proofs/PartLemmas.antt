@@ -46,7 +46,7 @@ module _ (line : List ℕ) (size : ℕ) (text : IsText line) (short : length lin
             (λ bracket. cond_both (ends_with nat_eq (drop 1 (trimmed line)) (93 ∷ [])) (section (take (length (drop 1 (trimmed line)) - 1) (drop 1 (trimmed line)))) bad (λ k. FitsWithin k size) (λ a. tt) (λ b. tt))
             (λ plain. setting_fits)))
 
-without_last_short : (b : ℕ) (bytes : List ℕ) → length (without_last b bytes) ≤ length bytes
+pub without_last_short : (b : ℕ) (bytes : List ℕ) → length (without_last b bytes) ≤ length bytes
 without_last_short b bytes =
     cond_both (ends_with nat_eq bytes (b ∷ [])) (take (length bytes - 1) bytes) bytes (λ l. length l ≤ length bytes)
       (λ a. omega (arith, length-take (length bytes - 1) bytes)) (λ a. omega arith)

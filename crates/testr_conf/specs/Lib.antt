@@ -8,3 +8,4 @@ pub mod Steps
 pub mod Variables
 pub mod Jobs
 pub mod Filled
+pub mod ListedIds

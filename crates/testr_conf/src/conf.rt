@@ -1,6 +1,6 @@
 //! The configuration of a project.
 
-ghost use Rattle.std.specs.Prelude.{◌≡◌, ◌≤◌, ◌<◌, ◌⊎◌, [], length, IfOk, IfErr};
+ghost use Rattle.std.specs.Prelude.{◌≡◌, ◌≤◌, ◌<◌, ◌⊎◌, [], length, IfOk, IfErr, IfSome};
 ghost use Rattle.std.specs.Option.{option_copied, unwrap_or};
 ghost use Rattle.sub_number.specs.Texts.{IsText};
 ghost use Rattle.testr_conf.specs.Settings.{conf_of, unless_empty, words_in};
@@ -147,7 +147,8 @@ impl Conf {
     /// The job that tells how many tests may run at a time, which is `test_run_concurrency` as it is. `None` comes
     /// exactly where that is not set, and `NoMemory` only for want of memory.
     pub fn count_job(&self, alloc: Global) -> Result<Option<Job>, NoMemory>
-        ensures { IfOk result (λ job. job ≡ count_job_of self.now) }
+        ensures job { IfOk result (λ job. job ≡ count_job_of self.now) }
+        ensures text { IfOk result (λ job. IfSome job (λ some. IsText some.command)) }
     {
         let Some(command) = &self.concurrency else {
             return Ok(None);

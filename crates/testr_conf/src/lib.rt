@@ -6,7 +6,9 @@
 //! - `reading`: the lines one after another.
 //! - `name`, `found`: the keys that are used, and the values found for them.
 //! - `variable`: the variables of a command, and what stands in their place.
+//! - `job`: the parts of a job.
 //! - `white`: white space, and the words between it.
+//! - `ids`: lists of ids in a file.
 //!
 //! What `specs/` says is the plain meaning: a configuration is a function of its text, and each job one of the settings.
 #![tactic(auto)]
@@ -14,6 +16,7 @@
 mod conf;
 mod fault;
 mod found;
+mod ids;
 mod job;
 mod line;
 mod name;
@@ -23,6 +26,7 @@ mod white;
 
 pub use conf::Conf;
 pub use fault::{ConfFault, JobFault, Key};
+pub use ids::{IdsFault, read_ids};
 
 #[cfg(test)]
 mod tests;

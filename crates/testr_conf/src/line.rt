@@ -24,7 +24,8 @@ pub(crate) enum Line<'a> {
     Setting(&'a [u8], &'a [u8]),
 }
 
-fn without_last(byte: u8, bytes: &[u8]) -> &[u8]
+// The bytes without this last byte, where it is theirs.
+pub(crate) fn without_last(byte: u8, bytes: &[u8]) -> &[u8]
     ensures { result.now ≡ without_last byte bytes.now }
 {
     match bytes {

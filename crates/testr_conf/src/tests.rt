@@ -2,7 +2,7 @@
 
 ghost use Rattle.std.specs.Prelude.{◌<◌};
 
-use crate::{Conf, ConfFault, JobFault, Key};
+use crate::{Conf, ConfFault, IdsFault, JobFault, Key, read_ids};
 use edge_io::Job;
 use std::alloc::Global;
 use std::test::Fail;
@@ -157,5 +157,34 @@ fn variables_are_replaced_once(rt: HostRuntime) -> Result<(), Fail> {
     let alloc = rt.alloc();
     let command = b"$.testr-ids.7 <a $IDFILE>X ${IDLIST} a $IDFILE";
     assert_eq!(rt; runs(alloc, ODD, (b"a", b"$IDFILE"), 7, command, b".testr-ids.7", b"a\n$IDFILE\n"), Some(true));
+    Ok(())
+}
+
+fn listed(alloc: Global, text: &[u8]) -> Option<IdList> {
+    if text.len() > 16_777_216 {
+        return None;
+    }
+    read_ids(alloc, text).ok()
+}
+
+fn id_is(alloc: Global, text: &[u8], at: usize, id: &[u8]) -> Option<bool> {
+    Some(listed(alloc, text)?.list().get(at)?.bytes() == id)
+}
+
+fn not_listed(alloc: Global, text: &[u8]) -> Option<IdsFault> {
+    if text.len() > 16_777_216 {
+        return None;
+    }
+    read_ids(alloc, text).err()
+}
+
+#[test]
+fn ids_are_lines_without_white_space(rt: HostRuntime) -> Result<(), Fail> {
+    let alloc = rt.alloc();
+    let list = b"a b \r\n\n \t\n\tc";
+    assert_eq!(rt; id_is(alloc, list, 0, b"a b"), Some(true));
+    assert_eq!(rt; id_is(alloc, list, 1, b"c"), Some(true));
+    assert_eq!(rt; id_is(alloc, list, 2, b""), None);
+    assert_eq!(rt; not_listed(alloc, b"a\n\xff\n\xff"), Some(IdsFault::NotText(2)));
     Ok(())
 }
