@@ -46,7 +46,7 @@ listed_first text lines ids lines_are none = record {
 }
 
 module _ (text : List ℕ) (lines rest : List (List ℕ)) (line entry : List ℕ) (number : ℕ) (ids : List (List ℕ)) (first : lines ≡ line ∷ rest) (entry_is : entry ≡ entry_of line)
-  (h : Listed text lines number ids) where
+    (h : Listed text lines number ids) where
   pub line_number : length text ≤ 16777216 → number < 16777216
   line_number short = omega (arith, h.count, ap length first, length-lines_of text)
 
@@ -62,11 +62,11 @@ module _ (text : List ℕ) (lines rest : List (List ℕ)) (line entry : List ℕ
   listed_next new fine added = record {
     other = other_here ∙ cond-true (is_text entry) (first_other (number + 1 + 1) (map entry_of rest)) (Some (number + 1)) fine;
     listed =
-      h.listed ∙ ap (λ l. ids ++ filter has_bytes (map entry_of l)) first
-      ∙ ap (λ e. ids ++ filter has_bytes (e ∷ map entry_of rest)) (sym entry_is)
-      ∙ ap (λ f. ids ++ f) (filter-append has_bytes (entry ∷ []) (map entry_of rest))
-      ∙ sym (append_assoc ids (filter has_bytes (entry ∷ [])) (filter has_bytes (map entry_of rest)))
-      ∙ ap (λ i. i ++ filter has_bytes (map entry_of rest)) (sym added);
+        h.listed ∙ ap (λ l. ids ++ filter has_bytes (map entry_of l)) first
+        ∙ ap (λ e. ids ++ filter has_bytes (e ∷ map entry_of rest)) (sym entry_is)
+        ∙ ap (λ f. ids ++ f) (filter-append has_bytes (entry ∷ []) (map entry_of rest))
+        ∙ sym (append_assoc ids (filter has_bytes (entry ∷ [])) (filter has_bytes (map entry_of rest)))
+        ∙ ap (λ i. i ++ filter has_bytes (map entry_of rest)) (sym added);
     count = omega (arith, h.count, ap length first);
     room = omega (arith, h.room, first_size lines rest line first);
   }
@@ -74,14 +74,9 @@ module _ (text : List ℕ) (lines rest : List (List ℕ)) (line entry : List ℕ
   pub listed_refused : (fault : IdsFault) → ((is_text entry ≡ false) × (fault ≡ NotText (number + 1))) ⊎ (fault ≡ NoMemory) → (ids_in text ≡ Err fault) ⊎ (fault ≡ NoMemory)
   listed_refused fault reason =
       ⊎_elim
-        (λ other. inl
-          (ap (λ o. unless_other o (filter has_bytes (entries_of text)))
-            (other_here ∙ cond-false (is_text entry) (first_other (number + 1 + 1) (map entry_of rest)) (Some (number + 1)) other.0)
-          ∙ ap Err (sym other.1)))
-        (λ memory. inr memory)
-        reason
-
-pub listed_end : (text : List ℕ) (number : ℕ) (ids : List (List ℕ)) (rest : List (List ℕ)) → rest ≡ [] → Listed text rest number ids → ids_in text ≡ Ok ids
-listed_end text number ids rest none h =
-    ap (λ o. unless_other o (filter has_bytes (entries_of text))) (h.other ∙ ap (λ l. first_other (number + 1) (map entry_of l)) none)
-    ∙ ap Ok (h.listed ∙ ap (λ l. ids ++ filter has_bytes (map entry_of l)) none ∙ append-nil ids)
+      (λ other. inl
+      (ap (λ o. unless_other o (filter has_bytes (entries_of text)))
+      (other_here ∙ cond-false (is_text entry) (first_other (number + 1 + 1) (map entry_of rest)) (Some (number + 1)) other.0)
+      ∙ ap Err (sym other.1)))
+      (λ memory. inr memory)
+      reason

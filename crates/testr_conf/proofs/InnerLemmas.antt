@@ -14,7 +14,7 @@ inner line lines is =
     ∙ ap (λ n. flat_map added (take n (line ∷ lines))) (one_more (prefix_len is_inner lines))
 
 module _ (all value : List ℕ) (lines rest : List (List ℕ)) (line : List ℕ) (kind : Line)
-  (read : all ≡ value ++ flat_map added (take_while is_inner (map ended_line_of lines))) (first : lines ≡ line ∷ rest) (kind_is : kind ≡ ended_line_of line) where
+    (read : all ≡ value ++ flat_map added (take_while is_inner (map ended_line_of lines))) (first : lines ≡ line ∷ rest) (kind_is : kind ≡ ended_line_of line) where
   split : (k : Line) → kind ≡ k → is_inner k ≡ true → all ≡ value ++ (added k ++ flat_map added (take_while is_inner (map ended_line_of rest)))
   split k is yes' =
       read ∙ ap (λ l. value ++ flat_map added (take_while is_inner (map ended_line_of l))) first
@@ -27,7 +27,7 @@ module _ (all value : List ℕ) (lines rest : List (List ℕ)) (line : List ℕ)
       split (more text) is refl
       ∙ sym (append_assoc value (10 ∷ text) (flat_map added (take_while is_inner (map ended_line_of rest))))
       ∙ ap (λ t. t ++ flat_map added (take_while is_inner (map ended_line_of rest)))
-        (sym (append_assoc value (10 ∷ []) text) ∙ ap (λ t. t ++ text) (sym pushed_is) ∙ sym new_is)
+      (sym (append_assoc value (10 ∷ []) text) ∙ ap (λ t. t ++ text) (sym pushed_is) ∙ sym new_is)
 
   pub skipped_read : kind ≡ skipped → all ≡ value ++ flat_map added (take_while is_inner (map ended_line_of rest))
   skipped_read is = split skipped is refl

@@ -1,4 +1,4 @@
--- The jobs, and the configuration.
+-- The job that lists the tests.
 use Rattle.std.proofs.Common.{◌≡◌, ℕ, Bool, true, Option, Some, None, Result, Ok, Err, List, [], refl, sym, ap, ◌∙◌}
 use Rattle.std.specs.Prelude.{codes}
 use Rattle.std.proofs.lemmas.Bool.{cond-true}
@@ -21,17 +21,3 @@ list_told settings command option out job command_is option_is has out_is job_is
     ap (list_job_by settings.command) option_is ∙ ap (λ c. list_job_by c (Some option)) command_is
     ∙ cond-true (has_variable name.ListOption command) (Ok (plain_job (filled (list_values option) command))) (Err (NoOption key.ListOption)) has
     ∙ ap (λ o. Ok (plain_job o)) (sym out_is) ∙ ap Ok (sym job_is)
-
-same_settled : (command : Option (List ℕ)) (settings : List Setting) → settled_with command (found_of settings) ≡ with_command command settings
-same_settled None settings = refl
-same_settled (Some command) settings = refl
-
-pub conf_told : (text : List ℕ) (found : Found) (said : Result Settings ConfFault) → first_fault [] (lines_in text) ≡ None → found ≡ found_of (settings_of (lines_in text))
-    → settled found ≡ said → conf_of text ≡ said
-conf_told text found said fine found_is is =
-    ap (λ f. unless_refused f (with_command (set_of (codes "test_command") (settings_of (lines_in text))) (settings_of (lines_in text)))) fine
-    ∙ sym (same_settled (set_of (codes "test_command") (settings_of (lines_in text))) (settings_of (lines_in text)))
-    ∙ ap settled (sym found_is) ∙ is
-
-pub conf_refused : (text : List ℕ) (fault : ConfFault) → first_fault [] (lines_in text) ≡ Some fault → conf_of text ≡ Err fault
-conf_refused text fault is = ap (λ f. unless_refused f (with_command (set_of (codes "test_command") (settings_of (lines_in text))) (settings_of (lines_in text)))) is

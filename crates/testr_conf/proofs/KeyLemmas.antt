@@ -65,9 +65,9 @@ pub named_key : (key : List ℕ) (name : Name) → named key ≡ Some name → k
 unfolding pick
 named_key key name is =
     picked_key name key
-      (subst (λ o. picked o (bytes_eq key (codes "test_command")) (bytes_eq key (codes "test_id_option")) (bytes_eq key (codes "test_list_option")) (bytes_eq key (codes "test_id_list_default")) (bytes_eq key (codes "test_run_concurrency")) (bytes_eq key (codes "group_regex")) (bytes_eq key (codes "filter_tags")) ≡ true)
-        is
-        (pick_is (bytes_eq key (codes "test_command")) (bytes_eq key (codes "test_id_option")) (bytes_eq key (codes "test_list_option")) (bytes_eq key (codes "test_id_list_default")) (bytes_eq key (codes "test_run_concurrency")) (bytes_eq key (codes "group_regex")) (bytes_eq key (codes "filter_tags"))))
+    (subst (λ o. picked o (bytes_eq key (codes "test_command")) (bytes_eq key (codes "test_id_option")) (bytes_eq key (codes "test_list_option")) (bytes_eq key (codes "test_id_list_default")) (bytes_eq key (codes "test_run_concurrency")) (bytes_eq key (codes "group_regex")) (bytes_eq key (codes "filter_tags")) ≡ true)
+    is
+    (pick_is (bytes_eq key (codes "test_command")) (bytes_eq key (codes "test_id_option")) (bytes_eq key (codes "test_list_option")) (bytes_eq key (codes "test_id_list_default")) (bytes_eq key (codes "test_run_concurrency")) (bytes_eq key (codes "group_regex")) (bytes_eq key (codes "filter_tags"))))
 
 -- where it is none, it differs from each
 pub record Differs (a b c d e f g : Bool) : Type 0 where
@@ -96,4 +96,4 @@ pub named_none : (key : List ℕ) → named key ≡ None
 unfolding pick
 named_none key none =
     pick_none (bytes_eq key (codes "test_command")) (bytes_eq key (codes "test_id_option")) (bytes_eq key (codes "test_list_option")) (bytes_eq key (codes "test_id_list_default")) (bytes_eq key (codes "test_run_concurrency")) (bytes_eq key (codes "group_regex")) (bytes_eq key (codes "filter_tags"))
-      (ap is_some none)
+    (ap is_some none)

@@ -1,4 +1,3 @@
-pub mod WhiteLemmas
 pub mod SearchLemmas
 pub mod WordLemmas
 pub mod TextLemmas

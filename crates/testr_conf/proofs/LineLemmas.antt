@@ -17,19 +17,14 @@ module _ (line : List ℕ) (at : ℕ) (is : at ≡ position_or_len is_sign line)
   key_length : length (key_of line) ≡ length (trimmed (take at line))
   key_length = length-map (trimmed (before_first is_sign line)) to_ascii_lowercase ∙ ap (λ n. length (trimmed (take n line))) (sym is)
 
-  pub setting_without_key : length (trimmed (take at line)) ≡ 0 → bad ≡ setting_line line
-  setting_without_key empty =
-      sym (cond-false (list_any is_sign line && has_bytes (key_of line)) _ bad
-        (and_right (list_any is_sign line) (has_bytes (key_of line)) (le-ltb 0 (length (key_of line)) (omega (arith, key_length)))))
-
   pub setting_with_key : at < length line → 0 < length (trimmed (take at line))
       → setting (map to_ascii_lowercase (trimmed (take at line))) (trimmed (drop (at + 1) line)) ≡ setting_line line
   setting_with_key in_range some =
       ap (λ n. setting (map to_ascii_lowercase (trimmed (take n line))) (trimmed (drop (n + 1) line))) is
       ∙ sym (cond-true (list_any is_sign line && has_bytes (key_of line)) _ bad
-        (and_from (list_any is_sign line) (has_bytes (key_of line))
-          (any_some is_sign line (subst (λ n. n < length line) is in_range))
-          (lt-ltb 0 (length (key_of line)) (omega (arith, key_length)))))
+      (and_from (list_any is_sign line) (has_bytes (key_of line))
+      (any_some is_sign line (subst (λ n. n < length line) is in_range))
+      (lt-ltb 0 (length (key_of line)) (omega (arith, key_length)))))
 
   pub setting_read : (key value : List ℕ) → at < length line → key ≡ trimmed (take at line) → value ≡ trimmed (take (length line - (at + 1)) (drop (at + 1) line))
       → false ≡ (length key == 0) → setting (map to_ascii_lowercase key) value ≡ setting_line line

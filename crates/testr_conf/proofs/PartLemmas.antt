@@ -21,43 +21,44 @@ sign_small b is = ⊎_elim (λ h. omega (arith, eqb-true b 61 h)) (λ h. omega (
 sign_in_line : (line : List ℕ) → list_any is_sign line ≡ true → position_or_len is_sign line < length line
 sign_in_line line has =
     ⊎_elim (λ below. below)
-      (λ past. absurd (false≢true (sym (any_none is_sign line (omega (arith, prefix_len-le-length (λ b. not (is_sign b)) line))) ∙ has)))
-      (cases_lt (position_or_len is_sign line) (length line))
+    (λ past. absurd (false≢true (sym (any_none is_sign line (omega (arith, prefix_len-le-length (λ b. not (is_sign b)) line))) ∙ has)))
+    (cases_lt (position_or_len is_sign line) (length line))
 
 module _ (line : List ℕ) (size : ℕ) (text : IsText line) (short : length line ≤ size) where
   setting_fits : FitsWithin (setting_line line) size
   setting_fits =
       cond_both (list_any is_sign line && has_bytes (key_of line)) (setting (key_of line) (trimmed (after_first is_sign line))) bad (λ k. FitsWithin k size)
-        (λ both.
-          let below : position_or_len is_sign line < length line = sign_in_line line (and_parts (list_any is_sign line) (has_bytes (key_of line)) both).0 in
-          let behind : IsText (after_first is_sign line) = text_behind line (position_or_len is_sign line) text below (sign_small (get_or line (position_or_len is_sign line) 0) (passes_at_first is_sign line 0 below)) in
-          (trimmed_text (after_first is_sign line) behind,
-           omega (arith, trimmed_short (after_first is_sign line), length-drop (position_or_len is_sign line + 1) line)))
-        (λ none. tt)
+      (λ both.
+      let below : position_or_len is_sign line < length line = sign_in_line line (and_parts (list_any is_sign line) (has_bytes (key_of line)) both).0 in
+      let behind : IsText (after_first is_sign line) = text_behind line (position_or_len is_sign line) text below (sign_small (get_or line (position_or_len is_sign line) 0) (passes_at_first is_sign line 0 below)) in (
+        trimmed_text (after_first is_sign line) behind,
+        omega (arith, trimmed_short (after_first is_sign line), length-drop (position_or_len is_sign line + 1) line),
+      ))
+      (λ none. tt)
 
   text_fits : FitsWithin (text_line line (trimmed line)) size
   text_fits =
       cond_both (not (has_bytes (trimmed line)) || begins_by is_comment_sign (trimmed line)) skipped
-        (cond (begins_by is_indent line) (more (trimmed line)) (cond (begins_by is_bracket line) (section_line (drop 1 (trimmed line))) (setting_line line))) (λ k. FitsWithin k size)
-        (λ none. tt)
-        (λ some. cond_both (begins_by is_indent line) (more (trimmed line)) (cond (begins_by is_bracket line) (section_line (drop 1 (trimmed line))) (setting_line line)) (λ k. FitsWithin k size)
-          (λ indent. (trimmed_text line text, omega (arith, trimmed_short line)))
-          (λ other. cond_both (begins_by is_bracket line) (section_line (drop 1 (trimmed line))) (setting_line line) (λ k. FitsWithin k size)
-            (λ bracket. cond_both (ends_with nat_eq (drop 1 (trimmed line)) (93 ∷ [])) (section (take (length (drop 1 (trimmed line)) - 1) (drop 1 (trimmed line)))) bad (λ k. FitsWithin k size) (λ a. tt) (λ b. tt))
-            (λ plain. setting_fits)))
+      (cond (begins_by is_indent line) (more (trimmed line)) (cond (begins_by is_bracket line) (section_line (drop 1 (trimmed line))) (setting_line line))) (λ k. FitsWithin k size)
+      (λ none. tt)
+      (λ some. cond_both (begins_by is_indent line) (more (trimmed line)) (cond (begins_by is_bracket line) (section_line (drop 1 (trimmed line))) (setting_line line)) (λ k. FitsWithin k size)
+      (λ indent. (trimmed_text line text, omega (arith, trimmed_short line)))
+      (λ other. cond_both (begins_by is_bracket line) (section_line (drop 1 (trimmed line))) (setting_line line) (λ k. FitsWithin k size)
+      (λ bracket. cond_both (ends_with nat_eq (drop 1 (trimmed line)) (93 ∷ [])) (section (take (length (drop 1 (trimmed line)) - 1) (drop 1 (trimmed line)))) bad (λ k. FitsWithin k size) (λ a. tt) (λ b. tt))
+      (λ plain. setting_fits)))
 
 pub without_last_short : (b : ℕ) (bytes : List ℕ) → length (without_last b bytes) ≤ length bytes
 without_last_short b bytes =
     cond_both (ends_with nat_eq bytes (b ∷ [])) (take (length bytes - 1) bytes) bytes (λ l. length l ≤ length bytes)
-      (λ a. omega (arith, length-take (length bytes - 1) bytes)) (λ a. omega arith)
+    (λ a. omega (arith, length-take (length bytes - 1) bytes)) (λ a. omega arith)
 
 pub line_fits_within : (line : List ℕ) (size : ℕ) → length line ≤ size → FitsWithin (ended_line_of line) size
 line_fits_within line size short =
     cond_both (is_text (without_last 13 (without_last 10 line)))
-      (text_line (without_last 13 (without_last 10 line)) (trimmed (without_last 13 (without_last 10 line)))) bad (λ k. FitsWithin k size)
-      (λ passes. text_fits (without_last 13 (without_last 10 line)) size (text_from_test (without_last 13 (without_last 10 line)) passes)
-        (omega (arith, without_last_short 13 (without_last 10 line), without_last_short 10 line)))
-      (λ fails. tt)
+    (text_line (without_last 13 (without_last 10 line)) (trimmed (without_last 13 (without_last 10 line)))) bad (λ k. FitsWithin k size)
+    (λ passes. text_fits (without_last 13 (without_last 10 line)) size (text_from_test (without_last 13 (without_last 10 line)) passes)
+    (omega (arith, without_last_short 13 (without_last 10 line), without_last_short 10 line)))
+    (λ fails. tt)
 
 -- the same of a line as it was read
 pub read_fits : (kind : Line) (line : List ℕ) (size : ℕ) → kind ≡ ended_line_of line → length line ≤ size → FitsWithin kind size

@@ -61,12 +61,12 @@ find_passes : {X : Type 0} (p : X → Bool) (xs : List X) (v : X) → find p xs 
 find_passes p [] v e = let other : None ≡ Some v = e in cc
 find_passes p (x ∷ xs) v e =
     ⊎_elim
-      (λ passes.
-        let found : Some x ≡ Some v = subst (λ b. cond b (Some x) (find p xs) ≡ Some v) passes e in
-        let same : x ≡ v = cc in
-        subst (λ y. p y ≡ true) same passes)
-      (λ fails. find_passes p xs v (subst (λ b. cond b (Some x) (find p xs) ≡ Some v) fails e))
-      (cases_Bool (p x))
+    (λ passes.
+    let found : Some x ≡ Some v = subst (λ b. cond b (Some x) (find p xs) ≡ Some v) passes e in
+    let same : x ≡ v = cc in
+    subst (λ y. p y ≡ true) same passes)
+    (λ fails. find_passes p xs v (subst (λ b. cond b (Some x) (find p xs) ≡ Some v) fails e))
+    (cases_Bool (p x))
 
 -- the text begins with the name
 name_begins : (text : List ℕ) (v : Variable) → variable_at text ≡ Some v → text ≡ name_of v ++ drop (length (name_of v)) text
@@ -74,7 +74,7 @@ name_begins text v some = (starts_is Decides-eqb text (name_of v) (starts_with n
 
 -- a text of which so many bytes are read, and no `$` in the next ones
 module _ (text : List ℕ) (at count : ℕ) (read : pieces_of text ≡ map byte (take at text) ++ pieces_of (drop at text)) (room : at + count ≤ length text)
-  (none : (k : ℕ) → k < count → get_or (drop at text) k 0 ≡ 36 → ⊥) where
+    (none : (k : ℕ) → k < count → get_or (drop at text) k 0 ≡ 36 → ⊥) where
   plain_part : pieces_of (drop at text) ≡ map byte (take count (drop at text)) ++ pieces_of (drop (at + count) text)
   plain_part =
       let size : length (take count (drop at text)) ≡ count = length-take-le count (drop at text) (omega (arith, length-drop at text)) in
@@ -103,7 +103,7 @@ module _ (text : List ℕ) (at : ℕ) (in_range : at ≤ length text) (read : pi
   none_left none =
       let room : at + (length text - at) ≡ length text = omega arith in
       let all : pieces_of text ≡ map byte (take (at + (length text - at)) text) ++ pieces_of (drop (at + (length text - at)) text) =
-        plain_more text at (length text - at) read (omega arith) (λ k below is. none k (omega arith) (omega (arith, rest_size)) (sign_test k is)) in
+      plain_more text at (length text - at) read (omega arith) (λ k below is. none k (omega arith) (omega (arith, rest_size)) (sign_test k is)) in
       all ∙ ap (λ n. map byte (take n text) ++ pieces_of (drop n text)) room
       ∙ ap (λ bs. map byte bs ++ pieces_of (drop (length text) text)) (take_all (length text) text (omega arith))
       ∙ ap (λ bs. map byte text ++ pieces_of bs) (drop_all (length text) text (omega arith)) ∙ append-nil (map byte text)
@@ -128,17 +128,17 @@ module _ (text : List ℕ) (at : ℕ) (in_range : at ≤ length text) (read : pi
         → pieces_of text ≡ map byte (take (at + count + 1) text) ++ pieces_of (drop (at + count + 1) text)
     plain_sign none =
         let one : pieces_of (drop (at + count) text) ≡ byte (get_or text (at + count) 0) ∷ pieces_of (drop (at + count + 1) text) =
-          ap pieces_of place_is ∙ plain_byte (get_or text (at + count) 0) (drop (at + count + 1) text) (sym (none ∙ ap variable_at rest_is)) in
+        ap pieces_of place_is ∙ plain_byte (get_or text (at + count) 0) (drop (at + count + 1) text) (sym (none ∙ ap variable_at rest_is)) in
         to_place ∙ ap (λ ps. map byte (take (at + count) text) ++ ps) one
         ∙ sym (append_assoc (map byte (take (at + count) text)) (byte (get_or text (at + count) 0) ∷ []) (pieces_of (drop (at + count + 1) text)))
         ∙ ap (λ bs. bs ++ pieces_of (drop (at + count + 1) text))
-          (sym (map-append byte (take (at + count) text) (get_or text (at + count) 0 ∷ [])) ∙ ap (map byte) (sym (take_more text (at + count) 0 place_fits)))
+        (sym (map-append byte (take (at + count) text) (get_or text (at + count) 0 ∷ [])) ∙ ap (map byte) (sym (take_more text (at + count) 0 place_fits)))
 
     pub sign_fits : at + count + 1 ≤ length text
     sign_fits = omega (arith, place_fits)
 
     module _ (v : Variable) (some : Some v ≡ variable_at (take (length text - (at + count)) (drop (at + count) text)))
-      (fits : length (name_of v) ≤ length (take (length text - (at + count)) (drop (at + count) text))) where
+        (fits : length (name_of v) ≤ length (take (length text - (at + count)) (drop (at + count) text))) where
       name_at : variable_at (drop (at + count) text) ≡ Some v
       name_at = sym (some ∙ ap variable_at (take_rest text (at + count)))
 
@@ -148,7 +148,7 @@ module _ (text : List ℕ) (at : ℕ) (in_range : at ≤ length text) (read : pi
       last_byte : get_or text (at + count + (length (name_of v) - 1)) 0 < 128
       last_byte =
           let read : get_or (drop (at + count) text) (length (name_of v) - 1) 0 ≡ get_or (name_of v) (length (name_of v) - 1) 0 =
-            front_reads 0 (drop (at + count) text) (name_of v) (drop (length (name_of v)) (drop (at + count) text)) (name_begins (drop (at + count) text) v name_at) (length (name_of v) - 1) (omega (arith, name_long v)) in
+          front_reads 0 (drop (at + count) text) (name_of v) (drop (length (name_of v)) (drop (at + count) text)) (name_begins (drop (at + count) text) v name_at) (length (name_of v) - 1) (omega (arith, name_long v)) in
           omega (arith, last_small v, read, get_or-drop (at + count) text (length (name_of v) - 1) 0)
 
       behind_is : (at + count + (length (name_of v) - 1)) + 1 ≡ at + count + length (name_of v)
@@ -158,14 +158,14 @@ module _ (text : List ℕ) (at : ℕ) (in_range : at ≤ length text) (read : pi
       first_found = record {
         in_range = name_fits;
         pieces =
-          to_place ∙ ap (λ ps. map byte (take (at + count) text) ++ ps)
+            to_place ∙ ap (λ ps. map byte (take (at + count) text) ++ ps)
             (ap pieces_of place_is ∙ variable_front (get_or text (at + count) 0) (drop (at + count + 1) text) v (ap variable_at (sym place_is) ∙ name_at)
             ∙ ap (λ xs. variable v ∷ pieces_of (drop (length (name_of v)) xs)) (sym place_is)
             ∙ ap (λ xs. variable v ∷ pieces_of xs) (drop-drop (length (name_of v)) (at + count) text));
         texts = λ t. (
           text_before text (at + count) t place_fits (omega (arith, sign_is)),
           subst (λ n. IsText (drop n text)) behind_is
-            (text_behind text (at + count + (length (name_of v) - 1)) t (omega (arith, name_fits, name_long v)) last_byte),
+              (text_behind text (at + count + (length (name_of v) - 1)) t (omega (arith, name_fits, name_long v)) last_byte),
         );
       }
 
@@ -182,9 +182,6 @@ module _ (wanted : Variable) where
   module _ (text : List ℕ) (place : ℕ) (v : Variable) (first : FirstVariable text place v) where
     has_first : has_variable wanted text ≡ (bytes_eq (name_of wanted) (name_of v) || has_variable wanted (drop (place + length (name_of v)) text))
     has_first = ap (list_any (is_variable wanted)) first.pieces ∙ any_bytes (take place text) (variable v ∷ pieces_of (drop (place + length (name_of v)) text))
-
-    pub has_this : bytes_eq (name_of wanted) (name_of v) ≡ true → has_variable wanted text ≡ true
-    has_this same = has_first ∙ ap (λ e. e || has_variable wanted (drop (place + length (name_of v)) text)) same
 
     pub has_later : bytes_eq (name_of wanted) (name_of v) ≡ false → has_variable wanted text ≡ has_variable wanted (drop (place + length (name_of v)) text)
     has_later other = has_first ∙ ap (λ e. e || has_variable wanted (drop (place + length (name_of v)) text)) other
@@ -215,7 +212,7 @@ module _ (values : Values) where
   filled_end all text out new read plain end = end ∙ ap (λ t. out ++ t) (sym (filled_plain text plain)) ∙ sym read
 
   module _ (all text out first part second name : List ℕ) (place : ℕ) (v : Variable) (found : FirstVariable text place v)
-    (first_is : first ≡ out ++ take place text) (part_is : part ≡ value_in values v) (second_is : second ≡ first ++ part) (name_is : name ≡ name_of v) where
+      (first_is : first ≡ out ++ take place text) (part_is : part ≡ value_in values v) (second_is : second ≡ first ++ part) (name_is : name ≡ name_of v) where
     pub filled_more : filled values all ≡ out ++ filled values text
         → filled values all ≡ second ++ filled values (take (length text - (place + length name)) (drop (place + length name) text))
     filled_more read =

@@ -10,14 +10,15 @@ pub IsFirstByte-place : (p q : ℕ → Bool) → ((b : ℕ) → p b ≡ q b) →
     → MatchOption r (position_or_len q hay ≡ length hay) (λ k. (k ≡ position_or_len q hay) × (k < length hay))
 IsFirstByte-place p q same hay None h =
     position_or_len_is q hay (length hay) 0 (omega arith)
-        (λ k below. false_from_ne_true (q (get_or hay k 0)) (λ passes. h k (omega arith) below (same (get_or hay k 0) ∙ passes)))
-        (λ past. absurd (omega arith))
+    (λ k below. false_from_ne_true (q (get_or hay k 0)) (λ passes. h k (omega arith) below (same (get_or hay k 0) ∙ passes)))
+    (λ past. absurd (omega arith))
 IsFirstByte-place p q same hay (Some k) h =
-    let first = h.0 in
-    (sym (position_or_len_is q hay k 0 (omega (arith, first.high))
-        (λ j below. false_from_ne_true (q (get_or hay j 0)) (λ passes. first.before j (omega arith) below (same (get_or hay j 0) ∙ passes)))
-        (λ _. sym (same (get_or hay k 0)) ∙ h.1)),
-     first.high)
+    let first = h.0 in (
+      sym (position_or_len_is q hay k 0 (omega (arith, first.high))
+          (λ j below. false_from_ne_true (q (get_or hay j 0)) (λ passes. first.before j (omega arith) below (same (get_or hay j 0) ∙ passes)))
+          (λ _. sym (same (get_or hay k 0)) ∙ h.1)),
+      first.high,
+    )
 
 module _ {X : Type 0} (p : X → Bool) where
   -- where the place is the list's length, no element passes
@@ -25,18 +26,18 @@ module _ {X : Type 0} (p : X → Bool) where
   any_none [] e = refl
   any_none (x ∷ xs) e =
       ⊎_elim
-        (λ yes. let bad : cond (not true) (1 + position_or_len p xs) 0 ≡ length (x ∷ xs) = subst (λ b. cond (not b) (1 + position_or_len p xs) 0 ≡ length (x ∷ xs)) yes e in
-          absurd (omega arith))
-        (λ no. let next : cond (not false) (1 + position_or_len p xs) 0 ≡ length (x ∷ xs) = subst (λ b. cond (not b) (1 + position_or_len p xs) 0 ≡ length (x ∷ xs)) no e in
-          or_from (p x) (list_any p xs) no (any_none xs (omega arith)))
-        (cases_Bool (p x))
+      (λ yes. let bad : cond (not true) (1 + position_or_len p xs) 0 ≡ length (x ∷ xs) = subst (λ b. cond (not b) (1 + position_or_len p xs) 0 ≡ length (x ∷ xs)) yes e in
+      absurd (omega arith))
+      (λ no. let next : cond (not false) (1 + position_or_len p xs) 0 ≡ length (x ∷ xs) = subst (λ b. cond (not b) (1 + position_or_len p xs) 0 ≡ length (x ∷ xs)) no e in
+      or_from (p x) (list_any p xs) no (any_none xs (omega arith)))
+      (cases_Bool (p x))
 
   -- where it is below, some element does
   pub any_some : (xs : List X) → position_or_len p xs < length xs → list_any p xs ≡ true
   any_some [] lt = absurd (omega arith)
   any_some (x ∷ xs) lt =
       ⊎_elim
-        (λ yes. or_left (p x) (list_any p xs) yes)
-        (λ no. let next : cond (not false) (1 + position_or_len p xs) 0 < length (x ∷ xs) = subst (λ b. cond (not b) (1 + position_or_len p xs) 0 < length (x ∷ xs)) no lt in
-          or_right (p x) (list_any p xs) (any_some xs (omega arith)))
-        (cases_Bool (p x))
+      (λ yes. or_left (p x) (list_any p xs) yes)
+      (λ no. let next : cond (not false) (1 + position_or_len p xs) 0 < length (x ∷ xs) = subst (λ b. cond (not b) (1 + position_or_len p xs) 0 < length (x ∷ xs)) no lt in
+      or_right (p x) (list_any p xs) (any_some xs (omega arith)))
+      (cases_Bool (p x))

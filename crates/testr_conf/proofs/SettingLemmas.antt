@@ -20,13 +20,13 @@ has_value : (key : List ℕ) (settings : List Setting) → is_some (value_of key
 has_value key [] = refl
 has_value key (s ∷ settings) =
     ⊎_elim
-      (λ here.
-        ap (λ b. is_some (option_map (λ x. x.value) (cond b (Some s) (find (λ x. bytes_eq x.key key) settings)))) here
-        ∙ sym (or_left (bytes_eq s.key key) (has_key key settings) here))
-      (λ other.
-        ap (λ b. is_some (option_map (λ x. x.value) (cond b (Some s) (find (λ x. bytes_eq x.key key) settings)))) other
-        ∙ has_value key settings ∙ ap (λ b. b || has_key key settings) (sym other))
-      (cases_Bool (bytes_eq s.key key))
+    (λ here.
+    ap (λ b. is_some (option_map (λ x. x.value) (cond b (Some s) (find (λ x. bytes_eq x.key key) settings)))) here
+    ∙ sym (or_left (bytes_eq s.key key) (has_key key settings) here))
+    (λ other.
+    ap (λ b. is_some (option_map (λ x. x.value) (cond b (Some s) (find (λ x. bytes_eq x.key key) settings)))) other
+    ∙ has_value key settings ∙ ap (λ b. b || has_key key settings) (sym other))
+    (cases_Bool (bytes_eq s.key key))
 
 found_is : (name : Name) (settings : List Setting) → found_value name (found_of settings) ≡ value_of (key_name name) settings
 found_is Command settings = refl

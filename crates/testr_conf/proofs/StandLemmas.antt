@@ -66,7 +66,7 @@ keys_push last (x ∷ xs) line below =
     ∙ ap (λ k. keys_of (new_settings last x xs) ++ k) (keys_push (section_after last x) xs line below)
     ∙ sym (append_assoc (keys_of (new_settings last x xs)) (keys_of (settings_from (section_after last x) xs)) (keys_of (new_settings (fold section_after (section_after last x) xs) line below)))
     ∙ ap (λ k. k ++ keys_of (new_settings (fold section_after (section_after last x) xs) line below))
-      (sym (ap keys_of (settings_step last x xs) ∙ map-append (λ s. s.key) (new_settings last x xs) (settings_from (section_after last x) xs)))
+    (sym (ap keys_of (settings_step last x xs) ∙ map-append (λ s. s.key) (new_settings last x xs) (settings_from (section_after last x) xs)))
 
 -- What is known behind one more line.
 
@@ -114,7 +114,7 @@ repeated_if false number taken known has is = refl
 
 setting_same : (last : Option (List ℕ)) (number : ℕ) (taken known has : Bool) → taken ≡ (known && has)
     → setting_fault (place_of last) number taken
-      ≡ cond (is_none last) (Some (NoSection number)) (cond (is_default last && known && has) (Some (Repeated number)) None)
+    ≡ cond (is_none last) (Some (NoSection number)) (cond (is_default last && known && has) (Some (Repeated number)) None)
 setting_same None number taken known has is = refl
 setting_same (Some name) number taken known has is = repeated_if (is_default (Some name)) number taken known has is
 
@@ -123,7 +123,7 @@ fault_same : (before : List Line) (done : List Setting) (line : Line) → keys_o
 fault_same before done (section name) keys = refl
 fault_same before done (setting key own) keys =
     setting_same (section_of before) (length before + 1) (is_taken (named key) (found_of done)) (is_known key) (has_key key (settings_of before))
-      (taken_is key done ∙ ap (λ h. is_known key && h) (has_by_keys key done ∙ ap (list_any (λ k. bytes_eq k key)) keys ∙ sym (has_by_keys key (settings_of before))))
+    (taken_is key done ∙ ap (λ h. is_known key && h) (has_by_keys key done ∙ ap (list_any (λ k. bytes_eq k key)) keys ∙ sym (has_by_keys key (settings_of before))))
 fault_same before done (more text) keys = refl
 fault_same before done skipped keys = refl
 fault_same before done bad keys = refl
@@ -148,10 +148,7 @@ pub stands_start : (text : List ℕ) (lines : List (List ℕ)) (reading : Readin
     → Stands (lines_in text) (map ended_line_of lines) 0 reading
 stands_start text lines reading lines_are is =
     subst (λ l. Stands (lines_in text) (map ended_line_of l) 0 reading) (sym lines_are)
-      (subst (Stands (lines_in text) (lines_in text) 0) (sym is) (stands_begin (lines_in text)))
-
-pub stands_at : (all rest : List Line) (number : ℕ) (reading other : Reading) → other ≡ reading → Stands all rest number reading → Stands all rest number other
-stands_at all rest number reading other is s = subst (Stands all rest number) (sym is) s
+    (subst (Stands (lines_in text) (lines_in text) 0) (sym is) (stands_begin (lines_in text)))
 
 pub number_fits : (text : List ℕ) (line : Line) (rest : List Line) (number : ℕ) (reading : Reading) → Stands (lines_in text) (line ∷ rest) number reading
     → length text ≤ 16777216 → number < 16777216
@@ -168,33 +165,27 @@ module _ (all : List Line) (line : Line) (rest : List Line) (number : ℕ) (read
     before = s.before ++ line ∷ [];
     done = s.done ++ new_settings (section_of s.before) line rest;
     known =
-      takes.known ∙ ap (λ r. known_after r line rest) s.known
-      ∙ known_step s.before s.done (number + 1) line rest (ap (λ r. fault_at r (number + 1) line) (sym s.known) ∙ takes.fine);
+        takes.known ∙ ap (λ r. known_after r line rest) s.known
+        ∙ known_step s.before s.done (number + 1) line rest (ap (λ r. fault_at r (number + 1) line) (sym s.known) ∙ takes.fine);
     count = omega (arith, s.count, length_push s.before line);
     faults = s.faults ∙ ap (λ f. or_else f (first_fault (s.before ++ line ∷ []) rest)) (sym this_fault ∙ takes.fine);
     settings =
-      s.settings ∙ ap (λ t. s.done ++ t) (settings_step (section_of s.before) line rest)
-      ∙ sym (append_assoc s.done (new_settings (section_of s.before) line rest) (settings_from (section_after (section_of s.before) line) rest))
-      ∙ ap (λ o. (s.done ++ new_settings (section_of s.before) line rest) ++ settings_from o rest) (sym (fold_push section_after None s.before line));
+        s.settings ∙ ap (λ t. s.done ++ t) (settings_step (section_of s.before) line rest)
+        ∙ sym (append_assoc s.done (new_settings (section_of s.before) line rest) (settings_from (section_after (section_of s.before) line) rest))
+        ∙ ap (λ o. (s.done ++ new_settings (section_of s.before) line rest) ++ settings_from o rest) (sym (fold_push section_after None s.before line));
     keys =
-      map-append (λ x. x.key) s.done (new_settings (section_of s.before) line rest)
-      ∙ ap (λ k. k ++ keys_of (new_settings (section_of s.before) line rest)) s.keys
-      ∙ sym (keys_push None s.before line rest);
+        map-append (λ x. x.key) s.done (new_settings (section_of s.before) line rest)
+        ∙ ap (λ k. k ++ keys_of (new_settings (section_of s.before) line rest)) s.keys
+        ∙ sym (keys_push None s.before line rest);
     size = omega (arith, s.size);
   }
 
   pub stands_fault : (fault : ConfFault) → fault_at reading (number + 1) line ≡ Some fault → first_fault [] all ≡ Some fault
   stands_fault fault is = s.faults ∙ ap (λ f. or_else f (first_fault (s.before ++ line ∷ []) rest)) (sym this_fault ∙ is)
 
-pub stands_fine : (all : List Line) (number : ℕ) (reading : Reading) → Stands all [] number reading → first_fault [] all ≡ None
-stands_fine all number reading s = s.faults
-
-pub stands_found : (all : List Line) (number : ℕ) (reading : Reading) → Stands all [] number reading → reading.found ≡ found_of (settings_of all)
-stands_found all number reading s = ap (λ r. r.found) s.known ∙ ap found_of (sym (s.settings ∙ append-nil s.done))
-
 -- the same with the lines as they stand in the text
 module _ (text : List ℕ) (lines rest : List (List ℕ)) (line : List ℕ) (number : ℕ) (reading : Reading) (first : lines ≡ line ∷ rest)
-  (s : Stands (lines_in text) (map ended_line_of lines) number reading) where
+    (s : Stands (lines_in text) (map ended_line_of lines) number reading) where
   here : Stands (lines_in text) (ended_line_of line ∷ map ended_line_of rest) number reading
   here = subst (λ l. Stands (lines_in text) (map ended_line_of l) number reading) first s
 
@@ -205,7 +196,7 @@ module _ (text : List ℕ) (lines rest : List (List ℕ)) (line : List ℕ) (num
       → Stands (lines_in text) (map ended_line_of rest) (number + 1) next
   line_next next kind below kind_is below_is takes =
       stands_next (lines_in text) (ended_line_of line) (map ended_line_of rest) number reading here next
-        (subst (λ k. Takes reading next (number + 1) k (map ended_line_of rest)) kind_is (subst (λ l. Takes reading next (number + 1) kind (map ended_line_of l)) below_is takes))
+      (subst (λ k. Takes reading next (number + 1) k (map ended_line_of rest)) kind_is (subst (λ l. Takes reading next (number + 1) kind (map ended_line_of l)) below_is takes))
 
   pub line_fault : (fault : ConfFault) (kind : Line) → kind ≡ ended_line_of line → fault_at reading (number + 1) kind ≡ Some fault → first_fault [] (lines_in text) ≡ Some fault
   line_fault fault kind kind_is is =

@@ -31,7 +31,7 @@ text_from_test bytes passes =
 pub test_from_text : (bytes : List ℕ) → IsText bytes → is_text bytes ≡ true
 test_from_text bytes text =
     and_from (is_utf8 bytes) (not (list_any (λ byte. byte == 0) bytes)) (is_utf8-from_IsUtf8 bytes text.utf8)
-        (not_from_false (list_any (λ byte. byte == 0) bytes) (no_nul_test bytes text.no_nul))
+    (not_from_false (list_any (λ byte. byte == 0) bytes) (no_nul_test bytes text.no_nul))
 
 module _ (bytes : List ℕ) (k : ℕ) (text : IsText bytes) (in_range : k < length bytes) (ascii : get_or bytes k 0 < 128) where
   -- a text may be cut in front of an ASCII byte
@@ -39,12 +39,6 @@ module _ (bytes : List ℕ) (k : ℕ) (text : IsText bytes) (in_range : k < leng
   text_before = record {
     utf8 = IsUtf8-take bytes k text.utf8 (IsCharBoundary-before_ascii bytes k in_range ascii);
     no_nul = All-take NotNul k bytes text.no_nul;
-  }
-
-  pub text_from : IsText (drop k bytes)
-  text_from = record {
-    utf8 = IsUtf8-drop bytes k text.utf8 (IsCharBoundary-before_ascii bytes k in_range ascii);
-    no_nul = All-drop NotNul k bytes text.no_nul;
   }
 
   -- and behind it

@@ -13,9 +13,9 @@ use Rattle.testr_conf.proofs.TextLemmas.{text_before, text_behind, text_nil, tex
 white_small : (b : ℕ) → is_white b ≡ true → b < 128
 white_small b is =
     ⊎_elim (λ h. ⊎_elim (λ h. ⊎_elim (λ h. ⊎_elim (λ h. omega (arith, eqb-true b 32 h)) (λ h. omega (arith, eqb-true b 9 h)) (or_cases (b == 32) (b == 9) h))
-      (λ h. omega (arith, eqb-true b 13 h)) (or_cases (b == 32 || b == 9) (b == 13) h))
-      (λ h. omega (arith, eqb-true b 11 h)) (or_cases (b == 32 || b == 9 || b == 13) (b == 11) h))
-      (λ h. omega (arith, eqb-true b 12 h)) (or_cases (b == 32 || b == 9 || b == 13 || b == 11) (b == 12) is)
+    (λ h. omega (arith, eqb-true b 13 h)) (or_cases (b == 32 || b == 9) (b == 13) h))
+    (λ h. omega (arith, eqb-true b 11 h)) (or_cases (b == 32 || b == 9 || b == 13) (b == 11) h))
+    (λ h. omega (arith, eqb-true b 12 h)) (or_cases (b == 32 || b == 9 || b == 13 || b == 11) (b == 12) is)
 
 pub gap_small : (b : ℕ) → is_gap b ≡ true → b < 128
 gap_small b is = ⊎_elim (λ h. white_small b h) (λ h. omega (arith, eqb-true b 10 h)) (or_cases (is_white b) (b == 10) is)
@@ -24,27 +24,27 @@ front_text : (bytes : List ℕ) → IsText bytes → IsText (front_trimmed bytes
 front_text [] text = text
 front_text (b ∷ bytes) text =
     ⊎_elim
-      (λ white.
-        let rest : IsText bytes = text_behind (b ∷ bytes) 0 text (omega arith) (white_small b white) in
-        subst (λ w. IsText (cond w (front_trimmed bytes) (b ∷ bytes))) (sym white) (front_text bytes rest))
-      (λ other. subst (λ w. IsText (cond w (front_trimmed bytes) (b ∷ bytes))) (sym other) text)
-      (cases_Bool (is_white b))
+    (λ white.
+    let rest : IsText bytes = text_behind (b ∷ bytes) 0 text (omega arith) (white_small b white) in
+    subst (λ w. IsText (cond w (front_trimmed bytes) (b ∷ bytes))) (sym white) (front_text bytes rest))
+    (λ other. subst (λ w. IsText (cond w (front_trimmed bytes) (b ∷ bytes))) (sym other) text)
+    (cases_Bool (is_white b))
 
 -- the last byte of a text, where it is ASCII, may be left out
 front_of : (bytes : List ℕ) (b : ℕ) → b < 128 → IsText (bytes ++ b ∷ []) → IsText bytes
 front_of bytes b small text =
     subst IsText (take_at bytes (b ∷ []) (length bytes) refl)
-      (text_before (bytes ++ b ∷ []) (length bytes) text (omega (arith, length-append bytes (b ∷ []))) (omega (arith, get_or_at bytes b [] 0 (length bytes) refl)))
+    (text_before (bytes ++ b ∷ []) (length bytes) text (omega (arith, length-append bytes (b ∷ []))) (omega (arith, get_or_at bytes b [] 0 (length bytes) refl)))
 
 back_text : (back : List ℕ) → IsText (reverse back) → IsText (reverse (front_trimmed back))
 back_text [] text = text
 back_text (b ∷ back) text =
     ⊎_elim
-      (λ white.
-        subst (λ w. IsText (reverse (cond w (front_trimmed back) (b ∷ back)))) (sym white)
-          (back_text back (front_of (reverse back) b (white_small b white) (subst IsText (reverse-append (b ∷ []) back) text))))
-      (λ other. subst (λ w. IsText (reverse (cond w (front_trimmed back) (b ∷ back)))) (sym other) text)
-      (cases_Bool (is_white b))
+    (λ white.
+    subst (λ w. IsText (reverse (cond w (front_trimmed back) (b ∷ back)))) (sym white)
+    (back_text back (front_of (reverse back) b (white_small b white) (subst IsText (reverse-append (b ∷ []) back) text))))
+    (λ other. subst (λ w. IsText (reverse (cond w (front_trimmed back) (b ∷ back)))) (sym other) text)
+    (cases_Bool (is_white b))
 
 pub trimmed_text : (bytes : List ℕ) → IsText bytes → IsText (trimmed bytes)
 trimmed_text bytes text =
@@ -55,9 +55,9 @@ front_short : (bytes : List ℕ) → length (front_trimmed bytes) ≤ length byt
 front_short [] = omega arith
 front_short (b ∷ bytes) =
     ⊎_elim
-      (λ white. subst (λ w. length (cond w (front_trimmed bytes) (b ∷ bytes)) ≤ length (b ∷ bytes)) (sym white) (omega (arith, front_short bytes)))
-      (λ other. subst (λ w. length (cond w (front_trimmed bytes) (b ∷ bytes)) ≤ length (b ∷ bytes)) (sym other) (omega arith))
-      (cases_Bool (is_white b))
+    (λ white. subst (λ w. length (cond w (front_trimmed bytes) (b ∷ bytes)) ≤ length (b ∷ bytes)) (sym white) (omega (arith, front_short bytes)))
+    (λ other. subst (λ w. length (cond w (front_trimmed bytes) (b ∷ bytes)) ≤ length (b ∷ bytes)) (sym other) (omega arith))
+    (cases_Bool (is_white b))
 
 pub trimmed_short : (bytes : List ℕ) → length (trimmed bytes) ≤ length bytes
 trimmed_short bytes =
@@ -67,7 +67,7 @@ trimmed_short bytes =
 digits_text : (n : ℕ) → n < 2 ^ 64 → IsText (decimal n)
 digits_text n small =
     decimal_by_steps (λ k ds. IsText ds) (λ k below. text_one (48 + k) (omega arith) (omega arith))
-      (λ k ds past text. text_append ds ((48 + k % 10) ∷ []) text (text_one (48 + k % 10) (omega arith) (omega arith))) n small
+    (λ k ds past text. text_append ds ((48 + k % 10) ∷ []) text (text_one (48 + k % 10) (omega arith) (omega arith))) n small
 
 all_text : (bytes : List ℕ) → list_all (λ b. nat_lt 0 b && nat_lt b 128) bytes ≡ true → IsText bytes
 all_text [] all = text_nil

@@ -15,7 +15,7 @@ words_first text at is in_range =
     let front : position_or_len is_gap text < length text = subst (λ n. n < length text) is in_range in
     let split : slice_split is_gap text ≡ before_first is_gap text ∷ slice_split is_gap (after_first is_gap text) = slice_split_first is_gap text 0 front in
     let cut : slice_split is_gap text ≡ take at text ∷ slice_split is_gap (drop (at + 1) text) =
-        split ∙ ap (λ n. take n text ∷ slice_split is_gap (drop (n + 1) text)) (sym is) in
+    split ∙ ap (λ n. take n text ∷ slice_split is_gap (drop (n + 1) text)) (sym is) in
     ap (filter has_bytes) cut ∙ filter-append has_bytes (take at text ∷ []) (slice_split is_gap (drop (at + 1) text))
 
 pub words_last : (text : List ℕ) → position_or_len is_gap text ≡ length text → words_of text ≡ filter has_bytes (text ∷ [])
@@ -27,7 +27,7 @@ words_last text none =
 pub gap_at : (text : List ℕ) (at : ℕ) → at ≡ position_or_len is_gap text → at < length text → get_or text at 0 < 128
 gap_at text at is in_range =
     gap_small (get_or text at 0)
-      (ap (λ n. is_gap (get_or text n 0)) is ∙ passes_at_first is_gap text 0 (subst (λ n. n < length text) is in_range))
+    (ap (λ n. is_gap (get_or text n 0)) is ∙ passes_at_first is_gap text 0 (subst (λ n. n < length text) is in_range))
 
 -- in another order
 or_order : (a b c d e f : Bool) → (a || (b || (c || (d || (e || (f || false)))))) ≡ (((((a || b) || c) || d) || e) || f)

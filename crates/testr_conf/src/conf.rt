@@ -36,17 +36,15 @@ impl Model for Conf {
 
     ghost Value = { Settings };
 
-    ghost view = {
-        λ c. record {
-          command = c.command;
-          id_option = c.id_option;
-          list_option = c.list_option;
-          id_list = c.id_list;
-          concurrency = c.concurrency;
-          group_regex = c.group_regex;
-          filter_tags = c.filter_tags;
-        }
-    };
+    ghost view = { λ c. record {
+      command = c.command;
+      id_option = c.id_option;
+      list_option = c.list_option;
+      id_list = c.id_list;
+      concurrency = c.concurrency;
+      group_regex = c.group_regex;
+      filter_tags = c.filter_tags;
+    } };
 }
 
 // A value that is not empty.

@@ -12,13 +12,16 @@ const LISTED: &[u8] = b"[DEFAULT]\ntest_command=run $LISTOPT\ntest_list_option=-
 
 const NOT_LISTED: &[u8] = b"[DEFAULT]\ntest_command=run $LISTOPT\n";
 
-const WHOLE: &[u8] = b"[DEFAULT]\ntest_command=OS_STDOUT_CAPTURE=${OS_STDOUT_CAPTURE:-1} \\\n             ${PYTHON:-python} -m subunit.run discover -t ./ . $LISTOPT $IDOPTION\ntest_id_option=--load-list $IDFILE\ntest_list_option=--list\n";
+const WHOLE: &[u8] =
+    b"[DEFAULT]\ntest_command=OS_STDOUT_CAPTURE=${OS_STDOUT_CAPTURE:-1} \\\n             ${PYTHON:-python} -m subunit.run discover -t ./ . $LISTOPT $IDOPTION\ntest_id_option=--load-list $IDFILE\ntest_list_option=--list\n";
 
 const KEYS: &[u8] = b"# what runs\n\nOther: x\n";
 
-const MANY: &[u8] = b"[other]\ntest_command=no\n  more\n[DEFAULT]\r\n; not this\n  # nor this\nTEST_COMMAND : a\n\t b \n\n  c\nx=y\n  z\ntest_run_concurrency=echo 3\ngroup_regex=^[^.]+\nfilter_tags=one  two\n three\ntest_id_option=\n";
+const MANY: &[u8] =
+    b"[other]\ntest_command=no\n  more\n[DEFAULT]\r\n; not this\n  # nor this\nTEST_COMMAND : a\n\t b \n\n  c\nx=y\n  z\ntest_run_concurrency=echo 3\ngroup_regex=^[^.]+\nfilter_tags=one  two\n three\ntest_id_option=\n";
 
-const ODD: &[u8] = b"[DEFAULT]\ntest_command=$$IDFILE $IDOPTIONX ${IDLIST} $IDLIST\ntest_id_option=<$IDOPTION$IDLIST>\n";
+const ODD: &[u8] =
+    b"[DEFAULT]\ntest_command=$$IDFILE $IDOPTIONX ${IDLIST} $IDLIST\ntest_id_option=<$IDOPTION$IDLIST>\n";
 
 fn read(alloc: Global, text: &[u8]) -> Option<Conf> {
     if text.len() > 16_777_216 {
@@ -90,7 +93,10 @@ fn the_two_jobs_of_a_small_configuration(rt: HostRuntime) -> Result<(), Fail> {
 fn a_listing_needs_its_option(rt: HostRuntime) -> Result<(), Fail> {
     let alloc = rt.alloc();
     let refused = Some(JobFault::NoOption(Key::ListOption));
-    assert_eq!(rt; read(alloc, NOT_LISTED).and_then(|conf| conf.list_job(alloc).err()), refused);
+    assert_eq!(rt;
+        read(alloc, NOT_LISTED).and_then(|conf| conf.list_job(alloc).err()),
+        refused
+    );
     Ok(())
 }
 
@@ -98,13 +104,22 @@ fn a_listing_needs_its_option(rt: HostRuntime) -> Result<(), Fail> {
 fn the_first_line_that_is_refused_is_named(rt: HostRuntime) -> Result<(), Fail> {
     let alloc = rt.alloc();
     assert_eq!(rt; fault(alloc, b"x=1"), Some(ConfFault::NoSection(1)));
-    assert_eq!(rt; fault(alloc, b"[DEFAULT]\n  y"), Some(ConfFault::BadLine(2)));
+    assert_eq!(rt;
+        fault(alloc, b"[DEFAULT]\n  y"),
+        Some(ConfFault::BadLine(2))
+    );
     let twice = b"[DEFAULT]\ntest_command=a\nTest_Command=b\nx";
     assert_eq!(rt; fault(alloc, twice), Some(ConfFault::Repeated(3)));
     assert_eq!(rt; fault(alloc, b""), Some(ConfFault::NoCommand));
     assert_eq!(rt; fault(alloc, b"\n\n\n\n\n"), Some(ConfFault::NoCommand));
-    assert_eq!(rt; fault(alloc, b"[DEFAULT]\ntest_command= \n"), Some(ConfFault::NoCommand));
-    assert_eq!(rt; fault(alloc, b"[DEFAULT]\n# \xff\n"), Some(ConfFault::BadLine(2)));
+    assert_eq!(rt;
+        fault(alloc, b"[DEFAULT]\ntest_command= \n"),
+        Some(ConfFault::NoCommand)
+    );
+    assert_eq!(rt;
+        fault(alloc, b"[DEFAULT]\n# \xff\n"),
+        Some(ConfFault::BadLine(2))
+    );
     assert_eq!(rt; fault(alloc, b"[a] b\n"), Some(ConfFault::BadLine(1)));
     assert_eq!(rt; fault(alloc, b"[a]\n: b\n"), Some(ConfFault::BadLine(2)));
     assert_eq!(rt; fault(alloc, KEYS), Some(ConfFault::NoSection(3)));
@@ -114,12 +129,29 @@ fn the_first_line_that_is_refused_is_named(rt: HostRuntime) -> Result<(), Fail> 
 #[test]
 fn the_jobs_of_an_example(rt: HostRuntime) -> Result<(), Fail> {
     let alloc = rt.alloc();
-    let list = b"OS_STDOUT_CAPTURE=${OS_STDOUT_CAPTURE:-1} \\\n${PYTHON:-python} -m subunit.run discover -t ./ . --list ";
+    let list =
+        b"OS_STDOUT_CAPTURE=${OS_STDOUT_CAPTURE:-1} \\\n${PYTHON:-python} -m subunit.run discover -t ./ . --list ";
     assert_eq!(rt; lists(alloc, WHOLE, list), Some(true));
-    let first = b"OS_STDOUT_CAPTURE=${OS_STDOUT_CAPTURE:-1} \\\n${PYTHON:-python} -m subunit.run discover -t ./ .  --load-list .testr-ids.0";
-    assert_eq!(rt; runs(alloc, WHOLE, (b"a", b""), 0, first, b".testr-ids.0", b"a\n"), Some(true));
-    let second = b"OS_STDOUT_CAPTURE=${OS_STDOUT_CAPTURE:-1} \\\n${PYTHON:-python} -m subunit.run discover -t ./ .  --load-list .testr-ids.1";
-    assert_eq!(rt; runs(alloc, WHOLE, (b"b", b""), 1, second, b".testr-ids.1", b"b\n"), Some(true));
+    let first =
+        b"OS_STDOUT_CAPTURE=${OS_STDOUT_CAPTURE:-1} \\\n${PYTHON:-python} -m subunit.run discover -t ./ .  --load-list .testr-ids.0";
+    assert_eq!(rt;
+        runs(alloc, WHOLE, (b"a", b""), 0, first, b".testr-ids.0", b"a\n"),
+        Some(true)
+    );
+    let second =
+        b"OS_STDOUT_CAPTURE=${OS_STDOUT_CAPTURE:-1} \\\n${PYTHON:-python} -m subunit.run discover -t ./ .  --load-list .testr-ids.1";
+    assert_eq!(rt;
+        runs(
+            alloc,
+            WHOLE,
+            (b"b", b""),
+            1,
+            second,
+            b".testr-ids.1",
+            b"b\n"
+        ),
+        Some(true)
+    );
     Ok(())
 }
 
@@ -156,7 +188,18 @@ fn settings_go_on_and_comments_do_not_end_them(rt: HostRuntime) -> Result<(), Fa
 fn variables_are_replaced_once(rt: HostRuntime) -> Result<(), Fail> {
     let alloc = rt.alloc();
     let command = b"$.testr-ids.7 <a $IDFILE>X ${IDLIST} a $IDFILE";
-    assert_eq!(rt; runs(alloc, ODD, (b"a", b"$IDFILE"), 7, command, b".testr-ids.7", b"a\n$IDFILE\n"), Some(true));
+    assert_eq!(rt;
+        runs(
+            alloc,
+            ODD,
+            (b"a", b"$IDFILE"),
+            7,
+            command,
+            b".testr-ids.7",
+            b"a\n$IDFILE\n"
+        ),
+        Some(true)
+    );
     Ok(())
 }
 
@@ -185,6 +228,9 @@ fn ids_are_lines_without_white_space(rt: HostRuntime) -> Result<(), Fail> {
     assert_eq!(rt; id_is(alloc, list, 0, b"a b"), Some(true));
     assert_eq!(rt; id_is(alloc, list, 1, b"c"), Some(true));
     assert_eq!(rt; id_is(alloc, list, 2, b""), None);
-    assert_eq!(rt; not_listed(alloc, b"a\n\xff\n\xff"), Some(IdsFault::NotText(2)));
+    assert_eq!(rt;
+        not_listed(alloc, b"a\n\xff\n\xff"),
+        Some(IdsFault::NotText(2))
+    );
     Ok(())
 }

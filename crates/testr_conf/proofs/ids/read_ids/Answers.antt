@@ -8,20 +8,24 @@ loop-line-init c = listed_first c.args.text.now c.lines_with_terminator-lines.re
 pub overflow_add-number : goal.overflow_add-number
 overflow_add-number c =
     let few : c.loop-line.number < 16777216 =
-      line_number c.args.text.now c.loop-line.lines c.next.new.self c.in-Some.line.now _ c.loop-line.number c.loop-line.ids c.in-Some.ensures.steps refl c.loop-line.invariant c.requires in
+    line_number c.args.text.now c.loop-line.lines c.next.new.self c.in-Some.line.now _ c.loop-line.number c.loop-line.ids c.in-Some.ensures.steps refl c.loop-line.invariant c.requires in
     omega arith
 
 pub push_id-requires : goal.push_id-requires
 push_id-requires c =
-    omega (arith, line_room c.args.text.now c.loop-line.lines c.next.new.self c.in-Some.line.now c.read_entry.result.now c.loop-line.number c.loop-line.ids c.in-Some.ensures.steps c.read_entry.ensures.value c.loop-line.invariant,
-      c.read_entry.ensures.short, c.requires)
+    omega (
+      arith,
+      line_room c.args.text.now c.loop-line.lines c.next.new.self c.in-Some.line.now c.read_entry.result.now c.loop-line.number c.loop-line.ids c.in-Some.ensures.steps c.read_entry.ensures.value c.loop-line.invariant,
+      c.read_entry.ensures.short,
+      c.requires,
+    )
 
 pub loop-line-preserved : goal.loop-line-preserved
 loop-line-preserved c =
     listed_next c.args.text.now c.loop-line.lines c.next.new.self c.in-Some.line.now c.read_entry.result.now c.loop-line.number c.loop-line.ids c.in-Some.ensures.steps c.read_entry.ensures.value c.loop-line.invariant
-      c.push_id.new.ids c.in-Ok.ensures.text c.in-Ok.ensures.ok
+    c.push_id.new.ids c.in-Ok.ensures.text c.in-Ok.ensures.ok
 
 pub returns-in-Err-clause-refused : goal.returns-in-Err-clause-refused
 returns-in-Err-clause-refused c =
     listed_refused c.args.text.now c.loop-line.lines c.next.new.self c.in-Some.line.now c.read_entry.result.now c.loop-line.number c.loop-line.ids c.in-Some.ensures.steps c.read_entry.ensures.value c.loop-line.invariant
-      c.in-Err.fault c.in-Err.ensures.err
+    c.in-Err.fault c.in-Err.ensures.err

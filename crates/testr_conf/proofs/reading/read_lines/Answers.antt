@@ -14,13 +14,13 @@ loop-line-init c = record {
 pub overflow_add-number : goal.overflow_add-number
 overflow_add-number c =
     let few : c.loop-line.number < 16777216 =
-      line_fits c.args.text.now c.loop-line.lines c.next.new.self c.in-Some.line.now c.loop-line.number c.loop-line.reading c.in-Some.ensures.steps c.loop-line.invariant.stands c.requires in
+    line_fits c.args.text.now c.loop-line.lines c.next.new.self c.in-Some.line.now c.loop-line.number c.loop-line.reading c.in-Some.ensures.steps c.loop-line.invariant.stands c.requires in
     omega arith
 
 pub take-requires-clause-parts : goal.take-requires-clause-parts
 take-requires-clause-parts c =
     read_fits (seen c.read_line.result) c.in-Some.line.now 16777216 c.read_line.ensures
-      (omega (arith, first_size c.loop-line.lines c.next.new.self c.in-Some.line.now c.in-Some.ensures.steps, c.loop-line.invariant.room, c.requires))
+    (omega (arith, first_size c.loop-line.lines c.next.new.self c.in-Some.line.now c.in-Some.ensures.steps, c.loop-line.invariant.room, c.requires))
 
 pub take-requires-clause-below : goal.take-requires-clause-below
 take-requires-clause-below c =
@@ -29,7 +29,7 @@ take-requires-clause-below c =
 pub loop-line-preserved : goal.loop-line-preserved
 loop-line-preserved c = record {
   stands =
-    line_next c.args.text.now c.loop-line.lines c.next.new.self c.in-Some.line.now c.loop-line.number c.loop-line.reading c.in-Some.ensures.steps c.loop-line.invariant.stands
+      line_next c.args.text.now c.loop-line.lines c.next.new.self c.in-Some.line.now c.loop-line.number c.loop-line.reading c.in-Some.ensures.steps c.loop-line.invariant.stands
       c.take.new.self (seen c.read_line.result) c.as_bytes.result.now c.read_line.ensures c.as_bytes.ensures c.in-Ok.ensures.ok;
   room = omega (arith, first_size c.loop-line.lines c.next.new.self c.in-Some.line.now c.in-Some.ensures.steps, c.loop-line.invariant.room);
 }
@@ -37,4 +37,4 @@ loop-line-preserved c = record {
 pub returns-in-Err-clause-err : goal.returns-in-Err-clause-err
 returns-in-Err-clause-err c =
     line_refused c.args.text.now c.loop-line.lines c.next.new.self c.in-Some.line.now c.loop-line.number c.loop-line.reading c.in-Some.ensures.steps c.loop-line.invariant.stands
-      c.in-Err.fault (seen c.read_line.result) c.read_line.ensures c.in-Err.ensures.err
+    c.in-Err.fault (seen c.read_line.result) c.read_line.ensures c.in-Err.ensures.err

@@ -15,8 +15,12 @@ loop-at-preserved c = record {
       c.name.result.now c.name-in-Some.result.now c.name-in-Some-2.result.now c.eq.result c.name.ensures c.name-in-Some.ensures c.name-in-Some-2.ensures
       c.eq.ensures c.if-eq.false c.loop-at.invariant.read;
   shorter =
-    omega (arith, c.loop-at.invariant.shorter, ap length (take_rest c.loop-at.rest.now (c.in-Some.at + length c.name-in-Some-2.result.now)),
-      length-drop (c.in-Some.at + length c.name-in-Some-2.result.now) c.loop-at.rest.now);
+      omega (
+        arith,
+        c.loop-at.invariant.shorter,
+        ap length (take_rest c.loop-at.rest.now (c.in-Some.at + length c.name-in-Some-2.result.now)),
+        length-drop (c.in-Some.at + length c.name-in-Some-2.result.now) c.loop-at.rest.now,
+      );
 }
 
 pub returns : goal.returns

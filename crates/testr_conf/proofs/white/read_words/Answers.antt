@@ -25,10 +25,10 @@ overflow_add-rest c = let below : c.in-Some.at < length c.loop-at.rest.now = c.i
 pub loop-at-preserved : goal.loop-at-preserved
 loop-at-preserved c = record {
   read = words_more c.loop-at.rest.now c.in-Some.at c.in-Some.ensures.0 c.in-Some.ensures.1 c.args.text.now c.loop-at.words c.push_word.new.words
-    c.loop-at.invariant.read c.in_ok-push_word.ensures;
+      c.loop-at.invariant.read c.in_ok-push_word.ensures;
   shorter = omega (arith, c.loop-at.invariant.shorter, ap length (take_rest c.loop-at.rest.now (c.in-Some.at + 1)), length-drop (c.in-Some.at + 1) c.loop-at.rest.now);
   text =
-    subst IsText (sym (take_rest c.loop-at.rest.now (c.in-Some.at + 1)))
+      subst IsText (sym (take_rest c.loop-at.rest.now (c.in-Some.at + 1)))
       (text_behind c.loop-at.rest.now c.in-Some.at c.loop-at.invariant.text c.in-Some.ensures.1 (gap_at c.loop-at.rest.now c.in-Some.at c.in-Some.ensures.0 c.in-Some.ensures.1));
 }
 
