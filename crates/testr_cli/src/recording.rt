@@ -1,12 +1,12 @@
 //! Records an input as it is read: each piece of it becomes packets, which are written behind the draft and folded, and
 //! no more than one packet is held.
 
-ghost use Rattle.std.specs.Prelude.{◌≡◌, ℕ, List, [], ◌++◌, false, IfErr, OnOk, OnErr};
-ghost use Rattle.edge_io.specs.Causes.{HasCause};
+ghost use Rattle.std.specs.Prelude.{◌≡◌, ℕ, ◌≤◌, List, [], ◌++◌, false, length, IfErr, OnOk};
 ghost use Rattle.edge_io.specs.Steps.{Goes, Grown, HasDraft};
 ghost use Rattle.packet_codec.specs.Grammar.{AreBytes};
 ghost use Rattle.run_ledger.specs.Reading.{HasRead};
 ghost use Rattle.run_shelf.specs.Drafts.{SameButDraft};
+ghost use Rattle.stream_reader.specs.Room.{most_held};
 ghost use Rattle.testr_cli.specs.Outside.{fed};
 ghost use Rattle.testr_cli.specs.Recording.{Records, RecordsPieces, HasRecordCause, HasWriteCause, record_code, record_text};
 ghost use Rattle.testr_cli.specs.Telling.{line_text};
@@ -122,6 +122,7 @@ fn record_pieces<H: Shelf, I: Source>(
 ) -> Result<(), RecordFault>
     requires draft { HasDraft (H.seen shelf.old).told }
     requires going_on { scribe.old.held.ended ≡ false }
+    requires held { length scribe.old.held.bytes ≤ most_held }
     requires recording { Recording [] scribe.old [] }
     requires folded { HasRead rows.old [] }
     ensures recorded { OnOk result (RecordsPieces
@@ -146,7 +147,7 @@ fn record_pieces<H: Shelf, I: Source>(
         if total > MOST_BYTES {
             return Err(RecordFault::TooLong);
         }
-        scribe.feed(&piece[..count])?;
+        scribe.feed(&piece[..count]);
         write_packets(shelf, scribe, rows, packets)?;
     }
 }
@@ -161,6 +162,7 @@ fn write_packets<H: Shelf>(
     requires { HasDraft (H.seen shelf.old).told }
     ensures given { OnOk result (GivesPackets scribe.old [] scribe.new packets.new.items) }
     ensures none { OnOk result (HasNone scribe.new) }
+    ensures held { OnOk result (scribe.new.held.ended ≡ false → length scribe.new.held.bytes ≤ most_held) }
     ensures written { OnOk result (Goes (H.seen shelf.old).told (H.seen shelf.new).told (Grown packets.new.items)) }
     ensures folded { (run : List ℕ) → HasRead rows.old run → OnOk result (HasRead rows.new (run ++ packets.new.items)) }
     ensures are_bytes { OnOk result (AreBytes packets.new.items) }

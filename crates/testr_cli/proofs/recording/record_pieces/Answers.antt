@@ -12,7 +12,7 @@ loop-count-preserved g c =
     let (bytes, read, size, run, recording, folded, are, written) = c.loop-count.invariant.read in
     let piece = take c.in_ok-count.count c.read.new.buf in
     let packets = c.write_packets.new.packets.items in
-    let fed = c.in_ok-feed.ensures.recording bytes run recording in
+    let fed = c.feed.ensures.recording bytes run recording in
     let given = c.in_ok-write_packets.ensures.given in
     record {
       read = (
@@ -27,8 +27,9 @@ loop-count-preserved g c =
       );
       few = omega (arith, c.if-total-gt-MOST_BYTES.false);
       draft = c.in_ok-write_packets.ensures.draft;
-      going_on = given.ended ∙ ap (λ s. s.held.ended) c.in_ok-feed.ensures.ok;
-      lane = given.lane ∙ ap (λ s. s.lane) c.in_ok-feed.ensures.ok ∙ c.loop-count.invariant.lane;
+      going_on = given.ended ∙ ap (λ s. s.held.ended) c.feed.ensures.ok;
+      held = c.in_ok-write_packets.ensures.held (given.ended ∙ ap (λ s. s.held.ended) c.feed.ensures.ok);
+      lane = given.lane ∙ ap (λ s. s.lane) c.feed.ensures.ok ∙ c.loop-count.invariant.lane;
       rests = same_then _ _ _ c.loop-count.invariant.rests c.in_ok-write_packets.ensures.rests;
       counts = record { folder = c.in_ok-write_packets.ensures.count ∙ c.loop-count.invariant.counts.folder; input = c.in_ok-count.ensures.cause.done ∙ c.loop-count.invariant.counts.input };
     }

@@ -5,6 +5,7 @@ use Rattle.packet_codec.specs.Grammar.{AreBytes}
 use Rattle.run_ledger.specs.Reading.{HasRead}
 use Rattle.run_shelf.specs.Drafts.{SameButDraft}
 use Rattle.worker_lane.specs.Scribing.{Recording}
+use Rattle.stream_reader.specs.Room.{most_held}
 use Rattle.testr_cli.specs.Outside.{fed}
 use Rattle.testr_cli.specs.Recording.{NoneFailed, most_bytes}
 use Rattle.testr_cli.proofs.recording.record_pieces.Given as goal
@@ -16,6 +17,7 @@ invariant-loop-count g l = record {
   few : l.total ≤ most_bytes;
   draft : HasDraft (g.H.Shelf.seen l.shelf).told;
   going_on : l.scribe.held.ended ≡ false;
+  held : length l.scribe.held.bytes ≤ most_held;
   lane : l.scribe.lane ≡ l.fn.scribe.lane;
   rests : Goes (g.H.Shelf.seen l.initial.shelf).told (g.H.Shelf.seen l.shelf).told SameButDraft;
   counts : NoneFailed (fed (g.H.Shelf.seen l.initial.shelf) (g.I.Source.seen l.initial.input)) (fed (g.H.Shelf.seen l.shelf) (g.I.Source.seen l.input));

@@ -2,4 +2,4 @@ use Rattle.testr_cli.proofs.TellLemmas.{ledger_fails}
 use Rattle.testr_cli.proofs.told.tell_failing.Goals as goal
 
 pub returns-in-Err-clause-count : goal.returns-in-Err-clause-count
-returns-in-Err-clause-count g c = ledger_fails _ _ _ _ c.failing.result c.in-Err.fault c.ledger_refusal.result c.in-Err.is c.ledger_refusal.ensures c.requires.open c.failing.ensures.closes c.failing.ensures.cause
+returns-in-Err-clause-count g c = ledger_fails _ _ _ _ c.failing.result c.in-Err.fault c.ledger_refusal.result c.in-Err.is c.ledger_refusal.ensures c.requires.open c.failing.ensures.reads.closes c.failing.ensures.reads.cause
