@@ -1,7 +1,6 @@
 -- The entries of a list, one after another.
-use Rattle.std.proofs.Common.{◌≡◌, ◌<◌, ◌≤◌, ◌+◌, ℕ, Bool, true, false, cond, Option, Some, None, Result, Ok, Err, List, [], ◌∷◌, ◌++◌, length, map, refl, sym, ap, subst, ◌∙◌, ◌⊎◌, ⊎_elim, inl, inr, ◌==◌, OnOk, arith, append_assoc}
+use Rattle.std.proofs.Common.{◌≡◌, ◌<◌, ◌≤◌, ◌+◌, ℕ, true, false, cond, Some, Result, Ok, Err, List, [], ◌∷◌, ◌++◌, length, map, sym, ap, ◌∙◌, ◌⊎◌, ⊎_elim, inl, inr, ◌==◌, OnOk, arith, append_assoc}
 use Rattle.std.specs.List.{filter, concat}
-use Rattle.std.proofs.lemmas.List.{append-nil, length-map}
 use Rattle.std.proofs.lemmas.List.Elements.{filter-append}
 use Rattle.std.proofs.lemmas.Bool.{cond-true, cond-false, eqb-true, false_from_ne_true}
 use Rattle.bstr.specs.Text.{lines_of}

@@ -1,5 +1,5 @@
 -- The lines right below a setting.
-use Rattle.std.proofs.Common.{◌≡◌, ◌+◌, ℕ, suc, Bool, true, cond, List, [], ◌∷◌, ◌++◌, take, map, refl, sym, ap, subst, ◌∙◌, arith, append_assoc}
+use Rattle.std.proofs.Common.{◌≡◌, ◌+◌, ℕ, suc, true, cond, List, [], ◌∷◌, ◌++◌, take, map, refl, sym, ap, ◌∙◌, arith, append_assoc}
 use Rattle.std.specs.List.{flat_map, take_while, prefix_len}
 use Rattle.testr_conf.specs.Lines.{Line, more, skipped, ended_line_of}
 use Rattle.testr_conf.specs.Settings.{is_inner, added}

@@ -1,18 +1,12 @@
 -- The job that lists the tests.
-use Rattle.std.proofs.Common.{◌≡◌, ℕ, Bool, true, Option, Some, None, Result, Ok, Err, List, [], refl, sym, ap, ◌∙◌}
-use Rattle.std.specs.Prelude.{codes}
+use Rattle.std.proofs.Common.{◌≡◌, ℕ, true, Some, Ok, Err, List, sym, ap, ◌∙◌}
 use Rattle.std.proofs.lemmas.Bool.{cond-true}
 use Rattle.edge_io.specs.declared.job.Job.{Job}
-use Rattle.testr_conf.specs.Lines.{lines_in}
-use Rattle.testr_conf.specs.Settings.{Setting, Settings, settings_of, set_of, with_command, first_fault, unless_refused, conf_of}
-use Rattle.testr_conf.specs.Keys.{found_of}
-use Rattle.testr_conf.specs.Steps.{settled, settled_with}
+use Rattle.testr_conf.specs.Settings.{Settings}
 use Rattle.testr_conf.specs.Variables.{has_variable, filled}
 use Rattle.testr_conf.specs.Jobs.{list_values, list_job_of, list_job_by, plain_job}
-use Rattle.testr_conf.specs.declared.fault.ConfFault.{ConfFault}
 use Rattle.testr_conf.specs.declared.fault.JobFault.TheVariants.{NoOption}
 use Rattle.testr_conf.specs.declared.fault.Key.TheVariants as key
-use Rattle.testr_conf.specs.declared.found.Found.{Found}
 use Rattle.testr_conf.specs.declared.variable.Variable.TheVariants as name
 
 pub list_told : (settings : Settings) (command option out : List ℕ) (job : Job) → settings.command ≡ command → settings.list_option ≡ Some option

@@ -1,10 +1,10 @@
 -- What a line is.
-use Rattle.std.proofs.Common.{◌≡◌, ◌<◌, ◌≤◌, ◌-◌, ◌+◌, ℕ, Bool, true, false, cond, ◌&&◌, not, nat_eq, nat_lt, List, [], ◌∷◌, ◌++◌, length, take, drop, get_or, map, refl, sym, ap, subst, ◌∙◌, ◌==◌, arith}
-use Rattle.std.specs.List.{list_any, position_or_len, before_first, after_first, ends_with}
+use Rattle.std.proofs.Common.{◌≡◌, ◌<◌, ◌-◌, ◌+◌, ℕ, false, ◌&&◌, List, length, take, drop, map, sym, ap, subst, ◌∙◌, ◌==◌, arith}
+use Rattle.std.specs.List.{list_any, position_or_len, before_first}
 use Rattle.std.specs.Char.{to_ascii_lowercase}
 use Rattle.std.proofs.lemmas.List.{length-map, take_rest}
-use Rattle.std.proofs.lemmas.Bool.{cond-true, cond-false, and_from, and_left, and_right, lt-ltb, le-ltb, eqb-false, false≢true, false_from_ne_true}
-use Rattle.testr_conf.specs.White.{trimmed, has_bytes, is_white}
+use Rattle.std.proofs.lemmas.Bool.{cond-true, cond-false, and_from, and_left, lt-ltb, eqb-false, false_from_ne_true}
+use Rattle.testr_conf.specs.White.{trimmed, has_bytes}
 use Rattle.sub_number.specs.Texts.{IsText}
 use Rattle.testr_conf.specs.Lines.{Line, bad, setting, is_sign, is_text, key_of, setting_line, line_of, text_line, ended_line_of, without_last}
 use Rattle.testr_conf.proofs.TextLemmas.{text_from_test, test_from_text}

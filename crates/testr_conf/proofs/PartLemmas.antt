@@ -1,5 +1,5 @@
 -- The parts of a line are texts, and no longer than it.
-use Rattle.std.proofs.Common.{◌≡◌, ◌<◌, ◌≤◌, ◌+◌, ◌-◌, ℕ, Bool, true, false, cond, ◌||◌, ◌&&◌, ◌==◌, not, nat_eq, List, [], ◌∷◌, ◌++◌, length, take, drop, get_or, refl, sym, ap, subst, ◌∙◌, ⊎_elim, arith}
+use Rattle.std.proofs.Common.{◌≡◌, ◌<◌, ◌≤◌, ◌+◌, ◌-◌, ℕ, true, cond, ◌||◌, ◌&&◌, ◌==◌, not, nat_eq, List, [], ◌∷◌, ◌++◌, length, take, drop, get_or, sym, ap, subst, ◌∙◌, ⊎_elim, arith}
 use Rattle.std.specs.List.{position_or_len, list_any, ends_with, after_first, concat}
 use Rattle.std.proofs.lemmas.List.{length-take, length-drop, length-append}
 use Rattle.std.proofs.lemmas.List.Sums.{passes_at_first, prefix_len-le-length}
@@ -8,12 +8,12 @@ use Rattle.bstr.specs.Text.{lines_of}
 use Rattle.bstr.proofs.lemmas.LengthLemmas.{length-lines_of}
 use Rattle.bstr.proofs.lemmas.RestLemmas.{concat-lines_of}
 use Rattle.sub_number.specs.Texts.{IsText}
-use Rattle.testr_conf.specs.White.{trimmed, has_bytes, is_gap}
-use Rattle.testr_conf.specs.Lines.{Line, bad, skipped, more, section, setting, is_sign, is_text, is_comment_sign, is_indent, is_bracket, begins_by, key_of, section_line, setting_line, text_line, line_of, without_last, ended_line_of}
+use Rattle.testr_conf.specs.White.{trimmed, has_bytes}
+use Rattle.testr_conf.specs.Lines.{Line, bad, skipped, more, section, setting, is_sign, is_text, is_comment_sign, is_indent, is_bracket, begins_by, key_of, section_line, setting_line, text_line, without_last, ended_line_of}
 use Rattle.testr_conf.specs.Parts.{FitsWithin}
 use Rattle.testr_conf.proofs.SearchLemmas.{any_none}
-use Rattle.testr_conf.proofs.TextLemmas.{text_before, text_behind, text_from_test}
-use Rattle.testr_conf.proofs.TrimLemmas.{trimmed_text, trimmed_short, gap_small}
+use Rattle.testr_conf.proofs.TextLemmas.{text_behind, text_from_test}
+use Rattle.testr_conf.proofs.TrimLemmas.{trimmed_text, trimmed_short}
 
 sign_small : (b : ℕ) → is_sign b ≡ true → b < 128
 sign_small b is = ⊎_elim (λ h. omega (arith, eqb-true b 61 h)) (λ h. omega (arith, eqb-true b 58 h)) (or_cases (b == 61) (b == 58) is)

@@ -1,5 +1,5 @@
 -- The pieces of a text with variables.
-use Rattle.std.proofs.Common.{◌≡◌, ◌<◌, ◌≤◌, ◌+◌, ◌-◌, ℕ, zero, suc, Bool, true, false, ◌||◌, ◌==◌, nat_eq, Option, Some, None, List, [], ◌∷◌, ◌++◌, length, take, drop, map, get_or, refl, sym, ap, subst, ◌∙◌, cond, ⊎_elim, arith, take-add, append_assoc}
+use Rattle.std.proofs.Common.{◌≡◌, ◌<◌, ◌≤◌, ◌+◌, ◌-◌, ℕ, zero, suc, Bool, true, false, ◌||◌, nat_eq, Some, None, List, [], ◌∷◌, ◌++◌, length, take, drop, map, get_or, refl, sym, ap, subst, ◌∙◌, cond, ⊎_elim, arith, take-add, append_assoc}
 use Rattle.std.specs.List.{list_any, flat_map, find, starts_with}
 use Rattle.std.specs.Str.{bytes_eq}
 use Rattle.std.proofs.lemmas.List.{append-nil, take_rest, take_all, drop_all, drop-drop, take-append-drop, drop_more, take_more, map-append, get_or-take, get_or-drop, length-take-le, length-drop}

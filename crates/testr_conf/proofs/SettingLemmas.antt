@@ -1,5 +1,5 @@
 -- The values that settings give, and one more of them.
-use Rattle.std.proofs.Common.{◌≡◌, ℕ, Bool, true, false, cond, ◌&&◌, ◌||◌, Option, Some, None, is_some, List, [], ◌∷◌, ◌++◌, map, refl, sym, ap, subst, ◌∙◌, ⊎_elim}
+use Rattle.std.proofs.Common.{◌≡◌, ℕ, Bool, true, false, cond, ◌&&◌, ◌||◌, Option, Some, None, is_some, List, [], ◌∷◌, ◌++◌, map, refl, sym, ap, ◌∙◌, ⊎_elim}
 use Rattle.std.specs.Prelude.{codes}
 use Rattle.std.specs.List.{find, list_any}
 use Rattle.std.specs.Option.{option_map, option_or}
@@ -14,7 +14,7 @@ use Rattle.testr_conf.specs.declared.name.Name.{Name}
 use Rattle.testr_conf.specs.declared.name.Name.TheVariants.{Command, IdOption, ListOption, IdList, Concurrency, GroupRegex, FilterTags}
 use Rattle.testr_conf.specs.declared.found.Found.{Found}
 use Rattle.testr_conf.specs.declared.reading.Place.TheVariants.{Default}
-use Rattle.testr_conf.proofs.KeyLemmas.{named_known, named_key, named_none, Differs}
+use Rattle.testr_conf.proofs.KeyLemmas.{named_known, named_key, named_none}
 
 has_value : (key : List ℕ) (settings : List Setting) → is_some (value_of key settings) ≡ has_key key settings
 has_value key [] = refl

@@ -11,9 +11,8 @@ use Rattle.testr_conf.specs.Settings.{Setting, section_after, section_of, is_def
 use Rattle.testr_conf.specs.Keys.{named, found_of}
 use Rattle.testr_conf.specs.Steps.{place_of, reading_of, is_taken, setting_fault, fault_at, kept, known_after, Takes}
 use Rattle.testr_conf.specs.declared.fault.ConfFault.{ConfFault}
-use Rattle.testr_conf.specs.declared.fault.ConfFault.TheVariants.{BadLine, NoSection, Repeated, NoMemory}
-use Rattle.testr_conf.specs.declared.reading.Place.{Place}
-use Rattle.testr_conf.specs.declared.reading.Place.TheVariants.{Nowhere, Default, Elsewhere}
+use Rattle.testr_conf.specs.declared.fault.ConfFault.TheVariants.{NoSection, Repeated, NoMemory}
+use Rattle.testr_conf.specs.declared.reading.Place.TheVariants.{Default, Elsewhere}
 use Rattle.testr_conf.specs.declared.reading.Reading.{Reading}
 use Rattle.testr_conf.proofs.SettingLemmas.{taken_is, has_by_keys, kept_default}
 

@@ -1,13 +1,13 @@
 -- Parts of a text that are texts, and their lengths.
-use Rattle.std.proofs.Common.{◌≡◌, ◌<◌, ◌≤◌, ◌+◌, ◌-◌, ℕ, zero, suc, Bool, true, false, cond, ◌||◌, ◌==◌, List, [], ◌∷◌, ◌++◌, length, take, drop, get_or, reverse, refl, sym, ap, subst, ◌∙◌, ⊎_elim, arith}
-use Rattle.std.proofs.lemmas.List.{reverse-append, reverse-reverse, length-reverse, length-append, take_at, get_or_at, length-take-le}
+use Rattle.std.proofs.Common.{◌≡◌, ◌<◌, ◌≤◌, ◌+◌, ℕ, true, cond, ◌||◌, ◌==◌, List, [], ◌∷◌, ◌++◌, length, reverse, refl, sym, ap, subst, ◌∙◌, ⊎_elim, arith}
+use Rattle.std.proofs.lemmas.List.{reverse-append, reverse-reverse, length-reverse, length-append, take_at, get_or_at}
 use Rattle.std.specs.Prelude.{codes, nat_lt, ◌&&◌, ◌%◌, ◌^◌}
 use Rattle.std.specs.List.{list_all}
 use Rattle.std.specs.Fmt.{decimal}
 use Rattle.std.proofs.lemmas.Fmt.{decimal_by_steps, length-decimal-le}
 use Rattle.std.proofs.lemmas.Bool.{cases_Bool, or_cases, and_parts, eqb-true, ltb-true}
 use Rattle.sub_number.specs.Texts.{IsText, IsShortText}
-use Rattle.testr_conf.specs.White.{is_white, is_gap, front_trimmed, end_trimmed, trimmed}
+use Rattle.testr_conf.specs.White.{is_white, is_gap, front_trimmed, trimmed}
 use Rattle.testr_conf.proofs.TextLemmas.{text_before, text_behind, text_nil, text_one, text_append}
 
 white_small : (b : ℕ) → is_white b ≡ true → b < 128

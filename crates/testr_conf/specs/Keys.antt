@@ -1,5 +1,5 @@
 -- The keys that are used, and the values found for them.
-use Rattle.std.specs.Prelude.{ℕ, Bool, Option, Some, None, List, codes, if◌then◌else◌}
+use Rattle.std.specs.Prelude.{ℕ, Option, Some, None, List, codes, if◌then◌else◌}
 use Rattle.std.specs.Str.{bytes_eq}
 use Rattle.testr_conf.specs.Settings.{Setting, value_of}
 use Rattle.testr_conf.specs.declared.name.Name.{Name}

@@ -1,5 +1,5 @@
 -- The lines as the code has them.
-use Rattle.std.specs.Prelude.{List, ℕ, map}
+use Rattle.std.specs.Prelude.{map}
 use Rattle.std.specs.Char.{to_ascii_lowercase}
 use Rattle.testr_conf.specs.Lines as spec
 use Rattle.testr_conf.specs.declared.line.Line.{Line}

@@ -1,5 +1,5 @@
 -- White space, and what stands between it (docs/FORMATS.md, "The configuration").
-use Rattle.std.specs.Prelude.{ℕ, ◌<◌, Bool, ◌||◌, ◌==◌, nat_lt, List, [], ◌∷◌, length, reverse, if◌then◌else◌}
+use Rattle.std.specs.Prelude.{ℕ, Bool, ◌||◌, ◌==◌, nat_lt, List, [], ◌∷◌, length, reverse, if◌then◌else◌}
 use Rattle.std.specs.List.{filter, slice_split}
 
 -- a space, a tab, a carriage return, a vertical tab or a form feed

@@ -1,4 +1,4 @@
-use Rattle.std.proofs.Common.{◌<◌, length, refl, arith}
+use Rattle.std.proofs.Common.{◌<◌, refl, arith}
 use Rattle.testr_conf.proofs.IdLemmas.{listed_first, line_number, line_room, listed_next, listed_refused}
 use Rattle.testr_conf.proofs.ids.read_ids.Goals as goal
 

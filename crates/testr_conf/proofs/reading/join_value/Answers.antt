@@ -1,4 +1,4 @@
-use Rattle.std.proofs.Common.{◌≡◌, ◌∷◌, [], ap, sym, subst, ◌∙◌, length, arith, rules}
+use Rattle.std.proofs.Common.{◌∷◌, [], ap, sym, subst, ◌∙◌, length, arith, rules}
 use Rattle.std.proofs.lemmas.Grind.{common_steps}
 use Rattle.sub_number.specs.Texts.{IsText}
 use Rattle.testr_conf.specs.Lines.{more}

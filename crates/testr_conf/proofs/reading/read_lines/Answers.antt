@@ -1,4 +1,4 @@
-use Rattle.std.proofs.Common.{◌≡◌, ◌<◌, ap, length, arith}
+use Rattle.std.proofs.Common.{◌<◌, ap, length, arith}
 use Rattle.std.specs.List.{concat}
 use Rattle.testr_conf.specs.Seen.{seen}
 use Rattle.testr_conf.proofs.StandLemmas.{stands_start, line_fits, line_next, line_refused}

@@ -1,4 +1,4 @@
-use Rattle.std.proofs.Common.{◌≡◌, ◌++◌, ℕ, length}
+use Rattle.std.proofs.Common.{◌≡◌, ◌++◌, length}
 use Rattle.sub_number.specs.Texts.{IsText}
 use Rattle.testr_conf.specs.Variables.{filled}
 use Rattle.testr_conf.specs.Filled.{seen_values}

@@ -1,4 +1,3 @@
-use Rattle.std.proofs.Common.{sym}
 use Rattle.testr_conf.proofs.PieceLemmas.{none_left, plain_sign, sign_fits, first_found}
 use Rattle.testr_conf.proofs.variable.first_variable.Goals as goal
 

@@ -1,4 +1,4 @@
-use Rattle.std.proofs.Common.{◌≡◌, ◌++◌, ◌≤◌, ◌-◌, ℕ, length, take, drop, map}
+use Rattle.std.proofs.Common.{◌≡◌, ◌++◌, ◌≤◌, ◌-◌, length, take, drop, map}
 use Rattle.testr_conf.specs.Variables.{byte, pieces_of}
 use Rattle.testr_conf.proofs.variable.first_variable.Given as goal
 

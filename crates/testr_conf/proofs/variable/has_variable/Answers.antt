@@ -1,4 +1,4 @@
-use Rattle.std.proofs.Common.{◌≡◌, ◌+◌, sym, ap, ◌∙◌, length, arith}
+use Rattle.std.proofs.Common.{◌+◌, sym, ap, ◌∙◌, length, arith}
 use Rattle.std.proofs.lemmas.List.{take_rest, length-drop}
 use Rattle.testr_conf.specs.Filled.{FirstVariable}
 use Rattle.testr_conf.proofs.PieceLemmas.{has_behind, has_none}

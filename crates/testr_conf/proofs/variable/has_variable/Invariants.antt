@@ -1,4 +1,4 @@
-use Rattle.std.proofs.Common.{◌≡◌, ◌≤◌, ℕ, length}
+use Rattle.std.proofs.Common.{◌≡◌, ◌≤◌, length}
 use Rattle.testr_conf.specs.Variables.{has_variable}
 use Rattle.testr_conf.proofs.variable.has_variable.Given as goal
 

@@ -1,5 +1,4 @@
 use Rattle.testr_conf.specs.White.{is_gap}
-use Rattle.bstr.specs.Bytes.{is_in}
 use Rattle.testr_conf.proofs.SearchLemmas.{IsFirstByte-place}
 use Rattle.testr_conf.proofs.WordLemmas.{gap_test}
 use Rattle.testr_conf.proofs.white.find_gap.Goals as goal

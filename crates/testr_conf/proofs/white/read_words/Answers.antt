@@ -1,4 +1,4 @@
-use Rattle.std.proofs.Common.{◌≡◌, ◌<◌, ◌+◌, length, sym, subst, ◌∙◌, ap, arith, rules}
+use Rattle.std.proofs.Common.{◌<◌, ◌+◌, length, sym, subst, ap, arith, rules}
 use Rattle.std.proofs.lemmas.List.{take_rest, length-take, length-drop}
 use Rattle.std.proofs.lemmas.Grind.{common_steps}
 use Rattle.sub_number.specs.Texts.{IsText}

@@ -1,4 +1,4 @@
-use Rattle.std.proofs.Common.{◌≡◌, ◌≤◌, ◌++◌, ℕ, length}
+use Rattle.std.proofs.Common.{◌≡◌, ◌≤◌, ◌++◌, length}
 use Rattle.sub_number.specs.Texts.{IsText}
 use Rattle.testr_conf.specs.White.{words_of}
 use Rattle.testr_conf.proofs.white.read_words.Given as goal

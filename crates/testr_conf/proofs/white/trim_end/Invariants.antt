@@ -1,4 +1,4 @@
-use Rattle.std.proofs.Common.{◌≡◌, ℕ, length}
+use Rattle.std.proofs.Common.{◌≡◌, length}
 use Rattle.testr_conf.specs.White.{end_trimmed}
 use Rattle.testr_conf.proofs.white.trim_end.Given as goal
 

@@ -1,5 +1,4 @@
-use Rattle.std.proofs.Common.{arith, rules}
-use Rattle.std.proofs.lemmas.Grind.{common_steps}
+use Rattle.std.proofs.Common.{rules}
 use Rattle.testr_conf.proofs.JobLemmas.{list_told}
 use Rattle.testr_conf.proofs.conf.Conf.list_job.Goals as goal
 
