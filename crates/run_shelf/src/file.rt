@@ -11,6 +11,7 @@ use crate::ShelfCall;
 use edge_io::Shelf;
 
 /// The bytes become the file of this name, in a folder in which nothing is pending. At `Ok` each later stop leaves it.
+#[tactic(auto, using(crate::proofs::KeepSteps::file_passes))]
 pub fn keep_file<H: Shelf>(shelf: &mut H, name: &str, bytes: &[u8]) -> Result<(), ShelfCall>
     requires { IfSome (H.seen shelf.old).told AtRest }
     ensures kept { OnOk result (Goes (H.seen shelf.old).told (H.seen shelf.new).told (KeepsFile name.now bytes.now)) }
