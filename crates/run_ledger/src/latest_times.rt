@@ -20,7 +20,7 @@ use sub_number::{NoMemory, Text, TimeMap};
 /// longest of its times. Each run is read once, from the first on. Nothing changes in the folder.
 ///
 /// `Store` comes only where a call of the folder failed, and where one had failed before, which comes first. `NoMemory`
-/// comes only for want of memory, and leaves the store open.
+/// comes for want of memory, or of a run without an end in a folder that tells nothing, and leaves the store open.
 pub fn times<H: Shelf>(alloc: Global, store: &mut Store<'_, H>) -> Result<TimeMap, LedgerFault>
     requires fits { FitsUnlessBroken (store_kinds store.old) (store_fault store.old) (H.seen store.old.shelf.now).told }
     ensures same_reference { store.new.shelf.ghost_name ≡ store.old.shelf.ghost_name }

@@ -21,7 +21,7 @@ use sub_number::NoMemory;
 /// gives fewer. Nothing changes in the folder.
 ///
 /// `Store` comes only where a call of the folder failed, and where one had failed before, which comes first. `NoMemory`
-/// comes only for want of memory, and leaves the store open.
+/// comes for want of memory, or of a run without an end in a folder that tells nothing, and leaves the store open.
 pub fn rows_of<H: Shelf>(
     alloc: Global,
     store: &mut Store<'_, H>,

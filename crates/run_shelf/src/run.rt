@@ -1,4 +1,4 @@
-//! One run: begun, added to and finished, or kept at once, and read.
+//! One run: begun, added to and finished, and read.
 
 ghost use Rattle.std.specs.Prelude.{◌≡◌, ◌<◌, ◌++◌, ◌∷◌, [], length, IfSome, IfOk, IfErr, OnOk, OnErr};
 ghost use Rattle.std.specs.Io.{ReadsAtMost};
@@ -7,11 +7,11 @@ ghost use Rattle.edge_io.specs.Steps.{Goes, Stays, Ticks, HasDraft, Opened, Drop
 ghost use Rattle.run_shelf.specs.Drafts.{OfDraft, PlaceFails};
 ghost use Rattle.run_shelf.specs.Holds.{kinds_of, HasRoom, FitsWhereTold};
 ghost use Rattle.run_shelf.specs.Images.{KeepsRun, PassesRun, PassesOld};
-ghost use Rattle.run_shelf.specs.Outcomes.{KeepFails, IsRunLength, IsRunPart, TicksAtMost};
+ghost use Rattle.run_shelf.specs.Outcomes.{IsRunLength, IsRunPart, TicksAtMost};
 ghost use Rattle.run_shelf.specs.Repository.{run_of, run_name, most_runs};
 ghost use Rattle.run_shelf.specs.declared.faults.ShelfCall.TheVariants.{Length, ReadAt, StartDraft, Append};
 
-use crate::file::{keep_file, place_draft};
+use crate::file::place_draft;
 use crate::{Found, ShelfCall, names};
 use edge_io::Shelf;
 
@@ -82,36 +82,6 @@ pub fn finish_run<H: Shelf>(
     Ok(number)
 }
 
-/// Keeps the bytes as the run behind all others, and answers its number, which is how many runs there were. It takes no
-/// memory: there must be room for it in what was found, which must fit the folder, and fewer than 1,000,000 runs.
-///
-/// At `Ok` each later stop leaves the run and those before it. The error is the call of the folder that failed: before
-/// the publish the files are as they were, at it the run is there or not, after it the run is there. A stop at any moment
-/// leaves what one before the call might have left, or the files as read before it with the run beside them.
-pub fn keep_run<H: Shelf>(
-    shelf: &mut H,
-    found: &mut Found,
-    partial: bool,
-    bytes: &[u8],
-) -> Result<u32, ShelfCall>
-    requires few { length (kinds_of found.old) < most_runs }
-    requires room { HasRoom found.old }
-    requires fits { FitsWhereTold (kinds_of found.old) (H.seen shelf.old).told }
-    ensures number { IfOk result (λ number. number ≡ length (kinds_of found.old)) }
-    ensures kept { OnOk result (Goes (H.seen shelf.old).told (H.seen shelf.new).told (KeepsRun (length (kinds_of found.old)) (run_of partial bytes.now))) }
-    ensures fits { OnOk result (FitsWhereTold (kinds_of found.new) (H.seen shelf.new).told) }
-    ensures kinds { OnOk result (kinds_of found.new ≡ kinds_of found.old ++ partial ∷ []) }
-    ensures kinds_err { OnErr result (kinds_of found.new ≡ kinds_of found.old) }
-    ensures failed { IfErr result (λ call. Goes (H.seen shelf.old).told (H.seen shelf.new).told (KeepFails (run_name (length (kinds_of found.old)) partial) bytes.now call)) }
-    ensures any_moment { Goes (H.seen shelf.old).told (H.seen shelf.new).told (PassesRun (length (kinds_of found.old)) (run_of partial bytes.now)) }
-    ensures cause { HasCause (H.seen shelf.old).faults (H.seen shelf.new).faults result }
-{
-    let number = found.runs();
-    let name = names::run_name(number, partial);
-    keep_file(shelf, name.as_str(), bytes)?;
-    found.add(partial);
-    Ok(number)
-}
 /// How many bytes the run of this number has, which must be one of those found. It takes no memory and makes one call of
 /// the folder, in which nothing changes. The error is that call, where it failed.
 pub fn run_length<H: Shelf>(shelf: &mut H, found: &Found, number: u32) -> Result<u64, ShelfCall>
