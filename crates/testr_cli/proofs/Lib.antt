@@ -16,3 +16,4 @@ pub mod DoneLaws
 pub mod CauseLaws
 pub mod PromiseLemmas
 pub mod Performing
+mod ExactLemmas

@@ -15,3 +15,4 @@ pub mod Load
 pub mod Ask
 pub mod Stops
 pub mod Program
+pub mod Exact

@@ -1,5 +1,5 @@
 -- The steps of the folder: what each does to it, why it refuses, and what it says then.
-use Rattle.std.specs.Prelude.{◌≡◌, ℕ, ◌<◌, Bool, List, ◌++◌, codes, length, Result, IfOk, IfErr, OnOk, OnErr}
+use Rattle.std.specs.Prelude.{◌≡◌, ℕ, ◌<◌, Bool, List, ◌++◌, codes, Result, IfOk, IfErr, OnOk, OnErr}
 use Rattle.std.specs.Fmt.{decimal}
 use Rattle.edge_io.specs.Causes.{HasCause}
 use Rattle.edge_io.specs.Disk.{Folder}

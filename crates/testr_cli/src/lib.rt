@@ -9,12 +9,14 @@
 //! - `answer`, `telling`: statuses and refusals by step, and the lines that tell of them
 //! - `init`, `load`, `ask`: the commands, each a chain of steps
 //! - `top`: `program` and `testr`
+//! - `laws`: each named refusal comes exactly where its cause is
 #![tactic(auto)]
 
 mod answer;
 mod ask;
 mod command;
 mod init;
+mod laws;
 mod load;
 mod recording;
 mod reporting;
@@ -26,6 +28,7 @@ mod words;
 
 pub use answer::{Refusal, Verdict};
 pub use command::{Command, Question};
+pub use laws::refusals_are_exact;
 pub use recording::RecordFault;
 pub use reporting::PrintFault;
 pub use store::{KeepFault, RunsFault};

@@ -1,0 +1,31 @@
+-- Where a named refusal has its cause, it comes, but for a call that failed or want of memory.
+use Rattle.std.specs.Prelude.{⊤, Result, Ok, Err}
+use Rattle.run_shelf.specs.declared.faults.InitFault.{InitFault}
+use Rattle.run_shelf.specs.declared.faults.InitFault.TheVariants as init_fault
+use Rattle.run_shelf.specs.declared.faults.OpenFault.{OpenFault}
+use Rattle.run_shelf.specs.declared.faults.OpenFault.TheVariants as open_fault
+use Rattle.testr_cli.specs.declared.recording.RecordFault.{RecordFault}
+use Rattle.testr_cli.specs.declared.recording.RecordFault.TheVariants as record_fault
+
+-- a call of the folder failed while a repository was made
+abbrev pub InitEnds : {T : Type 0} → Result T InitFault → Type 0
+InitEnds (Ok value) = ⊥
+InitEnds (Err init_fault.Exists) = ⊥
+InitEnds (Err (init_fault.Shelf call)) = ⊤
+
+-- a call of the folder failed while it was looked at, or memory was wanting
+abbrev pub OpenEnds : {T : Type 0} → Result T OpenFault → Type 0
+OpenEnds (Ok value) = ⊥
+OpenEnds (Err open_fault.NoStore) = ⊥
+OpenEnds (Err open_fault.UnknownFormat) = ⊥
+OpenEnds (Err (open_fault.Gap number)) = ⊥
+OpenEnds (Err (open_fault.Shelf call)) = ⊤
+OpenEnds (Err open_fault.NoMemory) = ⊤
+
+-- a call failed while the input was recorded, or memory was wanting
+abbrev pub RecordEnds : {T : Type 0} → Result T RecordFault → Type 0
+RecordEnds (Ok value) = ⊥
+RecordEnds (Err (record_fault.Shelf call)) = ⊤
+RecordEnds (Err record_fault.Input) = ⊤
+RecordEnds (Err record_fault.TooLong) = ⊥
+RecordEnds (Err record_fault.NoMemory) = ⊤

@@ -1,0 +1,39 @@
+//! Laws of the refusals.
+
+ghost use Rattle.std.specs.Prelude.{◌≡◌, ◌⊎◌, ◌<◌, ℕ, List, Result, Ok, Err, IsSome, IsSomeAnd, length};
+ghost use Rattle.edge_io.specs.Disk.{Folder};
+ghost use Rattle.edge_io.specs.Seen.{Seen};
+ghost use Rattle.outcome_fold.specs.declared.row.Row.{Row as ARow};
+ghost use Rattle.run_shelf.specs.declared.faults.InitFault.{InitFault as AnInitFault};
+ghost use Rattle.run_shelf.specs.declared.faults.InitFault.TheVariants.{Exists};
+ghost use Rattle.run_shelf.specs.declared.faults.OpenFault.{OpenFault as AnOpenFault};
+ghost use Rattle.run_shelf.specs.declared.faults.OpenFault.TheVariants.{NoStore, UnknownFormat, Gap};
+ghost use Rattle.run_shelf.specs.declared.found.Found.{Found as AFound};
+ghost use Rattle.run_shelf.specs.Repository.{format_name, HasFormat, HasOtherFormat, IsGap, most_runs};
+ghost use Rattle.testr_cli.specs.declared.command.Question.{Question as AQuestion};
+ghost use Rattle.testr_cli.specs.declared.recording.RecordFault.{RecordFault as ARecordFault};
+ghost use Rattle.testr_cli.specs.declared.recording.RecordFault.TheVariants.{TooLong};
+ghost use Rattle.testr_cli.specs.declared.store.RunsFault.{RunsFault as ARunsFault};
+ghost use Rattle.testr_cli.specs.declared.store.RunsFault.TheVariants.{Full, NoRuns};
+ghost use Rattle.testr_cli.specs.Exact.{InitEnds, OpenEnds, RecordEnds};
+ghost use Rattle.testr_cli.specs.Outside.{Fed};
+ghost use Rattle.testr_cli.specs.Recording.{Records, most_bytes};
+ghost use Rattle.testr_cli.specs.Says.{OfLastRun};
+ghost use Rattle.testr_cli.specs.Store.{Makes, Opens, TakesRun, HasRunFor};
+
+/// Where the cause of a named refusal is there, the step refuses by that name, unless a call failed or memory was wanting
+/// before. That it comes only there is what the step itself says. So each comes exactly where its cause is.
+pub fn refusals_are_exact()
+    ensures already_here { (before after : Seen Folder) (result : Result (Unit {0}) AnInitFault) → Makes before after result
+        → IsSomeAnd before.told (λ s. IsSome (s.disk.published format_name)) → (result ≡ Err Exists) ⊎ InitEnds result }
+    ensures no_repository { (before after : Seen Folder) (result : Result AFound AnOpenFault) → Opens before after result
+        → IsSomeAnd before.told (λ s. s.disk.published format_name ≡ None) → (result ≡ Err NoStore) ⊎ OpenEnds result }
+    ensures unknown_format { (before after : Seen Folder) (result : Result AFound AnOpenFault) → Opens before after result
+        → IsSomeAnd before.told (λ s. HasOtherFormat s.disk.published) → (result ≡ Err UnknownFormat) ⊎ OpenEnds result }
+    ensures missing_run { (before after : Seen Folder) (result : Result AFound AnOpenFault) (number : ℕ) → Opens before after result
+        → IsSomeAnd before.told (λ s. HasFormat s.disk.published × IsGap s.disk.published number) → (result ≡ Err (Gap number)) ⊎ OpenEnds result }
+    ensures full { (result : Result (Unit {0}) ARunsFault) → TakesRun most_runs result → result ≡ Err Full }
+    ensures no_runs { (question : AQuestion) (result : Result (Unit {0}) ARunsFault) → HasRunFor question 0 result → OfLastRun question → result ≡ Err NoRuns }
+    ensures too_long { (before after : Fed) (result : Result (List ARow) ARecordFault) → Records before after result
+        → IsSomeAnd before.input.told (λ bytes. most_bytes < length bytes) → (result ≡ Err TooLong) ⊎ RecordEnds result }
+{}
