@@ -1,5 +1,5 @@
 -- What is recorded, one piece after another.
-use Rattle.std.proofs.Common.{◌≡◌, ℕ, true, List, [], ◌++◌, Result, Err, sym, ap, subst, ◌∙◌}
+use Rattle.std.proofs.Common.{◌≡◌, ℕ, true, List, [], ◌++◌, Result, Err, sym, ap, subst, ◌∙◌, append_assoc}
 use Rattle.std.specs.Prelude.{IsErrAnd}
 use Rattle.std.proofs.lemmas.Result.{err_from_is_err_and}
 use Rattle.edge_io.specs.Causes.{Rose}
@@ -8,7 +8,7 @@ use Rattle.edge_io.specs.Seen.{Seen}
 use Rattle.edge_io.specs.Steps.{Goes, Grown}
 use Rattle.outcome_fold.specs.declared.row.Row.{Row}
 use Rattle.packet_codec.specs.Grammar.{AreBytes}
-use Rattle.run_ledger.specs.Reading.{AreRowsOf}
+use Rattle.run_ledger.specs.Reading.{HasRead, AreRowsOf}
 use Rattle.run_ledger.specs.declared.run_reader.RunReader.{RunReader}
 use Rattle.run_shelf.specs.Drafts.{SameButDraft}
 use Rattle.run_shelf.proofs.DraftLemmas.{goes_grown_then}
@@ -17,9 +17,33 @@ use Rattle.worker_lane.specs.Recorded.{IsRecorded}
 use Rattle.worker_lane.specs.Scribing.{Scribing, holding, Recording, GivesPackets, HasNone}
 use Rattle.worker_lane.proofs.RecordingLemmas.{recording_ended, recording_whole}
 use Rattle.testr_cli.specs.Outside.{Fed, fed}
-use Rattle.testr_cli.specs.Recording.{NoneFailed, HasRecordCause, HasWriteCause, RecordsInput, RecordsPieces, RecordsAll, Records}
+use Rattle.testr_cli.specs.Recording.{NoneFailed, WritesPackets, HasRecordCause, HasWriteCause, RecordsInput, RecordsPieces, RecordsAll, Records}
 use Rattle.testr_cli.specs.declared.recording.RecordFault.{RecordFault}
 use Rattle.testr_cli.specs.declared.recording.RecordFault.TheVariants.{Shelf, Input, TooLong, NoMemory}
+
+-- ---- packets that are written
+
+given_then : (x y z : Scribing) (run packets : List ℕ) → GivesPackets x [] y run → GivesPackets y [] z packets → GivesPackets x [] z (run ++ packets)
+given_then x y z run packets g h = record {
+  lane = h.lane ∙ g.lane;
+  ended = h.ended ∙ g.ended;
+  packets = g.packets ++ h.packets;
+  new_is = ap (λ (l : List ℕ). l ++ packets) g.new_is ∙ ap (λ (l : List ℕ). g.packets ++ l) h.new_is;
+  recording = λ fed written r. rw (← append_assoc written g.packets h.packets) (h.recording fed (written ++ g.packets) (g.recording fed written r));
+}
+
+-- the next ones behind those that were written
+pub writes_then : (a b c : Seen Folder) (x y z : Scribing) (p q r : RunReader) (packets : List ℕ) → WritesPackets a b x y p q → GivesPackets y [] z packets → AreBytes packets → Goes b.told c.told (Grown packets) → ((bytes : List ℕ) → HasRead q bytes → HasRead r (bytes ++ packets)) → c.faults ≡ b.faults → WritesPackets a c x z p r
+writes_then a b c x y z p q r packets w given are written folded count = record {
+  run = w.run ++ packets;
+  given = given_then x y z w.run packets w.given given;
+  are_bytes = are_both w.run packets w.are_bytes are;
+  written = goes_grown_then a.told b.told c.told w.run packets w.written written;
+  folded = λ bytes read. rw (← append_assoc bytes w.run packets) (folded (bytes ++ w.run) (w.folded bytes read));
+  count = count ∙ w.count;
+}
+
+-- ---- what is recorded
 
 -- a fault behind pieces that were recorded
 pub write_cause : (before : Fed) (folder between : Seen Folder) (input : Seen (List ℕ)) (fault : RecordFault) → NoneFailed before (fed between input) → HasWriteCause between folder fault → HasRecordCause before (fed folder input) fault

@@ -1,6 +1,6 @@
 -- The step that records an input as it is read (docs/FORMATS.md, "What is recorded of a stream"): what it does to the
 -- draft and the input, why it refuses, and what it says then.
-use Rattle.std.specs.Prelude.{◌≡◌, Result, ℕ, ◌^◌, ◌<◌, ◌≤◌, Option, IfSome, IfOk, IfErr, List, length, codes}
+use Rattle.std.specs.Prelude.{◌≡◌, Result, ℕ, ◌^◌, ◌<◌, ◌≤◌, Option, IfSome, IfOk, IfErr, List, [], ◌++◌, length, codes}
 use Rattle.std.specs.Io.KnownBytes.{Consumes, IsAtEnd}
 use Rattle.edge_io.specs.Causes.{Rose}
 use Rattle.edge_io.specs.Disk.{Folder}
@@ -12,7 +12,7 @@ use Rattle.run_ledger.specs.Reading.{HasRead, AreRowsOf}
 use Rattle.run_ledger.specs.declared.run_reader.RunReader.{RunReader}
 use Rattle.run_shelf.specs.Drafts.{SameButDraft}
 use Rattle.worker_lane.specs.Recorded.{IsRecorded}
-use Rattle.worker_lane.specs.Scribing.{Scribing, Recording}
+use Rattle.worker_lane.specs.Scribing.{Scribing, Recording, GivesPacket, GivesPackets}
 use Rattle.testr_cli.specs.Outside.{Fed}
 use Rattle.testr_cli.specs.declared.recording.RecordFault.{RecordFault}
 use Rattle.testr_cli.specs.declared.recording.RecordFault.TheVariants.{Shelf, Input, TooLong, NoMemory}
@@ -50,6 +50,26 @@ pub record RecordsPieces (before after : Fed) (scribe : Scribing) (rows : RunRea
   pub are_bytes : AreBytes run
   pub written : Goes before.folder.told after.folder.told (Grown run)
   pub counts : NoneFailed before after
+
+-- packets of fewer bytes than this may be kept back from the draft, until the next one is given
+abbrev pub most_gathered : ℕ
+most_gathered = 65536
+
+-- the last of the packets that were gathered was given while fewer bytes were
+pub record IsOneMore (scribe : Scribing) (packets : List ℕ) : Type 0 where
+  pub before : Scribing
+  pub front : List ℕ
+  pub few : length front < most_gathered
+  pub last : GivesPacket before front scribe packets
+
+-- some packets were given in order, written behind the draft, and folded
+pub record WritesPackets (before after : Seen Folder) (scribe now : Scribing) (rows read : RunReader) : Type 0 where
+  pub run : List ℕ
+  pub given : GivesPackets scribe [] now run
+  pub are_bytes : AreBytes run
+  pub written : Goes before.told after.told (Grown run)
+  pub folded : (bytes : List ℕ) → HasRead rows bytes → HasRead read (bytes ++ run)
+  pub count : after.faults ≡ before.faults
 
 -- what is recorded of the input was written behind the draft, and these are its rows
 pub record RecordsAll (rows : List Row) (before after : Fed) : Type 0 where

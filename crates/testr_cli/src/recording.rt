@@ -1,17 +1,18 @@
-//! Records an input as it is read: each piece of it becomes packets, which are written behind the draft and folded, and
-//! no more than one packet is held.
+//! Records an input as it is read: each piece of it becomes packets, which are written behind the draft and folded. A
+//! piece may decide very many, so they are written as soon as they have `PIECE` bytes: less than that and one packet are
+//! held at most.
 
-ghost use Rattle.std.specs.Prelude.{◌≡◌, ℕ, ◌≤◌, List, [], ◌++◌, false, length, IfErr, OnOk};
+ghost use Rattle.std.specs.Prelude.{◌≡◌, ℕ, ◌<◌, ◌≤◌, List, [], ◌++◌, true, false, length, IfOk, IfErr, OnOk};
 ghost use Rattle.edge_io.specs.Steps.{Goes, Grown, HasDraft};
 ghost use Rattle.packet_codec.specs.Grammar.{AreBytes};
 ghost use Rattle.run_ledger.specs.Reading.{HasRead};
 ghost use Rattle.run_shelf.specs.Drafts.{SameButDraft};
 ghost use Rattle.stream_reader.specs.Room.{most_held};
 ghost use Rattle.testr_cli.specs.Outside.{fed};
-ghost use Rattle.testr_cli.specs.Recording.{Records, RecordsPieces, HasRecordCause, HasWriteCause, record_code, record_text};
+ghost use Rattle.testr_cli.specs.Recording.{Records, RecordsPieces, WritesPackets, IsOneMore, most_gathered, HasRecordCause, HasWriteCause, record_code, record_text};
 ghost use Rattle.testr_cli.specs.Telling.{line_text};
 ghost use Rattle.testr_cli.specs.declared.recording.RecordFault.TheVariants.{Shelf as ShelfFailed, Input, NoMemory};
-ghost use Rattle.worker_lane.specs.Scribing.{Recording, GivesPackets, HasNone};
+ghost use Rattle.worker_lane.specs.Scribing.{Recording, GivesPackets, HasNone, most_left};
 
 use crate::telling::Line;
 use edge_io::{Failed, Shelf, Source};
@@ -19,12 +20,12 @@ use outcome_fold::Rows;
 use run_ledger::RunReader;
 use run_shelf::{ShelfCall, add_packet};
 use std::alloc::Global;
-use worker_lane::{Scribe, take_packets};
+use worker_lane::Scribe;
 
 /// How many bytes an input may have: 2^60.
 pub const MOST_BYTES: usize = 1 << 60;
 
-/// How many bytes a read asks for.
+/// How many bytes a read asks for, and how many bytes of packets are enough for a write.
 pub const PIECE: usize = 65_536;
 
 /// Why an input was not recorded whole.
@@ -125,12 +126,14 @@ fn record_pieces<H: Shelf, I: Source>(
     requires held { length scribe.old.held.bytes ≤ most_held }
     requires recording { Recording [] scribe.old [] }
     requires folded { HasRead rows.old [] }
+    requires empty { packets.old.items ≡ [] }
     ensures recorded { OnOk result (RecordsPieces
         (fed (H.seen shelf.old) (I.seen input.old))
         (fed (H.seen shelf.new) (I.seen input.new))
         scribe.new rows.new) }
     ensures draft { OnOk result (HasDraft (H.seen shelf.new).told) }
     ensures lane { OnOk result (scribe.new.lane ≡ scribe.old.lane) }
+    ensures empty { OnOk result (packets.new.items ≡ []) }
     ensures rests { Goes (H.seen shelf.old).told (H.seen shelf.new).told SameButDraft }
     ensures refused { IfErr result (HasRecordCause
         (fed (H.seen shelf.old) (I.seen input.old))
@@ -152,28 +155,71 @@ fn record_pieces<H: Shelf, I: Source>(
     }
 }
 
-// Writes all packets that are decided by now behind the draft, and folds them.
+// Writes all packets that are decided by now behind the draft, and folds them. None are gathered before, nor afterwards.
 fn write_packets<H: Shelf>(
     shelf: &mut H,
     scribe: &mut Scribe,
     rows: &mut RunReader,
     packets: &mut Vec<u8>,
 ) -> Result<(), RecordFault>
-    requires { HasDraft (H.seen shelf.old).told }
-    ensures given { OnOk result (GivesPackets scribe.old [] scribe.new packets.new.items) }
+    requires draft { HasDraft (H.seen shelf.old).told }
+    requires empty { packets.old.items ≡ [] }
+    ensures written { OnOk result (WritesPackets (H.seen shelf.old) (H.seen shelf.new) scribe.old scribe.new rows.old rows.new) }
     ensures none { OnOk result (HasNone scribe.new) }
     ensures held { OnOk result (scribe.new.held.ended ≡ false → length scribe.new.held.bytes ≤ most_held) }
-    ensures written { OnOk result (Goes (H.seen shelf.old).told (H.seen shelf.new).told (Grown packets.new.items)) }
-    ensures folded { (run : List ℕ) → HasRead rows.old run → OnOk result (HasRead rows.new (run ++ packets.new.items)) }
-    ensures are_bytes { OnOk result (AreBytes packets.new.items) }
+    ensures empty { OnOk result (packets.new.items ≡ []) }
+    ensures draft { OnOk result (HasDraft (H.seen shelf.new).told) }
+    ensures rests { Goes (H.seen shelf.old).told (H.seen shelf.new).told SameButDraft }
+    ensures refused { IfErr result (HasWriteCause (H.seen shelf.old) (H.seen shelf.new)) }
+{
+    loop {
+        let more = gather_packets(scribe, packets)?;
+        write_gathered(shelf, rows, packets)?;
+        if !more {
+            return Ok(());
+        }
+    }
+}
+
+// Gathers packets until they have `PIECE` bytes or more, and answers true then; false where no more are decided by now.
+fn gather_packets(scribe: &mut Scribe, packets: &mut Vec<u8>) -> Result<bool, sub_number::NoMemory>
+    requires { packets.old.items ≡ [] }
+    ensures given { GivesPackets scribe.old [] scribe.new packets.new.items }
+    ensures shorter { IfOk result (λ more. more ≡ true → most_left scribe.new < most_left scribe.old) }
+    ensures one_more { IfOk result (λ more. more ≡ true → IsOneMore scribe.new packets.new.items) }
+    ensures none { IfOk result (λ more. more ≡ false → HasNone scribe.new) }
+    ensures held { IfOk result (λ more. more ≡ false → scribe.new.held.ended ≡ false → length scribe.new.held.bytes ≤ most_held) }
+    ensures few { IfOk result (λ more. more ≡ false → length packets.new.items < most_gathered) }
+{
+    while scribe.next_into(packets)? {
+        if packets.len() >= PIECE {
+            return Ok(true);
+        }
+    }
+    Ok(false)
+}
+
+// Writes the packets that were gathered behind the draft, and folds them. Where there are none the folder is not called.
+fn write_gathered<H: Shelf>(
+    shelf: &mut H,
+    rows: &mut RunReader,
+    packets: &mut Vec<u8>,
+) -> Result<(), RecordFault>
+    requires { HasDraft (H.seen shelf.old).told }
+    ensures are_bytes { AreBytes packets.old.items }
+    ensures written { OnOk result (Goes (H.seen shelf.old).told (H.seen shelf.new).told (Grown packets.old.items)) }
+    ensures folded { (run : List ℕ) → HasRead rows.old run → OnOk result (HasRead rows.new (run ++ packets.old.items)) }
+    ensures empty { OnOk result (packets.new.items ≡ []) }
     ensures draft { OnOk result (HasDraft (H.seen shelf.new).told) }
     ensures rests { Goes (H.seen shelf.old).told (H.seen shelf.new).told SameButDraft }
     ensures count { OnOk result ((H.seen shelf.new).faults ≡ (H.seen shelf.old).faults) }
     ensures refused { IfErr result (HasWriteCause (H.seen shelf.old) (H.seen shelf.new)) }
 {
-    packets.clear();
-    take_packets(scribe, packets)?;
+    if packets.is_empty() {
+        return Ok(());
+    }
     add_packet(shelf, packets)?;
     rows.feed(packets)?;
+    packets.clear();
     Ok(())
 }

@@ -1,7 +1,8 @@
 //! `testr load` of streams: the run that is kept, the report and the status.
 
 use crate::tests::{
-    FOO, FOO_KEPT, NOTHING, PASSED_AS_0, PASSED_AS_1, call, has_file, load, repository, source,
+    FOO, FOO_KEPT, NOTHING, PASSED_AS_0, PASSED_AS_1, SHELF_FAULT, call, has_file, load,
+    repository, source,
 };
 use edge_io::{MemShelf, Shelf};
 use std::alloc::Global;
@@ -185,5 +186,19 @@ fn the_largest_packet_is_kept_in_64_pieces(rt: HostRuntime) -> Result<(), Fail> 
     }
     let last = b"\xb3\x25\x40\x81\x00\x15\x06stdout\x80\xff\xff";
     assert!(rt; begins_piece(&mut shelf, 63 * 65_558, last)?);
+    Ok(())
+}
+
+#[test]
+fn packets_of_a_piece_or_more_are_added_one_by_one(rt: HostRuntime) -> Result<(), Fail> {
+    let alloc = rt.alloc();
+    let packet = largest_packet(alloc)?;
+    // Five calls up to the draft, one for each of the 64 pieces, and the sync, the publish and the barrier.
+    let mut shelf = repository(alloc, &[71])?;
+    let told = load(alloc, &mut shelf, &packet)?;
+    assert!(rt; told.is(4, NOTHING, SHELF_FAULT));
+    let mut shelf = repository(alloc, &[72])?;
+    let told = load(alloc, &mut shelf, &packet)?;
+    assert!(rt; told.is(0, NO_TESTS, NOTHING));
     Ok(())
 }

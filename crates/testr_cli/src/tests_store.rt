@@ -112,16 +112,16 @@ fn a_full_repository_takes_no_run(rt: HostRuntime) -> Result<(), Fail> {
 #[test]
 fn each_call_of_the_folder_may_fail_at_a_load(rt: HostRuntime) -> Result<(), Fail> {
     let alloc = rt.alloc();
-    // The barrier, the format's length and bytes, the names, the draft, its bytes, those behind the end, its sync, the
-    // publish, the barrier.
-    for failing in 0..10 {
+    // The barrier, the format's length and bytes, the names, the draft, its bytes, its sync, the publish, the barrier. The
+    // end of the input decides no further packet, so that nothing is added behind it.
+    for failing in 0..9 {
         let mut shelf = repository(alloc, &[failing])?;
         assert!(rt;
             load(alloc, &mut shelf, FOO)?.is(4, NOTHING, SHELF_FAULT),
             "call {failing}"
         );
         // What was published before the last barrier failed is there.
-        let report = if failing == 9 {
+        let report = if failing == 8 {
             PASSED_AS_1
         } else {
             PASSED_AS_0
@@ -132,7 +132,7 @@ fn each_call_of_the_folder_may_fail_at_a_load(rt: HostRuntime) -> Result<(), Fai
         );
         assert!(rt; has_file(&mut shelf, "0", FOO_KEPT)?, "call {failing}");
     }
-    let mut shelf = repository(alloc, &[10])?;
+    let mut shelf = repository(alloc, &[9])?;
     assert!(rt; load(alloc, &mut shelf, FOO)?.is(0, PASSED_AS_0, NOTHING));
     Ok(())
 }
@@ -170,10 +170,10 @@ fn a_stop_leaves_the_new_run_wholly_or_not_at_all(rt: HostRuntime) -> Result<(),
     let alloc = rt.alloc();
     let mut shelf = repository(alloc, &[])?;
     assert!(rt; load(alloc, &mut shelf, FOO)?.is(0, PASSED_AS_0, NOTHING));
-    // Nine calls end with the publish, and the tenth is the last barrier.
-    for moment in 0..12 {
+    // Eight calls end with the publish, and the ninth is the last barrier.
+    for moment in 0..11 {
         for choice in [false, true] {
-            let there = moment >= 10 || (moment == 9 && choice);
+            let there = moment >= 9 || (moment == 8 && choice);
             let report = if there { PASSED_AS_1 } else { PASSED_AS_0 };
             let told = report_after(alloc, &shelf, moment, choice)?;
             assert!(rt; told.is(0, report, NOTHING), "moment {moment}, {choice}");

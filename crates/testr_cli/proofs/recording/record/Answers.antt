@@ -12,16 +12,17 @@ returns-in_err-write_packets g c =
 pub returns-in_err-rows-2 : goal.returns-in_err-rows-2
 returns-in_err-rows-2 g c =
     refused_by _ _ _ _ c.from_residual-in_err-rows-2.ensures.1
-    (record { folder = c.in_ok-write_packets.ensures.count ∙ c.in_ok-record_pieces.ensures.recorded.counts.folder; input = c.in_ok-record_pieces.ensures.recorded.counts.input })
+    (record { folder = c.in_ok-write_packets.ensures.written.count ∙ c.in_ok-record_pieces.ensures.recorded.counts.folder; input = c.in_ok-record_pieces.ensures.recorded.counts.input })
     (same_then _ _ _ c.record_pieces.ensures.rests c.write_packets.ensures.rests)
 
 pub returns : goal.returns
 returns g c =
     let pieces = c.in_ok-record_pieces.ensures.recorded in
+    let more = c.in_ok-write_packets.ensures.written in
     record {
-      recorded = recorded_all _ _ _ _ _ _ _ _ pieces _ c.in_ok-write_packets.ensures.given c.in_ok-write_packets.ensures.written c.in_ok-write_packets.ensures.are_bytes c.in_ok-write_packets.ensures.count _ c.finish.ensures.ended
+      recorded = recorded_all _ _ _ _ _ _ _ _ pieces more.run more.given more.written more.are_bytes more.count _ c.finish.ensures.ended
           (c.in_ok-record_pieces.ensures.lane ∙ ap (λ s. s.lane) c.in_ok-scribe.ensures.empty) c.in_ok-write_packets.ensures.none
-          (c.in_ok-rows-2.ensures _ (c.in_ok-write_packets.ensures.folded pieces.run pieces.folded));
+          (c.in_ok-rows-2.ensures _ (more.folded pieces.run pieces.folded));
       refused = tt;
       rests = same_then _ _ _ c.record_pieces.ensures.rests c.write_packets.ensures.rests;
     }

@@ -11,9 +11,10 @@ pub loop-count-preserved : goal.loop-count-preserved
 loop-count-preserved g c =
     let (bytes, read, size, run, recording, folded, are, written) = c.loop-count.invariant.read in
     let piece = take c.in_ok-count.count c.read.new.buf in
-    let packets = c.write_packets.new.packets.items in
+    let more = c.in_ok-write_packets.ensures.written in
+    let packets = more.run in
     let fed = c.feed.ensures.recording bytes run recording in
-    let given = c.in_ok-write_packets.ensures.given in
+    let given = more.given in
     record {
       read = (
         bytes ++ piece,
@@ -21,15 +22,16 @@ loop-count-preserved g c =
         omega (arith, size, c.in_ok-count.ensures.bound.1, length-append bytes piece),
         run ++ packets,
         subst (λ l. Recording (bytes ++ piece) c.write_packets.new.scribe (run ++ l)) (sym given.new_is) (given.recording (bytes ++ piece) run fed),
-        c.in_ok-write_packets.ensures.folded run folded,
-        are_both run packets are c.in_ok-write_packets.ensures.are_bytes,
-        goes_grown_then _ _ _ run packets written c.in_ok-write_packets.ensures.written,
+        more.folded run folded,
+        are_both run packets are more.are_bytes,
+        goes_grown_then _ _ _ run packets written more.written,
       );
       few = omega (arith, c.if-total-gt-MOST_BYTES.false);
       draft = c.in_ok-write_packets.ensures.draft;
       going_on = given.ended ∙ ap (λ s. s.held.ended) c.feed.ensures.ok;
       held = c.in_ok-write_packets.ensures.held (given.ended ∙ ap (λ s. s.held.ended) c.feed.ensures.ok);
       lane = given.lane ∙ ap (λ s. s.lane) c.feed.ensures.ok ∙ c.loop-count.invariant.lane;
+      empty = c.in_ok-write_packets.ensures.empty;
       rests = same_then _ _ _ c.loop-count.invariant.rests c.in_ok-write_packets.ensures.rests;
-      counts = record { folder = c.in_ok-write_packets.ensures.count ∙ c.loop-count.invariant.counts.folder; input = c.in_ok-count.ensures.cause.done ∙ c.loop-count.invariant.counts.input };
+      counts = record { folder = more.count ∙ c.loop-count.invariant.counts.folder; input = c.in_ok-count.ensures.cause.done ∙ c.loop-count.invariant.counts.input };
     }

@@ -1,4 +1,4 @@
-use Rattle.std.proofs.Common.{◌≡◌, ◌+◌, ◌-◌, ◌≤◌, List, ℕ, false, length}
+use Rattle.std.proofs.Common.{◌≡◌, ◌+◌, ◌-◌, ◌≤◌, List, [], ℕ, false, length}
 use Rattle.std.specs.Io.KnownBytes.{Consumes}
 use Rattle.edge_io.specs.Steps.{Goes, Grown, HasDraft}
 use Rattle.packet_codec.specs.Grammar.{AreBytes}
@@ -19,6 +19,7 @@ invariant-loop-count g l = record {
   going_on : l.scribe.held.ended ≡ false;
   held : length l.scribe.held.bytes ≤ most_held;
   lane : l.scribe.lane ≡ l.fn.scribe.lane;
+  empty : l.packets.items ≡ [];
   rests : Goes (g.H.Shelf.seen l.initial.shelf).told (g.H.Shelf.seen l.shelf).told SameButDraft;
   counts : NoneFailed (fed (g.H.Shelf.seen l.initial.shelf) (g.I.Source.seen l.initial.input)) (fed (g.H.Shelf.seen l.shelf) (g.I.Source.seen l.input));
 }
