@@ -1,6 +1,6 @@
 -- What is recorded, one piece after another.
-use Rattle.std.proofs.Common.{◌≡◌, ℕ, true, List, [], ◌++◌, Result, Err, sym, ap, subst, ◌∙◌, append_assoc}
-use Rattle.std.specs.Prelude.{IsErrAnd}
+use Rattle.std.proofs.Common.{◌≡◌, ℕ, ◌<◌, true, Option, Some, None, List, [], ◌++◌, Result, Ok, Err, sym, ap, subst, ◌∙◌, append_assoc, length, length-append, arith}
+use Rattle.std.specs.Prelude.{IfSome, IfErr, IsErrAnd}
 use Rattle.std.proofs.lemmas.Result.{err_from_is_err_and}
 use Rattle.edge_io.specs.Causes.{Rose}
 use Rattle.edge_io.specs.Disk.{Folder}
@@ -17,7 +17,7 @@ use Rattle.worker_lane.specs.Recorded.{IsRecorded}
 use Rattle.worker_lane.specs.Scribing.{Scribing, holding, Recording, GivesPackets, HasNone}
 use Rattle.worker_lane.proofs.RecordingLemmas.{recording_ended, recording_whole}
 use Rattle.testr_cli.specs.Outside.{Fed, fed}
-use Rattle.testr_cli.specs.Recording.{NoneFailed, WritesPackets, HasRecordCause, HasWriteCause, RecordsInput, RecordsPieces, RecordsAll, Records}
+use Rattle.testr_cli.specs.Recording.{most_bytes, ReadsFew, ReadsTooMany, NoneFailed, WritesPackets, HasRecordCause, HasWriteCause, RecordsInput, RecordsPieces, RecordsAll, Records}
 use Rattle.testr_cli.specs.declared.recording.RecordFault.{RecordFault}
 use Rattle.testr_cli.specs.declared.recording.RecordFault.TheVariants.{Shelf, Input, TooLong, NoMemory}
 
@@ -45,14 +45,24 @@ writes_then a b c x y z p q r packets w given are written folded count = record 
 
 -- ---- what is recorded
 
+-- the input has more than was read, where that is more than it may have
+pub told_longer : (left after : Option (List ℕ)) → ReadsTooMany left after → IfSome left (λ bytes. most_bytes < length bytes)
+told_longer None after reads = tt
+told_longer (Some all) None reads = absurd reads.read
+told_longer (Some all) (Some rest) reads = let size = ap length reads.read ∙ length-append reads.bytes rest in omega (arith, size, reads.many)
+
 -- a fault behind pieces that were recorded
-pub write_cause : (before : Fed) (folder between : Seen Folder) (input : Seen (List ℕ)) (fault : RecordFault) → NoneFailed before (fed between input) → HasWriteCause between folder fault → HasRecordCause before (fed folder input) fault
-write_cause before folder between input (Shelf call) none cause = (subst (λ (n : ℕ). Rose n folder.faults) none.folder cause, none.input)
-write_cause before folder between input Input none cause = absurd cause
-write_cause before folder between input TooLong none cause = absurd cause
-write_cause before folder between input NoMemory none cause = record { folder = cause ∙ none.folder; input = none.input }
+pub write_cause : (before : Fed) (folder between : Seen Folder) (input : Seen (List ℕ)) (fault : RecordFault) → NoneFailed before (fed between input) → HasWriteCause between folder fault → ReadsFew before.input.told input.told → HasRecordCause before (fed folder input) fault
+write_cause before folder between input (Shelf call) none cause reads = (subst (λ (n : ℕ). Rose n folder.faults) none.folder cause.0, none.input, cause.1, reads)
+write_cause before folder between input Input none cause reads = absurd cause
+write_cause before folder between input TooLong none cause reads = absurd cause
+write_cause before folder between input NoMemory none cause reads = (record { folder = cause ∙ none.folder; input = none.input }, reads)
 
 -- an exit by `?`
+pub caused_by : {A : Type 0} (before after : Fed) (result : Result A RecordFault) (fault : RecordFault) → IsErrAnd result (λ given. given ≡ fault) → HasRecordCause before after fault → IfErr result (HasRecordCause before after)
+caused_by before after (Ok done) fault is cause = tt
+caused_by before after (Err given) fault is cause = subst (HasRecordCause before after) (sym is) cause
+
 pub refused_by : (before after : Fed) (result : Result (List Row) RecordFault) (fault : RecordFault) → IsErrAnd result (λ given. given ≡ fault) → HasRecordCause before after fault → Goes before.folder.told after.folder.told SameButDraft → Records before after result
 refused_by before after result fault is cause rests =
     let p = err_from_is_err_and result is in

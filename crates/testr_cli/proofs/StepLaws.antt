@@ -138,7 +138,7 @@ module _ (a b : Work) where
     rose = inr (inl records.refused.0);
   })
   record_refuses record_fault.TooLong records rest = named (refusal.Record record_fault.TooLong) (omega arith) (omega arith) (λ four. omega arith) (fed_same rest records.refused.1) (record_quiet (Err record_fault.TooLong) records)
-  record_refuses record_fault.NoMemory records rest = named (refusal.Record record_fault.NoMemory) (omega arith) (omega arith) (λ four. omega arith) (fed_same rest records.refused) (record_quiet (Err record_fault.NoMemory) records)
+  record_refuses record_fault.NoMemory records rest = named (refusal.Record record_fault.NoMemory) (omega arith) (omega arith) (λ four. omega arith) (fed_same rest records.refused.0) (record_quiet (Err record_fault.NoMemory) records)
 
   -- ---- the step of the output
 

@@ -1,6 +1,6 @@
 -- The step that records an input as it is read (docs/FORMATS.md, "What is recorded of a stream"): what it does to the
 -- draft and the input, why it refuses, and what it says then.
-use Rattle.std.specs.Prelude.{◌≡◌, Result, ℕ, ◌^◌, ◌<◌, ◌≤◌, Option, IfSome, IfOk, IfErr, List, [], ◌++◌, length, codes}
+use Rattle.std.specs.Prelude.{◌≡◌, Result, ℕ, ◌+◌, ◌^◌, ◌<◌, ◌≤◌, Option, IfSome, IfOk, IfErr, List, [], ◌++◌, length, codes}
 use Rattle.std.specs.Io.KnownBytes.{Consumes, IsAtEnd}
 use Rattle.edge_io.specs.Causes.{Rose}
 use Rattle.edge_io.specs.Disk.{Folder}
@@ -11,6 +11,7 @@ use Rattle.packet_codec.specs.Grammar.{AreBytes}
 use Rattle.run_ledger.specs.Reading.{HasRead, AreRowsOf}
 use Rattle.run_ledger.specs.declared.run_reader.RunReader.{RunReader}
 use Rattle.run_shelf.specs.Drafts.{SameButDraft}
+use Rattle.run_shelf.specs.declared.faults.ShelfCall.TheVariants.{Append}
 use Rattle.worker_lane.specs.Recorded.{IsRecorded}
 use Rattle.worker_lane.specs.Scribing.{Scribing, Recording, GivesPacket, GivesPackets}
 use Rattle.testr_cli.specs.Outside.{Fed}
@@ -20,6 +21,23 @@ use Rattle.testr_cli.specs.declared.recording.RecordFault.TheVariants.{Shelf, In
 -- how many bytes an input may have
 abbrev pub most_bytes : ℕ
 most_bytes = 2 ^ 60
+
+-- how many bytes a read gives at most
+abbrev pub most_at_once : ℕ
+most_at_once = 65536
+
+-- some bytes of the input were read, no more than it may have
+pub record ReadsFew (left after : Option (List ℕ)) : Type 0 where
+  pub bytes : List ℕ
+  pub read : Consumes left after bytes
+  pub few : length bytes ≤ most_bytes
+
+-- with the last read, more bytes were read than the input may have
+pub record ReadsTooMany (left after : Option (List ℕ)) : Type 0 where
+  pub bytes : List ℕ
+  pub read : Consumes left after bytes
+  pub many : most_bytes < length bytes
+  pub few : length bytes ≤ most_bytes + most_at_once
 
 -- the input was read to its end, and is not too long
 pub record ReadsInput (left after : Option (List ℕ)) (bytes : List ℕ) : Type 0 where
@@ -80,16 +98,17 @@ pub record RecordsAll (rows : List Row) (before after : Fed) : Type 0 where
   pub written : Goes before.folder.told after.folder.told (Grown run)
   pub counts : NoneFailed before after
 
--- the cause of each refusal; the count rises of the part that failed, and the other stands
+-- The cause of each refusal, and what was read by then. The count rises of the part that failed, and the other stands. Of
+-- the folder's calls only the one that adds to the draft can fail.
 abbrev pub HasRecordCause : Fed → Fed → RecordFault → Type 0
-HasRecordCause before after (Shelf call) = Rose before.folder.faults after.folder.faults × (after.input.faults ≡ before.input.faults)
-HasRecordCause before after Input = Rose before.input.faults after.input.faults × (after.folder.faults ≡ before.folder.faults)
-HasRecordCause before after TooLong = IfSome before.input.told (λ bytes. most_bytes < length bytes) × NoneFailed before after
-HasRecordCause before after NoMemory = NoneFailed before after
+HasRecordCause before after (Shelf call) = Rose before.folder.faults after.folder.faults × (after.input.faults ≡ before.input.faults) × (call ≡ Append) × ReadsFew before.input.told after.input.told
+HasRecordCause before after Input = Rose before.input.faults after.input.faults × (after.folder.faults ≡ before.folder.faults) × ReadsFew before.input.told after.input.told
+HasRecordCause before after TooLong = IfSome before.input.told (λ bytes. most_bytes < length bytes) × NoneFailed before after × ReadsTooMany before.input.told after.input.told
+HasRecordCause before after NoMemory = NoneFailed before after × ReadsFew before.input.told after.input.told
 
 -- the same where nothing is read
 abbrev pub HasWriteCause : Seen Folder → Seen Folder → RecordFault → Type 0
-HasWriteCause before after (Shelf call) = Rose before.faults after.faults
+HasWriteCause before after (Shelf call) = Rose before.faults after.faults × (call ≡ Append)
 HasWriteCause before after Input = ⊥
 HasWriteCause before after TooLong = ⊥
 HasWriteCause before after NoMemory = after.faults ≡ before.faults

@@ -5,14 +5,16 @@ use Rattle.testr_cli.proofs.recording.record.Goals as goal
 
 pub returns-in_err-write_packets : goal.returns-in_err-write_packets
 returns-in_err-write_packets g c =
+    let pieces = c.in_ok-record_pieces.ensures.recorded in
     refused_by _ _ _ _ c.from_residual-in_err-write_packets.ensures.1
-    (write_cause _ _ _ _ _ c.in_ok-record_pieces.ensures.recorded.counts c.in_err-write_packets.ensures.refused)
+    (write_cause _ _ _ _ _ pieces.counts c.in_err-write_packets.ensures.refused (record { bytes = pieces.bytes; read = pieces.read; few = pieces.size }))
     (same_then _ _ _ c.record_pieces.ensures.rests c.write_packets.ensures.rests)
 
 pub returns-in_err-rows-2 : goal.returns-in_err-rows-2
 returns-in_err-rows-2 g c =
+    let pieces = c.in_ok-record_pieces.ensures.recorded in
     refused_by _ _ _ _ c.from_residual-in_err-rows-2.ensures.1
-    (record { folder = c.in_ok-write_packets.ensures.written.count ∙ c.in_ok-record_pieces.ensures.recorded.counts.folder; input = c.in_ok-record_pieces.ensures.recorded.counts.input })
+    (record { folder = c.in_ok-write_packets.ensures.written.count ∙ pieces.counts.folder; input = pieces.counts.input }, record { bytes = pieces.bytes; read = pieces.read; few = pieces.size })
     (same_then _ _ _ c.record_pieces.ensures.rests c.write_packets.ensures.rests)
 
 pub returns : goal.returns
