@@ -206,6 +206,7 @@ fn write_gathered<H: Shelf>(
     packets: &mut Vec<u8>,
 ) -> Result<(), RecordFault>
     requires { HasDraft (H.seen shelf.old).told }
+    ensures idle { packets.old.items ≡ [] → H.clock shelf.new ≡ H.clock shelf.old }
     ensures are_bytes { AreBytes packets.old.items }
     ensures written { OnOk result (Goes (H.seen shelf.old).told (H.seen shelf.new).told (Grown packets.old.items)) }
     ensures folded { (run : List ℕ) → HasRead rows.old run → OnOk result (HasRead rows.new (run ++ packets.old.items)) }
