@@ -300,7 +300,10 @@ def run_has_another_length():
     need(os.path.exists("/proc/version") and os.path.getsize("/proc/version") == 0, "want of such a file")
     folder = new_repository()
     os.symlink("/proc/version", at(folder, "0"))
-    check_refused(run(folder, "last"), FOLDER_FAULT, b"read .testrepository/0: its length is another than reads find")
+    check_refused(run(folder, "last", "--subunit"), FOLDER_FAULT,
+                  b"read .testrepository/0: its length is another than reads find")
+    # A report asks for no length: it reads to the end, and finds no packet.
+    check(run(folder, "last") == (0, b"Ran 0 tests\nPASSED (id=0)\n", b""), "last does not read to the end")
 
 
 @case
