@@ -15,8 +15,16 @@ work=$(mktemp -d)
 trap 'rm -rf -- "$work"' EXIT
 trap 'exit 1' HUP INT TERM
 
+# The crate and all that it stands on, lowest first.
+crates_up_to() {
+    for below in $(sed -n "s/^$1://p" "$root/crates.txt"); do
+        [ ! -d "$root/crates/$below" ] || crates_up_to "$below"
+    done
+    echo "$1"
+}
+
 mkdir "$work/crates"
-for crate in sub_number packet_codec stream_reader worker_lane worker_mux; do
+for crate in $(crates_up_to worker_mux | awk '!seen[$0]++'); do
     cp -R "$root/crates/$crate" "$work/crates/$crate"
     grep "^$crate:" "$root/crates.txt" >> "$work/crates.txt"
 done
