@@ -417,6 +417,18 @@ def lock_is_of_root():
 
 # Two at once.
 
+def overtake(folder, slow, cause):
+    """Makes the repository and loads a run while a slow program waits. That one is refused then, with this cause, and the
+    run stays. Answers the inode of `format`, as it was before the slow program went on."""
+    check(run(folder, "init") == (0, b"", b""), "the init that overtakes is refused")
+    first = os.stat(at(folder, "format")).st_ino
+    loads(folder, 4, 0)
+    out, err = slow.communicate(timeout=LIMIT)
+    check_refused((slow.returncode, out, err), FOLDER_FAULT, cause)
+    check_runs(folder, 4)
+    return first
+
+
 @case
 def two_make_the_folder():
     """The first `init` is slow between making the folder and taking the lock. Meanwhile another one makes the repository,
@@ -426,13 +438,8 @@ def two_make_the_folder():
     delay = ["strace", "-o", "/dev/null", "-e", "trace=mkdir,mkdirat", "-e", "inject=mkdir,mkdirat:delay_exit=2000000"]
     slow = start(folder, "init", before=delay)
     wait_until(lambda: os.path.exists(os.path.join(folder, ".testrepository")), "init makes no folder")
-    check(run(folder, "init") == (0, b"", b""), "the second init is refused")
-    first = os.stat(at(folder, "format")).st_ino
-    loads(folder, 4, 0)
-    out, err = slow.communicate(timeout=LIMIT)
-    check_refused((slow.returncode, out, err), FOLDER_FAULT, b"lock .testrepository/lock: ")
+    first = overtake(folder, slow, b"lock .testrepository/lock: ")
     check(os.stat(at(folder, "format")).st_ino == first, "format is replaced")
-    check_runs(folder, 4)
 
 
 @case
@@ -445,11 +452,7 @@ def folder_comes_later():
              "-e", "inject=openat:delay_exit=2000000:when=1"]
     slow = start(folder, "stats", before=delay)
     time.sleep(1)
-    check(run(folder, "init") == (0, b"", b""), "init is refused")
-    loads(folder, 4, 0)
-    out, err = slow.communicate(timeout=LIMIT)
-    check_refused((slow.returncode, out, err), FOLDER_FAULT, b"lock .testrepository/lock: the folder was made by another")
-    check_runs(folder, 4)
+    overtake(folder, slow, b"lock .testrepository/lock: the folder was made by another")
 
 
 # Disks and limits.
