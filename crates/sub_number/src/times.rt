@@ -46,15 +46,30 @@ impl TimeMap {
 }
 
 impl TimeMap {
-    /// Gives the id this time in place of any earlier one, and leaves the other ids as they are.
+    // Gives a copy of the id this time.
+    fn start(&mut self, id: &Text, nanos: u64) -> Result<(), NoMemory>
+        ensures ok { OnOk result (self.new ≡ map.insert self.old id.now nanos) }
+        ensures err { OnErr result (self.new ≡ self.old) }
+    {
+        self.times.insert(id.copy()?, nanos)?;
+        Ok(())
+    }
+
+    /// Gives the id this time in place of any earlier one, and leaves the other ids as they are. Where it has one, no
+    /// memory is taken.
     ///
     /// `NoMemory` comes only for want of memory, and then each id is as before.
     pub fn put(&mut self, id: &Text, nanos: u64) -> Result<(), NoMemory>
         ensures ok { OnOk result (self.new ≡ map.insert self.old id.now nanos) }
         ensures err { OnErr result (self.new ≡ self.old) }
     {
-        self.times.insert(id.copy()?, nanos)?;
-        Ok(())
+        match self.times.get_mut(id) {
+            Some(time) => {
+                *time = nanos;
+                Ok(())
+            }
+            None => self.start(id, nanos),
+        }
     }
 
     /// The ids that have a time, each once, in the order of their bytes.
