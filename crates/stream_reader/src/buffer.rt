@@ -48,7 +48,7 @@ pub(crate) struct Buffer {
 }
 
 impl Model for Buffer {
-    ghost use Rattle.std.specs.Prelude.{List, ℕ, ◌≤◌, length, take, drop};
+    ghost use Rattle.std.specs.Prelude.{List, ℕ, ◌≤◌, ◌+◌, length, take, drop};
     ghost use Rattle.std.specs.Vec.{vec_capacity};
     ghost use Rattle.crc_parts.specs.Prefixes.{HasPrefixes};
 
@@ -56,7 +56,7 @@ impl Model for Buffer {
 
     ghost view = { λ b. drop b.given b.bytes.items };
 
-    ghost invariant = { λ b. (b.given ≤ length b.bytes.items) × (5373952 ≤ vec_capacity b.bytes) × (length b.bytes.items ≤ 5373952) × (b.prefixes.count ≤ length b.bytes.items) × HasPrefixes b.prefixes (take b.prefixes.count b.bytes.items) };
+    ghost invariant = { λ b. (b.given ≤ length b.bytes.items) × (5373952 ≤ vec_capacity b.bytes) × (length b.bytes.items ≤ 5373952) × (b.prefixes.count ≤ length b.bytes.items) × HasPrefixes b.prefixes (take b.prefixes.count b.bytes.items) × (length b.bytes.items ≤ b.given + 4325376) };
 }
 
 impl Buffer {
@@ -75,7 +75,8 @@ impl Buffer {
 
     /// How many bytes are held.
     pub(crate) fn len(&self) -> usize
-        ensures { result ≡ length self.now }
+        ensures len { result ≡ length self.now }
+        ensures in_room { result ≤ room }
     {
         self.bytes.len() - self.given
     }

@@ -107,9 +107,10 @@ impl Reader {
         self.ended = true;
     }
 
-    /// How many bytes were fed that belong to no note given.
+    /// How many bytes were fed that belong to no note given. They are 4,325,376 at most.
     pub fn held(&self) -> usize
-        ensures { result ≡ length self.now.bytes }
+        ensures held { result ≡ length self.now.bytes }
+        ensures in_room { result ≤ room }
     {
         self.buffer.len()
     }
@@ -167,10 +168,11 @@ impl Reader {
         }
     }
 
-    /// The note of what `first` told was given: its bytes are let go of.
+    /// The note of what `first` told was given: its bytes are let go of. Where there is nothing the reader is as before.
     pub fn pass(&mut self, first: First)
         requires { FirstIs self.old.ended self.old.bytes first }
         ensures given { (note : Note) → IsMadeBy self.old.bytes first note → GivesNote self.old note self.new }
+        ensures nothing { first ≡ Nothing → self.new ≡ self.old }
         ensures ended { self.new.ended ≡ self.old.ended }
     {
         are_bytes(self.buffer.held());

@@ -20,4 +20,4 @@ invariant_of-self-else-self-len c =
     let size : length c.extend_from_slice-else-self-len.new.self.items ≡ (length items - gone) + length c.args.piece.now = omega (arith, ap length grown, length-append c.truncate.new.self.items c.args.piece.now, ap length moved, length-drop gone items) in
     let room : length (drop c.self.inside.given items) + length c.args.piece.now ≤ 4325376 = rw (← c.self.view_is) at c.requires in
     let capacity : 5373952 ≤ vec_capacity c.extend_from_slice-else-self-len.new.self = search rules in
-    (omega (arith, size, given), capacity, omega (arith, size, room, length-drop c.self.inside.given items, given), kept.0, kept.1)
+    (omega (arith, size, given), capacity, omega (arith, size, room, length-drop c.self.inside.given items, given), kept.0, kept.1, omega (arith, size, room, length-drop c.self.inside.given items, given))

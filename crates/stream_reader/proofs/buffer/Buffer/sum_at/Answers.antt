@@ -14,4 +14,4 @@ invariant_of-self c =
     let fed = c.feed.ensures (take c.self.inside.prefixes.count c.self.inside.bytes.items) c.self.invariant.4 in
     let all : HasPrefixes c.feed.new.self c.self.inside.bytes.items = all_along c.feed.new.self c.self.inside.prefixes.count c.self.inside.bytes.items (rw (take_rest, c.deref.ensures.value, c.count-along.ensures) at fed) in
     let kept = whole_along c.feed.new.self c.self.inside.bytes.items all in
-    (c.self.invariant.0, c.self.invariant.1, c.self.invariant.2, kept.0, kept.1)
+    (c.self.invariant.0, c.self.invariant.1, c.self.invariant.2, kept.0, kept.1, c.self.invariant.5)

@@ -7,7 +7,7 @@ use Rattle.stream_reader.proofs.GivingLemmas.{spent_more, spent_empty}
 use Rattle.stream_reader.proofs.reader.Reader.first.Goals as goal
 
 pub returns-then-held-eq0-clause-first : goal.returns-then-held-eq0-clause-first
-returns-then-held-eq0-clause-first c = spent_empty _ _ (omega (arith, c.held.ensures, c.if-held-eq0.true))
+returns-then-held-eq0-clause-first c = spent_empty _ _ (omega (arith, c.held.ensures.held, c.if-held-eq0.true))
 
 pub first_run-requires-in-More-clause-are_foreign : goal.first_run-requires-in-More-clause-are_foreign
 first_run-requires-in-More-clause-are_foreign c =
