@@ -26,7 +26,7 @@ pub fn recorded_streams()
 /// Laws of what a scribe gives, one call after another. With the clauses of `Scribe` they tell that all that it gives is
 /// what is recorded of the whole stream, however the stream was cut into pieces.
 pub fn recording_in_turn()
-    // Want of memory changes nothing of it.
+    // Where the next note was taken and none of its events given yet, as much was given as before.
     ensures as_before { (fed written : List ℕ) (before after : Scribing) → Recording fed before written → IsAsBefore before after → Recording fed after written }
     ensures packet { (fed written old new : List ℕ) (before after : Scribing) → Recording fed before written → GivesPacket before old after new → (packet : List ℕ) × (new ≡ old ++ packet) × Recording fed after (written ++ packet) }
     ensures packets { (old middle new : List ℕ) (before between after : Scribing) → GivesPackets before old between middle → GivesPackets between middle after new → GivesPackets before old after new }
