@@ -89,6 +89,14 @@ set_inserted old new text ordered updates =
     put true c = refl
     put false c = refl
 
+-- a text that is there already
+pub set_has : (texts : List (List ℕ)) (text : List ℕ) → IsStrictlySortedBy text_cmp texts → true ≡ among texts text → texts ≡ in_byte_order (text ∷ texts)
+set_has texts text ordered is = sym (ordered_already texts ordered) ∙ same_order texts (text ∷ texts) (λ q. has q (eq_by_cmp text_cmp q text) refl)
+  where
+    has : (q : List ℕ) (tie : Bool) → eq_by_cmp text_cmp q text ≡ tie → among texts q ≡ (tie || among texts q)
+    has q true tie = ap (among texts) (tied_is exact_texts q text tie) ∙ sym is
+    has q false tie = refl
+
 among_without : (texts others : List (List ℕ)) (q : List ℕ) → among (without texts others) q ≡ (not (among others q) && among texts q)
 among_without texts others q =
     any-filter_same (eq_by_cmp text_cmp q) (λ text. not (among others text)) (not (among others q)) (λ k tie. ap (λ text. not (among others text)) (sym (tied_is exact_texts q k tie))) texts

@@ -44,13 +44,16 @@ impl TextSet {
         self.texts.contains(text)
     }
 
-    /// Adds a copy of the text, where it is not in the set yet.
+    /// Adds a copy of the text, where it is not in the set yet. Where it is, nothing is copied.
     ///
     /// `NoMemory` comes only for want of memory, and then the set is as before.
     pub fn insert(&mut self, text: &Text) -> Result<(), NoMemory>
         ensures ok { OnOk result (self.new ≡ in_byte_order (text.now ∷ self.old)) }
         ensures err { OnErr result (self.new ≡ self.old) }
     {
+        if self.contains(text) {
+            return Ok(());
+        }
         self.texts.insert(text.copy()?)?;
         Ok(())
     }
@@ -64,14 +67,22 @@ impl TextSet {
 }
 
 impl TextSet {
-    /// Adds a copy of each of the texts.
+    // What holds of each set: its texts are in order.
+    fn are_in_order(&self)
+        ensures { self.now ≡ in_byte_order self.now }
+    {
+        let _texts = &self.texts;
+    }
+
+    /// Adds a copy of each of the texts that is not in the set yet.
     ///
     /// `NoMemory` comes only for want of memory. Nothing is known then of the set.
     pub fn insert_all(&mut self, texts: &[Text]) -> Result<(), NoMemory>
         ensures { OnOk result (self.new ≡ in_byte_order (self.old ++ texts.now)) }
     {
+        self.are_in_order();
         for text in texts {
-            self.texts.insert(text.copy()?)?;
+            self.insert(text)?;
         }
         Ok(())
     }
