@@ -11,3 +11,5 @@ pub mod AnswerLemmas
 pub mod CountLemmas
 pub mod OpenLemmas
 pub mod TextLemmas
+pub mod TotalLemmas
+pub mod LawLemmas

@@ -82,3 +82,7 @@ by_route rows = flat_map (λ group. group) (fin.values (table {R = route_cmp} (�
 -- by route, and in a route first the completed ones in the order of their completing events, then the open ones by id
 abbrev pub rows_of : List Event → List Row
 rows_of es = by_route (completed_rows es ++ open_rows es)
+
+-- the row is of a part of this test
+abbrev pub is_row_of : TestKey → Row → Bool
+is_row_of test row = eq_by_cmp test_cmp test (record { route = row.route; id = row.id })
