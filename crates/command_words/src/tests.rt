@@ -105,3 +105,12 @@ fn flags_have_no_value_and_one_dash_is_a_name(rt: HostRuntime) {
     assert!(rt; is_name(alloc, &["-"], "-"));
     assert!(rt; is_name(alloc, &[""], ""));
 }
+
+#[test]
+fn an_option_that_the_command_does_not_have_is_refused(rt: HostRuntime) {
+    let alloc = rt.alloc();
+    assert!(rt; is_refused(alloc, &["--time"]));
+    assert!(rt; is_refused(alloc, &["--times-of"]));
+    assert!(rt; is_refused(alloc, &["--partial=1"]));
+    assert!(rt; is_refused(alloc, &["--times", "--partial"]));
+}
