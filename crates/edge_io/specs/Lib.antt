@@ -9,3 +9,6 @@ pub mod Steps
 pub mod Seen
 pub mod Kept
 pub mod MemState
+pub mod Children
+pub mod Spawners
+pub mod Sites

@@ -6,13 +6,15 @@
 //! - `failed`: the answer of a call that failed.
 //! - `source`, `sink`: where bytes come from and go, and the writing of a whole piece.
 //! - `shelf`: a folder, its drafts, and what a stop at each moment may leave of it.
-//! - `job`: what a program is started with.
+//! - `child`, `spawner`, `job`: processes, what starts them, and what with.
+//! - `site`: files by name.
 //! - `list_source`, `list_sink`, `mem_shelf`: the forms in memory, which fail at the calls that they are told to.
 //! - `names`: the list of a folder's names.
 //! - `plan`, `kept`: which calls of these fail, and the files and moments that a shelf in memory keeps.
 //! - `laws`: the last moment of such a shelf is now.
 #![tactic(auto)]
 
+mod child;
 mod failed;
 mod job;
 mod kept;
@@ -24,8 +26,11 @@ mod names;
 mod plan;
 mod shelf;
 mod sink;
+mod site;
 mod source;
+mod spawner;
 
+pub use child::{Child, Finish};
 pub use failed::Failed;
 pub use job::{IdFile, Job};
 pub use laws::the_last_moment_is_now;
@@ -35,7 +40,9 @@ pub use mem_shelf::MemShelf;
 pub use names::NamesFault;
 pub use shelf::Shelf;
 pub use sink::{Sink, write_whole};
+pub use site::{Found, Site};
 pub use source::Source;
+pub use spawner::Spawner;
 
 #[cfg(test)]
 mod tests;
