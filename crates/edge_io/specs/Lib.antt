@@ -12,3 +12,4 @@ pub mod MemState
 pub mod Children
 pub mod Spawners
 pub mod Sites
+pub mod Planned

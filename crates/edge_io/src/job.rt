@@ -1,6 +1,8 @@
 //! What a program is started with.
+ghost use Rattle.std.specs.Prelude.{◌≡◌, IfOk};
 
-use sub_number::{Bytes, Text};
+use std::alloc::Global;
+use sub_number::{Bytes, NoMemory, Text};
 
 /// A file with ids of tests, each followed by a newline.
 #[derive(Drop)]
@@ -18,4 +20,29 @@ pub struct Job {
     pub command: Bytes,
     /// The file is there before the command is started.
     pub id_file: Option<IdFile>,
+}
+
+impl Job {
+    /// Another job of the same parts.
+    ///
+    /// `NoMemory` comes only for want of memory.
+    pub fn copy(&self, alloc: Global) -> Result<Self, NoMemory>
+        ensures { IfOk result (λ job. job ≡ self.now) }
+    {
+        let command = Bytes::new(alloc, self.command.bytes())?;
+        let id_file = copied_file(alloc, &self.id_file)?;
+        Ok(Job { command, id_file })
+    }
+}
+
+fn copied_file(alloc: Global, file: &Option<IdFile>) -> Result<Option<IdFile>, NoMemory>
+    ensures { IfOk result (λ copy. copy ≡ file.now) }
+{
+    match file {
+        Some(file) => Ok(Some(IdFile {
+            name: file.name.copy()?,
+            bytes: Bytes::new(alloc, file.bytes.bytes())?,
+        })),
+        None => Ok(None),
+    }
 }

@@ -1,6 +1,8 @@
 // The files that a shelf in memory has published, in order, and the moments that it has passed.
 ghost use Rattle.std.specs.Prelude.{◌≡◌, ◌∷◌, [], ◌++◌, IfOk, OnOk, OnErr, length, nat_le, if◌then◌else◌};
+ghost use Rattle.std.specs.Option.{option_map};
 ghost use Rattle.edge_io.specs.Kept.{lookup, mark_in_force};
+ghost use Rattle.edge_io.specs.Steps.{IsPart};
 
 use std::alloc::{AllocError, Global};
 
@@ -81,4 +83,27 @@ pub fn count_at(mark: Mark, choice: bool) -> usize
     ensures { result ≡ (if choice then mark.published else mark.settled) }
 {
     if choice { mark.published } else { mark.settled }
+}
+
+/// The bytes of the last file of this name.
+pub fn bytes_of<'a>(files: &'a [File], name: &str) -> Option<&'a [u8]>
+    ensures { option_map (λ bytes. bytes.now) result ≡ lookup files.now name.now }
+{
+    let mut found: Option<&'a [u8]> = None;
+    for file in files {
+        if name == file.name.as_str() {
+            found = Some(&file.bytes);
+        }
+    }
+    found
+}
+
+/// Moves what fits of the bytes, from a place on.
+pub fn copy_part(bytes: &[u8], place: u64, buf: &mut [u8]) -> usize
+    ensures { IsPart bytes.now place buf.new result }
+{
+    let start = place.min(bytes.len() as u64) as usize;
+    let count = (bytes.len() - start).min(buf.len());
+    buf[..count].copy_from_slice(&bytes[start..start + count]);
+    count
 }

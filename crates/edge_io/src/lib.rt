@@ -8,7 +8,9 @@
 //! - `shelf`: a folder, its drafts, and what a stop at each moment may leave of it.
 //! - `child`, `spawner`, `job`: processes, what starts them, and what with.
 //! - `site`: files by name.
-//! - `list_source`, `list_sink`, `mem_shelf`: the forms in memory, which fail at the calls that they are told to.
+//! - `limits`: how much is read of an input.
+//! - `list_source`, `list_sink`, `mem_shelf`, `map_site`, `plan_child`, `plan_spawner`: the forms in memory, which fail at
+//!   the calls that they are told to.
 //! - `names`: the list of a folder's names.
 //! - `plan`, `kept`: which calls of these fail, and the files and moments that a shelf in memory keeps.
 //! - `laws`: the last moment of such a shelf is now.
@@ -19,11 +21,15 @@ mod failed;
 mod job;
 mod kept;
 mod laws;
+mod limits;
 mod list_sink;
 mod list_source;
+mod map_site;
 mod mem_shelf;
 mod names;
 mod plan;
+mod plan_child;
+mod plan_spawner;
 mod shelf;
 mod sink;
 mod site;
@@ -34,10 +40,14 @@ pub use child::{Child, Finish};
 pub use failed::Failed;
 pub use job::{IdFile, Job};
 pub use laws::the_last_moment_is_now;
+pub use limits::{MOST_BYTES, PIECE};
 pub use list_sink::ListSink;
 pub use list_source::ListSource;
+pub use map_site::MapSite;
 pub use mem_shelf::MemShelf;
 pub use names::NamesFault;
+pub use plan_child::PlanChild;
+pub use plan_spawner::{Plan, PlanSpawner};
 pub use shelf::Shelf;
 pub use sink::{Sink, write_whole};
 pub use site::{Found, Site};

@@ -2,7 +2,7 @@
 ghost use Rattle.std.specs.Prelude.{◌≡◌, ◌+◌, ◌≤◌, ℕ, Some, None, [], length, All, OnOk, OnErr, IfOk};
 ghost use Rattle.edge_io.specs.Kept.{IsWithin};
 
-use crate::kept::{File, Mark, copied, count_at, keep, mark_at};
+use crate::kept::{File, Mark, bytes_of, copied, copy_part, count_at, keep, mark_at};
 use crate::names::names_of;
 use crate::plan::FaultPlan;
 use crate::{Failed, NamesFault, Shelf};
@@ -284,31 +284,4 @@ impl MemShelf {
             plan: FaultPlan::new(Vec::new(self.alloc)),
         })
     }
-}
-
-ghost use Rattle.std.specs.Option.{option_map};
-ghost use Rattle.edge_io.specs.Kept.{lookup};
-ghost use Rattle.edge_io.specs.Steps.{IsPart};
-
-// The bytes of the last file of this name.
-fn bytes_of<'a>(files: &'a [File], name: &str) -> Option<&'a [u8]>
-    ensures { option_map (λ bytes. bytes.now) result ≡ lookup files.now name.now }
-{
-    let mut found: Option<&'a [u8]> = None;
-    for file in files {
-        if name == file.name.as_str() {
-            found = Some(&file.bytes);
-        }
-    }
-    found
-}
-
-// Moves what fits of the bytes, from a place on.
-fn copy_part(bytes: &[u8], place: u64, buf: &mut [u8]) -> usize
-    ensures { IsPart bytes.now place buf.new result }
-{
-    let start = place.min(bytes.len() as u64) as usize;
-    let count = (bytes.len() - start).min(buf.len());
-    buf[..count].copy_from_slice(&bytes[start..start + count]);
-    count
 }

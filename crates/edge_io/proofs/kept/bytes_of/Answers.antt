@@ -2,8 +2,8 @@ use Rattle.std.proofs.Common.{◌∙◌, ap, sym, length, Some, ◌<◌, arith}
 use Rattle.std.specs.Str.{bytes_eq}
 use Rattle.std.specs.Option.{option_map}
 use Rattle.edge_io.proofs.KeptLemmas.{found_here, found_before}
-use Rattle.edge_io.proofs.mem_shelf.bytes_of.Goals as goal
-use Rattle.edge_io.proofs.mem_shelf.bytes_of.Goals.{then-eq, else-eq}
+use Rattle.edge_io.proofs.kept.bytes_of.Goals as goal
+use Rattle.edge_io.proofs.kept.bytes_of.Goals.{then-eq, else-eq}
 
 pub loop-file-preserved : goal.loop-file-preserved
 loop-file-preserved c =
