@@ -4,3 +4,4 @@ pub mod Going
 pub mod Passing
 pub mod KeptLemmas
 pub mod NamesLemmas
+pub mod FilesLemmas

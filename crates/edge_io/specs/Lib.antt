@@ -13,3 +13,4 @@ pub mod Children
 pub mod Spawners
 pub mod Sites
 pub mod Planned
+pub mod Files

@@ -8,6 +8,7 @@
 //! - `shelf`: a folder, its drafts, and what a stop at each moment may leave of it.
 //! - `child`, `spawner`, `job`: processes, what starts them, and what with.
 //! - `site`: files by name.
+//! - `whole_file`: a file that is read whole, unless it is too long.
 //! - `limits`: how much is read of an input.
 //! - `list_source`, `list_sink`, `mem_shelf`, `map_site`, `plan_child`, `plan_spawner`: the forms in memory, which fail at
 //!   the calls that they are told to.
@@ -35,6 +36,7 @@ mod sink;
 mod site;
 mod source;
 mod spawner;
+mod whole_file;
 
 pub use child::{Child, Finish};
 pub use failed::Failed;
@@ -53,6 +55,7 @@ pub use sink::{Sink, write_whole};
 pub use site::{Found, Site};
 pub use source::Source;
 pub use spawner::Spawner;
+pub use whole_file::{ReadFault, read_file};
 
 #[cfg(test)]
 mod tests;
