@@ -5,7 +5,8 @@ use Rattle.std.specs.Str.{bytes_eq}
 use Rattle.std.proofs.lemmas.Bool.{false≢true}
 use Rattle.std.proofs.lemmas.Slice.Eq.{bytes_eq-Decides}
 use Rattle.testr_conf.specs.Settings.{is_known}
-use Rattle.testr_conf.specs.Keys.{key_name, named}
+use Rattle.testr_conf.specs.Names.{key_name}
+use Rattle.testr_conf.specs.Keys.{named}
 use Rattle.testr_conf.specs.declared.name.Name.{Name}
 use Rattle.testr_conf.specs.declared.name.Name.TheVariants.{Command, IdOption, ListOption, IdList, Concurrency, GroupRegex, FilterTags}
 

@@ -8,7 +8,8 @@ use Rattle.std.proofs.lemmas.List.Folds.{find-append}
 use Rattle.std.proofs.lemmas.Bool.{cases_Bool, or_left, true≢false, false≢true, cond-false}
 use Rattle.std.proofs.lemmas.Slice.Eq.{bytes_eq-Decides}
 use Rattle.testr_conf.specs.Settings.{Setting, value_of, has_key, is_known}
-use Rattle.testr_conf.specs.Keys.{key_name, named, found_value, with_value, found_of}
+use Rattle.testr_conf.specs.Names.{key_name}
+use Rattle.testr_conf.specs.Keys.{named, found_value, with_value, found_of}
 use Rattle.testr_conf.specs.Steps.{is_taken, kept}
 use Rattle.testr_conf.specs.declared.name.Name.{Name}
 use Rattle.testr_conf.specs.declared.name.Name.TheVariants.{Command, IdOption, ListOption, IdList, Concurrency, GroupRegex, FilterTags}

@@ -1,30 +1,22 @@
 -- The keys that are used, and the values found for them.
-use Rattle.std.specs.Prelude.{ℕ, Option, Some, None, List, codes, if◌then◌else◌}
+use Rattle.std.specs.Prelude.{ℕ, Option, Some, None, List, if◌then◌else◌}
 use Rattle.std.specs.Str.{bytes_eq}
+use Rattle.testr_conf.specs.Names.{key_name}
 use Rattle.testr_conf.specs.Settings.{Setting, value_of}
 use Rattle.testr_conf.specs.declared.name.Name.{Name}
 use Rattle.testr_conf.specs.declared.name.Name.TheVariants.{Command, IdOption, ListOption, IdList, Concurrency, GroupRegex, FilterTags}
 use Rattle.testr_conf.specs.declared.found.Found.{Found}
 
-abbrev pub key_name : Name → List ℕ
-key_name Command = codes "test_command"
-key_name IdOption = codes "test_id_option"
-key_name ListOption = codes "test_list_option"
-key_name IdList = codes "test_id_list_default"
-key_name Concurrency = codes "test_run_concurrency"
-key_name GroupRegex = codes "group_regex"
-key_name FilterTags = codes "filter_tags"
-
--- which of them a key is, if any
+-- which of the used keys this is, if any
 abbrev pub named : List ℕ → Option Name
 named key =
-    if bytes_eq key (codes "test_command") then Some Command
-    else (if bytes_eq key (codes "test_id_option") then Some IdOption
-    else (if bytes_eq key (codes "test_list_option") then Some ListOption
-    else (if bytes_eq key (codes "test_id_list_default") then Some IdList
-    else (if bytes_eq key (codes "test_run_concurrency") then Some Concurrency
-    else (if bytes_eq key (codes "group_regex") then Some GroupRegex
-    else (if bytes_eq key (codes "filter_tags") then Some FilterTags
+    if bytes_eq key (key_name Command) then Some Command
+    else (if bytes_eq key (key_name IdOption) then Some IdOption
+    else (if bytes_eq key (key_name ListOption) then Some ListOption
+    else (if bytes_eq key (key_name IdList) then Some IdList
+    else (if bytes_eq key (key_name Concurrency) then Some Concurrency
+    else (if bytes_eq key (key_name GroupRegex) then Some GroupRegex
+    else (if bytes_eq key (key_name FilterTags) then Some FilterTags
     else None))))))
 
 abbrev pub found_value : Name → Found → Option (List ℕ)
@@ -48,11 +40,11 @@ with_value FilterTags value found = record found { filter_tags = Some value }
 -- the values that the settings give
 abbrev pub found_of : List Setting → Found
 found_of settings = record {
-  command = value_of (codes "test_command") settings;
-  id_option = value_of (codes "test_id_option") settings;
-  list_option = value_of (codes "test_list_option") settings;
-  id_list = value_of (codes "test_id_list_default") settings;
-  concurrency = value_of (codes "test_run_concurrency") settings;
-  group_regex = value_of (codes "group_regex") settings;
-  filter_tags = value_of (codes "filter_tags") settings;
+  command = value_of (key_name Command) settings;
+  id_option = value_of (key_name IdOption) settings;
+  list_option = value_of (key_name ListOption) settings;
+  id_list = value_of (key_name IdList) settings;
+  concurrency = value_of (key_name Concurrency) settings;
+  group_regex = value_of (key_name GroupRegex) settings;
+  filter_tags = value_of (key_name FilterTags) settings;
 }

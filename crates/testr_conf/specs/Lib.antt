@@ -2,6 +2,7 @@ pub mod White
 pub mod Lines
 pub mod Seen
 pub mod Parts
+pub mod Names
 pub mod Settings
 pub mod Keys
 pub mod Steps

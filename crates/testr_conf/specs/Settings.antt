@@ -4,7 +4,9 @@ use Rattle.std.specs.List.{fold, find, list_any, take_while, flat_map}
 use Rattle.std.specs.Option.{option_map}
 use Rattle.std.specs.Str.{bytes_eq}
 use Rattle.testr_conf.specs.White.{words_of}
+use Rattle.testr_conf.specs.Names.{key_name}
 use Rattle.testr_conf.specs.Lines.{Line, bad, skipped, more, section, setting, lines_in}
+use Rattle.testr_conf.specs.declared.name.Name.TheVariants.{Command, IdOption, ListOption, IdList, Concurrency, GroupRegex, FilterTags}
 use Rattle.testr_conf.specs.declared.fault.ConfFault.{ConfFault}
 use Rattle.testr_conf.specs.declared.fault.ConfFault.TheVariants.{BadLine, NoSection, Repeated, NoCommand}
 
@@ -82,8 +84,8 @@ is_open lines = fold is_open_after false lines
 -- the keys that are used
 abbrev pub known_keys : List (List ℕ)
 known_keys =
-    codes "test_command" ∷ codes "test_id_option" ∷ codes "test_list_option" ∷ codes "test_id_list_default"
-    ∷ codes "test_run_concurrency" ∷ codes "group_regex" ∷ codes "filter_tags" ∷ []
+    key_name Command ∷ key_name IdOption ∷ key_name ListOption ∷ key_name IdList
+    ∷ key_name Concurrency ∷ key_name GroupRegex ∷ key_name FilterTags ∷ []
 
 abbrev pub is_known : List ℕ → Bool
 is_known key = list_any (bytes_eq key) known_keys
@@ -146,12 +148,12 @@ abbrev pub with_command : Option (List ℕ) → List Setting → Result Settings
 with_command None settings = Err NoCommand
 with_command (Some command) settings = Ok (record {
   command = command;
-  id_option = set_of (codes "test_id_option") settings;
-  list_option = set_of (codes "test_list_option") settings;
-  id_list = set_of (codes "test_id_list_default") settings;
-  concurrency = set_of (codes "test_run_concurrency") settings;
-  group_regex = set_of (codes "group_regex") settings;
-  filter_tags = words_in (set_of (codes "filter_tags") settings);
+  id_option = set_of (key_name IdOption) settings;
+  list_option = set_of (key_name ListOption) settings;
+  id_list = set_of (key_name IdList) settings;
+  concurrency = set_of (key_name Concurrency) settings;
+  group_regex = set_of (key_name GroupRegex) settings;
+  filter_tags = words_in (set_of (key_name FilterTags) settings);
 })
 
 abbrev pub unless_refused : Option ConfFault → Result Settings ConfFault → Result Settings ConfFault
@@ -161,7 +163,7 @@ unless_refused (Some fault) said = Err fault
 -- The first line that is refused decides; where none is, `test_command` has to be set.
 abbrev pub conf_of_lines : List Line → Result Settings ConfFault
 conf_of_lines lines =
-    unless_refused (first_fault [] lines) (with_command (set_of (codes "test_command") (settings_of lines)) (settings_of lines))
+    unless_refused (first_fault [] lines) (with_command (set_of (key_name Command) (settings_of lines)) (settings_of lines))
 
 abbrev pub conf_of : List ℕ → Result Settings ConfFault
 conf_of text = conf_of_lines (lines_in text)
