@@ -1,5 +1,5 @@
 -- Sums over the values of finite maps.
-use Rattle.std.proofs.Common.{◌≡◌, ℕ, ◌+◌, Bool, true, false, ◌&&◌, cond, T, List, [], ◌∷◌, ◌++◌, Option, Some, None, map, refl, sym, ◌∙◌, ap, arith}
+use Rattle.std.proofs.Common.{◌≡◌, ℕ, ◌+◌, Bool, true, false, ◌&&◌, cond, T, List, [], ◌∷◌, ◌++◌, Option, Some, None, map, refl, ◌∙◌, ap, arith}
 use Rattle.std.specs.List.{sum_by, flat_map}
 use Rattle.std.specs.FinMap as fin
 use Rattle.std.specs.FinMap.{find, put, is_sorted, entries-insert, entries_sorted}
