@@ -10,8 +10,7 @@ use Rattle.regex_syntax.specs.Verdict.{Reads, Refuses}
 use Rattle.regex_syntax.specs.declared.error.ErrorKind.{ErrorKind}
 use Rattle.regex_syntax.specs.declared.error.ErrorKind.TheVariants.{OutOfMemory}
 use Rattle.regex.specs.Patterns.{Re, Match, default_config, find_str, span, SameCaptures}
-use Rattle.regex.specs.Strings.{regex_source, regex_pattern, matcher_pattern}
-use Rattle.regex.specs.declared.string.matcher.Matcher.{Matcher}
+use Rattle.regex.specs.Strings.{regex_source, regex_pattern}
 use Rattle.regex.specs.Sources.{IsRefusal}
 use Rattle.regex.specs.Failures.{IsRightKind}
 use Rattle.regex_syntax.specs.declared.error.Error as parser
@@ -78,19 +77,19 @@ one_more_source texts index old new regex text pushed so_far compiled here below
 pub with_own_text : (text : List ℕ) (regex : Regex) → IsCompiled text regex → IsCompiled (regex_source regex) regex
 with_own_text text regex compiled = record { source = refl; config = compiled.config; read = compiled.read }
 
--- the search through some of the matchers
-module _ (matchers : List Matcher) (id : List ℕ) where
+-- the search through some of those that search
+module _ {M : Type 0} (pattern_of : M → Re) (all : List M) (id : List ℕ) where
   -- one of them finds a match
-  pub found_at : (now : List Matcher) (patterns : List (List ℕ)) (index : ℕ) (matcher : Matcher) → ((k : ℕ) → get_or id k 0 < 256) → map matcher_pattern now ≡ map matcher_pattern matchers → index < length now → matcher ≡ get_or now index matcher → is_some (find_str (matcher_pattern matcher) id 0) ≡ true → AreSearchers patterns (map matcher_pattern matchers) → true ≡ is_found patterns id
+  pub found_at : (now : List M) (patterns : List (List ℕ)) (index : ℕ) (matcher : M) → ((k : ℕ) → get_or id k 0 < 256) → map pattern_of now ≡ map pattern_of all → index < length now → matcher ≡ get_or now index matcher → is_some (find_str (pattern_of matcher) id 0) ≡ true → AreSearchers patterns (map pattern_of all) → true ≡ is_found patterns id
   found_at now patterns index matcher bytes same below here found searchers =
-      let re : get_or (map matcher_pattern now) index (matcher_pattern matcher) ≡ matcher_pattern matcher = get_or-map matcher_pattern now index matcher (matcher_pattern matcher) below ∙ ap matcher_pattern (sym here) in
-      sym (list_any_at (λ re. is_some (find_str re id 0)) (map matcher_pattern now) index (matcher_pattern matcher) (rw (length-map now matcher_pattern) below) (rw re found)) ∙ ap (list_any (λ re. is_some (find_str re id 0))) same ∙ searchers.same id bytes
+      let re : get_or (map pattern_of now) index (pattern_of matcher) ≡ pattern_of matcher = get_or-map pattern_of now index matcher (pattern_of matcher) below ∙ ap pattern_of (sym here) in
+      sym (list_any_at (λ re. is_some (find_str re id 0)) (map pattern_of now) index (pattern_of matcher) (rw (length-map now pattern_of) below) (rw re found)) ∙ ap (list_any (λ re. is_some (find_str re id 0))) same ∙ searchers.same id bytes
 
   -- the next of them finds none
-  pub none_more : (now : List Matcher) (index : ℕ) (matcher : Matcher) → map matcher_pattern now ≡ map matcher_pattern matchers → index < length now → matcher ≡ get_or now index matcher → is_some (find_str (matcher_pattern matcher) id 0) ≡ false → list_any (λ re. is_some (find_str re id 0)) (take index (map matcher_pattern matchers)) ≡ false → list_any (λ re. is_some (find_str re id 0)) (take (index + 1) (map matcher_pattern matchers)) ≡ false
+  pub none_more : (now : List M) (index : ℕ) (matcher : M) → map pattern_of now ≡ map pattern_of all → index < length now → matcher ≡ get_or now index matcher → is_some (find_str (pattern_of matcher) id 0) ≡ false → list_any (λ re. is_some (find_str re id 0)) (take index (map pattern_of all)) ≡ false → list_any (λ re. is_some (find_str re id 0)) (take (index + 1) (map pattern_of all)) ≡ false
   none_more now index matcher same below here found none =
-      let re : get_or (map matcher_pattern now) index (matcher_pattern matcher) ≡ matcher_pattern matcher = get_or-map matcher_pattern now index matcher (matcher_pattern matcher) below ∙ ap matcher_pattern (sym here) in
-      rw (← same) (list_any_more (λ re. is_some (find_str re id 0)) (map matcher_pattern now) index (matcher_pattern matcher) (rw (length-map now matcher_pattern) below) ∙ rw (re, found, same, none) refl)
+      let re : get_or (map pattern_of now) index (pattern_of matcher) ≡ pattern_of matcher = get_or-map pattern_of now index matcher (pattern_of matcher) below ∙ ap pattern_of (sym here) in
+      rw (← same) (list_any_more (λ re. is_some (find_str re id 0)) (map pattern_of now) index (pattern_of matcher) (rw (length-map now pattern_of) below) ∙ rw (re, found, same, none) refl)
 
 -- what is picked one by one is what is picked
 all_pass : (ids : List (List ℕ)) → filter (λ id. true) ids ≡ ids

@@ -1,7 +1,8 @@
 //! Patterns, and the ids in which some pattern is found.
 
-ghost use Rattle.std.specs.Prelude.{◌≡◌, ◌==◌, [], length, All, IfOk, IfErr, map, take};
-ghost use Rattle.regex.specs.Strings.{matcher_pattern};
+ghost use Rattle.std.specs.Prelude.{◌≡◌, ◌==◌, [], length, All, IfOk, IfErr, is_some, map, take};
+ghost use Rattle.regex.specs.Patterns.{find_str};
+ghost use Rattle.regex.specs.Strings.{matcher_pattern, regex_pattern};
 ghost use Rattle.partition_times.specs.Compiled.{AreSearchers, is_picked};
 ghost use Rattle.partition_times.specs.Patterns.{IsPattern, IsFirstBad, is_found, picked_ids};
 
@@ -46,14 +47,19 @@ impl Filters {
         Ok(Filters { regexes })
     }
 
-    /// Whether some pattern is found in the id.
+    /// Whether some pattern is found in the id. They are looked for one by one, up to the first that is found.
     ///
     /// `NoMemory` comes only for want of memory.
     pub fn found(&self, alloc: Global, id: &Text) -> Result<bool, NoMemory>
         ensures { IfOk result (λ found. found ≡ is_found self.now id.now) }
     {
-        let mut matchers = self.matchers(alloc)?;
-        Ok(is_match(&mut matchers, id))
+        let string = string_of(id);
+        for regex in &self.regexes {
+            if has_match(alloc, regex, string)? {
+                return Ok(true);
+            }
+        }
+        Ok(false)
     }
 
     /// Whether there is no pattern.
@@ -81,6 +87,14 @@ impl Filters {
         }
         Ok(matchers)
     }
+}
+
+// Whether the pattern is found in the string.
+fn has_match(alloc: Global, regex: &Regex, string: &str) -> Result<bool, NoMemory>
+    ensures { IfOk result (λ found. found ≡ is_some (find_str (regex_pattern regex.now) string.now 0)) }
+{
+    let mut matcher = regex.matcher(alloc)?;
+    Ok(matcher.is_match(string))
 }
 
 // Whether some of the patterns is found in the id.
