@@ -1,5 +1,5 @@
 -- What the children, the spawner and the files in memory show (docs/DISK.md, the forms in memory).
-use Rattle.std.specs.Prelude.{◌≡◌, ◌⊎◌, ◌↔◌, ℕ, List, [], map, drop, Contains, Result, IsErr, OnOk, OnErr}
+use Rattle.std.specs.Prelude.{◌≡◌, ◌⊎◌, ℕ, List, [], map, drop, Contains, Result, IsErr, OnOk, OnErr}
 use Rattle.edge_io.specs.Causes.{one_more}
 use Rattle.edge_io.specs.Children.{Output}
 use Rattle.edge_io.specs.Disk.{Files}

@@ -163,14 +163,14 @@ canonical_bytes p e are s = are_both (canonical_body e) (to_be_bytes w32 (crc32 
 
 -- ---- a piece of the file `stdout`
 
-record IsPlain (byte : ℕ) : Type 0 where
-  some : 0 < byte
-  ascii : byte < 128
+pub record IsPlain (byte : ℕ) : Type 0 where
+  pub some : 0 < byte
+  pub ascii : byte < 128
 
 plain : (byte : ℕ) (bytes : List ℕ) → 0 < byte → byte < 128 → All IsPlain bytes → All IsPlain (byte ∷ bytes)
 plain byte bytes some ascii all = All-cons IsPlain byte bytes (record { some = some; ascii = ascii }) all
 
-plain_text : (bytes : List ℕ) → All IsPlain bytes → IsText bytes
+pub plain_text : (bytes : List ℕ) → All IsPlain bytes → IsText bytes
 plain_text bytes all = record {
   utf8 = IsUtf8-from_ascii bytes (IsAscii-from_all bytes (All-weaker IsPlain (λ byte. byte < 128) (λ byte p. p.ascii) bytes all));
   no_nul = All-weaker IsPlain (λ byte. byte ≢ 0) (λ byte p same. omega (arith, p.some, same)) bytes all;
@@ -182,16 +182,16 @@ name_is_plain = plain 115 (codes "tdout") (omega arith) (omega arith) (plain 116
 name_is_text : IsShortText (codes "stdout")
 name_is_text = record { text = plain_text (codes "stdout") name_is_plain; short = omega arith }
 
-length_decimal : (lane : ℕ) → lane < 64 → length (decimal lane) ≤ 2
+pub length_decimal : (lane : ℕ) → lane < 64 → length (decimal lane) ≤ 2
 length_decimal lane small = elim (cases_lt lane 10) [
   | inl one ↦ omega (arith, length_decimal_one lane one)
   | inr two ↦ omega (arith, length_decimal_two lane two (omega arith))
 ]
 
-packet_size_most : (n : ℕ) → packet_size n ≤ n + 10
+pub packet_size_most : (n : ℕ) → packet_size n ≤ n + 10
 packet_size_most n = grind (arith, nat_tests)
 
-length_counted : (bytes : List ℕ) → length (canonical_text bytes) ≤ length bytes + 4
+pub length_counted : (bytes : List ℕ) → length (canonical_text bytes) ≤ length bytes + 4
 length_counted bytes = omega (arith, length-append (shortest_number (length bytes)) bytes, length_shortest_number (length bytes), shortest_size_range (length bytes))
 
 pub stdout_fits : (lane : ℕ) (bytes : List ℕ) → lane < 64 → length bytes ≤ 65536 → Fits (stdout_under lane bytes)

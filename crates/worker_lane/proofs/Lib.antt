@@ -3,3 +3,8 @@ pub mod EventLemmas
 pub mod NoteLemmas
 pub mod RecordingLemmas
 pub mod WaitingLemmas
+pub mod EndingLemmas
+pub mod RestLemmas
+pub mod CourseLemmas
+pub mod LaneLemmas
+pub mod TurnLemmas

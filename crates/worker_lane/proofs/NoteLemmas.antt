@@ -1,7 +1,7 @@
 -- The events that are recorded of a note.
-use Rattle.std.proofs.Common.{◌≡◌, ℕ, zero, suc, ◌<◌, ◌≤◌, Bool, true, false, List, [], ◌∷◌, ◌++◌, length, map, take, All, refl, inl, inr, ap, arith}
+use Rattle.std.proofs.Common.{◌≡◌, ℕ, ◌<◌, ◌≤◌, Bool, true, false, List, [], ◌∷◌, ◌++◌, length, map, take, All, inl, inr, ap, arith}
 use Rattle.std.proofs.lemmas.Bool.{cases_lt, cond-true, cond-false, le-leb, lt-leb}
-use Rattle.std.proofs.lemmas.List.{length-take, length-append, length-map, append-nil}
+use Rattle.std.proofs.lemmas.List.{length-take, length-map, append-nil}
 use Rattle.std.proofs.lemmas.List.Elements.{All-nil, All-cons, All-append, All-map, All-weaker}
 use Rattle.packet_codec.specs.declared.event.Event.{Event}
 use Rattle.packet_codec.specs.Grammar.{AreBytes}
@@ -13,14 +13,14 @@ use Rattle.packet_codec.proofs.SpellingLemmas.{length_canonical}
 use Rattle.packet_codec.proofs.LaneLemmas.{is_event_under}
 use Rattle.stream_reader.specs.declared.note.Note.{Note}
 use Rattle.stream_reader.specs.declared.note.Note.TheVariants as note
-use Rattle.stream_reader.specs.Cut.{Piece, packet, foreign, BeginsWithNone, IsCut}
-use Rattle.stream_reader.specs.Notes.{notes_of, HasNotes, AreFullRuns}
-use Rattle.stream_reader.specs.Stream.{IsMadeOf, AreMadeOf}
+use Rattle.stream_reader.specs.Notes.{HasNotes, AreFullRuns}
+use Rattle.stream_reader.specs.Stream.{Gives, IsMadeOf, AreMadeOf}
 use Rattle.stream_reader.specs.declared.first.First.{First}
 use Rattle.stream_reader.specs.declared.first.First.TheVariants as found
 use Rattle.stream_reader.specs.First.{FirstIs, IsMadeBy}
-use Rattle.stream_reader.proofs.FrontLemmas.{are_before, are_behind, packet_some}
+use Rattle.stream_reader.proofs.FrontLemmas.{are_before, are_behind}
 use Rattle.stream_reader.proofs.NotesLemmas.{are_full}
+use Rattle.stream_reader.proofs.ExistLemmas.{some_notes}
 use Rattle.worker_lane.specs.Recorded.{pieces_of, stdout_under, recorded_event, recorded_note, recorded_events}
 use Rattle.worker_lane.specs.Waiting.{IsShortNote}
 use Rattle.worker_lane.proofs.PiecesLemmas.{IsPiece, are_pieces, pieces_count}
@@ -34,6 +34,24 @@ made_is_short ended bytes (found.Packet size) (note.Foreign run) is made = absur
 made_is_short ended bytes (found.Foreign size behind) (note.Event e) is made = absurd made
 made_is_short ended bytes (found.Foreign size behind) (note.Foreign run) is made = omega (arith, is.1.short, ap length made, length-take size bytes)
 made_is_short ended bytes found.Nothing given is made = absurd made
+
+whole_front : (ended : Bool) (bytes rest : List ℕ) (given others : List Note) → Gives ended bytes given rest → HasNotes rest others → (whole : List ℕ) × HasNotes whole (given ++ others)
+whole_front false bytes rest given others first h = (bytes ++ [], first.notes [] others (All-nil (λ byte. byte < 256)) (rw (append-nil rest) h))
+whole_front true bytes rest given others first h = (bytes, first.notes others h)
+
+are_full_runs : (bytes : List ℕ) (notes : List Note) → HasNotes bytes notes → AreFullRuns notes
+are_full_runs bytes notes h = rw (h.made) (are_full h.pieces [] (omega arith))
+
+short_in_stream : (bytes run : List ℕ) (others : List Note) → HasNotes bytes (note.Foreign run ∷ others) → length run ≤ 65536
+short_in_stream bytes run others h = (are_full_runs bytes (note.Foreign run ∷ others) h).1
+
+-- some list of notes follows it
+pub note_is_short : (ended : Bool) (bytes front rest : List ℕ) (given : Note) → IsMadeOf given front → Gives ended bytes (given ∷ []) rest → IsShortNote given
+note_is_short ended bytes front rest (note.Event e) made first = spelled_fits front e made
+note_is_short ended bytes front rest (note.Foreign run) made first =
+    let behind = some_notes rest in
+    let whole = whole_front ended bytes rest (note.Foreign run ∷ []) behind.0 first behind.1 in
+    short_in_stream whole.0 run behind.0 whole.1
 
 -- ---- an event is one, or many
 
@@ -67,13 +85,13 @@ pub record HavePackets (events : List Event) : Type 0 where
 one_packet : (e : Event) → IsEvent e → Fits e → HavePackets (e ∷ [])
 one_packet e is fits = record { are_events = All-cons IsEvent e [] is (All-nil IsEvent); fit = All-cons Fits e [] fits (All-nil Fits) }
 
-pieces_have_packets : (lane : ℕ) (pieces : List (List ℕ)) → lane < 64 → All IsPiece pieces → HavePackets (map (stdout_under lane) pieces)
+pub pieces_have_packets : (lane : ℕ) (pieces : List (List ℕ)) → lane < 64 → All IsPiece pieces → HavePackets (map (stdout_under lane) pieces)
 pieces_have_packets lane pieces small are = record {
   are_events = All-map IsEvent (stdout_under lane) pieces (All-weaker IsPiece (λ piece. IsEvent (stdout_under lane piece)) (λ piece is. stdout_is_event lane piece small is.are_bytes is.short) pieces are);
   fit = All-map Fits (stdout_under lane) pieces (All-weaker IsPiece (λ piece. Fits (stdout_under lane piece)) (λ piece is. stdout_fits lane piece small is.short) pieces are);
 }
 
-event_has_packets : (lane : ℕ) (e : Event) (front : List ℕ) → lane < 64 → AreBytes front → SpellsEvent front e → HavePackets (recorded_event lane e)
+pub event_has_packets : (lane : ℕ) (e : Event) (front : List ℕ) → lane < 64 → AreBytes front → SpellsEvent front e → HavePackets (recorded_event lane e)
 event_has_packets lane e front small are made = elim (cases_lt 4194303 (canonical_size (under lane e))) [
   | inl large ↦ rw (recorded_in_pieces lane e large) (pieces_have_packets lane (pieces_of (canonical e)) small (are_pieces (canonical e) (canonical_bytes front e are made)))
   | inr fits ↦ (
@@ -82,7 +100,7 @@ event_has_packets lane e front small are made = elim (cases_lt 4194303 (canonica
       )
 ]
 
-foreign_has_packet : (lane : ℕ) (run front : List ℕ) → lane < 64 → AreBytes front → run ≡ front → length run ≤ 65536 → HavePackets (stdout_under lane run ∷ [])
+pub foreign_has_packet : (lane : ℕ) (run front : List ℕ) → lane < 64 → AreBytes front → run ≡ front → length run ≤ 65536 → HavePackets (stdout_under lane run ∷ [])
 foreign_has_packet lane run front small are made short =
     let are_run : AreBytes run = rw made are in
     one_packet (stdout_under lane run) (stdout_is_event lane run small are_run short) (stdout_fits lane run small short)

@@ -121,18 +121,18 @@ note_given before after given left old new none step ended lane left-is first =
 
 -- ---- what stays
 
-as_before_lane : (before after : Scribing) → IsAsBefore before after → after.lane ≡ before.lane
+pub as_before_lane : (before after : Scribing) → IsAsBefore before after → after.lane ≡ before.lane
 as_before_lane before after (inl same) = ap (λ (s : Scribing). s.lane) same
 as_before_lane before after (inr t) = t.lane
 
-as_before_ended : (before after : Scribing) → IsAsBefore before after → after.held.ended ≡ before.held.ended
+pub as_before_ended : (before after : Scribing) → IsAsBefore before after → after.held.ended ≡ before.held.ended
 as_before_ended before after (inl same) = ap (λ (s : Scribing). s.held.ended) same
 as_before_ended before after (inr t) = t.ended
 
-given_lane : (before after : Scribing) (event : Event) → GivesEvent before event after → after.lane ≡ before.lane
+pub given_lane : (before after : Scribing) (event : Event) → GivesEvent before event after → after.lane ≡ before.lane
 given_lane before after event g = sym (ap (λ (s : Scribing). s.lane) g.first) ∙ as_before_lane before g.waiting g.ready
 
-given_ended : (before after : Scribing) (event : Event) → GivesEvent before event after → after.held.ended ≡ before.held.ended
+pub given_ended : (before after : Scribing) (event : Event) → GivesEvent before event after → after.held.ended ≡ before.held.ended
 given_ended before after event g = sym (ap (λ (s : Scribing). s.held.ended) g.first) ∙ as_before_ended before g.waiting g.ready
 
 -- ---- some packets

@@ -1,3 +1,7 @@
+pub mod Endings
 pub mod Recorded
 pub mod Scribing
 pub mod Waiting
+pub mod Rest
+pub mod Courses
+pub mod Lanes

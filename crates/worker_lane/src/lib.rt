@@ -7,16 +7,24 @@
 //! - `waiting`: what is still to be given of a note
 //! - `whole`: all packets of a stream
 //! - `laws`: what holds of all that is recorded
-//! - `lot`: what a lane gives, and how its worker ended
+//! - `lane`: one worker process, read under its number
+//! - `course`, `stage`, `process`: what is kept of a lane beside its child, how far it has come, and the child's end
+//! - `lot`, `ending`: what a lane gives, and the packet that tells of its end
 #![tactic(auto)]
 
+mod course;
+mod ending;
+mod lane;
 mod laws;
 mod lot;
+mod process;
 mod scribe;
+mod stage;
 mod waiting;
 mod whole;
 
-pub use laws::{recorded_streams, recording_in_turn};
+pub use lane::Lane;
+pub use laws::{lots_in_turn, recorded_streams, recording_in_turn};
 pub use lot::{Ending, Lot};
 pub use scribe::Scribe;
 pub use whole::{recorded_of_pieces, take_packets};

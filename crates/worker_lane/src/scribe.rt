@@ -1,10 +1,17 @@
 //! What one stream becomes under a lane.
 
-ghost use Rattle.std.specs.Prelude.{◌≡◌, ◌<◌, ◌≤◌, ◌+◌, ℕ, List, [], ◌++◌, true, false, length, IfOk, OnErr, IfSome, IfNone};
+ghost use Rattle.std.specs.Prelude.{◌≡◌, ◌<◌, ◌≤◌, ◌+◌, ℕ, List, [], ◌++◌, ◌↔◌, true, false, pos, None, length, map, IfOk, OnErr, IfSome, IfNone};
+ghost use Rattle.std.specs.Option.{option_to_list};
+ghost use Rattle.packet_codec.specs.Canonical.{canonical};
 ghost use Rattle.stream_reader.specs.Room.{room};
+ghost use Rattle.worker_lane.specs.Endings.{ending_events, IsPacketOf};
+ghost use Rattle.worker_lane.specs.declared.lot.Ending.TheVariants.{Exit, NoMemory as without_memory};
 ghost use Rattle.worker_lane.specs.Scribing.{holding, GivesPacket, HasNone, most_left, Recording};
 
+use crate::ending::{ending_text, returncode_event};
+use crate::lot::Ending;
 use crate::waiting::{Waiting, is_nothing, put_first, put_note, wait_for};
+use packet_codec::encode;
 use std::alloc::Global;
 use std::marker::Model;
 use stream_reader::Reader;
@@ -108,6 +115,25 @@ impl Scribe {
         } else {
             Ok(None)
         }
+    }
+
+    /// The packet that tells of the end of the lane. None exactly where the child ended with 0. The ending is not
+    /// `NoMemory`.
+    ///
+    /// `NoMemory` comes only for want of memory.
+    pub fn ending(&self, ending: &Ending) -> Result<Option<Bytes>, NoMemory>
+        requires { ending.now ≡ without_memory → ⊥ }
+        ensures packet { IfOk result (λ answer. option_to_list answer ≡ map canonical (ending_events self.now.lane ending.now)) }
+        ensures none { IfOk result (λ answer. (answer ≡ None) ↔ (ending.now ≡ Exit (pos 0))) }
+        ensures under { IfOk result (λ answer. IfSome answer (IsPacketOf self.now.lane)) }
+    {
+        let Some(text) = ending_text(self.alloc, ending)? else {
+            return Ok(None);
+        };
+        let event = returncode_event(self.alloc, self.lane, text)?;
+        let mut packet = Vec::new(self.alloc);
+        encode(&event, &mut packet)?;
+        Ok(Some(Bytes::from_vec(packet)))
     }
 }
 

@@ -1,6 +1,7 @@
 ghost use Rattle.std.specs.Prelude.{◌≡◌, false};
 
-use crate::{Scribe, recorded_of_pieces, take_packets};
+use crate::{Ending, Lane, Lot, Scribe, recorded_of_pieces, take_packets};
+use edge_io::{Child, Failed, Finish, PlanChild};
 use packet_codec::{Event, FilePart, Status, encode, fits};
 use std::alloc::Global;
 use std::test::Fail;
@@ -213,4 +214,146 @@ fn an_event_that_just_fits_is_one_packet(rt: HostRuntime) -> Result<(), Fail> {
     );
     assert_eq!(rt; many.len(), 63 * (65_536 + 23) + 65_533 + 23);
     Ok(())
+}
+
+// The packets that tell of an end.
+const RETURNED_2_UNDER_0: &[u8] =
+    b"\xb3\x2df\x40\x4d\x12process\x2dreturncode\x17text/plain;charset=utf\x38\x09traceback\x0creturncode\x20\x32\x01\x30\xf4\xd0\xd6\x38";
+
+const FAULT_UNDER_0: &[u8] =
+    b"\xb3\x2df\x40\x4b\x12process\x2dreturncode\x17text/plain;charset=utf\x38\x09traceback\x0aread\x20fault\x01\x30g\xa6\xc6j";
+
+const SIGNAL_9_UNDER_12: &[u8] =
+    b"\xb3\x2df\x40\x4f\x12process\x2dreturncode\x17text/plain;charset=utf\x38\x09traceback\x0dreturncode\x20\x2d\x39\x02\x31\x32/\x18\xea\x36";
+
+// A lane goes to another thread.
+fn may_be_sent<T: Send>(_: &T) {}
+
+// The packets that a lane over this output gives, and its end.
+fn lane_gives(
+    alloc: Global,
+    number: u32,
+    output: &[u8],
+    piece: usize,
+    finish: Finish,
+) -> Option<(Vec<u8>, Ending)> {
+    if number > 63 || piece == 0 {
+        return None;
+    }
+    let child = PlanChild::new(Bytes::new(alloc, output).ok()?, piece, finish);
+    let mut lane = Lane::new(alloc, number, child).ok()?;
+    may_be_sent(&lane);
+    let mut packets = Vec::new(alloc);
+    for _ in 0..1000 {
+        match lane.step()? {
+            Lot::Packet(packet) => packets.extend_from_slice(packet.bytes()).ok()?,
+            Lot::End(ending) => return lane.step().is_none().then_some((packets, ending)),
+        }
+    }
+    None
+}
+
+fn is_given(given: Option<(Vec<u8>, Ending)>, wanted: &[&[u8]], end: Ending) -> bool {
+    let Some((packets, ending)) = given else {
+        return false;
+    };
+    let mut rest = packets.as_slice();
+    for part in wanted {
+        let Some(behind) = rest.strip_prefix(*part) else {
+            return false;
+        };
+        rest = behind;
+    }
+    rest.is_empty() && ending == end
+}
+
+#[test]
+fn a_lane_gives_its_packets_and_its_end(rt: HostRuntime) {
+    let alloc = rt.alloc();
+    for piece in [1, 100] {
+        let given = lane_gives(alloc, 0, FOO, piece, Finish::Exit(0));
+        assert!(rt; is_given(given, &[FOO_UNDER_0], Ending::Exit(0)));
+        let given = lane_gives(alloc, 0, FOO, piece, Finish::Exit(2));
+        assert!(rt; is_given(given, &[FOO_UNDER_0, RETURNED_2_UNDER_0], Ending::Exit(2)));
+        let given = lane_gives(alloc, 12, b"", piece, Finish::Exit(-9));
+        assert!(rt; is_given(given, &[SIGNAL_9_UNDER_12], Ending::Exit(-9)));
+    }
+}
+
+#[test]
+fn a_fault_comes_behind_the_bytes(rt: HostRuntime) {
+    let alloc = rt.alloc();
+    for finish in [Finish::ReadFault, Finish::WaitFault] {
+        let given = lane_gives(alloc, 0, b"ab", 1, finish);
+        assert!(rt; is_given(given, &[AB_UNDER_0, FAULT_UNDER_0], Ending::Fault));
+    }
+}
+
+// A child of which nothing is told, and whose reads fail.
+#[derive(Drop)]
+struct Broken {
+    faults: u64,
+    stopped: bool,
+    waited_then: bool,
+}
+
+impl Child for Broken {
+    ghost use Rattle.std.specs.Prelude.{None};
+
+    ghost seen = { λ s. record { told = None; faults = s.faults } };
+
+    fn read(&mut self, _buf: &mut [u8]) -> Result<usize, Failed> {
+        self.faults = self.faults.saturating_add(1);
+        Err(Failed)
+    }
+
+    fn wait(&mut self) -> Result<i32, Failed> {
+        self.waited_then = self.stopped;
+        Ok(-15)
+    }
+
+    fn stop(&mut self) {
+        self.stopped = true;
+    }
+
+    ghost are_bytes = { λ s. tt };
+}
+
+#[test]
+fn a_child_whose_reads_fail_is_stopped_and_waited_for(rt: HostRuntime) {
+    let child = Broken {
+        faults: 0,
+        stopped: false,
+        waited_then: false,
+    };
+    let Ok(mut lane) = Lane::new(rt.alloc(), 0, child) else {
+        return;
+    };
+    assert!(rt; matches!(lane.step(), Some(Lot::Packet(_))));
+    assert!(rt; matches!(lane.step(), Some(Lot::End(Ending::Fault))));
+    assert!(rt; lane.child.stopped && lane.child.waited_then);
+}
+
+// The packet that tells of an end, under lane 0.
+fn told_of(alloc: Global, ending: Ending) -> Option<Vec<u8>> {
+    if ending == Ending::NoMemory {
+        return None;
+    }
+    let scribe = Scribe::new(alloc, 0).ok()?;
+    Some(scribe.ending(&ending).ok()??.into_vec())
+}
+
+fn is_told(told: Option<Vec<u8>>, wanted: &[u8]) -> bool {
+    match told {
+        Some(told) => told == wanted,
+        None => false,
+    }
+}
+
+#[test]
+fn an_end_is_told_by_its_packet(rt: HostRuntime) {
+    let alloc = rt.alloc();
+    assert!(rt; told_of(alloc, Ending::Exit(0)).is_none());
+    assert!(rt; is_told(told_of(alloc, Ending::Exit(2)), RETURNED_2_UNDER_0));
+    assert!(rt; is_told(told_of(alloc, Ending::Fault), FAULT_UNDER_0));
 }

@@ -1,6 +1,6 @@
 use Rattle.std.proofs.Common.{◌≡◌, ◌∙◌, false, refl, ap}
 use Rattle.stream_reader.proofs.TurnLemmas.{split_parts}
-use Rattle.worker_lane.proofs.RecordingLemmas.{recorded_none, recorded_more, recorded_all}
+use Rattle.worker_lane.proofs.RecordingLemmas.{recorded_none, recorded_more}
 use Rattle.worker_lane.proofs.whole.record_piece.Goals as goal
 
 pub loop-left-init : goal.loop-left-init

@@ -1,4 +1,4 @@
-use Rattle.std.proofs.Common.{rules, ◌≡◌, List, [], ◌∷◌, ◌++◌, ap, ◌∙◌}
+use Rattle.std.proofs.Common.{rules, ◌≡◌, [], ◌∷◌, ◌++◌, ap, ◌∙◌}
 use Rattle.edge_io.specs.Disk.{put}
 use Rattle.edge_io.specs.Kept.{lookup}
 use Rattle.edge_io.specs.declared.kept.File.{File}

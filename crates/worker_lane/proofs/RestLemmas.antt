@@ -1,0 +1,73 @@
+-- What a lane has still to give, step by step.
+use Rattle.std.proofs.Common.{◌≡◌, ℕ, ◌<◌, ◌≤◌, Bool, true, false, List, [], ◌∷◌, ◌++◌, length, refl, inl, inr, sym, ap, ◌∙◌, append_assoc}
+use Rattle.std.proofs.lemmas.List.{append-nil}
+use Rattle.std.proofs.lemmas.List.Elements.{All-nil}
+use Rattle.packet_codec.specs.declared.event.Event.{Event}
+use Rattle.packet_codec.specs.Grammar.{AreBytes}
+use Rattle.stream_reader.specs.declared.note.Note.{Note}
+use Rattle.stream_reader.specs.Room.{most_held}
+use Rattle.stream_reader.specs.Notes.{notes_of, HasNotes}
+use Rattle.stream_reader.specs.Stream.{Gives as GivesStream}
+use Rattle.stream_reader.proofs.CutLemmas.{one_cut}
+use Rattle.stream_reader.proofs.FrontLemmas.{are_both}
+use Rattle.stream_reader.proofs.RoomLemmas.{spent_short}
+use Rattle.worker_lane.specs.Recorded.{recorded_note, recorded_events}
+use Rattle.worker_lane.specs.Scribing.{Scribing, holding, TakesNote, IsAsBefore, GivesEvent, HasNone}
+use Rattle.worker_lane.specs.Rest.{notes_of_stream, notes_are, events_left}
+
+-- ---- a stream has one list of notes
+
+one_list : (bytes : List ℕ) (notes others : List Note) → AreBytes bytes → HasNotes bytes notes → HasNotes bytes others → notes ≡ others
+one_list bytes notes others are h k = h.made ∙ ap notes_of (one_cut h.pieces k.pieces bytes are h.cut k.cut) ∙ sym k.made
+
+pub the_notes : (bytes : List ℕ) (notes : List Note) → AreBytes bytes → HasNotes bytes notes → notes_of_stream bytes ≡ notes
+the_notes bytes notes are h = one_list bytes (notes_of_stream bytes) notes are (notes_are bytes) h
+
+pub no_notes : notes_of_stream [] ≡ []
+no_notes = the_notes [] [] (All-nil (λ byte. byte < 256)) (record { pieces = []; cut = refl; made = refl })
+
+-- ---- an event is given
+
+-- either more may be fed, or nothing follows
+notes_taken : (ended : Bool) (bytes rest more : List ℕ) (given : Note) → GivesStream ended bytes (given ∷ []) rest → AreBytes more → (ended ≡ true → more ≡ []) → HasNotes (bytes ++ more) (given ∷ notes_of_stream (rest ++ more))
+notes_taken false bytes rest more given first are none = first.notes more (notes_of_stream (rest ++ more)) are (notes_are (rest ++ more))
+notes_taken true bytes rest more given first are none =
+    let empty : more ≡ [] = none refl in
+    let whole : HasNotes bytes (given ∷ notes_of_stream rest) = first.notes (notes_of_stream rest) (notes_are rest) in
+    rw (empty, append-nil bytes, append-nil rest) whole
+
+taken_left : (before after : Scribing) (more : List ℕ) → TakesNote before after → AreBytes before.held.bytes → AreBytes more → (before.held.ended ≡ true → more ≡ []) → events_left before more ≡ events_left after more
+taken_left before after more t are are_more none =
+    let notes : notes_of_stream (before.held.bytes ++ more) ≡ t.note ∷ notes_of_stream (after.held.bytes ++ more) =
+    the_notes (before.held.bytes ++ more) (t.note ∷ notes_of_stream (after.held.bytes ++ more)) (are_both before.held.bytes more are are_more) (notes_taken before.held.ended before.held.bytes after.held.bytes more t.note t.given.first are_more none) in
+    ap (λ (l : List Event). l ++ recorded_events before.lane (notes_of_stream (before.held.bytes ++ more))) t.none
+    ∙ ap (recorded_events before.lane) notes
+    ∙ sym (ap (λ (l : List Event). l ++ recorded_events after.lane (notes_of_stream (after.held.bytes ++ more))) t.waiting
+    ∙ ap (λ (lane : ℕ). recorded_note before.lane t.note ++ recorded_events lane (notes_of_stream (after.held.bytes ++ more))) t.lane)
+
+same_left : (before after : Scribing) (more : List ℕ) → IsAsBefore before after → AreBytes before.held.bytes → AreBytes more → (before.held.ended ≡ true → more ≡ []) → events_left before more ≡ events_left after more
+same_left before after more (inl same) are are_more none = ap (λ (s : Scribing). events_left s more) (sym same)
+same_left before after more (inr t) are are_more none = taken_left before after more t are are_more none
+
+pub given_left : (before after : Scribing) (event : Event) (more : List ℕ) → GivesEvent before event after → AreBytes before.held.bytes → AreBytes more → (before.held.ended ≡ true → more ≡ []) → events_left before more ≡ event ∷ events_left after more
+given_left before after event more g are are_more none =
+    same_left before g.waiting more g.ready are are_more none ∙ ap (λ (s : Scribing). events_left s more) g.first
+
+-- ---- bytes are fed
+
+pub fed_left : (before : Scribing) (piece more : List ℕ) (ended : Bool) → events_left before (piece ++ more) ≡ events_left (holding before (before.held.bytes ++ piece) ended) more
+fed_left before piece more ended = ap (λ (l : List ℕ). before.waiting ++ recorded_events before.lane (notes_of_stream l)) (sym (append_assoc before.held.bytes piece more))
+
+-- ---- nothing is left
+
+pub none_left : (scribe : Scribing) → scribe.held.ended ≡ true → HasNone scribe → events_left scribe [] ≡ []
+none_left scribe ended (none, spent) =
+    let empty : scribe.held.bytes ≡ [] = rw ended at spent in
+    ap (λ (l : List Event). l ++ recorded_events scribe.lane (notes_of_stream (scribe.held.bytes ++ []))) none
+    ∙ ap (λ (l : List ℕ). recorded_events scribe.lane (notes_of_stream (l ++ []))) empty
+    ∙ ap (recorded_events scribe.lane) no_notes
+
+-- ---- few bytes are held where none is decided
+
+pub few_held : (scribe : Scribing) → scribe.held.ended ≡ false → HasNone scribe → length scribe.held.bytes ≤ most_held
+few_held scribe going_on none = spent_short scribe.held.ended scribe.held.bytes going_on none.1

@@ -1,0 +1,45 @@
+-- What contracts see of a lane (docs/FORMATS.md, "What a lane gives").
+use Rattle.std.specs.Prelude.{◌≡◌, ◌⊎◌, ℕ, ◌≤◌, Bool, true, Option, List}
+use Rattle.std.specs.Option.{option_map}
+use Rattle.edge_io.specs.Causes.{Rose}
+use Rattle.edge_io.specs.Children.{Output}
+use Rattle.edge_io.specs.Seen.{Seen}
+use Rattle.worker_lane.specs.Rest.{Coursing, lots}
+use Rattle.worker_lane.specs.declared.lane.Lane.{Lane}
+use Rattle.worker_lane.specs.declared.lot.Lot.{Lot}
+use Rattle.worker_lane.specs.declared.stage.Stage.TheVariants.{Over}
+
+-- the lots that are left, where the child tells what it has left and how it finishes
+abbrev pub course_rest : Coursing → Option Output → Option (List Lot)
+course_rest course told = option_map (lots course) told
+
+-- The lane's number stays, its child's count of faults never falls, and a mark stays, and comes only where that count
+-- rose.
+pub record Keeps (before after : Coursing) (count now : ℕ) : Type 0 where
+  pub number : after.scribe.lane ≡ before.scribe.lane
+  pub later : count ≤ now
+  pub stays : before.failed ≡ true → after.failed ≡ true
+  pub mark : after.failed ≡ true → (before.failed ≡ true) ⊎ Rose count now
+
+module _ {C : Type 0} where
+  -- the lots that the lane has still to give, where its child tells
+  abbrev pub rest : (seen : C → Seen Output) → Lane C → Option (List Lot)
+  rest seen lane = course_rest lane.course (seen lane.child).told
+
+  abbrev pub lane_number : Lane C → ℕ
+  lane_number lane = lane.course.scribe.lane
+
+  -- a read of the child or the wait for it failed
+  abbrev pub lane_failed : Lane C → Bool
+  lane_failed lane = lane.course.failed
+
+  -- how often a call of its child has failed
+  abbrev pub lane_faults : (seen : C → Seen Output) → Lane C → ℕ
+  lane_faults seen lane = (seen lane.child).faults
+
+  -- it has given its end
+  abbrev pub IsPast : Lane C → Type 0
+  IsPast lane = lane.course.stage ≡ Over
+
+  abbrev pub KeepsLane : (seen : C → Seen Output) → Lane C → Lane C → Type 0
+  KeepsLane seen before after = Keeps before.course after.course (seen before.child).faults (seen after.child).faults

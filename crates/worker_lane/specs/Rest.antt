@@ -1,0 +1,105 @@
+-- What a lane has still to give (docs/FORMATS.md, "What a lane gives").
+use Rattle.std.specs.Prelude.{◌≡◌, ℕ, ◌<◌, ◌≤◌, ⊤, Bool, true, false, Option, IfSome, List, [], ◌∷◌, ◌++◌, length, map, All}
+use Rattle.std.specs.Option.{option_map}
+use Rattle.packet_codec.specs.declared.event.Event.{Event}
+use Rattle.packet_codec.specs.Grammar.{AreBytes}
+use Rattle.packet_codec.specs.Canonical.{canonical, IsEvent, Fits}
+use Rattle.packet_codec.specs.Routing.{under}
+use Rattle.edge_io.specs.Children.{Output}
+use Rattle.stream_reader.specs.Room.{room}
+use Rattle.stream_reader.specs.declared.note.Note.{Note}
+use Rattle.stream_reader.specs.Notes.{HasNotes}
+use Rattle.stream_reader.proofs.ExistLemmas.{some_notes}
+use Rattle.worker_lane.specs.Recorded.{recorded_events}
+use Rattle.worker_lane.specs.Scribing.{Scribing}
+use Rattle.worker_lane.specs.Endings.{ending_of, ending_events}
+use Rattle.worker_lane.specs.declared.stage.Stage.{Stage}
+use Rattle.worker_lane.specs.declared.stage.Stage.TheVariants.{Reading, Closing, Last, Over}
+use Rattle.worker_lane.specs.declared.lot.Ending.{Ending}
+use Rattle.worker_lane.specs.declared.lot.Ending.TheVariants.{Exit, Fault, NoMemory}
+use Rattle.worker_lane.specs.declared.lot.Lot.{Lot}
+use Rattle.worker_lane.specs.declared.lot.Lot.TheVariants.{Packet, End}
+
+-- the notes of a stream, of which there is one list
+pub notes_of_stream : List ℕ → List Note
+notes_of_stream bytes = (some_notes bytes).0
+
+pub notes_are : (bytes : List ℕ) → HasNotes bytes (notes_of_stream bytes)
+unfolding notes_of_stream
+notes_are bytes = (some_notes bytes).1
+
+-- the lots of these events: each as its packet, then the packet that tells of the end, where there is one, and the end
+abbrev pub lots_of : (lane : ℕ) → List Event → Ending → List Lot
+lots_of lane events how = map Packet (map canonical (events ++ ending_events lane how)) ++ End how ∷ []
+
+-- the lots of a whole output under a lane
+abbrev pub lots_for : (lane : ℕ) → Output → List Lot
+lots_for lane output = lots_of lane (recorded_events lane (notes_of_stream output.bytes)) (ending_of output.finish)
+
+-- the events that a scribe has still to give where these bytes are fed to it, and then the stream ends
+abbrev pub events_left : Scribing → (more : List ℕ) → List Event
+events_left scribe more = scribe.waiting ++ recorded_events scribe.lane (notes_of_stream (scribe.held.bytes ++ more))
+
+-- The lots that are left. While the child is read they hang on what it tells, and after that on what the scribe holds.
+abbrev pub lots_left : Scribing → Stage → Output → List Lot
+lots_left scribe Reading output = lots_of scribe.lane (events_left scribe output.bytes) (ending_of output.finish)
+lots_left scribe (Closing how) output = lots_of scribe.lane (events_left scribe []) how
+lots_left scribe (Last how) output = End how ∷ []
+lots_left scribe Over output = []
+
+-- what is kept of a lane beside its child: whether a read of the child or the wait for it failed is the mark
+pub record Coursing : Type 0 where
+  pub scribe : Scribing
+  pub stage : Stage
+  pub failed : Bool
+
+abbrev pub lots : Coursing → Output → List Lot
+lots course = lots_left course.scribe course.stage
+
+-- the course of a new lane
+abbrev pub new_course : (lane : ℕ) → Coursing
+new_course lane = record { scribe = record { lane = lane; waiting = []; held = record { bytes = []; ended = false } }; stage = Reading; failed = false }
+
+-- where it is told: these were given, and the others are left
+abbrev pub Gives : {X : Type 0} → Option (List X) → List X → Option (List X) → Type 0
+Gives before given after = before ≡ option_map (λ l. given ++ l) after
+
+-- where it is told, nothing is left
+abbrev pub IsOver : {X : Type 0} → Option (List X) → Type 0
+IsOver left = IfSome left (λ l. l ≡ [])
+
+-- the event is under the lane, and has a packet
+pub record IsEventOf (lane : ℕ) (event : Event) : Type 0 where
+  pub inner : Event
+  pub event_is : event ≡ under lane inner
+  pub is_event : IsEvent event
+  pub fits : Fits event
+
+-- a scribe of a lane, which holds bytes, not too many, and events that are under the lane
+pub record IsSoundScribe (scribe : Scribing) : Type 0 where
+  pub lane : scribe.lane < 64
+  pub are_bytes : AreBytes scribe.held.bytes
+  pub short : length scribe.held.bytes ≤ room
+  pub waiting : All (IsEventOf scribe.lane) scribe.waiting
+
+-- a fault is marked, and want of memory never comes to this
+abbrev pub IsMarked : Ending → Bool → Type 0
+IsMarked (Exit status) failed = ⊤
+IsMarked Fault failed = failed ≡ true
+IsMarked NoMemory failed = ⊥
+
+-- the lot is the last one
+abbrev pub IsEnd : Lot → Type 0
+IsEnd (Packet packet) = ⊥
+IsEnd (End how) = ⊤
+
+abbrev pub IsMarkedLot : Lot → Bool → Type 0
+IsMarkedLot (Packet packet) failed = ⊤
+IsMarkedLot (End how) failed = IsMarked how failed
+
+-- what stands at each stage: whether the scribe's stream has ended, and whether a fault is marked
+abbrev pub IsAtStage : Stage → (ended failed : Bool) → Type 0
+IsAtStage Reading ended failed = ended ≡ false
+IsAtStage (Closing how) ended failed = (ended ≡ true) × IsMarked how failed
+IsAtStage (Last how) ended failed = IsMarked how failed
+IsAtStage Over ended failed = ⊤

@@ -1,0 +1,181 @@
+//! One worker process, read under its number.
+
+ghost use Rattle.std.specs.Prelude.{◌≡◌, IfOk, length};
+
+use crate::course::Course;
+use crate::lot::{Ending, Lot};
+use crate::process::{stop, wait_for};
+use edge_io::{Child, Failed, PIECE};
+use std::alloc::Global;
+use sub_number::{Bytes, NoMemory};
+
+/// One worker process, read under a number. It gives what is recorded of the process's output, packet by packet, then
+/// the packet that tells of its end, where there is one, and then its end (docs/FORMATS.md, "What a lane gives").
+///
+/// Contracts see its number, its *rest*, that is the list of lots that it has still to give, where its child tells; and a
+/// mark, whether a read of the child or the wait for it failed. `lots_in_turn` says what the clauses come to, one step
+/// after another.
+#[derive(Drop)]
+pub struct Lane<C> {
+    course: Course,
+    child: C,
+    buffer: Vec<u8>,
+    ghost room: { length buffer.items ≡ 65536 },
+}
+
+impl<C: Child> Lane<C> {
+    ghost use Rattle.std.specs.Prelude.{◌⊎◌, ◌≤◌, ◌<◌, ◌↔◌, true, false, None, Some, OnOk, OnErr, IfErr, IfSome, IfNone, map};
+    ghost use Rattle.std.specs.Option.{option_map, option_to_list};
+    ghost use Rattle.worker_lane.specs.Endings.{IsPacketOf, IsLotOf};
+    ghost use Rattle.worker_lane.specs.Rest.{Gives, IsOver, lots_for, IsMarkedLot, IsEnd};
+    ghost use Rattle.stream_reader.specs.Room.{room, most_held};
+    ghost use Rattle.worker_lane.specs.Lanes.{rest, lane_number, lane_failed, lane_faults, IsPast, KeepsLane};
+    ghost use Rattle.worker_lane.specs.declared.lot.Lot.TheVariants.{Packet, End};
+    ghost use Rattle.worker_lane.specs.declared.lot.Ending.TheVariants.{Fault, NoMemory as without_memory};
+    ghost use Rattle.worker_lane.specs.declared.stage.Stage.TheVariants.{Reading, Over};
+
+    /// A lane over this child. The number is below 64. The child is handed back for want of memory alone.
+    pub fn new(alloc: Global, number: u32, child: C) -> Result<Self, C>
+    where
+        C: Drop,
+        requires { number < 64 }
+        ensures number { IfOk result (λ lane. lane_number lane ≡ number) }
+        ensures rest { IfOk result (λ lane. rest C.seen lane ≡ option_map (lots_for number) (C.seen child).told) }
+        ensures fresh { IfOk result (λ lane. IsPast lane → ⊥) }
+        ensures mark { IfOk result (λ lane. lane_failed lane ≡ false) }
+        ensures count { IfOk result (λ lane. lane_faults C.seen lane ≡ (C.seen child).faults) }
+        ensures back { IfErr result (λ same. same ≡ child) }
+    {
+        let Ok(course) = Course::new(alloc, number) else {
+            return Err(child);
+        };
+        let Ok(buffer) = read_buffer(alloc) else {
+            return Err(child);
+        };
+        Ok(Lane {
+            course,
+            child,
+            buffer,
+        })
+    }
+
+    /// How many bytes the lane holds of which no note was taken: 4,325,376 at most.
+    pub fn held(&self) -> usize
+        ensures { result ≤ room }
+    {
+        self.course.held()
+    }
+
+    /// The next lot; it may wait for the child. None after the end.
+    ///
+    /// Where a read of the child fails, or the wait for it, the lane is marked, gives what is recorded of the bytes that
+    /// it has, and ends with `Fault`. For want of memory it stops the child, waits for it, and ends with `NoMemory`.
+    pub fn step(&mut self) -> Option<Lot>
+        ensures keeps { KeepsLane C.seen self.old self.new }
+        ensures gives { (result ≡ Some (End without_memory)) ⊎ Gives (rest C.seen self.old) (option_to_list result) (rest C.seen self.new) }
+        ensures lack { result ≡ Some (End without_memory) → IsOver (rest C.seen self.new) }
+        ensures under { IfSome result (IsLotOf (lane_number self.old)) }
+        ensures fault { result ≡ Some (End Fault) → lane_failed self.new ≡ true }
+        ensures none { (result ≡ None) ↔ IsPast self.old }
+        ensures over { IfNone result (IsOver (rest C.seen self.new)) }
+        ensures past { IfSome result (λ lot. IsEnd lot ↔ IsPast self.new) }
+    {
+        match self.next_lot() {
+            Ok(lot) => lot,
+            Err(NoMemory) => {
+                self.end();
+                Some(Lot::End(Ending::NoMemory))
+            }
+        }
+    }
+
+    /// Stops the child and waits for it.
+    pub fn give_up(mut self)
+    where
+        C: Drop,
+    {
+        stop(&mut self.child);
+    }
+
+    // The next lot, where there is memory.
+    fn next_lot(&mut self) -> Result<Option<Lot>, NoMemory>
+        ensures keeps { KeepsLane C.seen self.old self.new }
+        ensures gives { IfOk result (λ answer. Gives (rest C.seen self.old) (option_to_list answer) (rest C.seen self.new)) }
+        ensures under { IfOk result (λ answer. IfSome answer (IsLotOf (lane_number self.old))) }
+        ensures marked { IfOk result (λ answer. IfSome answer (λ lot. IsMarkedLot lot (lane_failed self.new))) }
+        ensures none { IfOk result (λ answer. (answer ≡ None) ↔ IsPast self.old) }
+        ensures past { IfOk result (λ answer. IfSome answer (λ lot. IsEnd lot ↔ IsPast self.new)) }
+        ensures err { OnErr result (IsPast self.old → ⊥) }
+    {
+        if self.course.is_reading() {
+            if let Some(packet) = self.read_on()? {
+                return Ok(Some(Lot::Packet(packet)));
+            }
+        }
+        self.course.step()
+    }
+
+    // The child is stopped and waited for, and nothing more is given.
+    fn end(&mut self)
+        ensures keeps { KeepsLane C.seen self.old self.new }
+        ensures past { IsPast self.new }
+    {
+        let failed = stop(&mut self.child);
+        self.course.end(failed);
+    }
+
+    // Reads the child up to the next packet. None where its output has ended.
+    fn read_on(&mut self) -> Result<Option<Bytes>, NoMemory>
+        requires { self.old.course.stage ≡ Reading }
+        ensures keeps { KeepsLane C.seen self.old self.new }
+        ensures gives { IfOk result (λ answer. Gives (rest C.seen self.old) (map Packet (option_to_list answer)) (rest C.seen self.new)) }
+        ensures under { IfOk result (λ answer. IfSome answer (IsPacketOf (lane_number self.old))) }
+        ensures some { IfOk result (λ answer. IfSome answer (λ packet. self.new.course.stage ≡ Reading)) }
+        ensures none { IfOk result (λ answer. IfNone answer ((self.new.course.stage ≡ Reading → ⊥) × (self.new.course.stage ≡ Over → ⊥))) }
+    {
+        loop {
+            if let Some(packet) = self.course.next()? {
+                return Ok(Some(packet));
+            }
+            if !self.read_more() {
+                return Ok(None);
+            }
+        }
+    }
+
+    // One more read of the child. False where its output has ended.
+    fn read_more(&mut self) -> bool
+        requires reading { self.old.course.stage ≡ Reading }
+        requires few { length self.old.course.scribe.held.bytes ≤ most_held }
+        ensures keeps { KeepsLane C.seen self.old self.new }
+        ensures same { rest C.seen self.old ≡ rest C.seen self.new }
+        ensures more { result ≡ true → (self.new.course.stage ≡ Reading) × (length self.old.course.scribe.held.bytes < length self.new.course.scribe.held.bytes) }
+        ensures ended { result ≡ false → (self.new.course.stage ≡ Reading → ⊥) × (self.new.course.stage ≡ Over → ⊥) }
+    {
+        match self.child.read(&mut self.buffer) {
+            Ok(0) => {
+                let ending = wait_for(&mut self.child);
+                self.course.close(ending);
+                false
+            }
+            Ok(count) => {
+                self.course.feed(&self.buffer[..count]);
+                true
+            }
+            Err(Failed) => {
+                stop(&mut self.child);
+                self.course.close(Ending::Fault);
+                false
+            }
+        }
+    }
+}
+
+// The room for a read.
+fn read_buffer(alloc: Global) -> Result<Vec<u8>, NoMemory>
+    ensures { IfOk result (λ buffer. length buffer.items ≡ 65536) }
+{
+    let mut buffer = Vec::new(alloc);
+    buffer.resize(PIECE, 0)?;
+    Ok(buffer)
+}
