@@ -84,7 +84,7 @@ read_to_end old now piece [] none so_far bytes read =
     rw all was.2
 read_to_end old now piece (byte ∷ left) none so_far bytes read = absurd (omega arith)
 
-if_ok_then : {A E : Type 0} (P Q : A → Type 0) (r : Result A E) → IfOk r P → ((a : A) → P a → Q a) → IfOk r Q
+pub if_ok_then : {A E : Type 0} (P Q : A → Type 0) (r : Result A E) → IfOk r P → ((a : A) → P a → Q a) → IfOk r Q
 if_ok_then P Q (Ok a) holds each = each a holds
 if_ok_then P Q (Err e) holds each = tt
 

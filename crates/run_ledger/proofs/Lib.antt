@@ -7,3 +7,4 @@ pub mod LedgerLemmas
 pub mod ReplaceLemmas
 pub mod UniqueLemmas
 pub mod ExistLemmas
+mod WrittenLemmas

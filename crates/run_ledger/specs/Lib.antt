@@ -5,3 +5,4 @@ pub mod Costs
 pub mod Ledger
 pub mod Replacing
 pub mod Starts
+pub mod Writing

@@ -4,6 +4,7 @@
 //! stand in docs/FORMATS.md, "Streams", "The fold" and "What the runs say together".
 //!
 //! - `run_reader`, `folding`: the rows of one run, read in pieces
+//! - `written_run`: the rows of one run, told while it is written
 //! - `fault`: why nothing is said of the runs of a store
 //! - `rows`: the rows of one run of a store
 //! - `failing_set`, `taking`: the ids that fail after all runs of a store, told from the last full run on
@@ -19,6 +20,7 @@ mod laws;
 mod rows;
 mod run_reader;
 mod taking;
+mod written_run;
 
 pub use failing_set::failing;
 pub use fault::LedgerFault;
@@ -26,6 +28,7 @@ pub use latest_times::times;
 pub use laws::runs_have_one_list_of_rows;
 pub use rows::rows_of;
 pub use run_reader::RunReader;
+pub use written_run::WrittenRun;
 
 #[cfg(test)]
 mod tests;

@@ -28,7 +28,7 @@ use Rattle.packet_codec.proofs.RoutingLemmas.{length_decimal_one, length_decimal
 use Rattle.packet_codec.proofs.LaneLemmas.{is_event_under}
 use Rattle.stream_reader.specs.Notes.{stdout_event}
 use Rattle.stream_reader.proofs.FrontLemmas.{are_before, are_behind, are_both}
-use Rattle.worker_lane.specs.Recorded.{stdout_under}
+use Rattle.worker_lane.specs.Recorded.{stdout_under, HasPacket}
 
 -- ---- what the parts of a packet are
 
@@ -211,5 +211,5 @@ stdout_fits lane bytes small short = record {
 pub stdout_is_event : (lane : ℕ) (bytes : List ℕ) → lane < 64 → AreBytes bytes → length bytes ≤ 65536 → IsEvent (stdout_under lane bytes)
 stdout_is_event lane bytes small are short = is_event_under lane (stdout_event bytes) small (record { seconds = tt; id = tt; tags = tt; mime = tt; file = (name_is_text, are); route = tt }) (stdout_fits lane bytes small short)
 
-pub event_fits : (event : Event) (lane : ℕ) (bytes : List ℕ) → event ≡ stdout_under lane bytes → lane < 64 → length bytes ≤ 65536 → Fits event
-event_fits event lane bytes is small short = rw is (stdout_fits lane bytes small short)
+pub event_has_packet : (event : Event) (lane : ℕ) (bytes : List ℕ) → event ≡ stdout_under lane bytes → lane < 64 → AreBytes bytes → length bytes ≤ 65536 → HasPacket event
+event_has_packet event lane bytes is small are short = rw is (record { is_event = stdout_is_event lane bytes small are short; fits = stdout_fits lane bytes small short })

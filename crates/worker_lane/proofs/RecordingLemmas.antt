@@ -1,6 +1,6 @@
 -- What a scribe gives, one call after another.
 use Rattle.std.proofs.Common.{◌≡◌, ℕ, ◌<◌, Bool, true, false, List, [], ◌∷◌, ◌++◌, length, refl, inl, inr, sym, ap, ◌∙◌, append_assoc, arith}
-use Rattle.std.specs.Prelude.{Result, Ok, Err, IfOk}
+use Rattle.std.specs.Prelude.{Result, Ok, Err, IfOk, Option, Some, None, IfSome}
 use Rattle.std.specs.List.{flat_map}
 use Rattle.std.proofs.lemmas.List.{length-append, append-nil, flat_map_more}
 use Rattle.std.proofs.lemmas.List.Concat.{flat_map-append}
@@ -14,7 +14,7 @@ use Rattle.stream_reader.specs.Stream.{Held, Gives, GivesNote}
 use Rattle.stream_reader.proofs.FrontLemmas.{are_both}
 use Rattle.stream_reader.proofs.TurnLemmas.{begin_fed, begin_decided, begin_ended, end_whole, gives_none, gives_then}
 use Rattle.worker_lane.specs.Recorded.{recorded_note, recorded_events, IsRecorded}
-use Rattle.worker_lane.specs.Scribing.{Scribing, holding, TakesNote, IsAsBefore, GivesEvent, GivesPacket, HasNone, most_left, Recording, GivesPackets, IsRecordedSoFar}
+use Rattle.worker_lane.specs.Scribing.{Scribing, holding, TakesNote, IsAsBefore, GivesEvent, GivesThis, GivesPacket, HasNone, most_left, Recording, GivesPackets, IsRecordedSoFar}
 use Rattle.worker_lane.specs.Waiting.{PutsFirst}
 use Rattle.worker_lane.proofs.NoteLemmas.{recorded_count}
 
@@ -93,31 +93,36 @@ first_waiting before after event lane held waiting =
     ∙ ap (λ (n : ℕ). record { lane = n; waiting = event ∷ after.waiting; held = before.held }) (sym lane)
     ∙ ap (λ (h : Held). record { lane = after.lane; waiting = event ∷ after.waiting; held = h }) (sym held)
 
--- the packet of the first event waiting was given
-pub first_given : (before after : Scribing) (old new : List ℕ) → after.lane ≡ before.lane → after.held ≡ before.held → PutsFirst before.waiting old after.waiting new → GivesPacket before old after new
-first_given before after old new lane held first = record {
-  event = first.event;
-  given = record { waiting = before; ready = inl refl; first = first_waiting before after first.event lane held first.events_are };
+-- the first event waiting was given
+pub first_given : (before after : Scribing) (old : List ℕ) (event : Event) (new : List ℕ) → after.lane ≡ before.lane → after.held ≡ before.held → PutsFirst event before.waiting old after.waiting new → GivesThis before old event after new
+first_given before after old event new lane held first = record {
+  given = record { waiting = before; ready = inl refl; first = first_waiting before after event lane held first.events_are };
   new_is = first.new_is;
+  has_packet = first.has_packet;
 }
 
-pub first_if_given : {E : Type 0} (result : Result Bool E) (before after : Scribing) (old new : List ℕ) → after.lane ≡ before.lane → after.held ≡ before.held → IfOk result (λ given. given ≡ true → PutsFirst before.waiting old after.waiting new) → IfOk result (λ given. given ≡ true → GivesPacket before old after new)
-first_if_given (Ok given) before after old new lane held first = λ yes. first_given before after old new lane held (first yes)
+pub first_if_given : {E : Type 0} (result : Result (Option Event) E) (before after : Scribing) (old new : List ℕ) → after.lane ≡ before.lane → after.held ≡ before.held → IfOk result (λ answer. IfSome answer (λ event. PutsFirst event before.waiting old after.waiting new)) → IfOk result (λ answer. IfSome answer (λ event. GivesThis before old event after new))
+first_if_given (Ok (Some event)) before after old new lane held first = first_given before after old event new lane held first
+first_if_given (Ok None) before after old new lane held first = tt
 first_if_given (Err fault) before after old new lane held first = tt
 
--- the first packet of the next note was given
-pub note_given : (before after : Scribing) (given : Note) (left : List Event) (old new : List ℕ) → before.waiting ≡ [] → GivesNote before.held given after.held → after.held.ended ≡ before.held.ended → after.lane ≡ before.lane → after.waiting ≡ left → PutsFirst (recorded_note before.lane given) old left new → GivesPacket before old after new
-note_given before after given left old new none step ended lane left-is first =
+-- the first event of the next note was given
+pub note_given : (before after : Scribing) (given : Note) (event : Event) (left : List Event) (old new : List ℕ) → before.waiting ≡ [] → GivesNote before.held given after.held → after.held.ended ≡ before.held.ended → after.lane ≡ before.lane → after.waiting ≡ left → PutsFirst event (recorded_note before.lane given) old left new → GivesThis before old event after new
+note_given before after given event left old new none step ended lane left-is first =
     let taken : Scribing = record { lane = before.lane; waiting = recorded_note before.lane given; held = after.held } in
     record {
-      event = first.event;
       given = record {
         waiting = taken;
         ready = inr (record { none = none; note = given; given = step; ended = ended; lane = refl; waiting = refl });
-        first = first_waiting taken after first.event lane refl (first.events_are ∙ ap (λ (l : List Event). first.event ∷ l) (sym left-is));
+        first = first_waiting taken after event lane refl (first.events_are ∙ ap (λ (l : List Event). event ∷ l) (sym left-is));
       };
       new_is = first.new_is;
+      has_packet = first.has_packet;
     }
+
+-- and it was given as its packet
+pub as_packet : (before after : Scribing) (old : List ℕ) (event : Event) (new : List ℕ) → GivesThis before old event after new → GivesPacket before old after new
+as_packet before after old event new g = record { event = event; given = g.given; new_is = g.new_is }
 
 -- ---- what stays
 
@@ -204,8 +209,9 @@ given_shorter before after event g = shorter g.waiting g.ready g.first
       length-append t.given.front waiting.held.bytes,
     )
 
-pub shorter_if_given : {E : Type 0} (result : Result Bool E) (before after : Scribing) (old new : List ℕ) → IfOk result (λ given. given ≡ true → GivesPacket before old after new) → IfOk result (λ given. given ≡ true → most_left after < most_left before)
-shorter_if_given (Ok given) before after old new gives = λ yes. given_shorter before after (gives yes).event (gives yes).given
+pub shorter_if_given : {E : Type 0} (result : Result (Option Event) E) (before after : Scribing) (old new : List ℕ) → IfOk result (λ answer. IfSome answer (λ event. GivesThis before old event after new)) → IfOk result (λ answer. IfSome answer (λ event. most_left after < most_left before))
+shorter_if_given (Ok (Some event)) before after old new gives = given_shorter before after event gives.given
+shorter_if_given (Ok None) before after old new gives = tt
 shorter_if_given (Err refused) before after old new gives = tt
 
 -- ---- a piece of a stream

@@ -3,7 +3,7 @@ use Rattle.std.proofs.Common.{◌≡◌, ℕ, ◌+◌, ◌-◌, ◌<◌, ◌≤�
 use Rattle.std.proofs.lemmas.Bool.{cases_lt}
 use Rattle.std.proofs.lemmas.List.{length-append, length-map, length-take, length-drop, drop-drop, drop_all, take_all}
 use Rattle.packet_codec.specs.declared.event.Event.{Event}
-use Rattle.std.specs.Prelude.{IsTrue, Result, Ok, Err, IfOk}
+use Rattle.std.specs.Prelude.{IsTrue, Result, Ok, Err, IfOk, Option, Some, None, IfNone}
 use Rattle.std.specs.Int.{w32, to_be_bytes}
 use Rattle.sub_number.specs.Checksum.{crc32}
 use Rattle.packet_codec.specs.Canonical.{canonical, canonical_body, canonical_size}
@@ -12,9 +12,11 @@ use Rattle.stream_reader.specs.declared.note.Note.{Note}
 use Rattle.stream_reader.specs.declared.note.Note.TheVariants as note
 use Rattle.worker_lane.specs.declared.waiting.Spelling.{Spelling}
 use Rattle.worker_lane.specs.declared.waiting.Waiting.{Waiting}
-use Rattle.worker_lane.specs.declared.waiting.Waiting.TheVariants.{Nothing, Packet, Pieces}
-use Rattle.worker_lane.specs.Recorded.{pieces_of, stdout_under, recorded_event, recorded_note}
-use Rattle.worker_lane.specs.Waiting.{waiting_events, IsSound, PutsFirst}
+use Rattle.worker_lane.specs.declared.waiting.Waiting.TheVariants as waits
+use Rattle.worker_lane.specs.declared.waiting.Made.{Made}
+use Rattle.worker_lane.specs.declared.waiting.Made.TheVariants as makes
+use Rattle.worker_lane.specs.Recorded.{pieces_of, stdout_under, recorded_event, recorded_note, HasPacket}
+use Rattle.worker_lane.specs.Waiting.{waiting_events, made_events, pieces_left, HasPiecesLeft, IsSound, IsSoundMade, PutsFirst}
 use Rattle.worker_lane.proofs.PiecesLemmas.{pieces_first}
 use Rattle.worker_lane.proofs.NoteLemmas.{recorded_whole, recorded_in_pieces}
 
@@ -50,23 +52,35 @@ next_pieces bytes given next some is =
     pieces_first (drop given bytes) (omega (arith, length-drop given bytes)) ∙ ap (λ (l : List ℕ). take 65536 (drop given bytes) ∷ pieces_of l) rest
 
 -- a piece was appended
-pub puts_piece : (lane : ℕ) (waiting : Waiting) (spelling after : Spelling) (old new : List ℕ) → waiting ≡ Pieces spelling → IsSound waiting → after ≡ record { bytes = spelling.bytes; given = min (spelling.given + 65536) (length spelling.bytes.items) } → new ≡ old ++ canonical (stdout_under lane (take 65536 (drop spelling.given spelling.bytes.items))) → PutsFirst (waiting_events lane waiting) old (waiting_events lane (Pieces after)) new
-puts_piece lane waiting spelling after old new waiting-is sound after-is grown =
-    let some : spelling.given < length spelling.bytes.items = rw waiting-is at sound in
-    rw (waiting-is, after-is) (record {
-      event = stdout_under lane (take 65536 (drop spelling.given spelling.bytes.items));
-      events_are = ap (map (stdout_under lane)) (next_pieces spelling.bytes.items spelling.given (min (spelling.given + 65536) (length spelling.bytes.items)) some refl);
-      new_is = grown;
-    })
+puts_next : (lane : ℕ) (event : Event) (spelling after : Spelling) (old new : List ℕ) → HasPiecesLeft spelling → after ≡ record { bytes = spelling.bytes; given = min (spelling.given + 65536) (length spelling.bytes.items) } → event ≡ stdout_under lane (take 65536 (drop spelling.given spelling.bytes.items)) → HasPacket event → new ≡ old ++ canonical event → PutsFirst event (pieces_left lane spelling) old (pieces_left lane after) new
+puts_next lane event spelling after old new some after-is event-is packet grown = rw after-is (record {
+  events_are = ap (map (stdout_under lane)) (next_pieces spelling.bytes.items spelling.given (min (spelling.given + 65536) (length spelling.bytes.items)) some refl)
+      ∙ ap (λ (e : Event). e ∷ map (stdout_under lane) (pieces_of (drop (min (spelling.given + 65536) (length spelling.bytes.items)) spelling.bytes.items))) (sym event-is);
+  new_is = grown;
+  has_packet = packet;
+})
 
--- and none is left
-pub puts_last_piece : (lane : ℕ) (events : List Event) (spelling : Spelling) (left : Waiting) (old new : List ℕ) → PutsFirst events old (waiting_events lane (Pieces spelling)) new → length spelling.bytes.items ≤ spelling.given → left ≡ Nothing → PutsFirst events old (waiting_events lane left) new
-puts_last_piece lane events spelling left old new first all left-is =
-    let none : waiting_events lane (Pieces spelling) ≡ [] = ap (λ (l : List ℕ). map (stdout_under lane) (pieces_of l)) (drop_all spelling.given spelling.bytes.items all) in
-    rw left-is (rw none at first)
+pub puts_piece : (lane : ℕ) (event : Event) (waiting : Waiting) (spelling after : Spelling) (old new : List ℕ) → waiting ≡ waits.Pieces spelling → IsSound waiting → after ≡ record { bytes = spelling.bytes; given = min (spelling.given + 65536) (length spelling.bytes.items) } → event ≡ stdout_under lane (take 65536 (drop spelling.given spelling.bytes.items)) → HasPacket event → new ≡ old ++ canonical event → PutsFirst event (waiting_events lane waiting) old (pieces_left lane after) new
+puts_piece lane event w spelling after old new waiting-is sound after-is event-is packet grown =
+    let some : HasPiecesLeft spelling = rw waiting-is at sound in
+    rw waiting-is (puts_next lane event spelling after old new some after-is event-is packet grown)
 
-pub puts_packet : (lane : ℕ) (waiting left : Waiting) (event : Event) (old new : List ℕ) → waiting ≡ Packet event → left ≡ Nothing → new ≡ old ++ canonical event → PutsFirst (waiting_events lane waiting) old (waiting_events lane left) new
-puts_packet lane waiting left event old new waiting-is left-is grown = rw (waiting-is, left-is) (record { event = event; events_are = refl; new_is = grown })
+-- none is left
+pub none_left : (lane : ℕ) (spelling : Spelling) → length spelling.bytes.items ≤ spelling.given → pieces_left lane spelling ≡ []
+none_left lane spelling all = ap (λ (l : List ℕ). map (stdout_under lane) (pieces_of l)) (drop_all spelling.given spelling.bytes.items all)
+
+pub puts_last_piece : (lane : ℕ) (event : Event) (events : List Event) (spelling : Spelling) (left : Waiting) (old new : List ℕ) → PutsFirst event events old (pieces_left lane spelling) new → length spelling.bytes.items ≤ spelling.given → left ≡ waits.Nothing → PutsFirst event events old (waiting_events lane left) new
+puts_last_piece lane event events spelling left old new first all left-is = rw left-is (rw (none_left lane spelling all) at first)
+
+pub puts_made_piece : (lane : ℕ) (event : Event) (made : Made) (spelling after : Spelling) (left : Waiting) (old new : List ℕ) → made ≡ makes.Pieces spelling → IsSoundMade made → after ≡ record { bytes = spelling.bytes; given = min (spelling.given + 65536) (length spelling.bytes.items) } → event ≡ stdout_under lane (take 65536 (drop spelling.given spelling.bytes.items)) → HasPacket event → new ≡ old ++ canonical event → waiting_events lane left ≡ pieces_left lane after → PutsFirst event (made_events lane made) old (waiting_events lane left) new
+puts_made_piece lane event m spelling after left old new made-is sound after-is event-is packet grown left-is =
+    let some : HasPiecesLeft spelling = rw made-is at sound in
+    rw (made-is, left-is) (puts_next lane event spelling after old new some after-is event-is packet grown)
+
+pub puts_whole : (lane : ℕ) (made : Made) (event : Event) (old new : List ℕ) → made ≡ makes.Whole event → IsSoundMade made → new ≡ old ++ canonical event → PutsFirst event (made_events lane made) old [] new
+puts_whole lane m event old new made-is sound grown =
+    let packet : HasPacket event = rw made-is at sound in
+    rw made-is (record { events_are = refl; new_is = grown; has_packet = packet })
 
 -- ---- something is waiting, unless it is nothing
 
@@ -82,15 +96,14 @@ some_recorded lane e = elim (cases_lt 4194303 (canonical_size (under lane e))) [
   | inr small ↦ omega (arith, ap length (recorded_whole lane e small))
 ]
 
-pub waiting_some : (lane : ℕ) (waiting : Waiting) → IsSound waiting → (waiting ≡ Nothing → ⊥) → 0 < length (waiting_events lane waiting)
-waiting_some lane Nothing sound other = absurd (other refl)
-waiting_some lane (Packet event) sound other = omega arith
-waiting_some lane (Pieces spelling) sound other = some_pieces lane (drop spelling.given spelling.bytes.items) (omega (arith, sound, length-drop spelling.given spelling.bytes.items))
+pub waiting_some : (lane : ℕ) (waiting : Waiting) → IsSound waiting → (waiting ≡ waits.Nothing → ⊥) → 0 < length (waiting_events lane waiting)
+waiting_some lane waits.Nothing sound other = absurd (other refl)
+waiting_some lane (waits.Pieces spelling) sound other = some_pieces lane (drop spelling.given spelling.bytes.items) (omega (arith, sound, length-drop spelling.given spelling.bytes.items))
 
-pub not_nothing : (lane : ℕ) (waiting : Waiting) (test : Bool) → IsSound waiting → IsTrue test ↔ (waiting ≡ Nothing) → test ≡ false → waiting_events lane waiting ≡ [] → ⊥
+pub not_nothing : (lane : ℕ) (waiting : Waiting) (test : Bool) → IsSound waiting → IsTrue test ↔ (waiting ≡ waits.Nothing) → test ≡ false → waiting_events lane waiting ≡ [] → ⊥
 not_nothing lane waiting test sound (to, from) is_false empty =
     let never : IsTrue test → ⊥ = search (rules, is_false) in
-    let other : waiting ≡ Nothing → ⊥ = λ is. never (from is) in
+    let other : waiting ≡ waits.Nothing → ⊥ = λ is. never (from is) in
     omega (arith, waiting_some lane waiting sound other, ap length empty)
 
 -- of each note an event is recorded
@@ -99,16 +112,13 @@ note_is_some lane (note.Event e) none = omega (arith, some_recorded lane e, ap l
 note_is_some lane (note.Foreign bytes) none = omega (arith, ap length none)
 
 -- where nothing is waiting, none is
-pub nothing_waiting : (lane : ℕ) (waiting : Waiting) (test : Bool) → IsTrue test ↔ (waiting ≡ Nothing) → test ≡ true → waiting_events lane waiting ≡ []
+pub nothing_waiting : (lane : ℕ) (waiting : Waiting) (test : Bool) → IsTrue test ↔ (waiting ≡ waits.Nothing) → test ≡ true → waiting_events lane waiting ≡ []
 nothing_waiting lane waiting test (to, from) is_true =
-    let is : waiting ≡ Nothing = to (search (rules, is_true)) in
+    let is : waiting ≡ waits.Nothing = to (search (rules, is_true)) in
     ap (waiting_events lane) is
 
--- where some event is waiting, its packet is given
-pub surely : {P : Type 0} (given : Bool) (events : List Event) → (events ≡ [] → ⊥) → (given ≡ true → P) → (given ≡ false → events ≡ []) → P
-surely true events some first otherwise = first refl
-surely false events some first otherwise = absurd (some (otherwise refl))
-
-pub never_false : {E : Type 0} (P : Bool → Type 0) (Q : Type 0) (result : Result Bool E) (events : List Event) → (events ≡ [] → ⊥) → ((given : Bool) → P given → given ≡ false → events ≡ []) → IfOk result P → IfOk result (λ given. given ≡ false → Q)
-never_false P Q (Ok given) events some otherwise told = λ is. absurd (some (otherwise given told is))
-never_false P Q (Err fault) events some otherwise told = tt
+-- where some event is waiting, it is given
+pub never_none : {E : Type 0} (Q : Type 0) (result : Result (Option Event) E) (P : Type 0) → (P → ⊥) → IfOk result (λ answer. IfNone answer P) → IfOk result (λ answer. IfNone answer Q)
+never_none Q (Ok None) P some otherwise = absurd (some otherwise)
+never_none Q (Ok (Some event)) P some otherwise = tt
+never_none Q (Err fault) P some otherwise = tt

@@ -2,7 +2,7 @@
 use Rattle.std.specs.Prelude.{◌≡◌, ℕ, ◌+◌, ◌*◌, ◌-◌, ◌/◌, List, [], ◌∷◌, length, take, drop, map, nat_le, if◌then◌else◌}
 use Rattle.std.specs.List.{flat_map, range_with_len}
 use Rattle.packet_codec.specs.declared.event.Event.{Event}
-use Rattle.packet_codec.specs.Canonical.{canonical, canonical_size, largest_packet}
+use Rattle.packet_codec.specs.Canonical.{canonical, canonical_size, largest_packet, IsEvent, Fits}
 use Rattle.packet_codec.specs.Routing.{under}
 use Rattle.stream_reader.specs.declared.note.Note.{Note}
 use Rattle.stream_reader.specs.declared.note.Note.TheVariants as note
@@ -37,6 +37,11 @@ recorded_events lane notes = flat_map (recorded_note lane) notes
 -- and their packets
 abbrev pub recorded : (lane : ℕ) → List Note → List ℕ
 recorded lane notes = flat_map canonical (recorded_events lane notes)
+
+-- the event can be written as a packet
+pub record HasPacket (event : Event) : Type 0 where
+  pub is_event : IsEvent event
+  pub fits : Fits event
 
 -- the events that are recorded of a whole stream
 pub record HasRecorded (lane : ℕ) (bytes : List ℕ) (events : List Event) : Type 0 where

@@ -8,7 +8,7 @@ use Rattle.packet_codec.specs.Grammar.{AreBytes}
 use Rattle.stream_reader.specs.declared.note.Note.{Note}
 use Rattle.stream_reader.specs.Notes.{HasDecided}
 use Rattle.stream_reader.specs.Stream.{Held, Gives, GivesNote, IsSpent}
-use Rattle.worker_lane.specs.Recorded.{recorded_note, recorded_events, recorded}
+use Rattle.worker_lane.specs.Recorded.{recorded_note, recorded_events, recorded, HasPacket}
 
 -- The events that are to be given before the next note is taken, and the bytes fed of which no note was taken.
 pub record Scribing : Type 0 where
@@ -38,6 +38,12 @@ pub record GivesEvent (before : Scribing) (event : Event) (after : Scribing) : T
   pub waiting : Scribing
   pub ready : IsAsBefore before waiting
   pub first : waiting ≡ record { lane = after.lane; waiting = event ∷ after.waiting; held = after.held }
+
+-- it is this one, which can be written as a packet, and its packet was appended to what was written before
+pub record GivesThis (before : Scribing) (old : List ℕ) (event : Event) (after : Scribing) (new : List ℕ) : Type 0 where
+  pub given : GivesEvent before event after
+  pub new_is : new ≡ old ++ canonical event
+  pub has_packet : HasPacket event
 
 -- it was given as its packet, behind what was written before
 pub record GivesPacket (before : Scribing) (old : List ℕ) (after : Scribing) (new : List ℕ) : Type 0 where

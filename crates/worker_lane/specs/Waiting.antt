@@ -4,28 +4,45 @@ use Rattle.packet_codec.specs.declared.event.Event.{Event}
 use Rattle.packet_codec.specs.Canonical.{Fits, canonical}
 use Rattle.stream_reader.specs.declared.note.Note.{Note}
 use Rattle.stream_reader.specs.declared.note.Note.TheVariants as note
+use Rattle.worker_lane.specs.declared.waiting.Spelling.{Spelling}
 use Rattle.worker_lane.specs.declared.waiting.Waiting.{Waiting}
-use Rattle.worker_lane.specs.declared.waiting.Waiting.TheVariants.{Nothing, Packet, Pieces}
-use Rattle.worker_lane.specs.Recorded.{longest_piece, pieces_of, stdout_under}
+use Rattle.worker_lane.specs.declared.waiting.Waiting.TheVariants as waiting
+use Rattle.worker_lane.specs.declared.waiting.Made.{Made}
+use Rattle.worker_lane.specs.declared.waiting.Made.TheVariants as made
+use Rattle.worker_lane.specs.Recorded.{pieces_of, stdout_under, longest_piece, HasPacket}
+
+-- the pieces of the spelling that were not given yet
+abbrev pub pieces_left : (lane : ℕ) → Spelling → List Event
+pieces_left lane spelling = map (stdout_under lane) (pieces_of (drop spelling.given spelling.bytes.items))
 
 abbrev pub waiting_events : (lane : ℕ) → Waiting → List Event
-waiting_events lane Nothing = []
-waiting_events lane (Packet event) = event ∷ []
-waiting_events lane (Pieces spelling) = map (stdout_under lane) (pieces_of (drop spelling.given spelling.bytes.items))
+waiting_events lane waiting.Nothing = []
+waiting_events lane (waiting.Pieces spelling) = pieces_left lane spelling
+
+abbrev pub made_events : (lane : ℕ) → Made → List Event
+made_events lane (made.Whole event) = event ∷ []
+made_events lane (made.Pieces spelling) = pieces_left lane spelling
 
 -- the note can be encoded, or held in one packet
 abbrev pub IsShortNote : Note → Type 0
 IsShortNote (note.Event event) = Fits event
 IsShortNote (note.Foreign bytes) = length bytes ≤ longest_piece
 
--- each event can be encoded, and there is one, unless nothing is waiting
-abbrev pub IsSound : Waiting → Type 0
-IsSound Nothing = ⊤
-IsSound (Packet event) = Fits event
-IsSound (Pieces spelling) = spelling.given < length spelling.bytes.items
+abbrev pub HasPiecesLeft : Spelling → Type 0
+HasPiecesLeft spelling = spelling.given < length spelling.bytes.items
 
--- the first event was appended as its packet, and the others are waiting
-pub record PutsFirst (events : List Event) (old : List ℕ) (left : List Event) (new : List ℕ) : Type 0 where
-  pub event : Event
+-- there is an event, unless nothing is waiting
+abbrev pub IsSound : Waiting → Type 0
+IsSound waiting.Nothing = ⊤
+IsSound (waiting.Pieces spelling) = HasPiecesLeft spelling
+
+-- each event can be encoded, and there is one
+abbrev pub IsSoundMade : Made → Type 0
+IsSoundMade (made.Whole event) = HasPacket event
+IsSoundMade (made.Pieces spelling) = HasPiecesLeft spelling
+
+-- this event is the first; it was appended as its packet, and the others are waiting
+pub record PutsFirst (event : Event) (events : List Event) (old : List ℕ) (left : List Event) (new : List ℕ) : Type 0 where
   pub events_are : events ≡ event ∷ left
   pub new_is : new ≡ old ++ canonical event
+  pub has_packet : HasPacket event

@@ -6,12 +6,12 @@ ghost use Rattle.packet_codec.specs.Canonical.{canonical};
 ghost use Rattle.stream_reader.specs.Room.{room};
 ghost use Rattle.worker_lane.specs.Endings.{ending_events, IsPacketOf};
 ghost use Rattle.worker_lane.specs.declared.lot.Ending.TheVariants.{Exit, NoMemory as without_memory};
-ghost use Rattle.worker_lane.specs.Scribing.{holding, GivesPacket, HasNone, most_left, Recording};
+ghost use Rattle.worker_lane.specs.Scribing.{holding, GivesThis, GivesPacket, HasNone, most_left, Recording};
 
 use crate::ending::{ending_text, returncode_event};
 use crate::lot::Ending;
 use crate::waiting::{Waiting, is_nothing, put_first, put_note, wait_for};
-use packet_codec::encode;
+use packet_codec::{Event, encode};
 use std::alloc::Global;
 use std::marker::Model;
 use stream_reader::Reader;
@@ -97,6 +97,19 @@ impl Scribe {
         ensures none { IfOk result (λ given. given ≡ false → HasNone self.old × (self.new ≡ self.old) × (out.new.items ≡ out.old.items)) }
         ensures err { OnErr result ((self.new ≡ self.old) × (out.new.items ≡ out.old.items)) }
     {
+        Ok(self.next_event_into(out)?.is_some())
+    }
+
+    /// Appends the next recorded packet, and hands out its event, as it is recorded: under the lane, or a piece of the
+    /// file `stdout`. So whoever writes the packet need not read it again. None comes where `next_into` answers false.
+    ///
+    /// `NoMemory` comes only for want of memory, and leaves the scribe and `out` as before.
+    pub fn next_event_into(&mut self, out: &mut Vec<u8>) -> Result<Option<Event>, NoMemory>
+        ensures some { IfOk result (λ answer. IfSome answer (λ event. GivesThis self.old out.old.items event self.new out.new.items)) }
+        ensures shorter { IfOk result (λ answer. IfSome answer (λ event. most_left self.new < most_left self.old)) }
+        ensures none { IfOk result (λ answer. IfNone answer (HasNone self.old × (self.new ≡ self.old) × (out.new.items ≡ out.old.items))) }
+        ensures err { OnErr result ((self.new ≡ self.old) × (out.new.items ≡ out.old.items)) }
+    {
         self.put_next(out)
     }
 
@@ -138,9 +151,9 @@ impl Scribe {
 }
 
 impl Scribe {
-    fn put_next(&mut self, out: &mut Vec<u8>) -> Result<bool, NoMemory>
-        ensures given { IfOk result (λ given. given ≡ true → GivesPacket self.old out.old.items self.new out.new.items) }
-        ensures none { IfOk result (λ given. given ≡ false → HasNone self.old × (self.new ≡ self.old) × (out.new.items ≡ out.old.items)) }
+    fn put_next(&mut self, out: &mut Vec<u8>) -> Result<Option<Event>, NoMemory>
+        ensures some { IfOk result (λ answer. IfSome answer (λ event. GivesThis self.old out.old.items event self.new out.new.items)) }
+        ensures none { IfOk result (λ answer. IfNone answer (HasNone self.old × (self.new ≡ self.old) × (out.new.items ≡ out.old.items))) }
         ensures err { OnErr result ((self.new ≡ self.old) × (out.new.items ≡ out.old.items)) }
     {
         if is_nothing(&self.waiting) {
@@ -151,19 +164,19 @@ impl Scribe {
     }
 
     // The first packet of the next note. The note is taken only once the packet is written.
-    fn put_first_of_note(&mut self, out: &mut Vec<u8>) -> Result<bool, NoMemory>
+    fn put_first_of_note(&mut self, out: &mut Vec<u8>) -> Result<Option<Event>, NoMemory>
         requires { self.old.waiting ≡ [] }
-        ensures given { IfOk result (λ given. given ≡ true → GivesPacket self.old out.old.items self.new out.new.items) }
-        ensures none { IfOk result (λ given. given ≡ false → HasNone self.old × (self.new ≡ self.old) × (out.new.items ≡ out.old.items)) }
+        ensures some { IfOk result (λ answer. IfSome answer (λ event. GivesThis self.old out.old.items event self.new out.new.items)) }
+        ensures none { IfOk result (λ answer. IfNone answer (HasNone self.old × (self.new ≡ self.old) × (out.new.items ≡ out.old.items))) }
         ensures err { OnErr result ((self.new ≡ self.old) × (out.new.items ≡ out.old.items)) }
     {
         let first = self.reader.first();
         let Some(note) = self.reader.note(first)? else {
-            return Ok(false);
+            return Ok(None);
         };
-        let left = put_note(self.alloc, self.lane, note, out)?;
+        let (event, left) = put_note(self.alloc, self.lane, note, out)?;
         self.reader.pass(first);
         wait_for(&mut self.waiting, left);
-        Ok(true)
+        Ok(Some(event))
     }
 }

@@ -1,9 +1,10 @@
 //! What is still to be given of a note.
 
-ghost use Rattle.std.specs.Prelude.{◌≡◌, ◌↔◌, IsTrue, ◌<◌, ◌≤◌, ◌+◌, [], ◌++◌, ◌∷◌, true, false, length, take, drop, min, IfOk, IfErr, OnOk, OnErr};
+ghost use Rattle.std.specs.Prelude.{◌≡◌, ◌↔◌, IsTrue, ◌<◌, ◌≤◌, ◌+◌, [], ◌++◌, length, take, drop, min, ℕ, IfOk, IfErr, IfSome, IfNone, OnOk, OnErr};
 ghost use Rattle.packet_codec.specs.Canonical.{Fits, canonical};
-ghost use Rattle.worker_lane.specs.Recorded.{longest_piece, stdout_under, recorded_event, recorded_note};
-ghost use Rattle.worker_lane.specs.Waiting.{waiting_events, IsShortNote, IsSound, PutsFirst};
+ghost use Rattle.packet_codec.specs.Grammar.{AreBytes};
+ghost use Rattle.worker_lane.specs.Recorded.{longest_piece, stdout_under, recorded_event, recorded_note, HasPacket};
+ghost use Rattle.worker_lane.specs.Waiting.{waiting_events, made_events, pieces_left, IsShortNote, IsSound, IsSoundMade, PutsFirst};
 ghost use Rattle.worker_lane.specs.declared.waiting.Waiting.TheVariants.{Nothing};
 
 use packet_codec::{Event, encode, reroute, routed_size};
@@ -28,9 +29,16 @@ pub(crate) struct Spelling {
 #[derive(Drop)]
 pub(crate) enum Waiting {
     Nothing,
-    /// An event as it is recorded, under the lane.
-    Packet(Event),
     /// The further pieces.
+    Pieces(Spelling),
+}
+
+/// What is recorded of a note.
+#[derive(Drop)]
+enum Made {
+    /// One event, under the lane.
+    Whole(Event),
+    /// The pieces of an event that does not fit.
     Pieces(Spelling),
 }
 
@@ -48,103 +56,145 @@ pub(crate) fn wait_for(waiting: &mut Waiting, next: Waiting)
     *waiting = next;
 }
 
-/// Appends the packet of the next event. Answers false where nothing is waiting.
+/// Appends the packet of the next event, and hands the event out. None where nothing is waiting.
 pub(crate) fn put_first(
     alloc: Global,
     lane: u32,
     waiting: &mut Waiting,
     out: &mut Vec<u8>,
-) -> Result<bool, NoMemory>
+) -> Result<Option<Event>, NoMemory>
     requires lane { lane < 64 }
     requires sound { IsSound waiting.old }
     ensures sound { IsSound waiting.new }
-    ensures given { IfOk result (λ given. given ≡ true → PutsFirst (waiting_events lane waiting.old) out.old.items (waiting_events lane waiting.new) out.new.items) }
-    ensures none { IfOk result (λ given. given ≡ false → (waiting_events lane waiting.old ≡ []) × (waiting.new ≡ waiting.old) × (out.new.items ≡ out.old.items)) }
+    ensures given { IfOk result (λ answer. IfSome answer (λ event. PutsFirst event (waiting_events lane waiting.old) out.old.items (waiting_events lane waiting.new) out.new.items)) }
+    ensures none { IfOk result (λ answer. IfNone answer ((waiting_events lane waiting.old ≡ []) × (waiting.new ≡ waiting.old) × (out.new.items ≡ out.old.items))) }
     ensures err { OnErr result ((waiting_events lane waiting.new ≡ waiting_events lane waiting.old) × (out.new.items ≡ out.old.items)) }
 {
-    match waiting {
-        Waiting::Packet(event) => encode(event, out)?,
-        Waiting::Pieces(spelling) => {
-            put_piece(alloc, lane, spelling, out)?;
-            if spelling.given < spelling.bytes.len() {
-                return Ok(true);
-            }
-        }
-        Waiting::Nothing => return Ok(false),
+    let Waiting::Pieces(spelling) = waiting else {
+        return Ok(None);
+    };
+    let event = put_piece(alloc, lane, spelling, out)?;
+    if spelling.given < spelling.bytes.len() {
+        return Ok(Some(event));
     }
     wait_for(waiting, Waiting::Nothing);
-    Ok(true)
+    Ok(Some(event))
 }
 
-/// Appends the packet of the first event that is recorded of the note, and gives what is still to be given of it.
+/// Appends the packet of the first event that is recorded of the note, and gives that event and what is still to be given
+/// of the note.
 pub(crate) fn put_note(
     alloc: Global,
     lane: u32,
     note: Note,
     out: &mut Vec<u8>,
-) -> Result<Waiting, NoMemory>
+) -> Result<(Event, Waiting), NoMemory>
     requires lane { lane < 64 }
     requires short { IsShortNote note }
-    ensures sound { IfOk result IsSound }
-    ensures given { IfOk result (λ left. PutsFirst (recorded_note lane note) out.old.items (waiting_events lane left) out.new.items) }
+    ensures sound { IfOk result (λ given. IsSound given.1) }
+    ensures given { IfOk result (λ given. PutsFirst given.0 (recorded_note lane note) out.old.items (waiting_events lane given.1) out.new.items) }
     ensures err { IfErr result (λ fault. out.new.items ≡ out.old.items) }
 {
-    let mut left = events_of(alloc, lane, note)?;
-    put_first(alloc, lane, &mut left, out)?;
-    Ok(left)
+    let made = events_of(alloc, lane, note)?;
+    put_made(alloc, lane, made, out)
+}
+
+// Appends the packet of the first of the events, and gives that event and the others.
+fn put_made(
+    alloc: Global,
+    lane: u32,
+    made: Made,
+    out: &mut Vec<u8>,
+) -> Result<(Event, Waiting), NoMemory>
+    requires lane { lane < 64 }
+    requires sound { IsSoundMade made }
+    ensures sound { IfOk result (λ given. IsSound given.1) }
+    ensures given { IfOk result (λ given. PutsFirst given.0 (made_events lane made) out.old.items (waiting_events lane given.1) out.new.items) }
+    ensures err { IfErr result (λ fault. out.new.items ≡ out.old.items) }
+{
+    match made {
+        Made::Whole(event) => {
+            encode(&event, out)?;
+            Ok((event, Waiting::Nothing))
+        }
+        Made::Pieces(mut spelling) => {
+            let event = put_piece(alloc, lane, &mut spelling, out)?;
+            Ok((event, left_of(spelling)))
+        }
+    }
+}
+
+// The pieces that are still to be given, if any are.
+fn left_of(spelling: Spelling) -> Waiting
+    ensures sound { IsSound result }
+    ensures events { (lane : ℕ) → waiting_events lane result ≡ pieces_left lane spelling }
+{
+    if spelling.given < spelling.bytes.len() {
+        Waiting::Pieces(spelling)
+    } else {
+        Waiting::Nothing
+    }
 }
 
 // The events that are recorded of the note.
-fn events_of(alloc: Global, lane: u32, note: Note) -> Result<Waiting, NoMemory>
+fn events_of(alloc: Global, lane: u32, note: Note) -> Result<Made, NoMemory>
     requires lane { lane < 64 }
     requires short { IsShortNote note }
-    ensures events { IfOk result (λ left. waiting_events lane left ≡ recorded_note lane note) }
-    ensures sound { IfOk result IsSound }
+    ensures events { IfOk result (λ made. made_events lane made ≡ recorded_note lane note) }
+    ensures sound { IfOk result IsSoundMade }
 {
     match note {
         Note::Event(event) => event_under(alloc, lane, event),
-        Note::Foreign(bytes) => Ok(Waiting::Packet(piece_event(alloc, lane, bytes)?)),
+        Note::Foreign(bytes) => Ok(Made::Whole(piece_event(alloc, lane, bytes)?)),
     }
 }
 
 // The event under the lane, where it fits; else its own spelling.
-fn event_under(alloc: Global, lane: u32, mut event: Event) -> Result<Waiting, NoMemory>
+fn event_under(alloc: Global, lane: u32, mut event: Event) -> Result<Made, NoMemory>
     requires lane { lane < 64 }
     requires fits { Fits event }
-    ensures events { IfOk result (λ left. waiting_events lane left ≡ recorded_event lane event) }
-    ensures sound { IfOk result IsSound }
+    ensures events { IfOk result (λ made. made_events lane made ≡ recorded_event lane event) }
+    ensures sound { IfOk result IsSoundMade }
 {
     if routed_size(&event, lane) <= LARGEST_PACKET {
         reroute(alloc, &mut event, lane)?;
-        return Ok(Waiting::Packet(event));
+        return Ok(Made::Whole(event));
     }
     let mut bytes = Vec::new(alloc);
     encode(&event, &mut bytes)?;
-    Ok(Waiting::Pieces(Spelling { bytes, given: 0 }))
+    Ok(Made::Pieces(Spelling { bytes, given: 0 }))
 }
+
+// What holds of the bytes of each slice: the type tells it.
+fn are_bytes(bytes: &[u8])
+    ensures { AreBytes bytes.now }
+{}
 
 // The event of a piece of the file `stdout`, under the lane.
 fn piece_event(alloc: Global, lane: u32, bytes: Bytes) -> Result<Event, NoMemory>
     requires { lane < 64 }
     ensures ok { IfOk result (λ event. event ≡ stdout_under lane bytes) }
-    ensures fits { IfOk result (λ event. length bytes ≤ longest_piece → Fits event) }
+    ensures has_packet { IfOk result (λ event. length bytes ≤ longest_piece → HasPacket event) }
 {
+    are_bytes(bytes.bytes());
     let mut event = stdout_event(alloc, bytes)?;
     reroute(alloc, &mut event, lane)?;
     Ok(event)
 }
 
-// Appends the packet of the next piece.
+// Appends the packet of the next piece, and hands its event out.
 fn put_piece(
     alloc: Global,
     lane: u32,
     spelling: &mut Spelling,
     out: &mut Vec<u8>,
-) -> Result<(), NoMemory>
+) -> Result<Event, NoMemory>
     requires lane { lane < 64 }
     requires some { spelling.old.given < length spelling.old.bytes.items }
     ensures ok { OnOk result (spelling.new ≡ record { bytes = spelling.old.bytes; given = min (spelling.old.given + longest_piece) (length spelling.old.bytes.items) }) }
-    ensures packet { OnOk result (out.new.items ≡ out.old.items ++ canonical (stdout_under lane (take longest_piece (drop spelling.old.given spelling.old.bytes.items)))) }
+    ensures event { IfOk result (λ event. event ≡ stdout_under lane (take longest_piece (drop spelling.old.given spelling.old.bytes.items))) }
+    ensures has_packet { IfOk result HasPacket }
+    ensures packet { IfOk result (λ event. out.new.items ≡ out.old.items ++ canonical event) }
     ensures err { OnErr result ((spelling.new ≡ spelling.old) × (out.new.items ≡ out.old.items)) }
 {
     let size = (spelling.bytes.len() - spelling.given).min(LONGEST_PIECE);
@@ -153,5 +203,5 @@ fn put_piece(
     let event = piece_event(alloc, lane, piece)?;
     encode(&event, out)?;
     spelling.given = end;
-    Ok(())
+    Ok(event)
 }
