@@ -11,16 +11,20 @@ abbrev pub if_any : List (List ℕ) → Option (List (List ℕ))
 if_any tags = if length tags == 0 then None else Some tags
 
 -- the event's tags and the added ones, in the order of their bytes, each once, without the removed ones
-abbrev pub tags_of_tagged : Tagger → Option (List (List ℕ)) → List (List ℕ)
-tags_of_tagged tagger tags = without (in_byte_order (unwrap_or tags [] ++ tagger.add)) tagger.remove
+abbrev pub tags_with : (add remove : List (List ℕ)) → Option (List (List ℕ)) → List (List ℕ)
+tags_with add remove tags = without (in_byte_order (unwrap_or tags [] ++ add)) remove
 
 -- the event with these tags
 abbrev pub with_tags : Event → Option (List (List ℕ)) → Event
 with_tags e tags = record e { tags = tags }
 
-abbrev pub retagged : Tagger → Event → Event
-retagged tagger e = with_tags e (if_any (tags_of_tagged tagger e.tags))
-
 -- an event that would no longer fit into a packet stays as it is
+abbrev pub where_fits : Event → Event → Event
+where_fits changed e = if nat_le (canonical_size changed) largest_packet then changed else e
+
+-- the event with the added tags and without the removed ones
+abbrev pub tagged_with : (add remove : List (List ℕ)) → Event → Event
+tagged_with add remove e = where_fits (with_tags e (if_any (tags_with add remove e.tags))) e
+
 abbrev pub tagged : Tagger → Event → Event
-tagged tagger e = if nat_le (canonical_size (retagged tagger e)) largest_packet then retagged tagger e else e
+tagged tagger e = tagged_with tagger.add tagger.remove e

@@ -3,7 +3,7 @@
 ghost use Rattle.std.specs.Prelude.{◌≡◌, ◌++◌, [], IfOk, OnOk, OnErr};
 ghost use Rattle.std.specs.Option.{unwrap_or};
 ghost use Rattle.outcome_fold.specs.Order.{in_byte_order};
-ghost use Rattle.event_sift.specs.Tagging.{if_any, tags_of_tagged, tagged};
+ghost use Rattle.event_sift.specs.Tagging.{if_any, tags_with, tagged};
 
 use outcome_fold::TextSet;
 use packet_codec::{Event, Tags, fits};
@@ -39,7 +39,7 @@ impl Tagger {
 
     // The tags that an event gets which has these.
     fn tags(&self, own: &Option<Tags>) -> Result<Option<Tags>, NoMemory>
-        ensures { IfOk result (λ tags. tags ≡ if_any (tags_of_tagged self.now own.now)) }
+        ensures { IfOk result (λ tags. tags ≡ if_any (tags_with self.now.add self.now.remove own.now)) }
     {
         let mut texts = self.gathered(own)?;
         texts.remove_all(self.remove.list());

@@ -11,3 +11,5 @@ pub mod PlanLaws
 pub mod Events
 pub mod Ls
 pub mod Stats
+pub mod Filtering
+pub mod Tagging

@@ -1,0 +1,29 @@
+-- The events of a stream that are let through (docs/COMMANDS.md, "subunit-filter").
+use Rattle.std.specs.Prelude.{ℕ, Bool, List}
+use Rattle.std.specs.List.{flat_map}
+use Rattle.packet_codec.specs.declared.event.Event.{Event}
+use Rattle.packet_codec.specs.Canonical.{canonical}
+use Rattle.stream_reader.specs.declared.note.Note.{Note}
+use Rattle.stream_reader.specs.declared.note.Note.TheVariants as note
+use Rattle.event_sift.specs.declared.rules.Rules.{Rules}
+use Rattle.event_sift.specs.Keeping.{keeps}
+use Rattle.event_sift.specs.Released.{released, released_at_end}
+use Rattle.filter_cli.specs.Plan.{Plan}
+use Rattle.filter_cli.specs.Events.{events_in, passed_on}
+
+-- the shortest packets of the events, one after another
+abbrev pub packets_of : List Event → List ℕ
+packets_of events = flat_map canonical events
+
+-- foreign bytes, or the packets of the events that are released at the event
+abbrev pub let_through : Rules → Bool → List Event → Note → List ℕ
+let_through rules hidden seen (note.Foreign bytes) = passed_on hidden bytes
+let_through rules hidden seen (note.Event event) = packets_of (released (keeps rules) seen event)
+
+-- at the end the packets of the open tests that are kept, by route and id
+abbrev pub filter_plan : Rules → (hidden : Bool) → Plan
+filter_plan rules hidden = record {
+  gives = λ before note. let_through rules hidden (events_in before) note;
+  at_end = λ notes. packets_of (released_at_end (keeps rules) (events_in notes));
+  status = λ notes. 0;
+}
