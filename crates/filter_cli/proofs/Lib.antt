@@ -3,3 +3,4 @@ pub mod PumpLemmas
 pub mod NotedLemmas
 pub mod EventLemmas
 pub mod NotedPrefix
+pub mod FitLemmas

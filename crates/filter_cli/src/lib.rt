@@ -3,7 +3,7 @@
 //! - `filter`: what a filter is, to the one loop that serves them all
 //! - `pass`: that loop
 //! - `through`: the loop over a filter of notes
-//! - `ls`, `stats`: the filters
+//! - `ls`, `stats`, `sifting`, `tagging`: the filters
 //! - `notes`, `taking`, `of_notes`: filters that go by the notes of a stream
 #![tactic(auto)]
 
@@ -12,7 +12,9 @@ mod ls;
 mod notes;
 mod of_notes;
 mod pass;
+mod sifting;
 mod stats;
+mod tagging;
 mod taking;
 mod through;
 
@@ -21,7 +23,9 @@ pub use ls::{Listing, Ls};
 pub use notes::NoteFilter;
 pub use of_notes::OfNotes;
 pub use pass::{PumpFault, pump};
+pub use sifting::{Sifting, filter_stream};
 pub use stats::Stats;
+pub use tagging::{Tagging, tag_stream};
 pub use through::pass_notes;
 
 #[cfg(test)]

@@ -1,6 +1,8 @@
 // Filters of notes.
 ghost use Rattle.std.specs.Prelude.{◌≡◌, [], ◌∷◌, ◌++◌, List, IfOk, OnOk};
+ghost use Rattle.packet_codec.specs.Canonical.{Fits};
 ghost use Rattle.stream_reader.specs.declared.note.Note.{Note as ANote};
+ghost use Rattle.stream_reader.specs.Notes.{event_of};
 ghost use Rattle.filter_cli.specs.Plan.{Plan};
 
 use stream_reader::Note;
@@ -17,9 +19,10 @@ pub trait NoteFilter {
     /// What it was made over may be called.
     ghost ready: { Self → Type 0 } = { λ _. Unit {0} };
 
-    /// Takes the next note, and appends what it gives.
+    /// Takes the next note, and appends what it gives. Its event has a packet, as that of each note of a stream has.
     fn take(&mut self, note: Note, text: &mut Vec<u8>) -> Result<(), NoMemory>
-        requires { ready self.old }
+        requires ready { ready self.old }
+        requires packet { Fits (event_of note) }
         ensures ready { OnOk result (ready self.new) }
         ensures ok { (notes : List ANote) → has self.old notes → OnOk result (has self.new (notes ++ note ∷ [])) }
         ensures text { (notes : List ANote) → has self.old notes → OnOk result (text.new.items ≡ text.old.items ++ (plan self.old).gives notes note) }

@@ -1,5 +1,6 @@
 use Rattle.std.proofs.Common.{◌∙◌, refl}
 use Rattle.filter_cli.proofs.NotedLemmas.{takes_none, takes_more}
+use Rattle.filter_cli.proofs.FitLemmas.{given_fits}
 use Rattle.filter_cli.proofs.taking.take_notes.Goals as goal
 
 pub loop-note-init : goal.loop-note-init
@@ -15,3 +16,6 @@ loop-note-preserved g c =
       ended = c.next.ensures.ended ∙ inv.ended;
       plan = c.in_ok-take.ensures.plan ∙ inv.plan;
     }
+
+pub take-requires-clause-packet : goal.take-requires-clause-packet
+take-requires-clause-packet g c = given_fits _ _ c.in-Some.note (rw (c.in-Some.is) at c.in_ok-note.ensures.some)
