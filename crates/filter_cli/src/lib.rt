@@ -30,3 +30,5 @@ pub use through::pass_notes;
 
 #[cfg(test)]
 mod tests;
+#[cfg(test)]
+mod tests_events;
