@@ -80,8 +80,8 @@ impl<'a, P: Fn(&Row) -> Result<bool, NoMemory> + Drop> NoteFilter for Sifting<'a
             hidden: _hidden,
             sift,
         } = self;
-        let events = sift.close()?;
-        put_packets(&events, text)?;
+        let last = sift.close()?;
+        put_packets(&last, text)?;
         Ok(0)
     }
 

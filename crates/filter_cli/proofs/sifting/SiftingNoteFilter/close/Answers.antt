@@ -8,4 +8,4 @@ use Rattle.filter_cli.proofs.sifting.SiftingNoteFilter.close.Goals as goal
 pub put_packets-requires : goal.put_packets-requires
 put_packets-requires g c =
     let (seen, has, all) = c.requires.2 in
-    subst (All Fits) (sym (c.deref.ensures.value ∙ c.in_ok-events.ensures seen has)) (released_at_end_all Fits (keeps (rules_of c.args.self.sift)) seen all)
+    subst (All Fits) (sym (c.deref.ensures.value ∙ c.in_ok-last.ensures seen has)) (released_at_end_all Fits (keeps (rules_of c.args.self.sift)) seen all)
