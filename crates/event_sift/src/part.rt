@@ -55,14 +55,4 @@ impl Part {
     {
         self.events
     }
-
-    /// Moves the events to the end of the others.
-    ///
-    /// `NoMemory` comes only for want of memory.
-    pub fn move_to(mut self, events: &mut Vec<Event>) -> Result<(), NoMemory>
-        ensures { OnOk result (events.new.items ≡ events.old.items ++ self) }
-    {
-        events.append(&mut self.events)?;
-        Ok(())
-    }
 }
