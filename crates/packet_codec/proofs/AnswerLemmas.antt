@@ -1,5 +1,5 @@
 -- What the front of some bytes looks like is one thing, and whether more bytes are needed can be told.
-use Rattle.std.proofs.Common.{◌≡◌, ◌⊎◌, ℕ, ◌+◌, ◌/◌, ◌%◌, ◌≤◌, ◌<◌, List, [], ◌∷◌, ◌++◌, length, get_or, drop, refl, inl, inr, sym, ap, ◌∙◌, append_assoc, arith}
+use Rattle.std.proofs.Common.{◌≡◌, ℕ, ◌+◌, ◌/◌, ◌%◌, ◌≤◌, ◌<◌, List, [], ◌∷◌, ◌++◌, length, get_or, drop, refl, inl, inr, sym, ap, ◌∙◌, append_assoc, arith}
 use Rattle.std.proofs.lemmas.Bool.{cases_eq}
 use Rattle.std.proofs.lemmas.List.{length-append, append-nil}
 use Rattle.std.proofs.lemmas.List.Elements.{All-append}
@@ -13,7 +13,7 @@ use Rattle.packet_codec.specs.declared.front.Front.TheVariants.{Packet, More, No
 use Rattle.packet_codec.proofs.GrammarLemmas.{fits_from_are, found_same}
 use Rattle.packet_codec.proofs.HeaderLemmas.{header_free}
 use Rattle.packet_codec.proofs.LookLemmas.{header_shape, front_says, front_of_none, front_of_one, front_of_two, front_of_three, front_of_size}
-use Rattle.packet_codec.proofs.DecidedLemmas.{Decided, decided_as, decided_both, decided_less, decided_most, Parted, decided_parts}
+use Rattle.packet_codec.proofs.DecidedLemmas.{Decided, decided_as, decided_both, decided_less, decided_most, decided_parts}
 use Rattle.packet_codec.proofs.SpelledLemmas.{decided_number, number_of, number_is}
 
 -- ---- headers

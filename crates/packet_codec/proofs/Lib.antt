@@ -2,9 +2,11 @@ pub mod DecidedLemmas
 pub mod FlagLemmas
 pub mod GrammarLemmas
 pub mod HeaderLemmas
+pub mod FilterLemmas
 pub mod LaneLemmas
 pub mod LeastLemmas
 pub mod LookLemmas
+pub mod MergeLemmas
 pub mod PacketLemmas
 pub mod PartsLemmas
 pub mod RoutingLemmas

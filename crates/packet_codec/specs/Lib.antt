@@ -9,3 +9,4 @@ pub mod Shapes
 pub mod Told
 pub mod Sight
 pub mod Heading
+pub mod Lanes

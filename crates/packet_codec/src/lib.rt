@@ -10,6 +10,7 @@
 //! - `sizes`, `encoding`: the shortest spelling and its size
 //! - `routing`: an event under a lane's route
 //! - `laws`, `canonical_law`: what holds of all spellings
+//! - `lane_laws`: what holds of all events under lanes
 #![tactic(auto)]
 
 mod canonical_law;
@@ -18,6 +19,7 @@ mod encoding;
 mod event;
 mod front;
 mod header;
+mod lane_laws;
 mod laws;
 mod looking;
 mod packet;
@@ -34,6 +36,7 @@ pub use encoding::encode;
 pub use event::{Event, FilePart};
 pub use front::Front;
 pub use header::{Header, SIGNATURE};
+pub use lane_laws::lanes_are_apart;
 pub use laws::{fronts_are_one, packets_are_one_event};
 pub use looking::{Heading, Sight, head_of, look, look_by, see, see_by};
 pub use packet::Packet;

@@ -1,7 +1,4 @@
-use Rattle.std.proofs.Common.{◌≡◌, ◌-◌, length, drop, take, refl, rules}
-use Rattle.std.specs.Prelude.{IsTrue, ◌↔◌}
-use Rattle.std.specs.Int.{w32, to_be_bytes}
-use Rattle.sub_number.specs.Checksum.{crc32}
+use Rattle.std.proofs.Common.{◌-◌, length, drop, take, refl}
 use Rattle.packet_codec.proofs.PacketLemmas.{other_texts, by_checksum}
 use Rattle.packet_codec.proofs.packet.is_packet_by.Goals as goal
 

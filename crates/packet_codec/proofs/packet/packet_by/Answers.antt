@@ -1,4 +1,4 @@
-use Rattle.std.proofs.Common.{◌≡◌, arith, ◌∙◌}
+use Rattle.std.proofs.Common.{arith}
 use Rattle.packet_codec.specs.Packet.{IsPacket}
 use Rattle.packet_codec.proofs.PacketLemmas.{no_parts, other_sum, told_by}
 use Rattle.packet_codec.proofs.packet.packet_by.Goals as goal
