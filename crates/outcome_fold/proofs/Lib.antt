@@ -13,3 +13,5 @@ pub mod OpenLemmas
 pub mod TextLemmas
 pub mod TotalLemmas
 pub mod LawLemmas
+pub mod RouteLemmas
+pub mod MergedLemmas

@@ -6,3 +6,4 @@ pub mod Started
 pub mod Folded
 pub mod Grouped
 pub mod Outcome
+pub mod Routes

@@ -4,10 +4,12 @@ ghost use Rattle.std.specs.Prelude.{◌≡◌, ◌+◌, Bool, List, Contains, co
 ghost use Rattle.std.specs.Cmp.{IsTotalOrder};
 ghost use Rattle.std.specs.FinMap.{IsAntisymmetric};
 ghost use Rattle.packet_codec.specs.declared.event.Event.{Event as AnEvent};
+ghost use Rattle.packet_codec.specs.Lanes.{IsMerge, joined};
 ghost use Rattle.outcome_fold.specs.declared.row.Row.{Row as ARow};
 ghost use Rattle.outcome_fold.specs.declared.test_key.TestKey.{TestKey as ATest};
 ghost use Rattle.outcome_fold.specs.Order.{text_cmp, route_cmp, test_cmp};
 ghost use Rattle.outcome_fold.specs.Parts.{completes, events_of_test};
+ghost use Rattle.outcome_fold.specs.Routes.{AgreeByRoute, SaySame};
 ghost use Rattle.outcome_fold.specs.Rows.{completed_rows, open_rows, rows_of, is_open, is_row_of};
 
 /// Each order by which tables are kept is total, and only equal ones tie in it. So a table has each key once, and finds
@@ -31,4 +33,13 @@ pub fn rows_of_events()
     ensures left_open { (es : List AnEvent) (row : ARow) → Contains (open_rows es) row → Contains (rows_of es) row }
     // And no other row is there, nor one twice: of each kind there are as many as of the parts.
     ensures as_many { (es : List AnEvent) (kind : ARow → Bool) → count_by kind (rows_of es) ≡ count_by kind (completed_rows es) + count_by kind (open_rows es) }
+{}
+
+/// The rows depend on the events of each route alone. So the events of several lanes have the same rows however they are
+/// merged, and these are the rows of the lanes one after another.
+pub fn rows_are_by_route()
+    ensures by_route { (events others : List AnEvent) → AgreeByRoute events others → SaySame events others }
+    // Merges of the same lists agree.
+    ensures agree { (events others : List AnEvent) (lists : List (List AnEvent)) → IsMerge events lists → IsMerge others lists → AgreeByRoute events others }
+    ensures merged { (events : List AnEvent) (lists : List (List AnEvent)) → length lists ≤ 64 → IsMerge events lists → SaySame events (joined lists) }
 {}

@@ -20,7 +20,7 @@ mod text_set;
 pub use ended::{Ended, ended_by};
 pub use fold::Fold;
 pub use kept_text::KeptText;
-pub use laws::{orders_of_maps, rows_of_events};
+pub use laws::{orders_of_maps, rows_are_by_route, rows_of_events};
 pub use outcomes::Outcomes;
 pub use part::{elapsed, instant_of, text_in};
 pub use row::{Counts, Row};
