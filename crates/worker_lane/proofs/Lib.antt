@@ -8,3 +8,4 @@ pub mod RestLemmas
 pub mod CourseLemmas
 pub mod LaneLemmas
 pub mod TurnLemmas
+pub mod RecordedLaneLemmas

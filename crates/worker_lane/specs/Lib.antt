@@ -5,3 +5,4 @@ pub mod Waiting
 pub mod Rest
 pub mod Courses
 pub mod Lanes
+pub mod RecordedLanes

@@ -7,6 +7,7 @@
 //! - `waiting`: what is still to be given of a note
 //! - `whole`: all packets of a stream
 //! - `laws`: what holds of all that is recorded
+//! - `lane_laws`: what holds of several streams that are recorded, each under its lane
 //! - `lane`: one worker process, read under its number
 //! - `course`, `stage`, `process`: what is kept of a lane beside its child, how far it has come, and the child's end
 //! - `lot`, `ending`: what a lane gives, and the packet that tells of its end
@@ -15,6 +16,7 @@
 mod course;
 mod ending;
 mod lane;
+mod lane_laws;
 mod laws;
 mod lot;
 mod process;
@@ -24,6 +26,7 @@ mod waiting;
 mod whole;
 
 pub use lane::Lane;
+pub use lane_laws::recorded_lanes;
 pub use laws::{lots_in_turn, recorded_streams, recording_in_turn};
 pub use lot::{Ending, Lot};
 pub use scribe::Scribe;

@@ -1,4 +1,4 @@
-use Rattle.worker_lane.proofs.WaitingLemmas.{puts_whole, puts_made_piece}
+use Rattle.worker_lane.proofs.WaitingLemmas.{puts_made_piece}
 use Rattle.worker_lane.proofs.waiting.put_made.Goals as goal
 
 pub returns-in_ok-event-in-Pieces-clause-given : goal.returns-in_ok-event-in-Pieces-clause-given
