@@ -1,6 +1,6 @@
 //! Laws of rows and of the orders that they rest on.
 
-ghost use Rattle.std.specs.Prelude.{◌≡◌, ◌+◌, Bool, List, Contains, count_by, if◌then◌else◌};
+ghost use Rattle.std.specs.Prelude.{◌≡◌, ◌+◌, ◌≤◌, Bool, List, Contains, length, count_by, if◌then◌else◌};
 ghost use Rattle.std.specs.Cmp.{IsTotalOrder};
 ghost use Rattle.std.specs.FinMap.{IsAntisymmetric};
 ghost use Rattle.packet_codec.specs.declared.event.Event.{Event as AnEvent};
