@@ -8,3 +8,4 @@ pub mod ReplaceLemmas
 pub mod UniqueLemmas
 pub mod ExistLemmas
 mod WrittenLemmas
+pub mod BehindLemmas

@@ -7,7 +7,6 @@ use Rattle.packet_codec.specs.declared.event.Event.{Event}
 use Rattle.packet_codec.specs.Canonical.{IsEvent, Fits, canonical}
 use Rattle.stream_reader.specs.Notes.{HasEvents}
 use Rattle.stream_reader.proofs.NotesLemmas.{packets_of, notes_of_packets, events_of_packets, cut_of_written}
-use Rattle.outcome_fold.specs.declared.outcomes.Outcomes.{Outcomes}
 use Rattle.outcome_fold.specs.declared.row.Row.{Row}
 use Rattle.outcome_fold.specs.Outcome.{HasFolded}
 use Rattle.outcome_fold.specs.Rows.{rows_of}

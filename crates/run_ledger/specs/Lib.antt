@@ -6,3 +6,4 @@ pub mod Ledger
 pub mod Replacing
 pub mod Starts
 pub mod Writing
+pub mod Behind

@@ -10,11 +10,13 @@
 //! - `failing_set`, `taking`: the ids that fail after all runs of a store, told from the last full run on
 //! - `latest_times`: the times of the ids after all runs of a store
 //! - `laws`: each run has one list of rows
+//! - `lane_laws`: a run of several lanes has the rows of the lanes one after another
 #![tactic(auto)]
 
 mod failing_set;
 mod fault;
 mod folding;
+mod lane_laws;
 mod latest_times;
 mod laws;
 mod rows;
@@ -24,6 +26,7 @@ mod written_run;
 
 pub use failing_set::failing;
 pub use fault::LedgerFault;
+pub use lane_laws::lanes_are_read_in_turn;
 pub use latest_times::times;
 pub use laws::runs_have_one_list_of_rows;
 pub use rows::rows_of;

@@ -5,6 +5,7 @@
 #![tactic(auto)]
 
 mod failing;
+mod laws;
 mod listing;
 mod report;
 mod seconds;
@@ -13,6 +14,7 @@ mod stats;
 mod summary;
 
 pub use failing::failing_text;
+pub use laws::texts_are_of_lanes_in_turn;
 pub use listing::ls_line;
 pub use report::report_text;
 pub use seconds::seconds_text;

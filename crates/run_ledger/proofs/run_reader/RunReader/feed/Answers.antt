@@ -1,5 +1,5 @@
 use Rattle.stream_reader.proofs.TurnLemmas.{split_parts}
-use Rattle.run_ledger.proofs.FoldLemmas.{read_to_none, read_to_more, read_to_end}
+use Rattle.run_ledger.proofs.FoldLemmas.{read_to_none, read_to_more}
 use Rattle.run_ledger.proofs.run_reader.RunReader.feed.Goals as goal
 
 pub loop-left-init : goal.loop-left-init
