@@ -4,3 +4,4 @@ pub mod NotedLemmas
 pub mod EventLemmas
 pub mod NotedPrefix
 pub mod FitLemmas
+pub mod EventTextLemmas

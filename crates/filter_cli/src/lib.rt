@@ -5,8 +5,10 @@
 //! - `through`: the loop over a filter of notes
 //! - `ls`, `stats`, `sifting`, `tagging`: the filters
 //! - `notes`, `taking`, `of_notes`: filters that go by the notes of a stream
+//! - `event_laws`: what those that write events write of a whole stream
 #![tactic(auto)]
 
+mod event_laws;
 mod filter;
 mod ls;
 mod notes;
@@ -18,6 +20,7 @@ mod tagging;
 mod taking;
 mod through;
 
+pub use event_laws::packets_of_streams;
 pub use filter::Filter;
 pub use ls::{Listing, Ls};
 pub use notes::NoteFilter;
