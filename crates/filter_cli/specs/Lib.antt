@@ -13,3 +13,17 @@ pub mod Ls
 pub mod Stats
 pub mod Filtering
 pub mod Tagging
+-- The words.
+pub mod Tools
+pub mod Selecting
+pub mod Retagging
+pub mod Patterns
+pub mod Words
+-- The top call.
+pub mod Steps
+pub mod Outside
+pub mod Streams
+pub mod Telling
+pub mod Refusals
+pub mod Program
+pub mod Promises

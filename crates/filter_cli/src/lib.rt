@@ -1,5 +1,8 @@
 //! Filters: a stream in, a text out, in one pass.
 //!
+//! - `top`: the top call, from words to an answer
+//! - `tool`, `selection`, `patterns`, `retagging`, `asked`: which filter the words ask for
+//! - `refusal`, `telling`: why a filter was not done, and the lines that tell of it
 //! - `filter`: what a filter is, to the one loop that serves them all
 //! - `pass`: that loop
 //! - `through`: the loop over a filter of notes
@@ -9,27 +12,42 @@
 #![tactic(auto)]
 
 mod event_laws;
+mod asked;
 mod filter;
 mod ls;
 mod notes;
 mod of_notes;
 mod pass;
 mod sifting;
+mod patterns;
+mod refusal;
+mod retagging;
+mod selection;
 mod stats;
 mod tagging;
 mod taking;
+mod telling;
 mod through;
+mod tool;
+mod top;
 
 pub use event_laws::packets_of_streams;
+pub use asked::{Asked, read_asked};
 pub use filter::Filter;
 pub use ls::{Listing, Ls};
 pub use notes::NoteFilter;
 pub use of_notes::OfNotes;
 pub use pass::{PumpFault, pump};
 pub use sifting::{Sifting, filter_stream};
+pub use patterns::{Patterns, PatternsFault};
+pub use refusal::{Refusal, UsageFault};
+pub use retagging::Retagging;
+pub use selection::Selection;
 pub use stats::Stats;
 pub use tagging::{Tagging, tag_stream};
 pub use through::pass_notes;
+pub use tool::{Tool, tool_of};
+pub use top::filters;
 
 #[cfg(test)]
 mod tests;

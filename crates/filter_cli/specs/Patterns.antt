@@ -1,0 +1,45 @@
+-- Patterns that a filter is given, and what is told of a bad one (docs/COMMANDS.md, "Refusals").
+use Rattle.std.specs.Prelude.{◌≡◌, ℕ, ⊤, All, List, [], ◌∷◌, ◌++◌, codes, slice_index_or, Result, Ok, Err}
+use Rattle.event_sift.specs.declared.rules.Rules.{Rules}
+use Rattle.partition_times.specs.Patterns.{IsPattern, IsFirstBad}
+use Rattle.filter_cli.specs.declared.selection.Selection.{Selection}
+use Rattle.filter_cli.specs.declared.patterns.PatternsFault.{PatternsFault}
+use Rattle.filter_cli.specs.declared.patterns.PatternsFault.TheVariants.{Bad, NoMemory}
+
+-- the rules of a selection
+abbrev pub rules_of : Selection → Rules
+rules_of selection = record {
+  success = selection.success;
+  failure = selection.failure;
+  skip = selection.skip;
+  xfail = selection.xfail;
+  with_tags = selection.with_tags;
+  without_tags = selection.without_tags;
+  with_ids = selection.with_ids;
+  without_ids = selection.without_ids;
+}
+
+-- the first bad one of the patterns, as they came
+pub record IsFirstBadText (patterns : List (List ℕ)) (text : List ℕ) : Type 0 where
+  pub index : ℕ
+  pub first : IsFirstBad patterns index
+  pub there : text ≡ slice_index_or patterns index []
+
+abbrev pub AreRefused : List (List ℕ) → PatternsFault → Type 0
+AreRefused patterns (Bad text) = IsFirstBadText patterns text
+AreRefused patterns NoMemory = ⊤
+
+-- the patterns are good, or the first bad one is named, or memory is wanting
+abbrev pub Compiles : {A : Type 0} → List (List ℕ) → Result A PatternsFault → Type 0
+Compiles patterns (Ok value) = All IsPattern patterns
+Compiles patterns (Err fault) = AreRefused patterns fault
+
+-- ---- the status, and the line behind the filter's name
+
+abbrev pub patterns_code : PatternsFault → ℕ
+patterns_code (Bad text) = 3
+patterns_code NoMemory = 5
+
+abbrev pub patterns_text : PatternsFault → List ℕ
+patterns_text (Bad text) = codes ": bad pattern: " ++ (text ++ 10 ∷ [])
+patterns_text NoMemory = codes ": out of memory\n"

@@ -1,0 +1,50 @@
+-- What a filter does, step by step: its words, its patterns, its input.
+use Rattle.std.specs.Prelude.{◌≡◌, ◌⊎◌, ℕ, Option, Some, None, List, Result, Ok, Err}
+use Rattle.std.specs.Io.KnownBytes.{Appends}
+use Rattle.edge_io.specs.Bytes.{AppendsPrefix}
+use Rattle.edge_io.specs.Causes.{Rose}
+use Rattle.edge_io.specs.Seen.{Seen}
+use Rattle.filter_cli.specs.Steps.{Step, Then, Still, Gives}
+use Rattle.filter_cli.specs.Pipe.{Pipe}
+use Rattle.filter_cli.specs.Pumping.{Pumps}
+use Rattle.filter_cli.specs.Patterns.{Compiles}
+use Rattle.filter_cli.specs.Words.{Reads}
+use Rattle.filter_cli.specs.Streams.{writing_of, sees_by, ends_by, patterns_of}
+use Rattle.filter_cli.specs.Refusals.{usage_fault, name_in, refusal_line, code_of}
+use Rattle.filter_cli.specs.Outside.{Outside, pipe_of}
+use Rattle.filter_cli.specs.declared.asked.Asked.{Asked}
+use Rattle.filter_cli.specs.declared.refusal.UsageFault.{UsageFault}
+use Rattle.filter_cli.specs.declared.refusal.Refusal.{Refusal}
+use Rattle.filter_cli.specs.declared.refusal.Refusal.TheVariants.{Usage, Memory, Patterns, Pump}
+
+-- words that are no filter are refused, and touch nothing
+pub record Refuses (fault : UsageFault) (before after : Pipe) (outcome : Result ℕ Refusal) : Type 0 where
+  pub usage : outcome ≡ Err (Usage fault)
+  pub same : after ≡ before
+
+-- the input is filtered
+abbrev pub Passes : Asked → Step Pipe ℕ Refusal
+Passes asked = Then Pump (Pumps (sees_by (writing_of asked)) (ends_by (writing_of asked))) (λ status. Gives status)
+
+-- first the patterns are checked
+abbrev pub Performs : UsageFault → Option Asked → Step Pipe ℕ Refusal
+Performs fault None = Refuses fault
+Performs fault (Some asked) = Then Patterns (Still (Compiles {A = Unit {0}} (patterns_of asked))) (λ _. Passes asked)
+
+abbrev pub Filters : List (List ℕ) → Step Pipe ℕ Refusal
+Filters words = Then Memory (Still (Reads words)) (λ asked. Performs (usage_fault words) asked)
+
+-- the line of a refusal went to the errors' sink: whole, or in part where that sink failed
+abbrev pub TellsLine : (name : List ℕ) → Result ℕ Refusal → Seen (List ℕ) → Seen (List ℕ) → Type 0
+TellsLine name (Ok status) before after = after ≡ before
+TellsLine name (Err refusal) before after = AppendsPrefix before.told after.told (refusal_line name refusal) × (Appends before.told after.told (refusal_line name refusal) ⊎ Rose before.faults after.faults)
+
+pub record Tells (name : List ℕ) (outcome : Result ℕ Refusal) (before after : Seen (List ℕ)) (answer : ℕ) : Type 0 where
+  pub line : TellsLine name outcome before after
+  pub code : answer ≡ code_of outcome
+
+-- one outcome, which the steps made, and its line and its status
+pub record Answers (words : List (List ℕ)) (before after : Outside) (answer : ℕ) : Type 0 where
+  pub outcome : Result ℕ Refusal
+  pub done : Filters words (pipe_of before) (pipe_of after) outcome
+  pub told : Tells (name_in words) outcome before.errors after.errors answer

@@ -1,0 +1,56 @@
+-- The refusals, each of one step, with its status and its line (docs/COMMANDS.md, "Refusals").
+use Rattle.std.specs.Prelude.{ℕ, Option, None, Some, List, [], ◌∷◌, ◌++◌, codes, Result, Ok, Err}
+use Rattle.filter_cli.specs.declared.refusal.UsageFault.{UsageFault}
+use Rattle.filter_cli.specs.declared.refusal.UsageFault.TheVariants.{Tool, Words}
+use Rattle.filter_cli.specs.declared.refusal.Refusal.{Refusal}
+use Rattle.filter_cli.specs.declared.refusal.Refusal.TheVariants.{Usage, Memory, Patterns, Pump}
+use Rattle.filter_cli.specs.declared.pass.PumpFault.{PumpFault}
+use Rattle.filter_cli.specs.declared.pass.PumpFault.TheVariants as pump_fault
+use Rattle.filter_cli.specs.declared.tool.Tool.{Tool as ATool}
+use Rattle.filter_cli.specs.Tools.{tool_of}
+use Rattle.filter_cli.specs.Patterns.{patterns_code, patterns_text}
+
+-- why words are no filter: the first one names none, or those behind it are wrong
+abbrev pub usage_with : Option ATool → UsageFault
+usage_with None = Tool
+usage_with (Some t) = Words
+
+abbrev pub usage_fault : List (List ℕ) → UsageFault
+usage_fault words = usage_with (tool_of words)
+
+-- a line begins with the filter's name, which is the first word; where that names no filter, the line has none
+abbrev pub name_in : List (List ℕ) → List ℕ
+name_in [] = []
+name_in (name ∷ words) = name
+
+abbrev pub usage_line : (name : List ℕ) → UsageFault → List ℕ
+usage_line name Tool = codes "usage: testr COMMAND or a subunit filter\n"
+usage_line name Words = name ++ codes ": wrong usage\n"
+
+abbrev pub pump_code : PumpFault → ℕ
+pump_code pump_fault.Input = 4
+pump_code pump_fault.TooLong = 3
+pump_code pump_fault.Output = 4
+pump_code pump_fault.NoMemory = 5
+
+abbrev pub pump_text : PumpFault → List ℕ
+pump_text pump_fault.Input = codes ": fault reading standard input\n"
+pump_text pump_fault.TooLong = codes ": standard input is too long\n"
+pump_text pump_fault.Output = codes ": fault writing output\n"
+pump_text pump_fault.NoMemory = codes ": out of memory\n"
+
+abbrev pub refusal_code : Refusal → ℕ
+refusal_code (Usage fault) = 2
+refusal_code (Memory fault) = 5
+refusal_code (Patterns fault) = patterns_code fault
+refusal_code (Pump fault) = pump_code fault
+
+abbrev pub refusal_line : (name : List ℕ) → Refusal → List ℕ
+refusal_line name (Usage fault) = usage_line name fault
+refusal_line name (Memory fault) = name ++ codes ": out of memory\n"
+refusal_line name (Patterns fault) = name ++ patterns_text fault
+refusal_line name (Pump fault) = name ++ pump_text fault
+
+abbrev pub code_of : Result ℕ Refusal → ℕ
+code_of (Ok status) = status
+code_of (Err refusal) = refusal_code refusal

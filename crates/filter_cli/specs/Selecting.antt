@@ -1,0 +1,78 @@
+-- What the options of `subunit-filter` ask for (docs/COMMANDS.md, "subunit-filter").
+use Rattle.std.specs.Prelude.{ℕ, Bool, true, false, ◌||◌, Option, Some, None, List, [], ◌∷◌, codes, if◌then◌else◌}
+use Rattle.std.specs.List.{flat_map}
+use Rattle.std.specs.Option.{unwrap_or, option_to_list}
+use Rattle.std.specs.Str.{bytes_eq}
+use Rattle.command_words.specs.Items.{Item, flag, valued, name}
+use Rattle.filter_cli.specs.declared.selection.Selection.{Selection}
+use Rattle.filter_cli.specs.declared.selection.Switch.{Switch}
+use Rattle.filter_cli.specs.declared.selection.Switch.TheVariants as switch
+use Rattle.filter_cli.specs.declared.selection.Added.{Added}
+use Rattle.filter_cli.specs.declared.selection.Added.TheVariants as added
+
+-- ---- switches
+
+-- a flag that turns a switch on or off, or neither
+abbrev pub set_by : (on off : Bool) → Option Bool
+set_by on off = if on then Some true else (if off then Some false else None)
+
+-- a flag for genuine failures alone stands for several that turn off
+abbrev pub is_off : (given off : List ℕ) → Bool
+is_off given off = bytes_eq given off || bytes_eq given (codes "--only-genuine-failures")
+
+-- how a flag sets a switch
+abbrev pub says : Switch → List ℕ → Option Bool
+says switch.Success given = set_by (bytes_eq given (codes "--success")) (is_off given (codes "--no-success"))
+says switch.Failure given = set_by (bytes_eq given (codes "--failure")) (bytes_eq given (codes "--no-failure"))
+says switch.Skip given = set_by false (is_off given (codes "--no-skip"))
+says switch.XFail given = set_by (bytes_eq given (codes "--xfail")) (is_off given (codes "--no-xfail"))
+says switch.Hidden given = set_by (is_off given (codes "--no-passthrough")) false
+
+abbrev pub said : Switch → Item → Option Bool
+said s (flag given) = says s given
+said s (valued option value) = None
+said s (name word) = None
+
+-- A switch stands as the last item says that speaks of it. Where none does, it stands as at first.
+abbrev pub stands : Switch → (first : Bool) → List Item → Bool
+stands s first [] = first
+stands s first (item ∷ items) = stands s (unwrap_or (said s item) first) items
+
+-- ---- values
+
+-- which options add to this; the patterns are those of both kinds
+abbrev pub adds_to : Added → List ℕ → Bool
+adds_to added.WithTag option = bytes_eq option (codes "--with-tag")
+adds_to added.WithoutTag option = bytes_eq option (codes "--without-tag")
+adds_to added.WithId option = bytes_eq option (codes "--with-id")
+adds_to added.WithoutId option = bytes_eq option (codes "--without-id")
+adds_to added.Pattern option = bytes_eq option (codes "--with-id") || bytes_eq option (codes "--without-id")
+
+abbrev pub value_in : Added → Item → Option (List ℕ)
+value_in a (flag given) = None
+value_in a (valued option value) = if adds_to a option then Some value else None
+value_in a (name word) = None
+
+-- the values, in the order of the words
+abbrev pub values_in : Added → List Item → List (List ℕ)
+values_in a items = flat_map (λ item. option_to_list (value_in a item)) items
+
+abbrev pub patterns_in : List Item → List (List ℕ)
+patterns_in items = values_in added.Pattern items
+
+-- ---- all of it
+
+-- at first all but tests that passed are kept, and foreign bytes are passed on
+abbrev pub selection_of : List Item → Selection
+selection_of items = record {
+  success = stands switch.Success false items;
+  failure = stands switch.Failure true items;
+  skip = stands switch.Skip true items;
+  xfail = stands switch.XFail true items;
+  hidden = stands switch.Hidden false items;
+  with_tags = values_in added.WithTag items;
+  without_tags = values_in added.WithoutTag items;
+  with_ids = values_in added.WithId items;
+  without_ids = values_in added.WithoutId items;
+  patterns = patterns_in items;
+}

@@ -1,0 +1,61 @@
+-- What the words write of a stream.
+use Rattle.std.specs.Prelude.{◌≡◌, ℕ, All, Option, Some, List, []}
+use Rattle.partition_times.specs.Patterns.{IsPattern}
+use Rattle.filter_cli.specs.declared.asked.Asked.{Asked}
+use Rattle.filter_cli.specs.declared.asked.Asked.TheVariants.{Filter, Tags, Ls, Stats}
+use Rattle.filter_cli.specs.Plan.{Plan, IsSeen, IsFiltered}
+use Rattle.filter_cli.specs.Ls.{ls_plan}
+use Rattle.filter_cli.specs.Stats.{stats_plan}
+use Rattle.filter_cli.specs.Filtering.{filter_plan}
+use Rattle.filter_cli.specs.Tagging.{tags_plan_of}
+use Rattle.filter_cli.specs.Patterns.{rules_of, IsFirstBadText}
+use Rattle.filter_cli.specs.Words.{asked_of}
+
+-- what a filter writes, by what its input is cut into
+pub data Writing : Type 0 where
+  of_notes : Plan → Writing
+
+abbrev pub writing_of : Asked → Writing
+writing_of (Filter selection) = of_notes (filter_plan (rules_of selection) selection.hidden)
+writing_of (Tags retagging) = of_notes (tags_plan_of retagging.add retagging.remove)
+writing_of (Ls listing) = of_notes (ls_plan listing)
+writing_of Stats = of_notes stats_plan
+
+-- the text that the first bytes of a stream decide, whatever follows
+abbrev pub sees_by : Writing → List ℕ → List ℕ → Type 0
+sees_by (of_notes plan) = IsSeen plan
+
+-- the text of a whole stream, and its status
+abbrev pub ends_by : Writing → List ℕ → List ℕ → ℕ → Type 0
+ends_by (of_notes plan) = IsFiltered plan
+
+-- the patterns that a filter is given, in the order of the words
+abbrev pub patterns_of : Asked → List (List ℕ)
+patterns_of (Filter selection) = selection.patterns
+patterns_of (Tags retagging) = []
+patterns_of (Ls listing) = []
+patterns_of Stats = []
+
+-- the words ask for this filter, and its patterns are good
+pub record AsksFor (words : List (List ℕ)) (asked : Asked) : Type 0 where
+  pub named : asked_of words ≡ Some asked
+  pub good : All IsPattern (patterns_of asked)
+
+-- the words ask for a filter, and this is the first of its patterns that is bad
+pub record HasBadPattern (words : List (List ℕ)) : Type 0 where
+  pub asked : Asked
+  pub named : asked_of words ≡ Some asked
+  pub text : List ℕ
+  pub bad : IsFirstBadText (patterns_of asked) text
+
+-- the text that the first bytes of a stream decide for these words, whatever follows
+pub record Sees (words : List (List ℕ)) (bytes text : List ℕ) : Type 0 where
+  pub asked : Asked
+  pub asks : AsksFor words asked
+  pub seen : sees_by (writing_of asked) bytes text
+
+-- the text of a whole stream for these words, and its status
+pub record Ends (words : List (List ℕ)) (bytes text : List ℕ) (answer : ℕ) : Type 0 where
+  pub asked : Asked
+  pub asks : AsksFor words asked
+  pub whole : ends_by (writing_of asked) bytes text answer

@@ -1,0 +1,6 @@
+-- A line in parts.
+use Rattle.std.specs.Prelude.{ℕ, List, ◌++◌}
+use Rattle.filter_cli.specs.declared.telling.Line.{Line}
+
+abbrev pub line_text : Line → List ℕ
+line_text line = line.name.now ++ (line.front.now ++ (line.pattern.now ++ line.end.now))

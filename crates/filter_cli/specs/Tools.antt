@@ -1,0 +1,62 @@
+-- The filters' names, and the options that each has (docs/COMMANDS.md, "Filters").
+use Rattle.std.specs.Prelude.{ℕ, Bool, ◌||◌, Option, Some, None, List, [], ◌∷◌, codes, if◌then◌else◌}
+use Rattle.std.specs.Str.{bytes_eq}
+use Rattle.command_words.specs.declared.table.Kind.{Kind}
+use Rattle.command_words.specs.declared.table.Kind.TheVariants.{Flag, Valued}
+use Rattle.filter_cli.specs.declared.tool.Tool.{Tool}
+use Rattle.filter_cli.specs.declared.tool.Tool.TheVariants as tool
+
+abbrev pub tap_tool_named : List ℕ → Option Tool
+tap_tool_named name =
+    if bytes_eq name (codes "tap2subunit") then Some tool.FromTap
+    else (if bytes_eq name (codes "subunit2tap") then Some tool.ToTap
+    else None)
+
+abbrev pub tool_named : List ℕ → Option Tool
+tool_named name =
+    if bytes_eq name (codes "subunit-filter") then Some tool.Filter
+    else (if bytes_eq name (codes "subunit-tags") then Some tool.Tags
+    else (if bytes_eq name (codes "subunit-ls") then Some tool.Ls
+    else (if bytes_eq name (codes "subunit-stats") then Some tool.Stats
+    else tap_tool_named name)))
+
+-- the filter that the first word names
+abbrev pub tool_of : List (List ℕ) → Option Tool
+tool_of [] = None
+tool_of (name ∷ words) = tool_named name
+
+-- the flags of `subunit-filter`
+abbrev pub is_switch : List ℕ → Bool
+is_switch name =
+    bytes_eq name (codes "--success")
+    || (bytes_eq name (codes "--no-success")
+    || (bytes_eq name (codes "--failure")
+    || (bytes_eq name (codes "--no-failure")
+    || (bytes_eq name (codes "--no-skip")
+    || (bytes_eq name (codes "--xfail")
+    || (bytes_eq name (codes "--no-xfail")
+    || (bytes_eq name (codes "--only-genuine-failures")
+    || bytes_eq name (codes "--no-passthrough"))))))))
+
+-- its options with a value
+abbrev pub is_addition : List ℕ → Bool
+is_addition name =
+    bytes_eq name (codes "--with-tag")
+    || (bytes_eq name (codes "--without-tag")
+    || (bytes_eq name (codes "--with-id")
+    || bytes_eq name (codes "--without-id")))
+
+abbrev pub filter_kind : List ℕ → Option Kind
+filter_kind name = if is_switch name then Some Flag else (if is_addition name then Some Valued else None)
+
+abbrev pub ls_kind : List ℕ → Option Kind
+ls_kind name = if bytes_eq name (codes "--times") || (bytes_eq name (codes "--exists") || bytes_eq name (codes "--no-passthrough")) then Some Flag else None
+
+-- how an option of a filter is written; none where the filter has no such option
+abbrev pub kind_in : Tool → List ℕ → Option Kind
+kind_in tool.Filter name = filter_kind name
+kind_in tool.Tags name = None
+kind_in tool.Ls name = ls_kind name
+kind_in tool.Stats name = None
+kind_in tool.FromTap name = None
+kind_in tool.ToTap name = None

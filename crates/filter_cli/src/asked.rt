@@ -1,0 +1,117 @@
+//! Which filter the words ask for.
+
+ghost use Rattle.std.specs.Prelude.{◌≡◌, map, IfOk};
+ghost use Rattle.std.specs.List.{list_any};
+ghost use Rattle.command_words.specs.Items.{texts};
+ghost use Rattle.command_words.specs.Code.{shown};
+ghost use Rattle.filter_cli.specs.Words as asking;
+
+use crate::ls::Listing;
+use crate::retagging::{Retagging, read_retagging};
+use crate::selection::{Selection, selection_of};
+use crate::tool::{Tool, tool_of};
+use command_words::{Item, read_items};
+use std::alloc::Global;
+use sub_number::NoMemory;
+
+/// A filter, with what it is asked to do.
+#[derive(Drop)]
+pub enum Asked {
+    /// `subunit-filter`: let through what is selected.
+    Filter(Selection),
+    /// `subunit-tags`: change the tags of all events.
+    Tags(Retagging),
+    /// `subunit-ls`: list the tests.
+    Ls(Listing),
+    /// `subunit-stats`: count the tests.
+    Stats,
+}
+
+/// The filter that the words ask for. None comes exactly where they ask for none.
+///
+/// `NoMemory` comes only for want of memory, and not where the first word names no filter.
+pub fn read_asked(alloc: Global, words: &[String]) -> Result<Option<Asked>, NoMemory>
+    ensures { asking.Reads (texts words.now) result }
+{
+    let Some(tool) = tool_of(words) else {
+        return Ok(None);
+    };
+    read_behind(alloc, tool, &words[1..])
+}
+
+// That of this name and these words behind it.
+fn read_behind(alloc: Global, tool: Tool, words: &[String]) -> Result<Option<Asked>, NoMemory>
+    ensures { IfOk result (λ asked. asked ≡ asking.asked_behind tool (texts words.now)) }
+{
+    if tool == Tool::Tags {
+        return read_tags(alloc, words);
+    }
+    match read_items(alloc, &tool, words)? {
+        Some(items) => asked_with(alloc, tool, &items),
+        None => Ok(None),
+    }
+}
+
+fn read_tags(alloc: Global, words: &[String]) -> Result<Option<Asked>, NoMemory>
+    ensures { IfOk result (λ asked. asked ≡ asking.asked_tags (texts words.now)) }
+{
+    match read_retagging(alloc, words)? {
+        Some(retagging) => Ok(Some(Asked::Tags(retagging))),
+        None => Ok(None),
+    }
+}
+
+// That of this name and these options.
+fn asked_with(alloc: Global, tool: Tool, items: &[Item<'_>]) -> Result<Option<Asked>, NoMemory>
+    ensures { IfOk result (λ asked. asked ≡ asking.asked_with tool (map shown items.now)) }
+{
+    if has_name(items) {
+        return Ok(None);
+    }
+    match tool {
+        Tool::Filter => Ok(Some(Asked::Filter(selection_of(alloc, items)?))),
+        Tool::Ls => Ok(Some(Asked::Ls(listing_of(items)))),
+        Tool::Stats => Ok(Some(Asked::Stats)),
+        // These have no such options, or are not there yet.
+        Tool::Tags | Tool::FromTap | Tool::ToTap => Ok(None),
+    }
+}
+
+// Whether a word is no option.
+fn has_name(items: &[Item<'_>]) -> bool
+    ensures { result ≡ list_any asking.is_name (map shown items.now) }
+{
+    items.iter().any(|item| is_name(item))
+}
+
+fn is_name(item: &Item<'_>) -> bool
+    ensures { result ≡ asking.is_name (shown item.now) }
+{
+    matches!(item, Item::Name(_))
+}
+
+fn listing_of(items: &[Item<'_>]) -> Listing
+    ensures { result ≡ asking.listing_of (map shown items.now) }
+{
+    Listing {
+        times: has_flag(items, "--times"),
+        exists: has_flag(items, "--exists"),
+        hidden: has_flag(items, "--no-passthrough"),
+    }
+}
+
+// Whether the flag is among the items.
+fn has_flag(items: &[Item<'_>], flag: &str) -> bool
+    ensures { result ≡ asking.has_flag flag.now (map shown items.now) }
+{
+    items.iter().any(|item| is_flag(item, flag))
+}
+
+fn is_flag(item: &Item<'_>, flag: &str) -> bool
+    ensures { result ≡ asking.is_flag flag.now (shown item.now) }
+{
+    match item {
+        Item::Flag(name) => *name == flag,
+        Item::Valued(_, _) | Item::Name(_) => false,
+    }
+}

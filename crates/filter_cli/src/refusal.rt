@@ -1,0 +1,144 @@
+//! Why a filter was not done, or not done to its end.
+
+ghost use Rattle.std.specs.Prelude.{◌≡◌, ◌++◌};
+ghost use Rattle.filter_cli.specs.Patterns.{patterns_code, patterns_text};
+ghost use Rattle.filter_cli.specs.Refusals.{usage_line, pump_code, pump_text};
+ghost use Rattle.filter_cli.specs.Telling.{line_text};
+
+use crate::pass::PumpFault;
+use crate::patterns::PatternsFault;
+use crate::telling::Line;
+use sub_number::NoMemory;
+
+/// Why words are no filter.
+#[derive(Clone, Copy, Debug, PartialEq, Eq)]
+pub enum UsageFault {
+    /// The first one is absent, or names none.
+    Tool,
+    /// Those behind the name are wrong.
+    Words,
+}
+
+/// By the step that refused.
+#[derive(Drop)]
+pub enum Refusal {
+    /// The words are no filter.
+    Usage(UsageFault),
+    /// There was not enough memory to read the words.
+    Memory(NoMemory),
+    /// The patterns are not all good.
+    Patterns(PatternsFault),
+    /// The input was not filtered to its end.
+    Pump(PumpFault),
+}
+
+impl From<NoMemory> for Refusal {
+    ghost use Rattle.filter_cli.specs.declared.refusal.Refusal.TheVariants.{Memory};
+
+    ghost from_gives = { λ fault refusal. refusal ≡ Memory fault };
+
+    fn from(fault: NoMemory) -> Self {
+        Refusal::Memory(fault)
+    }
+}
+
+impl From<PatternsFault> for Refusal {
+    ghost use Rattle.filter_cli.specs.declared.refusal.Refusal.TheVariants.{Patterns};
+
+    ghost from_gives = { λ fault refusal. refusal ≡ Patterns fault };
+
+    fn from(fault: PatternsFault) -> Self {
+        Refusal::Patterns(fault)
+    }
+}
+
+impl From<PumpFault> for Refusal {
+    ghost use Rattle.filter_cli.specs.declared.refusal.Refusal.TheVariants.{Pump};
+
+    ghost from_gives = { λ fault refusal. refusal ≡ Pump fault };
+
+    fn from(fault: PumpFault) -> Self {
+        Refusal::Pump(fault)
+    }
+}
+
+impl Refusal {
+    ghost use Rattle.filter_cli.specs.Refusals.{refusal_code, refusal_line};
+
+    /// The exit status: 2 for words, 3 for a named refusal, 4 for a fault of the outside, 5 for want of memory.
+    pub fn code(&self) -> u8
+        ensures { result ≡ refusal_code self.now }
+    {
+        match self {
+            Refusal::Usage(_) => 2,
+            Refusal::Memory(_) => 5,
+            Refusal::Patterns(fault) => code_of_patterns(fault),
+            Refusal::Pump(fault) => code_of_pump(*fault),
+        }
+    }
+
+    /// The line that tells of it, for the filter of this name.
+    pub fn line<'a>(&'a self, name: &'a str) -> Line<'a>
+        ensures { line_text result ≡ refusal_line name.now self.now }
+    {
+        match self {
+            Refusal::Usage(fault) => line_of_usage(name, *fault),
+            Refusal::Memory(_) => Line::of(name, ": out of memory\n"),
+            Refusal::Patterns(fault) => line_of_patterns(name, fault),
+            Refusal::Pump(fault) => Line::of(name, text_of_pump(*fault)),
+        }
+    }
+}
+
+fn line_of_usage(name: &str, fault: UsageFault) -> Line<'_>
+    ensures { line_text result ≡ usage_line name.now fault }
+{
+    match fault {
+        UsageFault::Tool => Line::of("", "usage: testr COMMAND or a subunit filter\n"),
+        UsageFault::Words => Line::of(name, ": wrong usage\n"),
+    }
+}
+
+fn code_of_patterns(fault: &PatternsFault) -> u8
+    ensures { result ≡ patterns_code fault.now }
+{
+    match fault {
+        PatternsFault::Bad(_) => 3,
+        PatternsFault::NoMemory => 5,
+    }
+}
+
+fn line_of_patterns<'a>(name: &'a str, fault: &'a PatternsFault) -> Line<'a>
+    ensures { line_text result ≡ name.now ++ patterns_text fault.now }
+{
+    match fault {
+        PatternsFault::Bad(pattern) => Line {
+            name,
+            front: ": bad pattern: ",
+            pattern: pattern.bytes(),
+            end: "\n",
+        },
+        PatternsFault::NoMemory => Line::of(name, ": out of memory\n"),
+    }
+}
+
+fn code_of_pump(fault: PumpFault) -> u8
+    ensures { result ≡ pump_code fault }
+{
+    match fault {
+        PumpFault::Input | PumpFault::Output => 4,
+        PumpFault::TooLong => 3,
+        PumpFault::NoMemory => 5,
+    }
+}
+
+fn text_of_pump(fault: PumpFault) -> &'static str
+    ensures { result.now ≡ pump_text fault }
+{
+    match fault {
+        PumpFault::Input => ": fault reading standard input\n",
+        PumpFault::TooLong => ": standard input is too long\n",
+        PumpFault::Output => ": fault writing output\n",
+        PumpFault::NoMemory => ": out of memory\n",
+    }
+}

@@ -1,0 +1,121 @@
+//! The filters' names, and the options that each has.
+
+ghost use Rattle.std.specs.Prelude.{◌≡◌};
+ghost use Rattle.command_words.specs.Items.{texts};
+ghost use Rattle.filter_cli.specs.Tools as tools;
+
+use command_words::{Kind, OptionTable};
+
+/// A filter.
+#[derive(Clone, Copy, PartialEq, Eq, Debug)]
+pub enum Tool {
+    /// `subunit-filter`
+    Filter,
+    /// `subunit-tags`
+    Tags,
+    /// `subunit-ls`
+    Ls,
+    /// `subunit-stats`
+    Stats,
+    /// `tap2subunit`
+    FromTap,
+    /// `subunit2tap`
+    ToTap,
+}
+
+/// The filter that the first word names, or none.
+pub fn tool_of(words: &[String]) -> Option<Tool>
+    ensures { result ≡ tools.tool_of (texts words.now) }
+{
+    match words {
+        [name, ..] => tool_named(name.as_str()),
+        [] => None,
+    }
+}
+
+// The filter of this name, or none.
+fn tool_named(name: &str) -> Option<Tool>
+    ensures { result ≡ tools.tool_named name.now }
+{
+    if name == "subunit-filter" {
+        return Some(Tool::Filter);
+    }
+    if name == "subunit-tags" {
+        return Some(Tool::Tags);
+    }
+    if name == "subunit-ls" {
+        return Some(Tool::Ls);
+    }
+    if name == "subunit-stats" {
+        return Some(Tool::Stats);
+    }
+    tap_tool_named(name)
+}
+
+// That of this name which reads or writes TAP, or none.
+fn tap_tool_named(name: &str) -> Option<Tool>
+    ensures { result ≡ tools.tap_tool_named name.now }
+{
+    if name == "tap2subunit" {
+        return Some(Tool::FromTap);
+    }
+    if name == "subunit2tap" {
+        return Some(Tool::ToTap);
+    }
+    None
+}
+
+impl OptionTable for Tool {
+    ghost kinds = { tools.kind_in };
+
+    fn kind(&self, name: &str) -> Option<Kind> {
+        match self {
+            Tool::Filter => filter_kind(name),
+            Tool::Ls => ls_kind(name),
+            Tool::Tags | Tool::Stats | Tool::FromTap | Tool::ToTap => None,
+        }
+    }
+}
+
+fn filter_kind(name: &str) -> Option<Kind>
+    ensures { result ≡ tools.filter_kind name.now }
+{
+    if is_switch(name) {
+        return Some(Kind::Flag);
+    }
+    if is_addition(name) {
+        return Some(Kind::Valued);
+    }
+    None
+}
+
+// Whether it is a flag of `subunit-filter`.
+fn is_switch(name: &str) -> bool
+    ensures { result ≡ tools.is_switch name.now }
+{
+    name == "--success"
+        || name == "--no-success"
+        || name == "--failure"
+        || name == "--no-failure"
+        || name == "--no-skip"
+        || name == "--xfail"
+        || name == "--no-xfail"
+        || name == "--only-genuine-failures"
+        || name == "--no-passthrough"
+}
+
+// Whether it is an option of `subunit-filter` with a value.
+fn is_addition(name: &str) -> bool
+    ensures { result ≡ tools.is_addition name.now }
+{
+    name == "--with-tag" || name == "--without-tag" || name == "--with-id" || name == "--without-id"
+}
+
+fn ls_kind(name: &str) -> Option<Kind>
+    ensures { result ≡ tools.ls_kind name.now }
+{
+    if name == "--times" || name == "--exists" || name == "--no-passthrough" {
+        return Some(Kind::Flag);
+    }
+    None
+}

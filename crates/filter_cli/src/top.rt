@@ -1,0 +1,113 @@
+//! The top call of the filters.
+
+ghost use Rattle.std.specs.Prelude.{◌≡◌};
+ghost use Rattle.command_words.specs.Items.{texts};
+ghost use Rattle.filter_cli.specs.Outside.{outside};
+ghost use Rattle.filter_cli.specs.Pipe.{pipe};
+ghost use Rattle.filter_cli.specs.Program.{Filters, Performs, Tells};
+ghost use Rattle.filter_cli.specs.Promises.{Promises};
+ghost use Rattle.filter_cli.specs.Refusals.{usage_fault, name_in};
+ghost use Rattle.filter_cli.specs.Tools as tools;
+
+use crate::asked::{Asked, read_asked};
+use crate::ls::Ls;
+use crate::refusal::{Refusal, UsageFault};
+use crate::stats::Stats;
+use crate::telling::tell;
+use crate::through::pass_notes;
+use crate::tool::tool_of;
+use edge_io::{Sink, Source};
+use std::alloc::Global;
+use sub_number::NoMemory;
+
+/// Does what the words say, of which the first is a filter's name, and answers the exit status: 0 where it was done and
+/// no test failed, 1 where a test failed, 2 where the words are no filter, 3 for a named refusal, 4 for a fault of the
+/// outside, 5 for want of memory.
+///
+/// The input is read to its end in pieces of 65,536 bytes, and what each piece decides is written before the next one is
+/// read. A refusal prints one line to `err`. Words that are no filter, and bad patterns, touch neither input nor output.
+pub fn filters<I: Source, O: Sink, E: Sink>(
+    alloc: Global,
+    words: &[String],
+    input: &mut I,
+    out: &mut O,
+    err: &mut E,
+) -> u8
+    ensures promises { Promises (texts words.now)
+        (outside (I.seen input.old) (O.seen out.old) (E.seen err.old))
+        (outside (I.seen input.new) (O.seen out.new) (E.seen err.new))
+        result }
+{
+    let outcome = filter(alloc, words, input, out);
+    answer(name_of(words), outcome, err)
+}
+
+// Does what the words say.
+fn filter<I: Source, O: Sink>(
+    alloc: Global,
+    words: &[String],
+    input: &mut I,
+    out: &mut O,
+) -> Result<u8, Refusal>
+    ensures { Filters (texts words.now) (pipe (I.seen input.old) (O.seen out.old)) (pipe (I.seen input.new) (O.seen out.new)) result }
+{
+    let asked = read_asked(alloc, words)?;
+    perform(alloc, usage_fault(words), asked, input, out)
+}
+
+// Does what is asked for; where that is nothing, this is why.
+fn perform<I: Source, O: Sink>(
+    alloc: Global,
+    fault: UsageFault,
+    asked: Option<Asked>,
+    input: &mut I,
+    out: &mut O,
+) -> Result<u8, Refusal>
+    ensures { Performs fault asked (pipe (I.seen input.old) (O.seen out.old)) (pipe (I.seen input.new) (O.seen out.new)) result }
+{
+    match asked {
+        None => Err(Refusal::Usage(fault)),
+        Some(Asked::Filter(_)) | Some(Asked::Tags(_)) => Err(Refusal::Memory(NoMemory)),
+        Some(Asked::Ls(listing)) => {
+            let status = pass_notes(alloc, Ls::new(alloc, listing), input, out)?;
+            Ok(status)
+        }
+        Some(Asked::Stats) => {
+            let status = pass_notes(alloc, Stats::new(alloc), input, out)?;
+            Ok(status)
+        }
+    }
+}
+
+// Tells of a refusal, and gives the status.
+fn answer<E: Sink>(name: &str, outcome: Result<u8, Refusal>, err: &mut E) -> u8
+    ensures { Tells name.now outcome (E.seen err.old) (E.seen err.new) result }
+{
+    match outcome {
+        Ok(status) => status,
+        Err(refusal) => {
+            let _ = tell(err, refusal.line(name));
+            refusal.code()
+        }
+    }
+}
+
+// The first word, or nothing.
+fn name_of(words: &[String]) -> &str
+    ensures { result.now ≡ name_in (texts words.now) }
+{
+    match words {
+        [name, ..] => name.as_str(),
+        [] => "",
+    }
+}
+
+// Why words are no filter.
+fn usage_fault(words: &[String]) -> UsageFault
+    ensures { result ≡ usage_fault (texts words.now) }
+{
+    match tool_of(words) {
+        None => UsageFault::Tool,
+        Some(_) => UsageFault::Words,
+    }
+}
