@@ -5,3 +5,11 @@ pub mod EventLemmas
 pub mod NotedPrefix
 pub mod FitLemmas
 pub mod EventTextLemmas
+pub mod WordLemmas
+pub mod Prefixes
+pub mod ChainLemmas
+pub mod BadLemmas
+pub mod StatusLemmas
+pub mod Ways
+pub mod WritingLaws
+pub mod PromiseLemmas

@@ -26,10 +26,13 @@ pub record Refuses (fault : UsageFault) (before after : Pipe) (outcome : Result 
 abbrev pub Passes : Asked → Step Pipe ℕ Refusal
 Passes asked = Then Pump (Pumps (sees_by (writing_of asked)) (ends_by (writing_of asked))) (λ status. Gives status)
 
--- first the patterns are checked
+-- first its patterns are checked
+abbrev pub Checked : Asked → Step Pipe ℕ Refusal
+Checked asked = Then Patterns (Still (Compiles {A = Unit {0}} (patterns_of asked))) (λ _. Passes asked)
+
 abbrev pub Performs : UsageFault → Option Asked → Step Pipe ℕ Refusal
 Performs fault None = Refuses fault
-Performs fault (Some asked) = Then Patterns (Still (Compiles {A = Unit {0}} (patterns_of asked))) (λ _. Passes asked)
+Performs fault (Some asked) = Checked asked
 
 abbrev pub Filters : List (List ℕ) → Step Pipe ℕ Refusal
 Filters words = Then Memory (Still (Reads words)) (λ asked. Performs (usage_fault words) asked)

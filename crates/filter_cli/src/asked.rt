@@ -79,7 +79,7 @@ fn asked_with(alloc: Global, tool: Tool, items: &[Item<'_>]) -> Result<Option<As
 
 // Whether a word is no option.
 fn has_name(items: &[Item<'_>]) -> bool
-    ensures { result ≡ list_any asking.is_name (map shown items.now) }
+    ensures { result ≡ list_any (λ item. asking.is_name (shown item)) items.now }
 {
     items.iter().any(|item| is_name(item))
 }
@@ -102,7 +102,7 @@ fn listing_of(items: &[Item<'_>]) -> Listing
 
 // Whether the flag is among the items.
 fn has_flag(items: &[Item<'_>], flag: &str) -> bool
-    ensures { result ≡ asking.has_flag flag.now (map shown items.now) }
+    ensures { result ≡ list_any (λ item. asking.is_flag flag.now (shown item)) items.now }
 {
     items.iter().any(|item| is_flag(item, flag))
 }

@@ -3,6 +3,7 @@
 //! - `top`: the top call, from words to an answer
 //! - `tool`, `selection`, `patterns`, `retagging`, `asked`: which filter the words ask for
 //! - `refusal`, `telling`: why a filter was not done, and the lines that tell of it
+//! - `laws`: what filters write of all streams
 //! - `filter`: what a filter is, to the one loop that serves them all
 //! - `pass`: that loop
 //! - `through`: the loop over a filter of notes
@@ -14,6 +15,7 @@
 mod event_laws;
 mod asked;
 mod filter;
+mod laws;
 mod ls;
 mod notes;
 mod of_notes;
@@ -34,6 +36,7 @@ mod top;
 pub use event_laws::packets_of_streams;
 pub use asked::{Asked, read_asked};
 pub use filter::Filter;
+pub use laws::filtered_streams;
 pub use ls::{Listing, Ls};
 pub use notes::NoteFilter;
 pub use of_notes::OfNotes;

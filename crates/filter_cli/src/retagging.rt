@@ -1,6 +1,7 @@
 //! What `subunit-tags` is asked to change.
 
-ghost use Rattle.std.specs.Prelude.{◌≡◌, option_map, IfOk};
+ghost use Rattle.std.specs.Prelude.{◌≡◌, option_map, string_bytes, IfOk};
+ghost use Rattle.std.specs.List.{list_any};
 ghost use Rattle.command_words.specs.Items.{texts};
 ghost use Rattle.filter_cli.specs.Retagging as retagging;
 
@@ -34,7 +35,7 @@ pub fn read_retagging(alloc: Global, words: &[String]) -> Result<Option<Retaggin
 }
 
 fn has_refused(words: &[String]) -> bool
-    ensures { result ≡ retagging.has_refused (texts words.now) }
+    ensures { result ≡ list_any (λ word. retagging.is_refused (string_bytes word)) words.now }
 {
     words.iter().any(|word| is_refused(word.as_str()))
 }

@@ -4,21 +4,26 @@ ghost use Rattle.std.specs.Prelude.{◌≡◌};
 ghost use Rattle.command_words.specs.Items.{texts};
 ghost use Rattle.filter_cli.specs.Outside.{outside};
 ghost use Rattle.filter_cli.specs.Pipe.{pipe};
-ghost use Rattle.filter_cli.specs.Program.{Filters, Performs, Tells};
+ghost use Rattle.filter_cli.specs.Program.{Filters, Performs, Checked, Tells};
 ghost use Rattle.filter_cli.specs.Promises.{Promises};
 ghost use Rattle.filter_cli.specs.Refusals.{usage_fault, name_in};
-ghost use Rattle.filter_cli.specs.Tools as tools;
+ghost use Rattle.filter_cli.specs.declared.asked.Asked.TheVariants as wanted;
 
 use crate::asked::{Asked, read_asked};
-use crate::ls::Ls;
+use crate::ls::{Listing, Ls};
+use crate::patterns::rules_of;
 use crate::refusal::{Refusal, UsageFault};
+use crate::retagging::Retagging;
+use crate::selection::Selection;
+use crate::sifting::filter_stream;
 use crate::stats::Stats;
+use crate::tagging::tag_stream;
 use crate::telling::tell;
 use crate::through::pass_notes;
 use crate::tool::tool_of;
 use edge_io::{Sink, Source};
+use event_sift::Tagger;
 use std::alloc::Global;
-use sub_number::NoMemory;
 
 /// Does what the words say, of which the first is a filter's name, and answers the exit status: 0 where it was done and
 /// no test failed, 1 where a test failed, 2 where the words are no filter, 3 for a named refusal, 4 for a fault of the
@@ -67,16 +72,75 @@ fn perform<I: Source, O: Sink>(
 {
     match asked {
         None => Err(Refusal::Usage(fault)),
-        Some(Asked::Filter(_)) | Some(Asked::Tags(_)) => Err(Refusal::Memory(NoMemory)),
-        Some(Asked::Ls(listing)) => {
-            let status = pass_notes(alloc, Ls::new(alloc, listing), input, out)?;
-            Ok(status)
-        }
-        Some(Asked::Stats) => {
-            let status = pass_notes(alloc, Stats::new(alloc), input, out)?;
-            Ok(status)
-        }
+        Some(asked) => pass(alloc, asked, input, out),
     }
+}
+
+// Does what is asked for.
+fn pass<I: Source, O: Sink>(
+    alloc: Global,
+    asked: Asked,
+    input: &mut I,
+    out: &mut O,
+) -> Result<u8, Refusal>
+    ensures { Checked asked (pipe (I.seen input.old) (O.seen out.old)) (pipe (I.seen input.new) (O.seen out.new)) result }
+{
+    match asked {
+        Asked::Filter(selection) => filter_tests(alloc, selection, input, out),
+        Asked::Tags(retagging) => retag(alloc, retagging, input, out),
+        Asked::Ls(listing) => list(alloc, listing, input, out),
+        Asked::Stats => count(alloc, input, out),
+    }
+}
+
+// `subunit-filter`
+fn filter_tests<I: Source, O: Sink>(
+    alloc: Global,
+    selection: Selection,
+    input: &mut I,
+    out: &mut O,
+) -> Result<u8, Refusal>
+    ensures { Checked (wanted.Filter selection) (pipe (I.seen input.old) (O.seen out.old)) (pipe (I.seen input.new) (O.seen out.new)) result }
+{
+    let hidden = selection.hidden;
+    let rules = rules_of(alloc, selection)?;
+    let status = filter_stream(alloc, &rules, hidden, input, out)?;
+    Ok(status)
+}
+
+// `subunit-tags`
+fn retag<I: Source, O: Sink>(
+    alloc: Global,
+    retagging: Retagging,
+    input: &mut I,
+    out: &mut O,
+) -> Result<u8, Refusal>
+    ensures { Checked (wanted.Tags retagging) (pipe (I.seen input.old) (O.seen out.old)) (pipe (I.seen input.new) (O.seen out.new)) result }
+{
+    let tagger = Tagger::new(alloc, retagging.add, retagging.remove);
+    let status = tag_stream(alloc, tagger, input, out)?;
+    Ok(status)
+}
+
+// `subunit-ls`
+fn list<I: Source, O: Sink>(
+    alloc: Global,
+    listing: Listing,
+    input: &mut I,
+    out: &mut O,
+) -> Result<u8, Refusal>
+    ensures { Checked (wanted.Ls listing) (pipe (I.seen input.old) (O.seen out.old)) (pipe (I.seen input.new) (O.seen out.new)) result }
+{
+    let status = pass_notes(alloc, Ls::new(alloc, listing), input, out)?;
+    Ok(status)
+}
+
+// `subunit-stats`
+fn count<I: Source, O: Sink>(alloc: Global, input: &mut I, out: &mut O) -> Result<u8, Refusal>
+    ensures { Checked wanted.Stats (pipe (I.seen input.old) (O.seen out.old)) (pipe (I.seen input.new) (O.seen out.new)) result }
+{
+    let status = pass_notes(alloc, Stats::new(alloc), input, out)?;
+    Ok(status)
 }
 
 // Tells of a refusal, and gives the status.

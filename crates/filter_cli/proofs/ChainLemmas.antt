@@ -1,0 +1,64 @@
+-- How a chain goes on, and how it stops.
+use Rattle.std.proofs.Common.{◌≡◌, ℕ, All, Option, None, Some, List, [], Result, Ok, Err, refl, sym, ap, subst, ◌∙◌, arith}
+use Rattle.std.specs.Prelude.{IsErrAnd}
+use Rattle.std.proofs.lemmas.Result.{err_from_is_err_and}
+use Rattle.partition_times.specs.Patterns.{IsPattern}
+use Rattle.filter_cli.specs.Steps.{Step, Then, stops, goes_on, Still, Gives}
+use Rattle.edge_io.specs.Seen.{Seen}
+use Rattle.event_sift.specs.declared.tagger.Tagger.{Tagger}
+use Rattle.filter_cli.specs.Pipe.{Pipe}
+use Rattle.filter_cli.specs.Plan.{Plan, IsSeen, IsFiltered}
+use Rattle.filter_cli.specs.Pumping.{Pumps}
+use Rattle.filter_cli.specs.Tagging.{tags_plan, tags_plan_of}
+use Rattle.filter_cli.specs.Patterns.{Compiles}
+use Rattle.filter_cli.specs.Streams.{patterns_of}
+use Rattle.filter_cli.specs.Program.{Passes, Checked, Performs, Tells}
+use Rattle.filter_cli.specs.declared.asked.Asked.{Asked}
+use Rattle.filter_cli.specs.declared.pass.PumpFault.{PumpFault}
+use Rattle.filter_cli.specs.declared.refusal.UsageFault.{UsageFault}
+use Rattle.filter_cli.specs.declared.refusal.Refusal.{Refusal}
+
+module _ {W A B E R : Type 0} {name : E → R} {second : A → Step W B R} {before after : W} {result : Result B R} where
+  -- an exit by `?`
+  pub stopped : {first : Step W A E} (fault : E) → IsErrAnd result (λ refusal. refusal ≡ name fault) → first before after (Err fault) → Then name first second before after result
+  stopped fault refused step =
+      let p = err_from_is_err_and result refused in
+      stops fault (p.1 ∙ ap Err p.2) step
+
+  pub still_stops : {Says : Result A E → Type 0} (fault : E) → IsErrAnd result (λ refusal. refusal ≡ name fault) → Says (Err fault) → after ≡ before → Then name (Still Says) second before after result
+  still_stops fault refused says same = stopped fault refused (record { says = says; same = same })
+
+  pub still_done : {Says : Result A E → Type 0} (value : A) → Says (Ok value) → second value before after result → Then name (Still Says) second before after result
+  still_done value says next = goes_on value before (record { says = says; same = refl }) next
+
+pub gives : {W A R : Type 0} {value : A} {after : W} → Gives {R = R} value after after (Ok value)
+gives = record { answer = refl; same = refl }
+
+-- good patterns, and then the rest
+pub checked : (asked : Asked) (before after : Pipe) (result : Result ℕ Refusal) → All IsPattern (patterns_of asked) → Passes asked before after result → Checked asked before after result
+checked asked before after result good next = still_done tt good next
+
+pub none_given : All IsPattern []
+none_given k d lt = absurd (omega (arith, lt))
+
+-- ---- the same of another term of the same value
+
+pub performs_as : (fault given : UsageFault) (asked other : Option Asked) (before after : Pipe) (result : Result ℕ Refusal) → given ≡ fault → other ≡ asked → Performs given other before after result → Performs fault asked before after result
+performs_as fault given asked other before after result fault_is is done =
+    subst (λ (a : Option Asked). Performs fault a before after result) is (subst (λ (f : UsageFault). Performs f other before after result) fault_is done)
+
+pub checked_as : (asked given : Asked) (before after : Pipe) (result : Result ℕ Refusal) → given ≡ asked → Checked given before after result → Checked asked before after result
+checked_as asked given before after result is done = subst (λ (a : Asked). Checked a before after result) is done
+
+pub tells_as : (name given : List ℕ) (outcome : Result ℕ Refusal) (before after : Seen (List ℕ)) (answer : ℕ) → given ≡ name → Tells given outcome before after answer → Tells name outcome before after answer
+tells_as name given outcome before after answer is tells = subst (λ (n : List ℕ). Tells n outcome before after answer) is tells
+
+-- what a plan does
+abbrev pub PumpsBy : Plan → Pipe → Pipe → Result ℕ PumpFault → Type 0
+PumpsBy plan = Pumps (IsSeen plan) (IsFiltered plan)
+
+pub plan_as : (plan given : Plan) (before after : Pipe) (result : Result ℕ PumpFault) → given ≡ plan → PumpsBy given before after result → PumpsBy plan before after result
+plan_as plan given before after result is pumps = subst (λ (p : Plan). PumpsBy p before after result) is pumps
+
+pub tags_is : (tagger : Tagger) (add remove : List (List ℕ)) → tagger.add ≡ add → tagger.remove ≡ remove → tags_plan tagger ≡ tags_plan_of add remove
+tags_is tagger add remove add_is remove_is = ap (λ (l : List (List ℕ)). tags_plan_of l tagger.remove) add_is ∙ ap (tags_plan_of add) remove_is

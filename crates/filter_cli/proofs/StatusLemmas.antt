@@ -1,0 +1,23 @@
+-- The status of a filter is 0 or 1.
+use Rattle.std.proofs.Common.{ℕ, ◌≤◌, Bool, true, false, if◌then◌else◌, List, ◌++◌, arith}
+use Rattle.std.specs.List.{list_any}
+use Rattle.outcome_fold.specs.Rows.{completed_rows, open_rows, rows_of}
+use Rattle.outcome_fold.specs.Answers.{row_fails}
+use Rattle.filter_cli.specs.Events.{events_in}
+use Rattle.filter_cli.specs.Streams.{writing_of, ends_by}
+use Rattle.filter_cli.specs.declared.asked.Asked.{Asked}
+use Rattle.filter_cli.specs.declared.asked.Asked.TheVariants.{Filter, Tags, Ls, Stats}
+
+one_at_most : (b : Bool) → (if b then 1 else 0) ≤ 1
+one_at_most true = omega arith
+one_at_most false = omega arith
+
+pub status_at_most : (asked : Asked) (bytes text : List ℕ) (status : ℕ) → ends_by (writing_of asked) bytes text status → status ≤ 1
+status_at_most (Filter selection) bytes text status w = omega (arith, w.status)
+status_at_most (Tags retagging) bytes text status w = omega (arith, w.status)
+status_at_most (Ls listing) bytes text status w =
+    let few = one_at_most (list_any row_fails (completed_rows (events_in w.notes) ++ open_rows (events_in w.notes))) in
+    omega (arith, few, w.status)
+status_at_most Stats bytes text status w =
+    let few = one_at_most (list_any row_fails (rows_of (events_in w.notes))) in
+    omega (arith, few, w.status)

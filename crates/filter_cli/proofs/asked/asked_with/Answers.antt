@@ -1,0 +1,30 @@
+use Rattle.std.proofs.Common.{◌≡◌, Some, map, sym, ap, ◌∙◌}
+use Rattle.command_words.specs.Code.{shown}
+use Rattle.filter_cli.specs.declared.ls.Listing.{Listing}
+use Rattle.filter_cli.specs.declared.selection.Selection.{Selection}
+use Rattle.filter_cli.specs.declared.tool.Tool.{Tool}
+use Rattle.filter_cli.specs.declared.asked.Asked.{Asked}
+use Rattle.filter_cli.specs.declared.asked.Asked.TheVariants as wanted
+use Rattle.filter_cli.specs.Words.{asked_for}
+use Rattle.filter_cli.proofs.WordLemmas.{named_so, unnamed_so}
+use Rattle.filter_cli.proofs.asked.asked_with.Goals as goal
+
+pub returns-then-has_name : goal.returns-then-has_name
+returns-then-has_name c = named_so c.args.tool c.args.items.now _ c.has_name.ensures c.if-has_name.true
+
+pub returns-in_ok-selection_of-in-Filter : goal.returns-in_ok-selection_of-in-Filter
+returns-in_ok-selection_of-in-Filter c =
+    ap (λ (s : Selection). Some (wanted.Filter s)) c.in_ok-selection_of-in-Filter.ensures
+    ∙ ap (λ (t : Tool). asked_for t (map shown c.args.items.now)) (sym c.in-Filter.is)
+    ∙ sym (unnamed_so c.args.tool c.args.items.now _ c.has_name.ensures c.if-has_name.false)
+
+pub returns-in-Ls : goal.returns-in-Ls
+returns-in-Ls c =
+    ap (λ (l : Listing). Some (wanted.Ls l)) c.listing_of.ensures
+    ∙ ap (λ (t : Tool). asked_for t (map shown c.args.items.now)) (sym c.in-Ls.is)
+    ∙ sym (unnamed_so c.args.tool c.args.items.now _ c.has_name.ensures c.if-has_name.false)
+
+pub returns-in-Stats : goal.returns-in-Stats
+returns-in-Stats c =
+    ap (λ (t : Tool). asked_for t (map shown c.args.items.now)) (sym c.in-Stats.is)
+    ∙ sym (unnamed_so c.args.tool c.args.items.now _ c.has_name.ensures c.if-has_name.false)

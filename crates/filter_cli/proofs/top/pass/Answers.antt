@@ -1,0 +1,15 @@
+use Rattle.std.proofs.Common.{sym}
+use Rattle.filter_cli.proofs.ChainLemmas.{checked_as}
+use Rattle.filter_cli.proofs.top.pass.Goals as goal
+
+pub returns-in-Filter : goal.returns-in-Filter
+returns-in-Filter g c = checked_as _ _ _ _ _ (sym c.in-Filter.is) c.filter_tests.ensures
+
+pub returns-in-Tags : goal.returns-in-Tags
+returns-in-Tags g c = checked_as _ _ _ _ _ (sym c.in-Tags.is) c.retag.ensures
+
+pub returns-in-Ls : goal.returns-in-Ls
+returns-in-Ls g c = checked_as _ _ _ _ _ (sym c.in-Ls.is) c.list.ensures
+
+pub returns-in-Stats : goal.returns-in-Stats
+returns-in-Stats g c = checked_as _ _ _ _ _ (sym c.in-Stats.is) c.count.ensures
