@@ -56,3 +56,4 @@ pub use top::filters;
 mod tests;
 #[cfg(test)]
 mod tests_events;
+mod tests_top;

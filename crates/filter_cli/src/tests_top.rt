@@ -1,0 +1,259 @@
+//! Filters as command lines, over streams in memory.
+
+use crate::filters;
+use edge_io::{ListSink, ListSource};
+use std::alloc::Global;
+use sub_number::Bytes;
+
+// `foo` passed, a line of a log, and `foo` failed.
+const PASSED: &[u8] = b"\xb3\x29\x03\x0c\x03foo\x45\x9d\xfe\x10";
+
+const FAILED: &[u8] = b"\xb3\x29\x06\x0c\x03foo\x15\x50\x6f\xa3";
+
+const BOTH: &[u8] =
+    b"\xb3\x29\x03\x0c\x03foo\x45\x9d\xfe\x10x\n\xb3\x29\x06\x0c\x03foo\x15\x50\x6f\xa3";
+
+const LOG_AND_FAILED: &[u8] = b"x\n\xb3\x29\x06\x0c\x03foo\x15\x50\x6f\xa3";
+
+const PASSED_AND_LOG: &[u8] = b"\xb3\x29\x03\x0c\x03foo\x45\x9d\xfe\x10x\n";
+
+// `t1` with the tag `b` passed, `t2` with the tag `a` failed, `t3` was skipped.
+const TAGGED: &[u8] =
+    b"\xb3\x29\x83\x0e\x02t1\x01\x01b\x97\xfa\xb6\x12\xb3\x29\x86\x0e\x02t2\x01\x01a\x54\xa6\x46\x22\xb3\x29\x05\x0b\x02t3\x44\xb4\xdf\x46";
+
+// `foo` with the tag `bar` passed, and the same with the tag `foo`.
+const WITH_BAR: &[u8] = b"\xb3\x29\x83\x11\x03foo\x01\x03bar\xbb\x64\x7d\xc9";
+
+const WITH_FOO: &[u8] = b"\xb3\x29\x83\x11\x03foo\x01\x03foo\x41\xe8\x94\x42";
+
+// `foo` begins at 100 s, and passes 1.0005 s later.
+const TIMED: &[u8] =
+    b"\xb3\x2b\x02\x11\x00\x00\x00\x64\x00\x03foo\x1e\xec\x90\x04\xb3\x2b\x03\x13\x00\x00\x00\x65\x87\xa1\x20\x03foo\xa7\x22\xac\x32";
+
+// `a` is known to exist, a line of a log, and `b` failed.
+const LOGGED: &[u8] =
+    b"\xb3\x29\x01\x0a\x01a\x77\xc8\x0f\x31x\n\xb3\x29\x06\x0a\x01b\x73\x16\x66\x32";
+
+// Words as a program is given them.
+fn owned(alloc: Global, words: &[&str]) -> Option<Vec<String>> {
+    let mut owned = Vec::new(alloc);
+    for word in words {
+        owned.push(word.to_string(alloc).ok()?).ok()?;
+    }
+    Some(owned)
+}
+
+fn source(alloc: Global, stream: &[u8], fails: &[u64]) -> Option<ListSource> {
+    Some(ListSource::new(
+        Bytes::new(alloc, stream).ok()?,
+        13,
+        fails.to_vec(alloc).ok()?,
+    ))
+}
+
+// The status of the words over the stream, of which these reads fail, where these are the texts of both sinks and so many
+// bytes are left.
+fn status_of(
+    alloc: Global,
+    words: &[&str],
+    stream: &[u8],
+    fails: &[u64],
+    text: &[u8],
+    line: &[u8],
+    left: usize,
+) -> Option<u8> {
+    let words = owned(alloc, words)?;
+    let mut input = source(alloc, stream, fails)?;
+    let mut out = ListSink::new(alloc, Vec::new(alloc));
+    let mut err = ListSink::new(alloc, Vec::new(alloc));
+    let status = filters(alloc, &words, &mut input, &mut out, &mut err);
+    if out.taken() == text && err.taken() == line && input.left().len() == left {
+        Some(status)
+    } else {
+        None
+    }
+}
+
+// Whether it is done, with this text and status.
+fn gives(alloc: Global, words: &[&str], stream: &[u8], text: &[u8], status: u8) -> bool {
+    status_of(alloc, words, stream, &[], text, b"", 0) == Some(status)
+}
+
+// Whether the words are refused by this line and status, with the stream as it was.
+fn refuses(alloc: Global, words: &[&str], line: &[u8], status: u8) -> bool {
+    status_of(alloc, words, BOTH, &[], b"", line, 26) == Some(status)
+}
+
+#[test]
+fn tests_are_let_through_as_is_asked_for(rt: HostRuntime) {
+    let alloc = rt.alloc();
+    assert!(rt; gives(alloc, &["subunit-filter"], BOTH, LOG_AND_FAILED, 0));
+    assert!(rt;
+        gives(
+            alloc,
+            &["subunit-filter", "--no-passthrough"],
+            BOTH,
+            FAILED,
+            0
+        )
+    );
+    assert!(rt;
+        gives(
+            alloc,
+            &[
+                "subunit-filter",
+                "--success",
+                "--no-failure",
+                "--with-id=^f"
+            ],
+            BOTH,
+            PASSED_AND_LOG,
+            0
+        )
+    );
+    assert!(rt;
+        gives(
+            alloc,
+            &[
+                "subunit-filter",
+                "--only-genuine-failures",
+                "--success",
+                "--failure",
+                "--no-failure"
+            ],
+            BOTH,
+            PASSED,
+            0
+        )
+    );
+}
+
+#[test]
+fn tags_are_added_and_removed(rt: HostRuntime) {
+    let alloc = rt.alloc();
+    assert!(rt;
+        gives(
+            alloc,
+            &["subunit-tags", "foo", "-bar"],
+            WITH_BAR,
+            WITH_FOO,
+            0
+        )
+    );
+    assert!(rt;
+        refuses(
+            alloc,
+            &["subunit-tags", "-"],
+            b"subunit-tags: wrong usage\n",
+            2
+        )
+    );
+    assert!(rt;
+        refuses(
+            alloc,
+            &["subunit-tags", "a", ""],
+            b"subunit-tags: wrong usage\n",
+            2
+        )
+    );
+}
+
+#[test]
+fn tests_are_listed_and_counted(rt: HostRuntime) {
+    let alloc = rt.alloc();
+    assert!(rt; gives(alloc, &["subunit-ls", "--times"], TIMED, b"foo 1.001\n", 0));
+    assert!(rt;
+        gives(
+            alloc,
+            &["subunit-ls", "--no-passthrough"],
+            LOGGED,
+            b"b\n",
+            1
+        )
+    );
+    assert!(rt;
+        gives(
+            alloc,
+            &["subunit-ls", "--exists", "--no-passthrough"],
+            LOGGED,
+            b"a\nb\n",
+            1
+        )
+    );
+    assert!(rt;
+        gives(
+            alloc,
+            &["subunit-stats"],
+            TAGGED,
+            b"Total tests:       3\nPassed tests:      1\nFailed tests:      1\nSkipped tests:     1\nSeen tags: a, b\n",
+            1
+        )
+    );
+    assert!(rt;
+        gives(
+            alloc,
+            &["subunit-stats"],
+            b"",
+            b"Total tests:       0\nPassed tests:      0\nFailed tests:      0\nSkipped tests:     0\nSeen tags: \n",
+            0
+        )
+    );
+}
+
+#[test]
+fn words_and_patterns_are_refused_before_the_input_is_read(rt: HostRuntime) {
+    let alloc = rt.alloc();
+    assert!(rt;
+        refuses(
+            alloc,
+            &["subunit-filter", "--success", "x"],
+            b"subunit-filter: wrong usage\n",
+            2
+        )
+    );
+    assert!(rt;
+        refuses(
+            alloc,
+            &["subunit"],
+            b"usage: testr COMMAND or a subunit filter\n",
+            2
+        )
+    );
+    assert!(rt;
+        refuses(
+            alloc,
+            &["subunit-filter", "--with-id=("],
+            b"subunit-filter: bad pattern: (\n",
+            3
+        )
+    );
+    assert!(rt;
+        refuses(
+            alloc,
+            &[
+                "subunit-filter",
+                "--with-id=a",
+                "--without-id=[",
+                "--with-id=("
+            ],
+            b"subunit-filter: bad pattern: [\n",
+            3
+        )
+    );
+}
+
+#[test]
+fn what_was_read_is_written_before_a_fault(rt: HostRuntime) {
+    let alloc = rt.alloc();
+    // The reads give 13 bytes and then one.
+    let status = status_of(
+        alloc,
+        &["subunit-filter"],
+        LOG_AND_FAILED,
+        &[2],
+        LOG_AND_FAILED,
+        b"subunit-filter: fault reading standard input\n",
+        0,
+    );
+    assert!(rt; status == Some(4));
+}
