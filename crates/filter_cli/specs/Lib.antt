@@ -27,3 +27,10 @@ pub mod Telling
 pub mod Refusals
 pub mod Program
 pub mod Promises
+-- The Test Anything Protocol.
+pub mod Lines
+pub mod LineLaws
+pub mod Tap
+pub mod Tapped
+pub mod TapLaws
+pub mod TapRows

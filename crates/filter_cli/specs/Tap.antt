@@ -1,0 +1,48 @@
+-- Lines of the Test Anything Protocol as packets, as the lines come (docs/FORMATS.md, "TAP").
+use Rattle.std.specs.Prelude.{◌≡◌, ℕ, Bool, Option, List, [], ◌++◌, length, map, nat_eq, nat_lt, if◌then◌else◌}
+use Rattle.std.specs.List.{filter, flat_map}
+use Rattle.packet_codec.specs.declared.event.Event.{Event}
+use Rattle.packet_codec.specs.Canonical.{canonical}
+use Rattle.packet_codec.specs.Grammar.{AreBytes}
+use Rattle.edge_io.specs.Bytes.{AppendsPrefix}
+use Rattle.stream_reader.specs.Notes.{stdout_event}
+use Rattle.tap_bridge.specs.Events.{longest_line, pieces_of, events_so_far, tap_events}
+use Rattle.filter_cli.specs.Lines.{IsSplit, last_line}
+
+abbrev pub packets_of : List Event → List ℕ
+packets_of events = flat_map canonical events
+
+abbrev pub is_full : List ℕ → Bool
+is_full piece = nat_eq (length piece) longest_line
+
+-- The full pieces of a line whose end is not there yet, where it is too long for a line of the protocol already. Until
+-- then none of its bytes is decided.
+abbrev pub full_pieces : List ℕ → List (List ℕ)
+full_pieces rest = if nat_lt longest_line (length rest) then filter is_full (pieces_of rest) else []
+
+-- The text that the first bytes of a stream decide, whatever follows: what the lines give that ended, and the full
+-- pieces of what stands behind them.
+pub record IsTapSeen (bytes text : List ℕ) : Type 0 where
+  pub lines : List (List ℕ)
+  pub rest : List ℕ
+  pub split : IsSplit bytes lines rest
+  pub made : text ≡ packets_of (events_so_far lines ++ map stdout_event (full_pieces rest))
+
+-- the text of a whole stream, and its status
+pub record IsTapFiltered (bytes text : List ℕ) (answer : ℕ) : Type 0 where
+  pub lines : List (List ℕ)
+  pub rest : List ℕ
+  pub split : IsSplit bytes lines rest
+  pub made : text ≡ packets_of (tap_events (lines ++ last_line rest))
+  pub status : answer ≡ 0
+
+-- The stream has a text, and of that text a first part was written.
+pub record HasWrittenTapFirst (old new : Option (List ℕ)) (bytes : List ℕ) : Type 0 where
+  pub text : List ℕ
+  pub status : ℕ
+  pub filtered : IsTapFiltered bytes text status
+  pub written : AppendsPrefix old new text
+
+-- the same of a told input whose bytes are bytes
+abbrev pub WritesTapFirst : Option (List ℕ) → Option (List ℕ) → List ℕ → Type 0
+WritesTapFirst old new bytes = AreBytes bytes → HasWrittenTapFirst old new bytes

@@ -1,0 +1,37 @@
+-- A reader of lines of the Test Anything Protocol at work.
+use Rattle.std.specs.Prelude.{◌≡◌, ◌⊎◌, ℕ, ◌<◌, ◌≤◌, Bool, true, false, ⊤, List, [], ◌∷◌, ◌++◌, length, map}
+use Rattle.std.specs.List.{concat}
+use Rattle.stream_reader.specs.Notes.{stdout_event}
+use Rattle.tap_bridge.specs.declared.reader.TapReader.{TapReader}
+use Rattle.tap_bridge.specs.Events.{longest_line, events_so_far}
+use Rattle.tap_bridge.specs.Kept.{HasRead}
+use Rattle.filter_cli.specs.Lines.{IsSplit}
+use Rattle.filter_cli.specs.Tap.{packets_of}
+
+abbrev pub AreFull : List (List ℕ) → Type 0
+AreFull [] = ⊤
+AreFull (piece ∷ pieces) = (length piece ≡ longest_line) × AreFull pieces
+
+-- how much is held of a line whose end is not there yet, where it gave pieces or none
+abbrev pub most_open : Bool → ℕ
+most_open false = longest_line
+most_open true = 65535
+
+-- a line gives pieces where it is too long for a line of the protocol
+abbrev pub GivesPieces : Bool → List ℕ → List (List ℕ) → Type 0
+GivesPieces false rest pieces = pieces ≡ []
+GivesPieces true rest pieces = longest_line < length rest
+
+-- With these bytes fed, all lines that ended were taken. What follows them was given in full pieces, but for what is held
+-- of it, and this text was appended.
+pub record HasTapped (reader : TapReader) (held : List ℕ) (long : Bool) (fed shown : List ℕ) : Type 0 where
+  pub lines : List (List ℕ)
+  pub rest : List ℕ
+  pub taken : HasRead reader lines
+  pub split : IsSplit fed lines rest
+  pub pieces : List (List ℕ)
+  pub joined : rest ≡ concat pieces ++ held
+  pub full : AreFull pieces
+  pub short : length held ≤ most_open long
+  pub kind : GivesPieces long rest pieces
+  pub made : shown ≡ packets_of (events_so_far lines ++ map stdout_event pieces)
