@@ -96,6 +96,6 @@ at_most (char ∷ chars) =
 pub no_nul : (bytes id : List ℕ) → id ≡ id_of bytes → All (λ byte. byte ≢ 0) id
 no_nul bytes id is = All-same (λ byte. byte ≢ 0) _ _ is (none_in (lossy_chars bytes))
 
--- the id of bytes that are not too many is short enough to be spelled
-pub is_short : (bytes id : List ℕ) → length bytes < 2 ^ 28 → id ≡ id_of bytes → length id < 2 ^ 30
+-- the id of bytes that are not too many leaves room in a packet
+pub is_short : (bytes id : List ℕ) → length bytes < 2 ^ 17 → id ≡ id_of bytes → length id < 2 ^ 20
 is_short bytes id short is = omega (arith, ap length is, at_most (lossy_chars bytes), length-lossy_chars bytes)

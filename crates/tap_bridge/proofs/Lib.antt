@@ -6,3 +6,4 @@ pub mod CommentLemmas
 pub mod EventLemmas
 pub mod ReadLemmas
 pub mod TextLemmas
+pub mod SizeLemmas

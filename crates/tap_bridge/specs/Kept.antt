@@ -1,5 +1,5 @@
 -- What a reader knows of the lines that it was given.
-use Rattle.std.specs.Prelude.{◌≡◌, ℕ, true, false, Option, Some, None, List, [], ◌∷◌, map}
+use Rattle.std.specs.Prelude.{◌≡◌, ℕ, ◌≤◌, true, false, Option, Some, None, List, [], ◌∷◌, map, length}
 use Rattle.std.specs.Option.{option_map}
 use Rattle.packet_codec.specs.declared.event.Event.{Event}
 use Rattle.packet_codec.specs.declared.event.FilePart.{FilePart}
@@ -22,6 +22,10 @@ event_of id how file = record {
   eof = false;
   route = None;
 }
+
+-- a file that leaves room in a packet for an id
+abbrev pub IsShortFile : FilePart → Type 0
+IsShortFile file = (length file.name ≤ 16) × (length file.bytes ≤ 65537)
 
 -- what is kept of the waiting test
 abbrev pub kept_of : Waiting → Kept

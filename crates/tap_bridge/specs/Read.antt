@@ -21,10 +21,10 @@ line_meant (read.Comment bytes) = comment bytes.now
 line_meant (read.BailOut id) = bail_out id.now
 line_meant (read.Other bytes) = other bytes.now
 
--- What becomes part of an id has at most so many bytes.
+-- What becomes part of an event has at most so many bytes.
 abbrev pub HasShortParts : Read → ℕ → Type 0
 HasShortParts (read.Plan p) most = Unit {0}
 HasShortParts (read.Test t) most = length t.description.now ≤ most
-HasShortParts (read.Comment bytes) most = Unit {0}
+HasShortParts (read.Comment bytes) most = length bytes.now ≤ most
 HasShortParts (read.BailOut id) most = length id.now ≤ most
-HasShortParts (read.Other bytes) most = Unit {0}
+HasShortParts (read.Other bytes) most = length bytes.now ≤ most

@@ -1,7 +1,8 @@
 //! The comment of a test.
 
-ghost use Rattle.std.specs.Prelude.{◌≡◌, [], ◌++◌, take, length, IfOk, OnOk, ◌==◌, if◌then◌else◌};
+ghost use Rattle.std.specs.Prelude.{◌≡◌, [], ◌++◌, take, length, IfOk, IfSome, OnOk, ◌==◌, if◌then◌else◌};
 ghost use Rattle.tap_bridge.specs.Events.{comment_limit, with_newline, comment_file};
+ghost use Rattle.tap_bridge.specs.Kept.{IsShortFile};
 
 use packet_codec::FilePart;
 use std::alloc::Global;
@@ -11,18 +12,30 @@ use sub_number::{Bytes, NoMemory, Text};
 /// The bytes of a comment that are kept.
 const COMMENT_LIMIT: usize = 65_536;
 
-/// The first bytes of some lines. Contracts see them as a list of bytes.
+/// The first bytes of some lines, `COMMENT_LIMIT` at most. Contracts see them as a list of bytes.
 #[derive(Drop)]
 pub(crate) struct Comment {
     bytes: Vec<u8>,
 }
 
 impl Model for Comment {
-    ghost use Rattle.std.specs.Prelude.{List, ℕ};
+    ghost use Rattle.std.specs.Prelude.{◌≤◌, List, ℕ, length};
+    ghost use Rattle.tap_bridge.specs.Events.{comment_limit};
 
     ghost Value = { List ℕ };
 
     ghost view = { λ c. c.bytes.items };
+
+    ghost invariant = { λ c. length c.bytes.items ≤ comment_limit };
+}
+
+// Appends the line and a newline.
+fn put_line(line: &[u8], bytes: &mut Vec<u8>) -> Result<(), NoMemory>
+    ensures { OnOk result (bytes.new.items ≡ bytes.old.items ++ with_newline line.now) }
+{
+    bytes.extend_from_slice(line)?;
+    bytes.push(b'\n')?;
+    Ok(())
 }
 
 impl Comment {
@@ -41,17 +54,17 @@ impl Comment {
     pub(crate) fn add_line(&mut self, line: &[u8]) -> Result<(), NoMemory>
         ensures { OnOk result (self.new ≡ take comment_limit (self.old ++ with_newline line.now)) }
     {
-        self.bytes.extend_from_slice(line)?;
-        self.bytes.push(b'\n')?;
+        let done = put_line(line, &mut self.bytes);
         self.bytes.truncate(COMMENT_LIMIT);
-        Ok(())
+        done
     }
 
     /// The comment as a file, where it is not empty.
     ///
     /// `NoMemory` comes only for want of memory.
     pub(crate) fn into_file(self, alloc: Global) -> Result<Option<FilePart>, NoMemory>
-        ensures { IfOk result (λ file. file ≡ comment_file self) }
+        ensures file { IfOk result (λ file. file ≡ comment_file self) }
+        ensures short { IfOk result (λ file. IfSome file IsShortFile) }
     {
         if self.bytes.is_empty() {
             return Ok(None);

@@ -1,14 +1,15 @@
 //! The events of lines.
 
-ghost use Rattle.std.specs.Prelude.{◌≡◌, [], ◌++◌, None, ◌≤◌, length, IfOk, OnOk};
+ghost use Rattle.std.specs.Prelude.{◌≡◌, [], ◌++◌, None, ◌≤◌, length, All, IfOk, IfSome, OnOk};
 ghost use Rattle.std.specs.Option.{option_map};
 ghost use Rattle.tap_bridge.specs.Events as spec;
 ghost use Rattle.packet_codec.specs.declared.status.Status.TheVariants.{Fail};
+ghost use Rattle.packet_codec.specs.Canonical.{Fits};
 ghost use Rattle.stream_reader.specs.Notes.{stdout_event as event_of_output};
-ghost use Rattle.tap_bridge.specs.Kept.{event_of};
+ghost use Rattle.tap_bridge.specs.Kept.{event_of, IsShortFile};
 
 use crate::directive::Directive;
-use crate::ids::{id_of, test_id};
+use crate::ids::{TestId, id_of, test_id};
 use crate::plan::Plan;
 use packet_codec::{Event, FilePart, Status};
 use std::alloc::Global;
@@ -31,12 +32,15 @@ fn mime_of(alloc: Global, file: &Option<FilePart>) -> Result<Option<Text>, NoMem
 /// `NoMemory` comes only for want of memory.
 pub(crate) fn test_event(
     alloc: Global,
-    id: Text,
+    id: TestId,
     status: Status,
     file: Option<FilePart>,
 ) -> Result<Event, NoMemory>
-    ensures { IfOk result (λ event. event ≡ event_of id status file) }
+    requires { IfSome file IsShortFile }
+    ensures event { IfOk result (λ event. event ≡ event_of id status file) }
+    ensures fits { IfOk result Fits }
 {
+    let id = id.into_text();
     Ok(Event {
         stamp: None,
         id: Some(id),
@@ -69,7 +73,8 @@ pub(crate) fn status_of(passed: bool, directive: Option<Directive>) -> Status
 
 // The event of the missing test of this number.
 fn missing_event(alloc: Global, number: u64) -> Result<Event, NoMemory>
-    ensures { IfOk result (λ event. event ≡ spec.missing_event number) }
+    ensures event { IfOk result (λ event. event ≡ spec.missing_event number) }
+    ensures fits { IfOk result Fits }
 {
     let id = test_id(alloc, number, b"")?;
     let file = FilePart {
@@ -88,7 +93,8 @@ pub(crate) fn add_missing(
     behind: u64,
     events: &mut Vec<Event>,
 ) -> Result<(), NoMemory>
-    ensures { OnOk result (events.new.items ≡ events.old.items ++ spec.missing_events first behind) }
+    ensures events { OnOk result (events.new.items ≡ events.old.items ++ spec.missing_events first behind) }
+    ensures fits { All Fits events.old.items → OnOk result (All Fits events.new.items) }
 {
     for number in first..behind {
         events.push(missing_event(alloc, number)?)?;
@@ -104,7 +110,8 @@ pub(crate) fn add_skipped_file(
     plan: Plan,
     events: &mut Vec<Event>,
 ) -> Result<(), NoMemory>
-    ensures { OnOk result (events.new.items ≡ events.old.items ++ spec.skipped_file plan) }
+    ensures events { OnOk result (events.new.items ≡ events.old.items ++ spec.skipped_file plan) }
+    ensures fits { All Fits events.old.items → OnOk result (All Fits events.new.items) }
 {
     if plan.skipped && plan.tests == 0 {
         let id = id_of(alloc, b"file skip")?;
@@ -118,7 +125,8 @@ pub(crate) fn add_skipped_file(
 /// `NoMemory` comes only for want of memory.
 pub(crate) fn bail_out_event(alloc: Global, line: &[u8]) -> Result<Event, NoMemory>
     requires { length line.now ≤ spec.longest_line }
-    ensures { IfOk result (λ event. event ≡ spec.event_with line.now Fail None) }
+    ensures event { IfOk result (λ event. event ≡ spec.event_with line.now Fail None) }
+    ensures fits { IfOk result Fits }
 {
     let id = id_of(alloc, line)?;
     test_event(alloc, id, Status::Fail, None)
@@ -128,10 +136,13 @@ pub(crate) fn bail_out_event(alloc: Global, line: &[u8]) -> Result<Event, NoMemo
 ///
 /// `NoMemory` comes only for want of memory.
 pub(crate) fn output_event(alloc: Global, line: &[u8]) -> Result<Event, NoMemory>
-    ensures { IfOk result (λ event. event ≡ event_of_output (spec.with_newline line.now)) }
+    requires { length line.now ≤ spec.longest_line }
+    ensures event { IfOk result (λ event. event ≡ event_of_output (spec.with_newline line.now)) }
+    ensures fits { IfOk result Fits }
 {
     let mut bytes = Vec::with_capacity(alloc, line.len() + 1)?;
     bytes.extend_from_slice(line)?;
     bytes.push(b'\n')?;
-    stdout_event(alloc, Bytes::from_vec(bytes))
+    let event = stdout_event(alloc, Bytes::from_vec(bytes))?;
+    Ok(event)
 }

@@ -8,8 +8,36 @@ ghost use Rattle.tap_bridge.specs.Ids as spec;
 use bstr::ByteSlice;
 use itoa::Buffer;
 use std::alloc::Global;
+use std::marker::Model;
 use std::string::String;
 use sub_number::{NoMemory, Text, TextFault};
+
+/// The id of a test: a text of fewer than 2^20 bytes, which leaves room in a packet. Contracts see it as the list of its
+/// bytes.
+#[derive(Drop)]
+pub(crate) struct TestId {
+    text: Text,
+}
+
+impl Model for TestId {
+    ghost use Rattle.std.specs.Prelude.{◌<◌, ◌^◌, List, ℕ, length};
+
+    ghost Value = { List ℕ };
+
+    ghost view = { λ id. id.text };
+
+    ghost invariant = { λ id. length id.text < 2 ^ 20 };
+}
+
+impl TestId {
+    /// Its text.
+    pub(crate) fn into_text(self) -> Text
+        ensures text { result ≡ self }
+        ensures short { length self < 2 ^ 20 }
+    {
+        self.text
+    }
+}
 
 // The bytes as a text, with U+FFFD for what is no UTF-8 and for each NUL.
 fn lossy(alloc: Global, bytes: &[u8]) -> Result<String, NoMemory>
@@ -23,13 +51,13 @@ fn lossy(alloc: Global, bytes: &[u8]) -> Result<String, NoMemory>
 }
 
 // The text, which is short enough and has no NUL.
-fn text_of(alloc: Global, text: &str) -> Result<Text, NoMemory>
+fn text_of(alloc: Global, text: &str) -> Result<TestId, NoMemory>
     requires no_nul { All (λ byte. byte ≢ 0) text.now }
-    requires short { length text.now < 2 ^ 30 }
+    requires short { length text.now < 2 ^ 20 }
     ensures { IfOk result (λ id. id ≡ text.now) }
 {
     match Text::new(alloc, text.as_bytes()) {
-        Ok(id) => Ok(id),
+        Ok(text) => Ok(TestId { text }),
         Err(TextFault::NoMemory) => Err(NoMemory),
         Err(TextFault::NotText) => unreachable!(),
     }
@@ -38,12 +66,12 @@ fn text_of(alloc: Global, text: &str) -> Result<Text, NoMemory>
 /// The bytes, which are not too many for it, as an id, with U+FFFD for what is no UTF-8 and for each NUL.
 ///
 /// `NoMemory` comes only for want of memory.
-pub(crate) fn id_of(alloc: Global, bytes: &[u8]) -> Result<Text, NoMemory>
-    requires { length bytes.now < 2 ^ 28 }
+pub(crate) fn id_of(alloc: Global, bytes: &[u8]) -> Result<TestId, NoMemory>
+    requires { length bytes.now < 2 ^ 17 }
     ensures { IfOk result (λ id. id ≡ spec.id_of bytes.now) }
 {
     match Text::new(alloc, bytes) {
-        Ok(id) => Ok(id),
+        Ok(text) => Ok(TestId { text }),
         Err(TextFault::NoMemory) => Err(NoMemory),
         Err(TextFault::NotText) => {
             let text = lossy(alloc, bytes)?;
@@ -66,7 +94,7 @@ fn describe(description: &[u8], name: &mut Vec<u8>) -> Result<(), NoMemory>
 /// The id of the test of this number and description.
 ///
 /// `NoMemory` comes only for want of memory.
-pub(crate) fn test_id(alloc: Global, number: u64, description: &[u8]) -> Result<Text, NoMemory>
+pub(crate) fn test_id(alloc: Global, number: u64, description: &[u8]) -> Result<TestId, NoMemory>
     requires { length description.now ≤ longest_line }
     ensures { IfOk result (λ id. id ≡ spec.id_of (spec.test_name number description.now)) }
 {

@@ -1,7 +1,8 @@
 //! Lines of the Test Anything Protocol in turn, and the events that they give.
 
-ghost use Rattle.std.specs.Prelude.{◌≡◌, ℕ, None, List, [], ◌∷◌, ◌++◌, ◌≤◌, length, map, IfOk, OnOk};
+ghost use Rattle.std.specs.Prelude.{◌≡◌, ℕ, None, List, [], ◌∷◌, ◌++◌, ◌≤◌, length, map, All, IfOk, OnOk};
 ghost use Rattle.std.specs.Option.{unwrap_or};
+ghost use Rattle.packet_codec.specs.Canonical.{Fits};
 ghost use Rattle.stream_reader.specs.Notes.{stdout_event};
 ghost use Rattle.tap_bridge.specs.Grammar as grammar;
 ghost use Rattle.tap_bridge.specs.Events as spec;
@@ -46,6 +47,7 @@ impl TapReader {
     // The event of the waiting test, where one waits. Then none waits.
     fn give_waiting(&mut self) -> Result<Vec<Event>, NoMemory>
         ensures events { IfOk result (λ events. events.items ≡ kept_events self.old.waiting) }
+        ensures fits { IfOk result (λ events. All Fits events.items) }
         ensures rest { OnOk result (self.new ≡ record self.old { waiting = None }) }
     {
         let mut events = Vec::new(self.alloc);
@@ -57,6 +59,7 @@ impl TapReader {
 
     fn take_plan(&mut self, plan: Plan) -> Result<Vec<Event>, NoMemory>
         ensures events { (before : List spec.Input) → Knows self.old before → IfOk result (λ events. events.items ≡ spec.events_at before (spec.line (grammar.plan plan))) }
+        ensures fits { IfOk result (λ events. All Fits events.items) }
         ensures read { (before : List spec.Input) → Knows self.old before → OnOk result (Knows self.new (before ++ spec.line (grammar.plan plan) ∷ [])) }
     {
         let mut events = self.give_waiting()?;
@@ -68,6 +71,7 @@ impl TapReader {
     fn take_test(&mut self, test: &TestLine<'_>) -> Result<Vec<Event>, NoMemory>
         requires { length test.now.description.now ≤ spec.longest_line }
         ensures events { (before : List spec.Input) → Knows self.old before → IfOk result (λ events. events.items ≡ spec.events_at before (spec.line (grammar.test (test_meant test.now)))) }
+        ensures fits { IfOk result (λ events. All Fits events.items) }
         ensures read { (before : List spec.Input) → Knows self.old before → OnOk result (Knows self.new (before ++ spec.line (grammar.test (test_meant test.now)) ∷ [])) }
     {
         let number = number_in(self.next, test.number);
@@ -79,7 +83,9 @@ impl TapReader {
     }
 
     fn take_comment(&mut self, line: &[u8]) -> Result<Vec<Event>, NoMemory>
+        requires { length line.now ≤ spec.longest_line }
         ensures events { (before : List spec.Input) → Knows self.old before → IfOk result (λ events. events.items ≡ spec.events_at before (spec.line (grammar.comment line.now))) }
+        ensures fits { IfOk result (λ events. All Fits events.items) }
         ensures read { (before : List spec.Input) → Knows self.old before → OnOk result (Knows self.new (before ++ spec.line (grammar.comment line.now) ∷ [])) }
     {
         match &mut self.waiting {
@@ -94,6 +100,7 @@ impl TapReader {
     fn take_bail_out(&mut self, id: &[u8]) -> Result<Vec<Event>, NoMemory>
         requires { length id.now ≤ spec.longest_line }
         ensures events { (before : List spec.Input) → Knows self.old before → IfOk result (λ events. events.items ≡ spec.events_at before (spec.line (grammar.bail_out id.now))) }
+        ensures fits { IfOk result (λ events. All Fits events.items) }
         ensures read { (before : List spec.Input) → Knows self.old before → OnOk result (Knows self.new (before ++ spec.line (grammar.bail_out id.now) ∷ [])) }
     {
         let mut events = self.give_waiting()?;
@@ -102,7 +109,9 @@ impl TapReader {
     }
 
     fn take_other(&mut self, line: &[u8]) -> Result<Vec<Event>, NoMemory>
+        requires { length line.now ≤ spec.longest_line }
         ensures events { (before : List spec.Input) → Knows self.old before → IfOk result (λ events. events.items ≡ spec.events_at before (spec.line (grammar.other line.now))) }
+        ensures fits { IfOk result (λ events. All Fits events.items) }
         ensures read { (before : List spec.Input) → Knows self.old before → OnOk result (Knows self.new (before ++ spec.line (grammar.other line.now) ∷ [])) }
     {
         let events = output(self.alloc, line)?;
@@ -113,6 +122,7 @@ impl TapReader {
     fn take_line(&mut self, line: &[u8]) -> Result<Vec<Event>, NoMemory>
         requires { length line.now ≤ spec.longest_line }
         ensures events { (before : List spec.Input) → Knows self.old before → IfOk result (λ events. events.items ≡ spec.events_at before (spec.input_of line.now)) }
+        ensures fits { IfOk result (λ events. All Fits events.items) }
         ensures read { (before : List spec.Input) → Knows self.old before → OnOk result (Knows self.new (before ++ spec.input_of line.now ∷ [])) }
     {
         match line_of(without_return(line)) {
@@ -133,6 +143,7 @@ impl TapReader {
         requires { length line.now ≤ spec.longest_line }
         ensures events { (lines : List (List ℕ)) → HasRead self.old lines → IfOk result (λ events. events.items ≡ spec.events_at (map spec.input_of lines) (spec.input_of line.now)) }
         ensures so_far { (lines : List (List ℕ)) → HasRead self.old lines → IfOk result (λ events. spec.events_so_far (lines ++ line.now ∷ []) ≡ spec.events_so_far lines ++ events.items) }
+        ensures fits { IfOk result (λ events. All Fits events.items) }
         ensures read { (lines : List (List ℕ)) → HasRead self.old lines → OnOk result (HasRead self.new (lines ++ line.now ∷ [])) }
     {
         let events = self.take_line(line)?;
@@ -145,6 +156,7 @@ impl TapReader {
     /// `NoMemory` comes only for want of memory.
     pub fn close(mut self) -> Result<Vec<Event>, NoMemory>
         ensures events { (lines : List (List ℕ)) → HasRead self lines → IfOk result (λ events. events.items ≡ spec.events_at_end (map spec.input_of lines)) }
+        ensures fits { IfOk result (λ events. All Fits events.items) }
         ensures whole { (lines : List (List ℕ)) → HasRead self lines → IfOk result (λ events. spec.tap_events lines ≡ spec.events_so_far lines ++ events.items) }
     {
         let mut events = self.give_waiting()?;
@@ -157,7 +169,9 @@ impl TapReader {
 
 // The event of a line that is no part of a test.
 fn output(alloc: Global, line: &[u8]) -> Result<Vec<Event>, NoMemory>
-    ensures { IfOk result (λ events. events.items ≡ stdout_event (spec.with_newline line.now) ∷ []) }
+    requires { length line.now ≤ spec.longest_line }
+    ensures events { IfOk result (λ events. events.items ≡ stdout_event (spec.with_newline line.now) ∷ []) }
+    ensures fits { IfOk result (λ events. All Fits events.items) }
 {
     let mut events = Vec::new(alloc);
     events.push(output_event(alloc, line)?)?;

@@ -4,20 +4,21 @@ ghost use Rattle.std.specs.Prelude.{◌≡◌, ◌≤◌, [], length, IfOk};
 ghost use Rattle.tap_bridge.specs.Events.{comment_of, longest_line};
 ghost use Rattle.tap_bridge.specs.Kept.{kept_of, kept_event};
 ghost use Rattle.tap_bridge.specs.Read.{test_meant};
+ghost use Rattle.packet_codec.specs.Canonical.{Fits};
 
 use crate::comment::Comment;
 use crate::event::{status_of, test_event};
-use crate::ids::test_id;
+use crate::ids::{TestId, test_id};
 use crate::test_line::TestLine;
 use packet_codec::{Event, Status};
 use std::alloc::Global;
-use sub_number::{NoMemory, Text};
+use sub_number::NoMemory;
 
 /// A test whose comment is not at its end.
 #[derive(Drop)]
 pub(crate) struct Waiting {
     /// Its id.
-    pub(crate) id: Text,
+    pub(crate) id: TestId,
     /// How it ended.
     pub(crate) status: Status,
     /// The comment so far.
@@ -55,7 +56,8 @@ impl Waiting {
     ///
     /// `NoMemory` comes only for want of memory.
     pub(crate) fn into_event(self, alloc: Global) -> Result<Event, NoMemory>
-        ensures { IfOk result (λ event. event ≡ kept_event self) }
+        ensures event { IfOk result (λ event. event ≡ kept_event self) }
+        ensures fits { IfOk result Fits }
     {
         let Waiting {
             id,
