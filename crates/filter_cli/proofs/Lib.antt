@@ -13,3 +13,7 @@ pub mod StatusLemmas
 pub mod Ways
 pub mod WritingLaws
 pub mod PromiseLemmas
+pub mod TapLemmas
+pub mod NewlineLemmas
+pub mod TapPrefix
+pub mod TapRowLemmas

@@ -35,3 +35,24 @@ pub record HasTapped (reader : TapReader) (held : List ℕ) (long : Bool) (fed s
   pub short : length held ≤ most_open long
   pub kind : GivesPieces long rest pieces
   pub made : shown ≡ packets_of (events_so_far lines ++ map stdout_event pieces)
+
+-- whether more bytes make a line too long that was not, or was
+abbrev pub IsLonger : Bool → Bool → ℕ → List (List ℕ) → Type 0
+IsLonger false false size pieces = pieces ≡ []
+IsLonger true false size pieces = ⊥
+IsLonger false true size pieces = longest_line < size
+IsLonger true true size pieces = ⊤
+
+-- Bytes of a line were added to what was held of it. What they decide of it was given in full pieces.
+pub record IsAdded (held : List ℕ) (long : Bool) (bytes later : List ℕ) (longer : Bool) (old new : List ℕ) : Type 0 where
+  pub pieces : List (List ℕ)
+  pub joined : held ++ bytes ≡ concat pieces ++ later
+  pub full : AreFull pieces
+  pub short : length later ≤ most_open longer
+  pub kind : IsLonger long longer (length (held ++ bytes)) pieces
+  pub grown : new ≡ old ++ packets_of (map stdout_event pieces)
+
+-- The reader was given these lines, and this is all that they give before the end.
+pub record HasTaken (reader : TapReader) (lines : List (List ℕ)) (shown : List ℕ) : Type 0 where
+  pub taken : HasRead reader lines
+  pub made : shown ≡ packets_of (events_so_far lines)

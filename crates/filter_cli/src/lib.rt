@@ -10,6 +10,8 @@
 //! - `ls`, `stats`, `sifting`, `tagging`: the filters
 //! - `notes`, `taking`, `of_notes`: filters that go by the notes of a stream
 //! - `event_laws`: what those that write events write of a whole stream
+//! - `of_tap`, `open_line`, `packets`, `pass_tap`: lines of the Test Anything Protocol as packets
+//! - `subunit_to_tap`: the way back
 #![tactic(auto)]
 
 mod event_laws;
@@ -19,6 +21,9 @@ mod laws;
 mod ls;
 mod notes;
 mod of_notes;
+mod of_tap;
+mod open_line;
+mod packets;
 mod pass;
 mod sifting;
 mod patterns;
@@ -27,6 +32,8 @@ mod retagging;
 mod selection;
 mod stats;
 mod tagging;
+mod pass_tap;
+mod subunit_to_tap;
 mod taking;
 mod telling;
 mod through;
@@ -48,10 +55,14 @@ pub use retagging::Retagging;
 pub use selection::Selection;
 pub use stats::Stats;
 pub use tagging::{Tagging, tag_stream};
+pub use pass_tap::tap_to_subunit;
+pub use subunit_to_tap::SubunitToTap;
 pub use through::pass_notes;
 pub use tool::{Tool, tool_of};
 pub use top::filters;
 
+#[cfg(test)]
+mod tap_tests;
 #[cfg(test)]
 mod tests;
 #[cfg(test)]

@@ -124,7 +124,7 @@ fn put_rows(listing: Listing, rows: &[Row], text: &mut Vec<u8>) -> Result<(), No
 }
 
 // Whether a test failed, this row included.
-fn failed_after(failed: bool, row: &Option<Row>) -> bool
+pub(crate) fn failed_after(failed: bool, row: &Option<Row>) -> bool
     ensures { result ≡ (failed || list_any row_fails (option_to_list row.now)) }
 {
     match row {

@@ -71,8 +71,9 @@ test_fits id how mime file is short fits = rw is (record {
   );
 })
 
-output_size : (bytes : List ℕ) → length bytes ≤ 65537 → Fits (stdout_event bytes)
-output_size bytes short = record {
+-- the event of a piece of output
+pub stdout_fits : (bytes : List ℕ) → length bytes ≤ 65537 → Fits (stdout_event bytes)
+stdout_fits bytes short = record {
   size = omega (
     arith,
     packet_size_most (length (canonical_fields (stdout_event bytes))),
@@ -86,7 +87,7 @@ output_size bytes short = record {
 
 -- the event of a line
 pub output_fits : (line bytes : List ℕ) (event : Event) → event ≡ stdout_event bytes → bytes ≡ with_newline line → length line ≤ longest_line → Fits event
-output_fits line bytes event is all short = rw is (output_size bytes (omega (arith, ap length all, length-append line (10 ∷ []), short)))
+output_fits line bytes event is all short = rw is (stdout_fits bytes (omega (arith, ap length all, length-append line (10 ∷ []), short)))
 
 pub fit_none : (events : List Event) → events ≡ [] → All Fits events
 fit_none events none = subst (All Fits) (sym none) (All-nil Fits)

@@ -4,7 +4,8 @@ use Rattle.std.proofs.lemmas.List.{append-nil}
 use Rattle.outcome_fold.specs.declared.row.Row.{Row}
 use Rattle.tap_bridge.specs.Texts.{text_at, text_behind, text_so_far}
 
-behind_push : (before rows : List Row) (row : Row) → text_behind before (rows ++ row ∷ []) ≡ text_behind before rows ++ text_at (before ++ rows) row
+-- the same behind other rows
+pub behind_push : (before rows : List Row) (row : Row) → text_behind before (rows ++ row ∷ []) ≡ text_behind before rows ++ text_at (before ++ rows) row
 behind_push before [] row = append-nil (text_at before row) ∙ ap (λ rows. text_at rows row) (sym (append-nil before))
 behind_push before (first ∷ rows) row =
     ap (λ text. text_at before first ++ text) (behind_push (before ++ first ∷ []) rows row ∙ ap (λ all. text_behind (before ++ first ∷ []) rows ++ text_at all row) (append_assoc before (first ∷ []) rows))

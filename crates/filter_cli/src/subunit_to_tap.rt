@@ -1,0 +1,101 @@
+//! The tests of a stream as lines of the Test Anything Protocol.
+
+ghost use Rattle.std.specs.Prelude.{◌≡◌, ◌++◌, List, OnOk};
+ghost use Rattle.std.specs.List.{flat_map};
+ghost use Rattle.std.specs.Option.{option_to_list};
+ghost use Rattle.outcome_fold.specs.declared.row.Row.{Row as ARow};
+ghost use Rattle.tap_bridge.specs.Texts.{HasWritten, text_at, text_behind};
+
+use crate::ls::{any_failed, failed_after};
+use crate::notes::NoteFilter;
+use outcome_fold::{Fold, Row};
+use std::alloc::Global;
+use stream_reader::Note;
+use sub_number::NoMemory;
+use tap_bridge::TapWriter;
+
+/// Writes a line for each test where it completes, at the end those of the tests that are left open, and then the plan.
+/// Foreign bytes are dropped.
+#[derive(Drop)]
+pub struct SubunitToTap {
+    fold: Fold,
+    writer: TapWriter,
+    // A test that is complete failed.
+    failed: bool,
+}
+
+impl SubunitToTap {
+    ghost use Rattle.std.specs.Prelude.{[], false};
+    ghost use Rattle.outcome_fold.specs.Folded.{HasSeen};
+
+    /// The lines of nothing yet.
+    pub fn new(alloc: Global) -> Self
+        ensures fold { HasSeen result.fold [] }
+        ensures writer { HasWritten result.writer [] }
+        ensures failed { result.failed ≡ false }
+    {
+        SubunitToTap {
+            fold: Fold::new(alloc),
+            writer: TapWriter::new(),
+            failed: false,
+        }
+    }
+}
+
+impl NoteFilter for SubunitToTap {
+    ghost use Rattle.std.specs.List.{list_any};
+    ghost use Rattle.outcome_fold.specs.Answers.{row_fails};
+    ghost use Rattle.outcome_fold.specs.Folded.{HasSeen};
+    ghost use Rattle.outcome_fold.specs.Rows.{completed_rows};
+    ghost use Rattle.filter_cli.specs.Events.{events_in};
+    ghost use Rattle.filter_cli.specs.TapRows.{tap_plan};
+
+    ghost plan = { λ f. tap_plan };
+
+    ghost has = { λ f notes. HasSeen f.fold (events_in notes) × HasWritten f.writer (completed_rows (events_in notes)) × (f.failed ≡ list_any row_fails (completed_rows (events_in notes))) };
+
+    fn take(&mut self, note: Note, text: &mut Vec<u8>) -> Result<(), NoMemory> {
+        let event = match note {
+            Note::Foreign(_) => return Ok(()),
+            Note::Event(event) => event,
+        };
+        let row = self.fold.add(&event)?;
+        put_row(&mut self.writer, &row, text)?;
+        self.failed = failed_after(self.failed, &row);
+        Ok(())
+    }
+
+    fn close(self, text: &mut Vec<u8>) -> Result<u8, NoMemory> {
+        let failed = self.failed;
+        let mut writer = self.writer;
+        let rows = self.fold.close()?;
+        put_rows(&mut writer, &rows, text)?;
+        writer.close(text)?;
+        Ok(u8::from(failed || any_failed(&rows)))
+    }
+
+    fn let_go(self) {}
+}
+
+// Appends the line of the row, where there is one.
+fn put_row(writer: &mut TapWriter, row: &Option<Row>, text: &mut Vec<u8>) -> Result<(), NoMemory>
+    ensures text { (rows : List ARow) → HasWritten writer.old rows → OnOk result (text.new.items ≡ text.old.items ++ flat_map (text_at rows) (option_to_list row.now)) }
+    ensures written { (rows : List ARow) → HasWritten writer.old rows → OnOk result (HasWritten writer.new (rows ++ option_to_list row.now)) }
+{
+    let Some(row) = row else {
+        return Ok(());
+    };
+    writer.row(row, text)?;
+    Ok(())
+}
+
+// Appends the lines of the rows.
+fn put_rows(writer: &mut TapWriter, rows: &[Row], text: &mut Vec<u8>) -> Result<(), NoMemory>
+    ensures text { (before : List ARow) → HasWritten writer.old before → OnOk result (text.new.items ≡ text.old.items ++ text_behind before rows.now) }
+    ensures written { (before : List ARow) → HasWritten writer.old before → OnOk result (HasWritten writer.new (before ++ rows.now)) }
+{
+    for row in rows {
+        writer.row(row, text)?;
+    }
+    Ok(())
+}

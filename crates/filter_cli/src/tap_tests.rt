@@ -1,0 +1,134 @@
+//! Lines as packets and packets as lines, over streams in memory.
+
+use crate::{SubunitToTap, pass_notes, tap_to_subunit};
+use edge_io::{ListSink, ListSource};
+use std::alloc::Global;
+use std::test::Fail;
+use sub_number::Bytes;
+
+// The input gives so many bytes a read.
+fn source(alloc: Global, input: &[u8], chunk: usize) -> Result<ListSource, Fail> {
+    Ok(ListSource::new(Bytes::new(alloc, input)?, chunk, Vec::new(alloc)))
+}
+
+fn sink(alloc: Global) -> Result<ListSink, Fail> {
+    Ok(ListSink::new(alloc, Vec::new(alloc)))
+}
+
+// Whether the lines give these packets, with status 0.
+fn gives(alloc: Global, lines: &[u8], packets: &[u8]) -> Result<bool, Fail> {
+    let mut input = source(alloc, lines, 7)?;
+    let mut out = sink(alloc)?;
+    let Ok(status) = tap_to_subunit(alloc, &mut input, &mut out) else {
+        return Ok(false);
+    };
+    Ok(status == 0 && out.taken() == packets)
+}
+
+// The status of the stream as lines, where these are they.
+fn written(alloc: Global, stream: &[u8], lines: &[u8]) -> Result<Option<u8>, Fail> {
+    let mut input = source(alloc, stream, 13)?;
+    let mut out = sink(alloc)?;
+    let Ok(status) = pass_notes(alloc, SubunitToTap::new(alloc), &mut input, &mut out) else {
+        return Ok(None);
+    };
+    Ok(if out.taken() == lines {
+        Some(status)
+    } else {
+        None
+    })
+}
+
+const THREE: &[u8] =
+    b"\xb3)\x03\x17\x0etest 1 - firstY?)\x1e\xb3)f@O\x06test 2\x18text/plain; charset=UTF8\x08tap meta\x1ctest missing from TAP output\xff\x9f\xecs\xb3)g@B\x0ctest 3 third\x18text/plain; charset=UTF8\x0btap comment\x06later\n{$\x02\x8a";
+
+#[test]
+fn three_lines_and_back(rt: HostRuntime) -> Result<(), Fail> {
+    let alloc = rt.alloc();
+    let lines = b"1..3\nok 1 - first\nnot ok 3 third # TODO later\n";
+    assert!(rt; gives(alloc, lines, THREE)?);
+    let back = b"ok 1 test 1 - first\nnot ok 2 test 2\nnot ok 3 test 3 third # TODO\n1..3\n";
+    assert_eq!(rt; written(alloc, THREE, back)?, Some(1));
+    Ok(())
+}
+
+const MISSING: &[u8] =
+    b"\xb3)\x03\x0f\x06test 1\xb2\x92\xc6\xab\xb3)f@O\x06test 2\x18text/plain; charset=UTF8\x08tap meta\x1ctest missing from TAP output\xff\x9f\xecs";
+
+#[test]
+fn the_end_gives_what_is_missing(rt: HostRuntime) -> Result<(), Fail> {
+    let alloc = rt.alloc();
+    assert!(rt; gives(alloc, b"1..2\nok\n", MISSING)?);
+    assert!(rt;
+        gives(
+            alloc,
+            b"1..0 # skip none\r\n",
+            b"\xb3)\x05\x12\x09file skip\xcf\xb9\xc9$"
+        )?
+    );
+    assert!(rt; gives(alloc, b"", b"")?);
+    Ok(())
+}
+
+#[test]
+fn the_last_line_needs_no_newline(rt: HostRuntime) -> Result<(), Fail> {
+    let alloc = rt.alloc();
+    assert!(rt;
+        gives(
+            alloc,
+            b"x\nok 1 a",
+            b"\xb3!@\x12\x06stdout\x02x\n\x96\xc7\xfc~\xb3)\x03\x11\x08test 1 a \xb9\xbdo"
+        )?
+    );
+    Ok(())
+}
+
+// What a line of so many `a` gives behind a test line, and before its comment.
+fn long_line(alloc: Global, count: usize, chunk: usize) -> Option<ListSink> {
+    let mut lines = Vec::new(alloc);
+    lines.extend_from_slice(b"ok\n").ok()?;
+    for _ in 0..count {
+        lines.push(b'a').ok()?;
+    }
+    lines.extend_from_slice(b"\n# why").ok()?;
+    let mut input = ListSource::new(Bytes::from_vec(lines), chunk, Vec::new(alloc));
+    let mut out = ListSink::new(alloc, Vec::new(alloc));
+    tap_to_subunit(alloc, &mut input, &mut out).ok()?;
+    Some(out)
+}
+
+// Whether the line of 65,537 gives two pieces, and then the test its comment.
+fn is_cut(out: &ListSink) -> bool {
+    let text = out.taken();
+    text.starts_with(b"\xb3!@\x81\x00\x14\x06stdout\x81\x00\x00aaaa")
+        && text.ends_with(
+            b"aaaa|\x0d\xc4\xbe\xb3!@\x11\x06stdout\x01aeO\xc0f\xb3)c;\x06test 1\x18text/plain; charset=UTF8\x0btap comment\x06# why\n\n'\x16\xc9",
+        )
+        && text.len() == 65_556 + 17 + 59
+}
+
+#[test]
+fn a_line_that_is_too_long_is_output(rt: HostRuntime) -> Result<(), Fail> {
+    let alloc = rt.alloc();
+    assert!(rt; long_line(alloc, 65_537, 65_536).is_some_and(|out| is_cut(&out)));
+    assert!(rt; long_line(alloc, 65_537, 4_096).is_some_and(|out| is_cut(&out)));
+    Ok(())
+}
+
+const KINDS: &[u8] =
+    b"\xb3)\x03\n\x01a\xdd\xc1\xc7\xba\xb3)\x01\n\x01z\xfd\xad\xc6\xddlog\n\xb3)\x04\x0c\x03b\n#8q\xf4-\xb3)\x02\n\x01o\x82\xc5\x8d\xd8\xb3)\x05\n\x01c\x16\xa4\xf9J\xb3)\x06\n\x01d\x9au\xc3\x07\xb3)\x07\n\x01eU\xce\x94\xf4";
+
+#[test]
+fn each_kind_of_row_has_its_line(rt: HostRuntime) -> Result<(), Fail> {
+    let alloc = rt.alloc();
+    let lines =
+        b"ok 1 a\nnot ok 2 b??\nok 3 c # SKIP\nnot ok 4 d\nnot ok 5 e # TODO\nnot ok 6 o\n1..6\n";
+    assert_eq!(rt; written(alloc, KINDS, lines)?, Some(1));
+    let passed = b"\xb3)\x03\n\x01a\xdd\xc1\xc7\xba\xb3)\x05\n\x01c\x16\xa4\xf9J";
+    assert_eq!(rt;
+        written(alloc, passed, b"ok 1 a\nok 2 c # SKIP\n1..2\n")?,
+        Some(0)
+    );
+    assert_eq!(rt; written(alloc, b"", b"1..0\n")?, Some(0));
+    Ok(())
+}
