@@ -1,5 +1,5 @@
 -- Good patterns, and bad ones.
-use Rattle.std.proofs.Common.{◌≡◌, ◌⊎◌, inl, inr, ℕ, ◌<◌, ◌≤◌, All, Option, None, Some, IsSomeAnd, List, [], refl, ◌∙◌, sym, subst, arith}
+use Rattle.std.proofs.Common.{◌≡◌, ◌⊎◌, inl, inr, ℕ, ◌<◌, ◌≤◌, All, Option, None, Some, IsSomeAnd, List, [], ◌∙◌, sym, subst, arith}
 use Rattle.regex_syntax.specs.Grammar.{Names}
 use Rattle.regex_syntax.specs.Brackets.{Nested}
 use Rattle.regex.specs.Patterns.{Re, default_config}

@@ -1,5 +1,5 @@
 -- How a chain goes on, and how it stops.
-use Rattle.std.proofs.Common.{◌≡◌, ℕ, All, Option, None, Some, List, [], Result, Ok, Err, refl, sym, ap, subst, ◌∙◌, arith}
+use Rattle.std.proofs.Common.{◌≡◌, ℕ, All, Option, List, [], Result, Ok, Err, refl, ap, subst, ◌∙◌, arith}
 use Rattle.std.specs.Prelude.{IsErrAnd}
 use Rattle.std.proofs.lemmas.Result.{err_from_is_err_and}
 use Rattle.partition_times.specs.Patterns.{IsPattern}
@@ -10,7 +10,6 @@ use Rattle.filter_cli.specs.Pipe.{Pipe}
 use Rattle.filter_cli.specs.Plan.{Plan, IsSeen, IsFiltered}
 use Rattle.filter_cli.specs.Pumping.{Pumps}
 use Rattle.filter_cli.specs.Tagging.{tags_plan, tags_plan_of}
-use Rattle.filter_cli.specs.Patterns.{Compiles}
 use Rattle.filter_cli.specs.Streams.{patterns_of}
 use Rattle.filter_cli.specs.Program.{Passes, Checked, Performs, Tells}
 use Rattle.filter_cli.specs.declared.asked.Asked.{Asked}

@@ -1,5 +1,5 @@
 -- A search for the next newline.
-use Rattle.std.proofs.Common.{◌≡◌, ℕ, suc, ◌+◌, ◌-◌, ◌<◌, ◌≤◌, true, List, [], ◌∷◌, ◌++◌, Some, None, length, get_or, take, drop, refl, sym, ap, subst, ◌∙◌, arith, append_assoc, eqb-true, take-add}
+use Rattle.std.proofs.Common.{◌≡◌, ℕ, suc, ◌+◌, ◌-◌, ◌<◌, ◌≤◌, List, [], ◌∷◌, ◌++◌, Some, None, length, get_or, take, drop, sym, ap, subst, ◌∙◌, arith, append_assoc, eqb-true, take-add}
 use Rattle.std.proofs.lemmas.List.{take_rest, take_more, length-drop, length-take-le, get_or-take, get_or-drop}
 use Rattle.memchr.specs.Find.{IsFirstByte, is_byte}
 use Rattle.filter_cli.specs.Lines.{IsPlain}

@@ -1,9 +1,8 @@
 -- A filter of notes at work.
-use Rattle.std.proofs.Common.{◌≡◌, ℕ, Bool, true, false, List, [], ◌∷◌, ◌++◌, length, refl, sym, ap, subst, ◌∙◌, append_assoc, append-nil, arith}
+use Rattle.std.proofs.Common.{◌≡◌, ℕ, Bool, true, false, List, [], ◌∷◌, ◌++◌, refl, sym, ap, subst, ◌∙◌, append_assoc, append-nil, arith}
 use Rattle.packet_codec.specs.Grammar.{AreBytes}
 use Rattle.stream_reader.specs.declared.note.Note.{Note}
-use Rattle.stream_reader.specs.Notes.{HasNotes, HasDecided}
-use Rattle.stream_reader.specs.Stream.{Held, BeginsWithNotes, GivesNote, GivesNotes, IsSpent}
+use Rattle.stream_reader.specs.Stream.{Held, GivesNote, IsSpent}
 use Rattle.stream_reader.proofs.TurnLemmas.{notes_none, notes_more, begin_more, whole_at_end, gives_none}
 use Rattle.stream_reader.proofs.GivingLemmas.{spent_empty}
 use Rattle.filter_cli.specs.Pipe.{Adds}

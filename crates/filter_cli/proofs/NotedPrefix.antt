@@ -1,5 +1,5 @@
 -- What is written of a told input at every exit.
-use Rattle.std.proofs.Common.{◌≡◌, ◌≤◌, ℕ, Option, None, Some, IfSome, List, [], ◌++◌, length, take, refl, arith}
+use Rattle.std.proofs.Common.{ℕ, Option, None, Some, IfSome, List, arith}
 use Rattle.std.proofs.KnownBytes.{Appends-nil}
 use Rattle.packet_codec.specs.Grammar.{AreBytes}
 use Rattle.edge_io.specs.Bytes.{AppendsPrefix}

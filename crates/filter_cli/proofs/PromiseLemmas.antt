@@ -1,5 +1,5 @@
 -- An answer keeps all that is promised.
-use Rattle.std.proofs.Common.{◌≡◌, ◌⊎◌, inl, inr, ℕ, ◌<◌, ◌≤◌, Option, None, Some, IfSome, IsSomeAnd, Result, Ok, Err, List, length, refl, sym, ap, subst, ◌∙◌, arith}
+use Rattle.std.proofs.Common.{◌≡◌, ◌⊎◌, inl, inr, ℕ, ◌<◌, ◌≤◌, Option, None, Some, IfSome, IsSomeAnd, Result, Ok, Err, List, length, sym, ap, subst, ◌∙◌, arith}
 use Rattle.std.proofs.KnownBytes.{Appends-nil}
 use Rattle.packet_codec.specs.Grammar.{AreBytes}
 use Rattle.edge_io.specs.Bytes.{AppendsPrefix}
@@ -7,7 +7,7 @@ use Rattle.filter_cli.specs.Pipe.{Pipe, NoFault}
 use Rattle.filter_cli.specs.Pumping.{PumpsAll, ReadFails, WriteFails, IsDue, IsTooLong, Pumps, most_bytes}
 use Rattle.filter_cli.specs.Tools.{tool_of}
 use Rattle.filter_cli.specs.Words.{asked_of}
-use Rattle.filter_cli.specs.Streams.{writing_of, sees_by, ends_by, patterns_of, AsksFor, HasBadPattern, Sees, Ends}
+use Rattle.filter_cli.specs.Streams.{writing_of, sees_by, ends_by, AsksFor, HasBadPattern, Sees, Ends}
 use Rattle.filter_cli.specs.Outside.{Outside, pipe_of, SomeRose}
 use Rattle.filter_cli.specs.Refusals.{code_of}
 use Rattle.filter_cli.specs.Program.{Answers}
@@ -17,7 +17,7 @@ use Rattle.filter_cli.specs.declared.refusal.Refusal.{Refusal}
 use Rattle.filter_cli.specs.declared.pass.PumpFault.{PumpFault}
 use Rattle.filter_cli.specs.declared.pass.PumpFault.TheVariants as pump_fault
 use Rattle.filter_cli.proofs.PumpLemmas.{pumped_prefix, if_told}
-use Rattle.filter_cli.proofs.BadLemmas.{none_bad, same_asked, asks_no_bad}
+use Rattle.filter_cli.proofs.BadLemmas.{same_asked, asks_no_bad}
 use Rattle.filter_cli.proofs.StatusLemmas.{status_at_most}
 use Rattle.filter_cli.proofs.WritingLaws.{by_front, by_one}
 use Rattle.filter_cli.proofs.Ways.{Ways, by_usage, by_memory, by_bad, by_want, passed, by_input, by_length, by_output, by_room, filters_ways}

@@ -1,5 +1,5 @@
 -- What the exits of a pump have in common.
-use Rattle.std.proofs.Common.{◌≡◌, ℕ, ◌+◌, Option, None, Some, IfSome, List, [], ◌++◌, take, drop, refl, sym, ap, subst, ◌∙◌, inl, inr, append_assoc, append-nil}
+use Rattle.std.proofs.Common.{◌≡◌, ℕ, Option, None, Some, IfSome, List, [], ◌++◌, take, drop, refl, sym, ap, subst, ◌∙◌, inl, inr, append_assoc, append-nil}
 use Rattle.std.specs.Io.KnownBytes.{Consumes}
 use Rattle.std.specs.Prelude.{Result, Ok, Err}
 use Rattle.std.specs.Result.{IsErrAnd}
@@ -7,7 +7,7 @@ use Rattle.std.proofs.lemmas.List.{take-append-drop}
 use Rattle.packet_codec.specs.Grammar.{AreBytes}
 use Rattle.edge_io.specs.Bytes.{AppendsPrefix}
 use Rattle.filter_cli.specs.Pipe.{Pipe}
-use Rattle.filter_cli.specs.Pumping.{PumpsAll, ReadFails, StopsBefore, WriteFails, IsDue, Pumps}
+use Rattle.filter_cli.specs.Pumping.{StopsBefore, WriteFails, IsDue, Pumps}
 use Rattle.filter_cli.specs.declared.pass.PumpFault.{PumpFault}
 use Rattle.filter_cli.specs.declared.pass.PumpFault.TheVariants.{Input, TooLong, Output, NoMemory}
 use Rattle.filter_cli.proofs.PipeLemmas.{told_front, told_all, prefix_by}

@@ -5,8 +5,9 @@ use Rattle.outcome_fold.specs.Rows.{completed_rows, open_rows, rows_of}
 use Rattle.outcome_fold.specs.Answers.{row_fails}
 use Rattle.filter_cli.specs.Events.{events_in}
 use Rattle.filter_cli.specs.Streams.{writing_of, ends_by}
+use Rattle.filter_cli.specs.TapRows.{tap_rows}
 use Rattle.filter_cli.specs.declared.asked.Asked.{Asked}
-use Rattle.filter_cli.specs.declared.asked.Asked.TheVariants.{Filter, Tags, Ls, Stats}
+use Rattle.filter_cli.specs.declared.asked.Asked.TheVariants.{Filter, Tags, Ls, Stats, FromTap, ToTap}
 
 one_at_most : (b : Bool) → (if b then 1 else 0) ≤ 1
 one_at_most true = omega arith
@@ -20,4 +21,8 @@ status_at_most (Ls listing) bytes text status w =
     omega (arith, few, w.status)
 status_at_most Stats bytes text status w =
     let few = one_at_most (list_any row_fails (rows_of (events_in w.notes))) in
+    omega (arith, few, w.status)
+status_at_most FromTap bytes text status w = omega (arith, w.status)
+status_at_most ToTap bytes text status w =
+    let few = one_at_most (list_any row_fails (tap_rows (events_in w.notes))) in
     omega (arith, few, w.status)

@@ -1,5 +1,5 @@
 -- A reader of lines of the Test Anything Protocol at work.
-use Rattle.std.proofs.Common.{◌≡◌, ◌⊎◌, inl, inr, ℕ, ◌+◌, ◌<◌, ◌≤◌, Bool, true, false, List, [], ◌∷◌, ◌++◌, map, length, take, drop, refl, sym, ap, subst, ◌∙◌, arith, append_assoc, append-nil, length-append}
+use Rattle.std.proofs.Common.{◌≡◌, ℕ, ◌+◌, ◌<◌, ◌≤◌, Bool, true, false, List, [], ◌∷◌, ◌++◌, map, length, take, drop, refl, sym, ap, subst, ◌∙◌, arith, append_assoc, append-nil, length-append}
 use Rattle.std.specs.List.{concat, flat_map}
 use Rattle.std.proofs.lemmas.List.{map-append, take-append-drop}
 use Rattle.std.proofs.lemmas.List.Concat.{flat_map-append}
@@ -8,7 +8,7 @@ use Rattle.packet_codec.specs.declared.event.Event.{Event}
 use Rattle.packet_codec.specs.Canonical.{canonical, Fits}
 use Rattle.stream_reader.specs.Notes.{stdout_event}
 use Rattle.tap_bridge.specs.declared.reader.TapReader.{TapReader}
-use Rattle.tap_bridge.specs.Events.{longest_line, input_of, pieces_of, events_so_far, events_at_end, tap_events}
+use Rattle.tap_bridge.specs.Events.{longest_line, pieces_of, events_so_far, tap_events}
 use Rattle.tap_bridge.specs.Kept.{HasRead}
 use Rattle.tap_bridge.proofs.SizeLemmas.{stdout_fits}
 use Rattle.tap_bridge.proofs.LongLines.{one_piece, too_long_is_read, too_long_gives}

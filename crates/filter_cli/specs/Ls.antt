@@ -1,5 +1,5 @@
 -- The tests of a stream, listed as they complete (docs/COMMANDS.md, "subunit-ls").
-use Rattle.std.specs.Prelude.{ℕ, Bool, ◌||◌, List, [], ◌∷◌, ◌++◌, if◌then◌else◌}
+use Rattle.std.specs.Prelude.{ℕ, ◌||◌, List, [], ◌++◌, if◌then◌else◌}
 use Rattle.std.specs.List.{flat_map}
 use Rattle.std.specs.Option.{option_to_list}
 use Rattle.packet_codec.specs.declared.event.Event.{Event}

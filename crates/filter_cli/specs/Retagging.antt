@@ -1,5 +1,5 @@
 -- What the words of `subunit-tags` ask for (docs/COMMANDS.md, "subunit-tags").
-use Rattle.std.specs.Prelude.{ℕ, ◌^◌, Bool, ◌||◌, ◌==◌, nat_eq, nat_le, Option, Some, None, List, [], ◌∷◌, length, drop, codes, if◌then◌else◌}
+use Rattle.std.specs.Prelude.{ℕ, ◌^◌, Bool, ◌||◌, ◌==◌, nat_eq, nat_le, Option, Some, None, List, length, drop, codes, if◌then◌else◌}
 use Rattle.std.specs.List.{flat_map, list_any, starts_with}
 use Rattle.std.specs.Option.{option_to_list}
 use Rattle.std.specs.Str.{bytes_eq}

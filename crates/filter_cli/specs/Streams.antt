@@ -1,33 +1,40 @@
 -- What the words write of a stream.
-use Rattle.std.specs.Prelude.{◌≡◌, ℕ, All, Option, Some, List, []}
+use Rattle.std.specs.Prelude.{◌≡◌, ℕ, All, Some, List, []}
 use Rattle.partition_times.specs.Patterns.{IsPattern}
 use Rattle.filter_cli.specs.declared.asked.Asked.{Asked}
-use Rattle.filter_cli.specs.declared.asked.Asked.TheVariants.{Filter, Tags, Ls, Stats}
+use Rattle.filter_cli.specs.declared.asked.Asked.TheVariants.{Filter, Tags, Ls, Stats, FromTap, ToTap}
 use Rattle.filter_cli.specs.Plan.{Plan, IsSeen, IsFiltered}
 use Rattle.filter_cli.specs.Ls.{ls_plan}
 use Rattle.filter_cli.specs.Stats.{stats_plan}
 use Rattle.filter_cli.specs.Filtering.{filter_plan}
 use Rattle.filter_cli.specs.Tagging.{tags_plan_of}
+use Rattle.filter_cli.specs.Tap.{IsTapSeen, IsTapFiltered}
+use Rattle.filter_cli.specs.TapRows.{tap_plan}
 use Rattle.filter_cli.specs.Patterns.{rules_of, IsFirstBadText}
 use Rattle.filter_cli.specs.Words.{asked_of}
 
 -- what a filter writes, by what its input is cut into
 pub data Writing : Type 0 where
   of_notes : Plan → Writing
+  of_tap_lines : Writing
 
 abbrev pub writing_of : Asked → Writing
 writing_of (Filter selection) = of_notes (filter_plan (rules_of selection) selection.hidden)
 writing_of (Tags retagging) = of_notes (tags_plan_of retagging.add retagging.remove)
 writing_of (Ls listing) = of_notes (ls_plan listing)
 writing_of Stats = of_notes stats_plan
+writing_of FromTap = of_tap_lines
+writing_of ToTap = of_notes tap_plan
 
 -- the text that the first bytes of a stream decide, whatever follows
 abbrev pub sees_by : Writing → List ℕ → List ℕ → Type 0
 sees_by (of_notes plan) = IsSeen plan
+sees_by of_tap_lines = IsTapSeen
 
 -- the text of a whole stream, and its status
 abbrev pub ends_by : Writing → List ℕ → List ℕ → ℕ → Type 0
 ends_by (of_notes plan) = IsFiltered plan
+ends_by of_tap_lines = IsTapFiltered
 
 -- the patterns that a filter is given, in the order of the words
 abbrev pub patterns_of : Asked → List (List ℕ)
@@ -35,6 +42,8 @@ patterns_of (Filter selection) = selection.patterns
 patterns_of (Tags retagging) = []
 patterns_of (Ls listing) = []
 patterns_of Stats = []
+patterns_of FromTap = []
+patterns_of ToTap = []
 
 -- the words ask for this filter, and its patterns are good
 pub record AsksFor (words : List (List ℕ)) (asked : Asked) : Type 0 where

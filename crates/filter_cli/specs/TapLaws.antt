@@ -1,6 +1,6 @@
 -- The laws that a filter owes, of lines of the Test Anything Protocol.
-use Rattle.std.proofs.Common.{◌≡◌, ◌⊎◌, inl, inr, ⊎_elim, ℕ, zero, suc, ◌+◌, ◌*◌, ◌<◌, ◌≤◌, Bool, true, false, cond, nat_lt, nat_eq, Option, List, [], ◌∷◌, ◌++◌, map, length, take, drop, refl, sym, ap, subst, ◌∙◌, arith, append_assoc, append-nil, length-append, lt-ltb, le-ltb, ltb-true, ltb-false, ne_eqb, eq-eqb}
-use Rattle.std.specs.List.{concat, filter, flat_map}
+use Rattle.std.proofs.Common.{◌≡◌, ◌⊎◌, inl, inr, ⊎_elim, ℕ, zero, suc, ◌+◌, ◌*◌, ◌<◌, ◌≤◌, Bool, true, false, cond, nat_lt, nat_eq, List, [], ◌∷◌, ◌++◌, map, length, take, drop, refl, sym, ap, ◌∙◌, arith, append_assoc, append-nil, length-append, lt-ltb, le-ltb, ltb-true, ltb-false, ne_eqb, eq-eqb}
+use Rattle.std.specs.List.{concat, filter}
 use Rattle.std.proofs.lemmas.Bool.{cases_Bool, cond-true, cond-false}
 use Rattle.std.proofs.lemmas.List.{map-append, take-append-drop, length-drop, length-take-le}
 use Rattle.std.proofs.lemmas.List.Elements.{filter-append}
@@ -12,7 +12,7 @@ use Rattle.stream_reader.specs.Notes.{stdout_event}
 use Rattle.tap_bridge.specs.declared.reader.TapReader.{TapReader}
 use Rattle.tap_bridge.specs.Events.{Input, longest_line, input_of, too_long, pieces_of, events_at, events_behind, events_so_far, events_at_end, tap_events}
 use Rattle.tap_bridge.proofs.LongLines.{one_piece, piece_in_front}
-use Rattle.filter_cli.specs.Lines.{IsSplit, last_line}
+use Rattle.filter_cli.specs.Lines.{last_line}
 use Rattle.filter_cli.specs.LineLaws.{next_line, one_split, some_split}
 use Rattle.filter_cli.specs.Tap.{packets_of, is_full, full_pieces, IsTapSeen, IsTapFiltered}
 use Rattle.filter_cli.specs.Tapped.{AreFull, most_open, GivesPieces, HasTapped}

@@ -1,5 +1,5 @@
 -- A reader of lines of the Test Anything Protocol at work.
-use Rattle.std.specs.Prelude.{◌≡◌, ◌⊎◌, ℕ, ◌<◌, ◌≤◌, Bool, true, false, ⊤, List, [], ◌∷◌, ◌++◌, length, map}
+use Rattle.std.specs.Prelude.{◌≡◌, ℕ, ◌<◌, ◌≤◌, Bool, true, false, ⊤, List, [], ◌∷◌, ◌++◌, length, map}
 use Rattle.std.specs.List.{concat}
 use Rattle.stream_reader.specs.Notes.{stdout_event}
 use Rattle.tap_bridge.specs.declared.reader.TapReader.{TapReader}

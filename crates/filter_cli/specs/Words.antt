@@ -9,7 +9,7 @@ use Rattle.filter_cli.specs.declared.ls.Listing.{Listing}
 use Rattle.filter_cli.specs.declared.tool.Tool.{Tool}
 use Rattle.filter_cli.specs.declared.tool.Tool.TheVariants as tool
 use Rattle.filter_cli.specs.declared.asked.Asked.{Asked}
-use Rattle.filter_cli.specs.declared.asked.Asked.TheVariants.{Filter, Tags, Ls, Stats}
+use Rattle.filter_cli.specs.declared.asked.Asked.TheVariants.{Filter, Tags, Ls, Stats, FromTap, ToTap}
 use Rattle.filter_cli.specs.Tools.{tool_of, tool_named, kind_in}
 use Rattle.filter_cli.specs.Selecting.{selection_of}
 use Rattle.filter_cli.specs.Retagging.{retagging_of}
@@ -35,14 +35,14 @@ listing_of items = record {
   hidden = has_flag (codes "--no-passthrough") items;
 }
 
--- what a filter is asked by options alone; `subunit-tags` has none, and those of TAP are not there yet
+-- what a filter is asked by options alone; `subunit-tags` has none
 abbrev pub asked_for : Tool → List Item → Option Asked
 asked_for tool.Filter items = Some (Filter (selection_of items))
 asked_for tool.Tags items = None
 asked_for tool.Ls items = Some (Ls (listing_of items))
 asked_for tool.Stats items = Some Stats
-asked_for tool.FromTap items = None
-asked_for tool.ToTap items = None
+asked_for tool.FromTap items = Some FromTap
+asked_for tool.ToTap items = Some ToTap
 
 -- no filter that has options has names
 abbrev pub asked_with : Tool → List Item → Option Asked

@@ -25,6 +25,10 @@ pub enum Asked {
     Ls(Listing),
     /// `subunit-stats`: count the tests.
     Stats,
+    /// `tap2subunit`: lines of the Test Anything Protocol as packets.
+    FromTap,
+    /// `subunit2tap`: tests as lines of the Test Anything Protocol.
+    ToTap,
 }
 
 /// The filter that the words ask for. None comes exactly where they ask for none.
@@ -72,8 +76,10 @@ fn asked_with(alloc: Global, tool: Tool, items: &[Item<'_>]) -> Result<Option<As
         Tool::Filter => Ok(Some(Asked::Filter(selection_of(alloc, items)?))),
         Tool::Ls => Ok(Some(Asked::Ls(listing_of(items)))),
         Tool::Stats => Ok(Some(Asked::Stats)),
-        // These have no such options, or are not there yet.
-        Tool::Tags | Tool::FromTap | Tool::ToTap => Ok(None),
+        Tool::FromTap => Ok(Some(Asked::FromTap)),
+        Tool::ToTap => Ok(Some(Asked::ToTap)),
+        // It has no options.
+        Tool::Tags => Ok(None),
     }
 }
 

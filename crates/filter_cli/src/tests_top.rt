@@ -74,6 +74,24 @@ fn status_of(
     }
 }
 
+// Whether the second filter gives this text and status of what the first one writes of the stream.
+fn gives_through(
+    alloc: Global,
+    first: &str,
+    second: &str,
+    stream: &[u8],
+    text: &[u8],
+    status: u8,
+) -> bool {
+    let (Some(words), Some(mut input)) = (owned(alloc, &[first]), source(alloc, stream, &[])) else {
+        return false;
+    };
+    let mut out = ListSink::new(alloc, Vec::new(alloc));
+    let mut err = ListSink::new(alloc, Vec::new(alloc));
+    let answer = filters(alloc, &words, &mut input, &mut out, &mut err);
+    answer == 0 && gives(alloc, &[second], out.taken(), text, status)
+}
+
 // Whether it is done, with this text and status.
 fn gives(alloc: Global, words: &[&str], stream: &[u8], text: &[u8], status: u8) -> bool {
     status_of(alloc, words, stream, &[], text, b"", 0) == Some(status)
@@ -256,4 +274,19 @@ fn what_was_read_is_written_before_a_fault(rt: HostRuntime) {
         0,
     );
     assert!(rt; status == Some(4));
+}
+
+#[test]
+fn lines_of_tap_come_back(rt: HostRuntime) {
+    let alloc = rt.alloc();
+    assert!(rt;
+        gives_through(
+            alloc,
+            "tap2subunit",
+            "subunit2tap",
+            b"1..3\nok 1 - first\nnot ok 3 third # TODO later\n",
+            b"ok 1 test 1 - first\nnot ok 2 test 2\nnot ok 3 test 3 third # TODO\n1..3\n",
+            1
+        )
+    );
 }

@@ -11,12 +11,14 @@ ghost use Rattle.filter_cli.specs.declared.asked.Asked.TheVariants as wanted;
 
 use crate::asked::{Asked, read_asked};
 use crate::ls::{Listing, Ls};
+use crate::pass_tap::tap_to_subunit;
 use crate::patterns::rules_of;
 use crate::refusal::{Refusal, UsageFault};
 use crate::retagging::Retagging;
 use crate::selection::Selection;
 use crate::sifting::filter_stream;
 use crate::stats::Stats;
+use crate::subunit_to_tap::SubunitToTap;
 use crate::tagging::tag_stream;
 use crate::telling::tell;
 use crate::through::pass_notes;
@@ -90,6 +92,8 @@ fn pass<I: Source, O: Sink>(
         Asked::Tags(retagging) => retag(alloc, retagging, input, out),
         Asked::Ls(listing) => list(alloc, listing, input, out),
         Asked::Stats => count(alloc, input, out),
+        Asked::FromTap => read_tap(alloc, input, out),
+        Asked::ToTap => write_tap(alloc, input, out),
     }
 }
 
@@ -140,6 +144,22 @@ fn count<I: Source, O: Sink>(alloc: Global, input: &mut I, out: &mut O) -> Resul
     ensures { Checked wanted.Stats (pipe (I.seen input.old) (O.seen out.old)) (pipe (I.seen input.new) (O.seen out.new)) result }
 {
     let status = pass_notes(alloc, Stats::new(alloc), input, out)?;
+    Ok(status)
+}
+
+// `tap2subunit`
+fn read_tap<I: Source, O: Sink>(alloc: Global, input: &mut I, out: &mut O) -> Result<u8, Refusal>
+    ensures { Checked wanted.FromTap (pipe (I.seen input.old) (O.seen out.old)) (pipe (I.seen input.new) (O.seen out.new)) result }
+{
+    let status = tap_to_subunit(alloc, input, out)?;
+    Ok(status)
+}
+
+// `subunit2tap`
+fn write_tap<I: Source, O: Sink>(alloc: Global, input: &mut I, out: &mut O) -> Result<u8, Refusal>
+    ensures { Checked wanted.ToTap (pipe (I.seen input.old) (O.seen out.old)) (pipe (I.seen input.new) (O.seen out.new)) result }
+{
+    let status = pass_notes(alloc, SubunitToTap::new(alloc), input, out)?;
     Ok(status)
 }
 

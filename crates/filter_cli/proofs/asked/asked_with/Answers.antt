@@ -1,9 +1,8 @@
-use Rattle.std.proofs.Common.{◌≡◌, Some, map, sym, ap, ◌∙◌}
+use Rattle.std.proofs.Common.{Some, map, sym, ap, ◌∙◌}
 use Rattle.command_words.specs.Code.{shown}
 use Rattle.filter_cli.specs.declared.ls.Listing.{Listing}
 use Rattle.filter_cli.specs.declared.selection.Selection.{Selection}
 use Rattle.filter_cli.specs.declared.tool.Tool.{Tool}
-use Rattle.filter_cli.specs.declared.asked.Asked.{Asked}
 use Rattle.filter_cli.specs.declared.asked.Asked.TheVariants as wanted
 use Rattle.filter_cli.specs.Words.{asked_for}
 use Rattle.filter_cli.proofs.WordLemmas.{named_so, unnamed_so}
@@ -27,4 +26,14 @@ returns-in-Ls c =
 pub returns-in-Stats : goal.returns-in-Stats
 returns-in-Stats c =
     ap (λ (t : Tool). asked_for t (map shown c.args.items.now)) (sym c.in-Stats.is)
+    ∙ sym (unnamed_so c.args.tool c.args.items.now _ c.has_name.ensures c.if-has_name.false)
+
+pub returns-in-FromTap : goal.returns-in-FromTap
+returns-in-FromTap c =
+    ap (λ (t : Tool). asked_for t (map shown c.args.items.now)) (sym c.in-FromTap.is)
+    ∙ sym (unnamed_so c.args.tool c.args.items.now _ c.has_name.ensures c.if-has_name.false)
+
+pub returns-in-ToTap : goal.returns-in-ToTap
+returns-in-ToTap c =
+    ap (λ (t : Tool). asked_for t (map shown c.args.items.now)) (sym c.in-ToTap.is)
     ∙ sym (unnamed_so c.args.tool c.args.items.now _ c.has_name.ensures c.if-has_name.false)

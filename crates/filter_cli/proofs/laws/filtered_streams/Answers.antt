@@ -1,4 +1,4 @@
-use Rattle.std.proofs.Common.{ℕ, List, ◌++◌, subst}
+use Rattle.std.proofs.Common.{◌++◌, subst}
 use Rattle.filter_cli.specs.Streams.{writing_of, sees_by, ends_by}
 use Rattle.filter_cli.specs.declared.asked.Asked.{Asked}
 use Rattle.filter_cli.proofs.BadLemmas.{same_asked}

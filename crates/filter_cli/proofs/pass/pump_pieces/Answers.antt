@@ -1,6 +1,6 @@
-use Rattle.std.proofs.Common.{◌≡◌, ◌+◌, ◌≤◌, ◌<◌, ℕ, List, [], ◌++◌, length, take, inl, inr, sym, ap, subst, ◌∙◌, arith, length-append, append-nil}
+use Rattle.std.proofs.Common.{◌<◌, [], ◌++◌, length, take, inl, inr, ◌∙◌, arith, length-append, append-nil}
 use Rattle.std.proofs.KnownBytes.{Consumes-trans, Consumes-kept}
-use Rattle.filter_cli.specs.Pumping.{most_bytes, most_at_once}
+use Rattle.filter_cli.specs.Pumping.{most_bytes}
 use Rattle.filter_cli.proofs.PipeLemmas.{rose_later, took_none, text_is, wrote_all, wrote_part, told_longer}
 use Rattle.filter_cli.proofs.PumpLemmas.{stopped_by}
 use Rattle.filter_cli.proofs.pass.pump_pieces.Goals as goal

@@ -1,4 +1,3 @@
-use Rattle.std.proofs.Common.{ap, length, arith}
 use Rattle.filter_cli.proofs.TapLemmas.{tapped_none}
 use Rattle.filter_cli.proofs.TapPrefix.{tap_prefix}
 use Rattle.filter_cli.proofs.pass_tap.tap_to_subunit.Goals as goal

@@ -1,4 +1,4 @@
-use Rattle.std.proofs.Common.{◌≡◌, ◌<◌, ℕ, List, length, Err, subst, ap, ◌∙◌}
+use Rattle.std.proofs.Common.{◌<◌, ℕ, List, length, Err, subst, ap, ◌∙◌}
 use Rattle.filter_cli.proofs.patterns.check.Goals as goal
 
 pub take-requires : goal.take-requires

@@ -1,5 +1,4 @@
-use Rattle.std.proofs.Common.{◌≡◌, ℕ, List, Option, Some, sym, ap, ◌∙◌}
-use Rattle.filter_cli.specs.declared.retagging.Retagging.{Retagging}
+use Rattle.std.proofs.Common.{Some, ◌∙◌}
 use Rattle.filter_cli.proofs.WordLemmas.{refused_so, retagged_so}
 use Rattle.filter_cli.proofs.retagging.read_retagging.Goals as goal
 

@@ -1,4 +1,4 @@
-use Rattle.std.proofs.Common.{[], ◌++◌, refl, arith}
+use Rattle.std.proofs.Common.{[], refl, arith}
 use Rattle.std.proofs.KnownBytes.{Consumes-nil, Appends-nil}
 use Rattle.filter_cli.proofs.PumpLemmas.{stopped_by}
 use Rattle.filter_cli.proofs.NotedLemmas.{seen_none}

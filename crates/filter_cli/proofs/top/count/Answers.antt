@@ -1,4 +1,3 @@
-use Rattle.std.proofs.Common.{Ok, Err, ap, refl}
 use Rattle.filter_cli.specs.declared.asked.Asked.TheVariants as wanted
 use Rattle.filter_cli.specs.Pipe.{pipe}
 use Rattle.filter_cli.specs.Steps.{goes_on}

@@ -1,5 +1,4 @@
 use Rattle.std.proofs.Common.{Ok, Err, ap, refl}
-use Rattle.filter_cli.specs.declared.asked.Asked.TheVariants as wanted
 use Rattle.filter_cli.specs.Pipe.{pipe}
 use Rattle.filter_cli.specs.Steps.{goes_on}
 use Rattle.event_sift.specs.declared.rules.Rules.{Rules}

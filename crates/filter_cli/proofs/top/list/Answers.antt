@@ -1,4 +1,4 @@
-use Rattle.std.proofs.Common.{Ok, Err, ap, refl}
+use Rattle.std.proofs.Common.{Ok, Err, ap}
 use Rattle.filter_cli.specs.declared.asked.Asked.TheVariants as wanted
 use Rattle.filter_cli.specs.Pipe.{pipe}
 use Rattle.filter_cli.specs.Steps.{goes_on}

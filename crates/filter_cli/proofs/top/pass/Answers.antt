@@ -13,3 +13,9 @@ returns-in-Ls g c = checked_as _ _ _ _ _ (sym c.in-Ls.is) c.list.ensures
 
 pub returns-in-Stats : goal.returns-in-Stats
 returns-in-Stats g c = checked_as _ _ _ _ _ (sym c.in-Stats.is) c.count.ensures
+
+pub returns-in-FromTap : goal.returns-in-FromTap
+returns-in-FromTap g c = checked_as _ _ _ _ _ (sym c.in-FromTap.is) c.read_tap.ensures
+
+pub returns-in-ToTap : goal.returns-in-ToTap
+returns-in-ToTap g c = checked_as _ _ _ _ _ (sym c.in-ToTap.is) c.write_tap.ensures

@@ -1,4 +1,4 @@
-use Rattle.std.proofs.Common.{sym, ap, ◌∙◌}
+use Rattle.std.proofs.Common.{◌∙◌}
 use Rattle.filter_cli.specs.Events.{events_in}
 use Rattle.filter_cli.proofs.EventLemmas.{event_more, failed_more}
 use Rattle.filter_cli.proofs.ls.LsNoteFilter.take.Goals as goal

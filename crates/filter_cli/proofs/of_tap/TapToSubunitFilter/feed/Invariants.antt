@@ -1,4 +1,4 @@
-use Rattle.std.proofs.Common.{◌≡◌, ℕ, ◌-◌, ◌≤◌, List, ◌++◌, take, length}
+use Rattle.std.proofs.Common.{ℕ, ◌-◌, ◌≤◌, List, ◌++◌, take, length}
 use Rattle.filter_cli.specs.Pipe.{Adds}
 use Rattle.filter_cli.specs.Tapped.{most_open, HasTapped}
 use Rattle.filter_cli.proofs.of_tap.TapToSubunitFilter.feed.Given as goal
