@@ -14,8 +14,8 @@
 //! - `subunit_to_tap`: the way back
 #![tactic(auto)]
 
-mod event_laws;
 mod asked;
+mod event_laws;
 mod filter;
 mod laws;
 mod ls;
@@ -25,12 +25,12 @@ mod of_tap;
 mod open_line;
 mod packets;
 mod pass;
-mod sifting;
 mod pass_tap;
 mod patterns;
 mod refusal;
 mod retagging;
 mod selection;
+mod sifting;
 mod stats;
 mod subunit_to_tap;
 mod tagging;
@@ -40,20 +40,20 @@ mod through;
 mod tool;
 mod top;
 
-pub use event_laws::packets_of_streams;
 pub use asked::{Asked, read_asked};
+pub use event_laws::packets_of_streams;
 pub use filter::Filter;
 pub use laws::filtered_streams;
 pub use ls::{Listing, Ls};
 pub use notes::NoteFilter;
 pub use of_notes::OfNotes;
 pub use pass::{PumpFault, pump};
-pub use sifting::{Sifting, filter_stream};
 pub use pass_tap::tap_to_subunit;
 pub use patterns::{Patterns, PatternsFault};
 pub use refusal::{Refusal, UsageFault};
 pub use retagging::Retagging;
 pub use selection::Selection;
+pub use sifting::{Sifting, filter_stream};
 pub use stats::Stats;
 pub use subunit_to_tap::SubunitToTap;
 pub use tagging::{Tagging, tag_stream};
@@ -67,4 +67,5 @@ mod tap_tests;
 mod tests;
 #[cfg(test)]
 mod tests_events;
+#[cfg(test)]
 mod tests_top;
