@@ -18,7 +18,7 @@ use sub_number::{Bytes, NoMemory};
 #[derive(Drop)]
 pub struct Lane<C> {
     course: Course,
-    child: C,
+    pub(crate) child: C,
     buffer: Vec<u8>,
     ghost room: { length buffer.items ≡ 65536 },
 }

@@ -379,7 +379,7 @@ fn told_of(alloc: Global, ending: Ending) -> Option<Vec<u8>> {
 
 fn is_told(told: Option<Vec<u8>>, wanted: &[u8]) -> bool {
     match told {
-        Some(told) => told == wanted,
+        Some(told) => told.as_slice() == wanted,
         None => false,
     }
 }
