@@ -1,21 +1,24 @@
 -- What is recorded, one piece after another.
 use Rattle.std.proofs.Common.{◌≡◌, ℕ, ◌<◌, true, Option, Some, None, List, [], ◌++◌, Result, Ok, Err, sym, ap, subst, ◌∙◌, append_assoc, length, length-append, arith}
-use Rattle.std.specs.Prelude.{IfSome, IfErr, IsErrAnd}
+use Rattle.std.specs.Prelude.{IfSome, IfNone, IfErr, IsErrAnd}
+use Rattle.std.proofs.lemmas.List.{append-nil}
 use Rattle.std.proofs.lemmas.Result.{err_from_is_err_and}
 use Rattle.edge_io.specs.Causes.{Rose}
 use Rattle.edge_io.specs.Disk.{Folder}
 use Rattle.edge_io.specs.Seen.{Seen}
 use Rattle.edge_io.specs.Steps.{Goes, Grown}
 use Rattle.outcome_fold.specs.declared.row.Row.{Row}
+use Rattle.packet_codec.specs.declared.event.Event.{Event}
 use Rattle.packet_codec.specs.Grammar.{AreBytes}
-use Rattle.run_ledger.specs.Reading.{HasRead, AreRowsOf}
-use Rattle.run_ledger.specs.declared.run_reader.RunReader.{RunReader}
+use Rattle.run_ledger.specs.Reading.{AreRowsOf}
+use Rattle.run_ledger.specs.Writing.{HasWritten}
+use Rattle.run_ledger.specs.declared.written_run.WrittenRun.{WrittenRun}
 use Rattle.run_shelf.specs.Drafts.{SameButDraft}
 use Rattle.run_shelf.proofs.DraftLemmas.{goes_grown_then}
 use Rattle.stream_reader.proofs.FrontLemmas.{are_both}
 use Rattle.worker_lane.specs.Recorded.{IsRecorded}
-use Rattle.worker_lane.specs.Scribing.{Scribing, holding, Recording, GivesPackets, HasNone}
-use Rattle.worker_lane.proofs.RecordingLemmas.{recording_ended, recording_whole}
+use Rattle.worker_lane.specs.Scribing.{Scribing, holding, Recording, GivesThis, GivesPackets, HasNone}
+use Rattle.worker_lane.proofs.RecordingLemmas.{as_packet, packets_none, packets_one, recording_ended, recording_whole}
 use Rattle.testr_cli.specs.Outside.{Fed, fed}
 use Rattle.testr_cli.specs.Recording.{most_bytes, ReadsFew, ReadsTooMany, NoneFailed, WritesPackets, HasRecordCause, HasWriteCause, RecordsInput, RecordsPieces, RecordsAll, Records}
 use Rattle.testr_cli.specs.declared.recording.RecordFault.{RecordFault}
@@ -33,7 +36,7 @@ given_then x y z run packets g h = record {
 }
 
 -- the next ones behind those that were written
-pub writes_then : (a b c : Seen Folder) (x y z : Scribing) (p q r : RunReader) (packets : List ℕ) → WritesPackets a b x y p q → GivesPackets y [] z packets → AreBytes packets → Goes b.told c.told (Grown packets) → ((bytes : List ℕ) → HasRead q bytes → HasRead r (bytes ++ packets)) → c.faults ≡ b.faults → WritesPackets a c x z p r
+pub writes_then : (a b c : Seen Folder) (x y z : Scribing) (p q r : WrittenRun) (packets : List ℕ) → WritesPackets a b x y p q → GivesPackets y [] z packets → AreBytes packets → Goes b.told c.told (Grown packets) → ((bytes : List ℕ) → HasWritten q bytes → HasWritten r (bytes ++ packets)) → c.faults ≡ b.faults → WritesPackets a c x z p r
 writes_then a b c x y z p q r packets w given are written folded count = record {
   run = w.run ++ packets;
   given = given_then x y z w.run packets w.given given;
@@ -42,6 +45,19 @@ writes_then a b c x y z p q r packets w given are written folded count = record 
   folded = λ bytes read. rw (← append_assoc bytes w.run packets) (folded (bytes ++ w.run) (w.folded bytes read));
   count = count ∙ w.count;
 }
+
+-- none was given
+pub none_given : (before after : Scribing) (old new : List ℕ) → after ≡ before → new ≡ old → GivesPackets before old after new
+none_given before after old new same kept = rw (same, kept) (packets_none before old)
+
+-- the next one was given, if there was one
+pub given_by : (answer : Option Event) (before after : Scribing) (old new : List ℕ) → IfSome answer (λ event. GivesThis before old event after new) → IfNone answer (HasNone before × (after ≡ before) × (new ≡ old)) → GivesPackets before old after new
+given_by (Some event) before after old new some none = packets_one before after old new (as_packet before after old event new some)
+given_by None before after old new some none = none_given before after old new none.1 none.2
+
+-- nothing was gathered
+pub folds_nothing : (rows : WrittenRun) (packets run : List ℕ) → packets ≡ [] → HasWritten rows run → HasWritten rows (run ++ packets)
+folds_nothing rows packets run none has = rw none (rw (append-nil run) has)
 
 -- ---- what is recorded
 
@@ -69,7 +85,7 @@ refused_by before after result fault is cause rests =
     subst (Records before after) (sym (p.1 ∙ ap Err p.2)) (record { recorded = tt; refused = cause; rests = rests })
 
 -- the end of the input, of which the last packets were written
-module _ (before : Fed) (between after : Seen Folder) (input : Seen (List ℕ)) (scribe ended last : Scribing) (rows : RunReader) (pieces : RecordsPieces before (fed between input) scribe rows) (packets : List ℕ) (given : GivesPackets ended [] last packets) (written : Goes between.told after.told (Grown packets)) (are : AreBytes packets) (count : after.faults ≡ between.faults) where
+module _ (before : Fed) (between after : Seen Folder) (input : Seen (List ℕ)) (scribe ended last : Scribing) (rows : WrittenRun) (pieces : RecordsPieces before (fed between input) scribe rows) (packets : List ℕ) (given : GivesPackets ended [] last packets) (written : Goes between.told after.told (Grown packets)) (are : AreBytes packets) (count : after.faults ≡ between.faults) where
   run : List ℕ
   run = pieces.run ++ packets
 

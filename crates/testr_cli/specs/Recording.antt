@@ -8,8 +8,9 @@ use Rattle.edge_io.specs.Seen.{Seen}
 use Rattle.edge_io.specs.Steps.{Goes, Grown}
 use Rattle.outcome_fold.specs.declared.row.Row.{Row}
 use Rattle.packet_codec.specs.Grammar.{AreBytes}
-use Rattle.run_ledger.specs.Reading.{HasRead, AreRowsOf}
-use Rattle.run_ledger.specs.declared.run_reader.RunReader.{RunReader}
+use Rattle.run_ledger.specs.Reading.{AreRowsOf}
+use Rattle.run_ledger.specs.Writing.{HasWritten}
+use Rattle.run_ledger.specs.declared.written_run.WrittenRun.{WrittenRun}
 use Rattle.run_shelf.specs.Drafts.{SameButDraft}
 use Rattle.run_shelf.specs.declared.faults.ShelfCall.TheVariants.{Append}
 use Rattle.worker_lane.specs.Recorded.{IsRecorded}
@@ -57,14 +58,14 @@ pub record NoneFailed (before after : Fed) : Type 0 where
 
 -- Some bytes of the input were read, the packets that they decide stand in the draft, and their rows were folded; the
 -- scribe was not told of an end.
-pub record RecordsPieces (before after : Fed) (scribe : Scribing) (rows : RunReader) : Type 0 where
+pub record RecordsPieces (before after : Fed) (scribe : Scribing) (rows : WrittenRun) : Type 0 where
   pub bytes : List ℕ
   pub read : Consumes before.input.told after.input.told bytes
   pub at_end : IsAtEnd after.input.told
   pub size : length bytes ≤ most_bytes
   pub run : List ℕ
   pub recording : Recording bytes scribe run
-  pub folded : HasRead rows run
+  pub folded : HasWritten rows run
   pub are_bytes : AreBytes run
   pub written : Goes before.folder.told after.folder.told (Grown run)
   pub counts : NoneFailed before after
@@ -81,12 +82,12 @@ pub record IsOneMore (scribe : Scribing) (packets : List ℕ) : Type 0 where
   pub last : GivesPacket before front scribe packets
 
 -- some packets were given in order, written behind the draft, and folded
-pub record WritesPackets (before after : Seen Folder) (scribe now : Scribing) (rows read : RunReader) : Type 0 where
+pub record WritesPackets (before after : Seen Folder) (scribe now : Scribing) (rows folded_rows : WrittenRun) : Type 0 where
   pub run : List ℕ
   pub given : GivesPackets scribe [] now run
   pub are_bytes : AreBytes run
   pub written : Goes before.told after.told (Grown run)
-  pub folded : (bytes : List ℕ) → HasRead rows bytes → HasRead read (bytes ++ run)
+  pub folded : (bytes : List ℕ) → HasWritten rows bytes → HasWritten folded_rows (bytes ++ run)
   pub count : after.faults ≡ before.faults
 
 -- what is recorded of the input was written behind the draft, and these are its rows

@@ -1,23 +1,23 @@
-//! Records an input as it is read: each piece of it becomes packets, which are written behind the draft and folded. A
-//! piece may decide very many, so they are written as soon as they have `PIECE` bytes: less than that and one packet are
-//! held at most.
+//! Records an input as it is read: each piece of it becomes packets, whose events are folded as they are given, and which
+//! are written behind the draft. A piece may decide very many, so they are written as soon as they have `PIECE` bytes: less
+//! than that and one packet are held at most.
 
 ghost use Rattle.std.specs.Prelude.{◌≡◌, ℕ, ◌<◌, ◌≤◌, List, [], ◌++◌, true, false, length, IfOk, IfErr, OnOk};
 ghost use Rattle.edge_io.specs.Steps.{Goes, Grown, HasDraft};
 ghost use Rattle.packet_codec.specs.Grammar.{AreBytes};
-ghost use Rattle.run_ledger.specs.Reading.{HasRead};
+ghost use Rattle.run_ledger.specs.Writing.{HasWritten};
 ghost use Rattle.run_shelf.specs.Drafts.{SameButDraft};
 ghost use Rattle.stream_reader.specs.Room.{most_held};
 ghost use Rattle.testr_cli.specs.Outside.{fed};
 ghost use Rattle.testr_cli.specs.Recording.{Records, RecordsPieces, WritesPackets, IsOneMore, most_gathered, HasRecordCause, HasWriteCause, record_code, record_text};
 ghost use Rattle.testr_cli.specs.Telling.{line_text};
 ghost use Rattle.testr_cli.specs.declared.recording.RecordFault.TheVariants.{Shelf as ShelfFailed, Input, NoMemory};
-ghost use Rattle.worker_lane.specs.Scribing.{Recording, GivesPackets, HasNone, most_left};
+ghost use Rattle.worker_lane.specs.Scribing.{Recording, GivesPacket, GivesPackets, HasNone, most_left};
 
 use crate::telling::Line;
 use edge_io::{Failed, Shelf, Source};
 use outcome_fold::Rows;
-use run_ledger::RunReader;
+use run_ledger::WrittenRun;
 use run_shelf::{ShelfCall, add_packet};
 use std::alloc::Global;
 use worker_lane::Scribe;
@@ -104,7 +104,7 @@ pub fn record<H: Shelf, I: Source>(
         result }
 {
     let mut scribe = Scribe::new(alloc, 0)?;
-    let mut rows = RunReader::new(alloc)?;
+    let mut rows = WrittenRun::new(alloc);
     let mut packets = Vec::new(alloc);
     record_pieces(shelf, input, &mut scribe, &mut rows, &mut packets)?;
     scribe.finish();
@@ -118,14 +118,14 @@ fn record_pieces<H: Shelf, I: Source>(
     shelf: &mut H,
     input: &mut I,
     scribe: &mut Scribe,
-    rows: &mut RunReader,
+    rows: &mut WrittenRun,
     packets: &mut Vec<u8>,
 ) -> Result<(), RecordFault>
     requires draft { HasDraft (H.seen shelf.old).told }
     requires going_on { scribe.old.held.ended ≡ false }
     requires held { length scribe.old.held.bytes ≤ most_held }
     requires recording { Recording [] scribe.old [] }
-    requires folded { HasRead rows.old [] }
+    requires folded { HasWritten rows.old [] }
     requires empty { packets.old.items ≡ [] }
     ensures recorded { OnOk result (RecordsPieces
         (fed (H.seen shelf.old) (I.seen input.old))
@@ -159,7 +159,7 @@ fn record_pieces<H: Shelf, I: Source>(
 fn write_packets<H: Shelf>(
     shelf: &mut H,
     scribe: &mut Scribe,
-    rows: &mut RunReader,
+    rows: &mut WrittenRun,
     packets: &mut Vec<u8>,
 ) -> Result<(), RecordFault>
     requires draft { HasDraft (H.seen shelf.old).told }
@@ -173,8 +173,8 @@ fn write_packets<H: Shelf>(
     ensures refused { IfErr result (HasWriteCause (H.seen shelf.old) (H.seen shelf.new)) }
 {
     loop {
-        let more = gather_packets(scribe, packets)?;
-        write_gathered(shelf, rows, packets)?;
+        let more = gather_packets(scribe, rows, packets)?;
+        write_gathered(shelf, packets)?;
         if !more {
             return Ok(());
         }
@@ -182,16 +182,22 @@ fn write_packets<H: Shelf>(
 }
 
 // Gathers packets until they have `PIECE` bytes or more, and answers true then; false where no more are decided by now.
-fn gather_packets(scribe: &mut Scribe, packets: &mut Vec<u8>) -> Result<bool, sub_number::NoMemory>
+// They are folded as they are given.
+fn gather_packets(
+    scribe: &mut Scribe,
+    rows: &mut WrittenRun,
+    packets: &mut Vec<u8>,
+) -> Result<bool, sub_number::NoMemory>
     requires { packets.old.items ≡ [] }
     ensures given { GivesPackets scribe.old [] scribe.new packets.new.items }
+    ensures folded { (run : List ℕ) → HasWritten rows.old run → OnOk result (HasWritten rows.new (run ++ packets.new.items)) }
     ensures shorter { IfOk result (λ more. more ≡ true → most_left scribe.new < most_left scribe.old) }
     ensures one_more { IfOk result (λ more. more ≡ true → IsOneMore scribe.new packets.new.items) }
     ensures none { IfOk result (λ more. more ≡ false → HasNone scribe.new) }
     ensures held { IfOk result (λ more. more ≡ false → scribe.new.held.ended ≡ false → length scribe.new.held.bytes ≤ most_held) }
     ensures few { IfOk result (λ more. more ≡ false → length packets.new.items < most_gathered) }
 {
-    while scribe.next_into(packets)? {
+    while gather_next(scribe, rows, packets)? {
         if packets.len() >= PIECE {
             return Ok(true);
         }
@@ -199,17 +205,31 @@ fn gather_packets(scribe: &mut Scribe, packets: &mut Vec<u8>) -> Result<bool, su
     Ok(false)
 }
 
-// Writes the packets that were gathered behind the draft, and folds them. Where there are none the folder is not called.
-fn write_gathered<H: Shelf>(
-    shelf: &mut H,
-    rows: &mut RunReader,
+// Appends the next packet, folds its event, and answers true; false where no more are decided by now.
+fn gather_next(
+    scribe: &mut Scribe,
+    rows: &mut WrittenRun,
     packets: &mut Vec<u8>,
-) -> Result<(), RecordFault>
+) -> Result<bool, sub_number::NoMemory>
+    ensures given { GivesPackets scribe.old packets.old.items scribe.new packets.new.items }
+    ensures one { IfOk result (λ more. more ≡ true → GivesPacket scribe.old packets.old.items scribe.new packets.new.items) }
+    ensures folded { (run : List ℕ) → HasWritten rows.old (run ++ packets.old.items) → OnOk result (HasWritten rows.new (run ++ packets.new.items)) }
+    ensures shorter { IfOk result (λ more. more ≡ true → most_left scribe.new < most_left scribe.old) }
+    ensures none { IfOk result (λ more. more ≡ false → HasNone scribe.old × (scribe.new ≡ scribe.old) × (packets.new.items ≡ packets.old.items)) }
+{
+    let Some(event) = scribe.next_event_into(packets)? else {
+        return Ok(false);
+    };
+    rows.add(&event)?;
+    Ok(true)
+}
+
+// Writes the packets that were gathered behind the draft. Where there are none the folder is not called.
+fn write_gathered<H: Shelf>(shelf: &mut H, packets: &mut Vec<u8>) -> Result<(), RecordFault>
     requires { HasDraft (H.seen shelf.old).told }
     ensures idle { packets.old.items ≡ [] → H.clock shelf.new ≡ H.clock shelf.old }
     ensures are_bytes { AreBytes packets.old.items }
     ensures written { OnOk result (Goes (H.seen shelf.old).told (H.seen shelf.new).told (Grown packets.old.items)) }
-    ensures folded { (run : List ℕ) → HasRead rows.old run → OnOk result (HasRead rows.new (run ++ packets.old.items)) }
     ensures empty { OnOk result (packets.new.items ≡ []) }
     ensures draft { OnOk result (HasDraft (H.seen shelf.new).told) }
     ensures rests { Goes (H.seen shelf.old).told (H.seen shelf.new).told SameButDraft }
@@ -220,7 +240,6 @@ fn write_gathered<H: Shelf>(
         return Ok(());
     }
     add_packet(shelf, packets)?;
-    rows.feed(packets)?;
     packets.clear();
     Ok(())
 }

@@ -1,12 +1,14 @@
-use Rattle.std.proofs.Common.{◌<◌, ◌≤◌, [], length}
+use Rattle.std.proofs.Common.{◌<◌, ◌≤◌, ◌++◌, ℕ, List, [], length}
+use Rattle.run_ledger.specs.Writing.{HasWritten}
 use Rattle.worker_lane.specs.Scribing.{GivesPackets, most_left}
 use Rattle.testr_cli.specs.Recording.{most_gathered}
 use Rattle.testr_cli.proofs.recording.gather_packets.Given as goal
 
--- the packets gathered so far were given in turn, and are few
+-- the packets gathered so far were given and folded in turn, and are few
 abbrev pub invariant-loop-packets : goal.invariant-loop-packets
 invariant-loop-packets l = record {
   given : GivesPackets l.fn.scribe [] l.scribe l.packets.items;
+  folded : (run : List ℕ) → HasWritten l.fn.rows run → HasWritten l.rows (run ++ l.packets.items);
   left : most_left l.scribe ≤ most_left l.fn.scribe;
   few : length l.packets.items < most_gathered;
 }

@@ -6,7 +6,7 @@ pub loop-more-preserved : goal.loop-more-preserved
 loop-more-preserved g c =
     let next = c.in_ok-write_gathered.ensures in
     record {
-      written = writes_then _ _ _ _ _ _ _ _ _ _ c.loop-more.invariant.written c.gather_packets.ensures.given next.are_bytes next.written next.folded next.count;
+      written = writes_then _ _ _ _ _ _ _ _ _ _ c.loop-more.invariant.written c.gather_packets.ensures.given next.are_bytes next.written c.in_ok-more.ensures.folded next.count;
       empty = next.empty;
       draft = next.draft;
       rests = same_then _ _ _ c.loop-more.invariant.rests next.rests;
@@ -15,4 +15,4 @@ loop-more-preserved g c =
 pub returns-then-not-more-clause-written : goal.returns-then-not-more-clause-written
 returns-then-not-more-clause-written g c =
     let next = c.in_ok-write_gathered.ensures in
-    writes_then _ _ _ _ _ _ _ _ _ _ c.loop-more.invariant.written c.gather_packets.ensures.given next.are_bytes next.written next.folded next.count
+    writes_then _ _ _ _ _ _ _ _ _ _ c.loop-more.invariant.written c.gather_packets.ensures.given next.are_bytes next.written c.in_ok-more.ensures.folded next.count
