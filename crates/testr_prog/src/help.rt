@@ -1,15 +1,29 @@
 // What the program tells of itself.
 
-/// The text that these words ask for, where they are `testr --help`, `testr --version`, or a command of `testr` and `--help`.
+use crate::filter_help::of_filter;
+
+/// The text that these words ask for, where they are `testr --help`, `testr --version`, a command of `testr` and `--help`,
+/// or a filter and `--help`.
 pub fn help(words: &[String]) -> Option<&'static str> {
     let face = words.get(0)?;
     let first = words.get(1)?;
-    if face.as_str() != "testr" || words.len() > 3 {
+    if face.as_str() == "testr" {
+        of_testr(first.as_str(), words)
+    } else if first.as_str() == "--help" && words.len() == 2 {
+        of_filter(face.as_str())
+    } else {
+        None
+    }
+}
+
+// The same of `testr`, whose first word this is.
+fn of_testr(first: &str, words: &[String]) -> Option<&'static str> {
+    if words.len() > 3 {
         return None;
     }
     match words.get(2) {
-        None => of_program(first.as_str()),
-        Some(second) if second.as_str() == "--help" => of_command(first.as_str()),
+        None => of_program(first),
+        Some(second) if second.as_str() == "--help" => of_command(first),
         Some(_) => None,
     }
 }

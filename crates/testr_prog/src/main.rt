@@ -4,6 +4,7 @@
 mod cause;
 mod counting;
 mod descriptors;
+mod filter_help;
 mod folder;
 mod folder_shelf;
 mod help;

@@ -427,7 +427,27 @@ fn help_is_for_its_words_alone(rt: HostRuntime) -> Result<(), Fail> {
     assert!(rt; has_help(&rt, &["testr", "--help"])?);
     assert!(rt; has_help(&rt, &["testr", "--version"])?);
     assert!(rt; !has_help(&rt, &["testr"])?);
-    assert!(rt; !has_help(&rt, &["subunit-ls", "--help"])?);
     assert!(rt; !has_help(&rt, &["testr", "other", "--help"])?);
+    Ok(())
+}
+
+const FILTERS: [&str; 6] = [
+    "subunit-filter",
+    "subunit-tags",
+    "subunit-ls",
+    "subunit-stats",
+    "tap2subunit",
+    "subunit2tap",
+];
+
+#[test]
+fn each_filter_has_help(rt: HostRuntime) -> Result<(), Fail> {
+    for name in FILTERS {
+        assert!(rt; has_help(&rt, &[name, "--help"])?);
+        assert!(rt; !has_help(&rt, &[name])?);
+        assert!(rt; !has_help(&rt, &[name, "--help", "--help"])?);
+        assert!(rt; !has_help(&rt, &[name, "--version"])?);
+    }
+    assert!(rt; !has_help(&rt, &["subunit-rm", "--help"])?);
     Ok(())
 }

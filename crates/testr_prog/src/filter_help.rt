@@ -1,0 +1,85 @@
+// What the program tells of its filters.
+
+/// The text of the filter of this name; none where there is no such filter.
+pub fn of_filter(name: &str) -> Option<&'static str> {
+    match name {
+        "subunit-filter" => Some(FILTER),
+        "subunit-tags" => Some(TAGS),
+        "subunit-ls" => Some(LS),
+        "subunit-stats" => Some(STATS),
+        "tap2subunit" => Some(FROM_TAP),
+        "subunit2tap" => Some(TO_TAP),
+        _ => None,
+    }
+}
+
+const FILTER: &str = "\
+usage: subunit-filter [OPTION..]
+Reads a Subunit v2 stream from standard input and writes the events of those tests that are kept, and each event that is
+of no test, as soon as it is decided. Other bytes pass on as they are. Status 0.
+Which tests are kept by how they ended:
+  --success, --no-success    those that passed; at first they are left out
+  --failure, --no-failure    those that failed, passed against the expectation or did not end; at first they are kept
+  --no-skip                  leaves out those that were skipped
+  --xfail, --no-xfail        those that failed as expected; at first they are kept
+  --only-genuine-failures    leaves out those that passed, were skipped or failed as expected, and other bytes
+Of these tests only those:
+  --with-tag=TAG             that have this tag; where it is repeated, each of the tags
+  --without-tag=TAG          that do not have this tag; where it is repeated, none of the tags
+  --with-id=PATTERN          in whose id the pattern is found; where it is repeated, one of the patterns
+  --without-id=PATTERN       in whose id the pattern is not found; where it is repeated, none of the patterns
+And:
+  --no-passthrough           leaves out bytes that are no events
+Options are taken from left to right, and the last one stands. A value may also be the next word. A pattern is a regular
+expression, which may match anywhere in the id.
+Statuses: 2 wrong usage, 3 a bad pattern, 4 a fault of the outside, 5 out of memory.
+Example: subunit-filter --success --with-id='^parser\\.' < stream
+";
+
+const TAGS: &str = "\
+usage: subunit-tags [TAG | -TAG]..
+Reads a Subunit v2 stream from standard input, gives each event these tags, and writes it as soon as it is read. Other
+bytes become events of the file stdout. Status 0.
+  TAG     is added
+  -TAG    is removed, also where it is added
+The tags of an event come in the order of their bytes. The one word --help asks for this text; to remove the tag -help,
+write --help twice.
+Statuses: 2 wrong usage, 4 a fault of the outside, 5 out of memory.
+Example: subunit-tags worker-0 -slow < stream
+";
+
+const LS: &str = "\
+usage: subunit-ls [OPTION..]
+Reads a Subunit v2 stream from standard input and prints the id of each test as it ends, and at the end of those that did
+not. Other bytes pass on as they are. Status 0 where no test failed, 1 where one did.
+  --times             prints behind the id how many seconds the test took, where that is known
+  --exists            prints also the tests that are only said to exist
+  --no-passthrough    leaves out bytes that are no events
+Statuses: 2 wrong usage, 4 a fault of the outside, 5 out of memory.
+Example: subunit-ls --times < stream
+";
+
+const STATS: &str = "\
+usage: subunit-stats
+Reads a Subunit v2 stream from standard input and prints at its end how many tests there were, how many of them passed,
+failed and were skipped, and their tags. Other bytes pass on as they are. Status 0 where no test failed, 1 where one did.
+Statuses: 2 wrong usage, 4 a fault of the outside, 5 out of memory.
+Example: subunit-stats < stream
+";
+
+const FROM_TAP: &str = "\
+usage: tap2subunit
+Reads lines of the Test Anything Protocol from standard input and writes a Subunit v2 stream. A line that is none of the
+protocol becomes an event of the file stdout. Status 0.
+Statuses: 2 wrong usage, 4 a fault of the outside, 5 out of memory.
+Example: prove -v t/parser.t | tap2subunit
+";
+
+const TO_TAP: &str = "\
+usage: subunit2tap
+Reads a Subunit v2 stream from standard input and writes a line of the Test Anything Protocol for each test as it ends,
+for those that did not end at the end of the stream, and then the plan. Other bytes are left out. Status 0 where no test
+failed, 1 where one did.
+Statuses: 2 wrong usage, 4 a fault of the outside, 5 out of memory.
+Example: subunit2tap < stream
+";
