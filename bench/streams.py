@@ -1,5 +1,5 @@
 #!/usr/bin/env python3
-"""Subunit v2 streams, made by rule, so that equal words give equal bytes.
+"""Subunit v2 streams and lines of TAP, made by rule, so that equal words give equal bytes.
 
 usage: streams.py KIND COUNT >STREAM
 
@@ -9,14 +9,22 @@ usage: streams.py KIND COUNT >STREAM
   sums COUNT    COUNT bytes: heads of packets that nest in one another, each as long as can be, and zeros behind them.
                 Their lengths are right, and the checksum alone tells that there is no packet
   tags COUNT    the same with heads that tell of millions of tags each
+  ids COUNT     the same with heads whose ids are no UTF-8
+
+  tagged COUNT  COUNT events as in small, each with two tags and one of eight routes
+  lanes COUNT   COUNT events as in small, of 64 routes in turn
+
+  tap COUNT     COUNT lines of TAP: tests with directives, comments, other lines, and the plan
+  blocks COUNT  the same with a block of comment lines behind each test, and now and then an indented one of other lines
+  line COUNT    one line of TAP of COUNT bytes
 """
 import struct
 import sys
 import zlib
 
 IN_PROGRESS, SUCCESS, SKIP, FAIL = 2, 3, 5, 6
-VERSION, ROUTE, ID, TIME, RUNNABLE, TYPE, FILE, LAST = (
-    0x2000, 0x0400, 0x0800, 0x0200, 0x0100, 0x0020, 0x0040, 0x0010,
+VERSION, ROUTE, ID, TIME, RUNNABLE, TAGS, TYPE, FILE, LAST = (
+    0x2000, 0x0400, 0x0800, 0x0200, 0x0100, 0x0080, 0x0020, 0x0040, 0x0010,
 )
 MOST = 10_000_000
 BATCH = 1 << 20
@@ -116,7 +124,71 @@ def tags(count):
     return nested(b"\x09\xb3\x20\x80\xbf\xff\xff\xbf\xff\xff", count)
 
 
-KINDS = {"small": small, "texts": texts, "logs": logs, "sums": sums, "tags": tags}
+def ids(count):
+    return nested(b"\xb3\x29\x03\xbf\xff\xff", count)
+
+
+def tagged(count):
+    both = [number(2) + text(b"worker-%d" % (place % 4)) + text(AREAS[place]) for place in range(8)]
+    for place in range(count):
+        test = place // 2
+        status = end_of(test) if place % 2 else IN_PROGRESS
+        body = time(place) + text(test_id(test)) + both[test % 8]
+        yield event(TIME | ID | RUNNABLE | TAGS | status, body, b"%d/%d" % (test % 4, test % 2))
+
+
+def lanes(count):
+    """Each route has a test in progress while the others go on."""
+    for place in range(count):
+        test, lane = place // 128 * 64 + place % 64, b"%d" % (place % 64)
+        status = end_of(test) if place // 64 % 2 else IN_PROGRESS
+        yield event(TIME | ID | RUNNABLE | status, time(place) + text(test_id(test)), lane)
+
+
+def tap_test(place):
+    """The line of a test, without its newline."""
+    words = b"%s the value %d of %s" % (ACTIONS[place % 8], place, AREAS[place // 8 % 8])
+    if place % 50 == 7:
+        return b"not ok %d - %s" % (place + 1, words)
+    if place % 30 == 11:
+        return b"ok %d %s # SKIP no %s here" % (place + 1, words, AREAS[place % 8])
+    if place % 30 == 17:
+        return b"not ok %d %s # TODO later" % (place + 1, words)
+    return b"ok %d - %s" % (place + 1, words)
+
+
+def tap(count):
+    tests = 0
+    for place in range(count - 1):
+        if place % 8 == 5:
+            yield b"# a comment of line %d\n" % place
+        elif place % 10 == 3:
+            yield b"other output of line %d\n" % place
+        else:
+            yield tap_test(tests) + b"\n"
+            tests += 1
+    yield b"1..%d\n" % tests
+
+
+def block(place):
+    lines = (b"---", b"message: 'the value %d'" % place, b"severity: comment", b"at:", b"  file: %s.t" % AREAS[place % 8], b"...")
+    before = b"  " if place % 10 == 9 else b"# "
+    return b"".join(before + line + b"\n" for line in lines)
+
+
+def blocks(count):
+    tests = max(1, count // 7)
+    yield b"1..%d\n" % tests
+    for place in range(tests):
+        yield tap_test(place) + b"\n" + block(place)
+
+
+def line(count):
+    yield b"ok 1 - " + b"x" * max(0, count - 8) + b"\n"
+
+
+KINDS = {"small": small, "texts": texts, "logs": logs, "sums": sums, "tags": tags, "ids": ids, "tagged": tagged,
+         "lanes": lanes, "tap": tap, "blocks": blocks, "line": line}
 
 
 def write(file, pieces):
