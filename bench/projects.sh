@@ -1,0 +1,354 @@
+#!/bin/sh
+# Tries `testr` in a small project, whose tests are a shell script that prints recorded packets: it is listed, run by one
+# worker and by several, loaded from files, and its worker fails, is killed, prints much, or goes its own way. A case of
+# a command that the program does not have yet is left out with a word.
+# usage: bench/projects.sh [CASE..]: by default all cases. The variable MEBIBYTES says how much the worker prints that
+# prints much: 1024, unless it is set, and so much room is needed on the disk.
+set -eu
+
+root=$(CDPATH='' cd -- "$(dirname -- "$0")/.." && pwd -P)
+. "$root/bench/prepare.sh"
+
+PYTHONDONTWRITEBYTECODE=1 PYTHONPATH=$root/bench MEBIBYTES=${MEBIBYTES:-1024} \
+    python3 - "$program" "$work" "$@" <<'PYTHON'
+import os
+import shutil
+import signal
+import subprocess
+import sys
+import time
+
+import streams
+from streams import FAIL, ID, RUNNABLE, SUCCESS, event, text
+
+PROGRAM, WORK = sys.argv[1:3]
+LIMIT = 120
+MUCH = int(os.environ["MEBIBYTES"]) << 20
+# No command holds more than this, in KiB, however much a worker prints.
+MOST_MEMORY = 65_536
+TIME = "/usr/bin/time"
+EXISTS = 1
+USAGE = b"testr: wrong usage\n"
+CASES = []
+
+CONF = """[DEFAULT]
+test_command=./worker $LISTOPT $IDOPTION
+test_id_option=--ids $IDFILE
+test_list_option=--list
+"""
+
+# Without options it runs all tests, and with ids these, in their order.
+WORKER = """#!/bin/sh
+case ${1-} in
+--list) exec cat packets/listing ;;
+--ids) while read -r id; do cat "packets/$id"; done < "$2" ;;
+*) cat packets/a packets/b packets/c ;;
+esac
+"""
+
+
+# What other workers begin with, so that they list their tests all the same.
+LISTS = "[ \"${1-}\" != --list ] || exec cat packets/listing\n"
+
+
+class Wrong(Exception):
+    pass
+
+
+class Skipped(Exception):
+    pass
+
+
+def case(function):
+    CASES.append(function)
+    return function
+
+
+def check(holds, text):
+    if not holds:
+        raise Wrong(text)
+
+
+def packet(name, status, route=b""):
+    return event(ID | RUNNABLE | status, text(name), route)
+
+
+STATUSES = {b"a": SUCCESS, b"b": SUCCESS, b"c": FAIL}
+
+
+def kept(names, route=b"0"):
+    """What is kept of these tests under a route."""
+    return b"".join(packet(name, STATUSES[name], route) for name in names)
+
+
+def run(folder, *words, given=b"", before=(), limit=LIMIT, **how):
+    """The status, the output and the errors of `testr WORDS..` in this folder."""
+    how = {"input": given} if "stdin" not in how else how
+    try:
+        done = subprocess.run([*before, PROGRAM, "testr", *words], cwd=folder, capture_output=True, timeout=limit, **how)
+    except subprocess.TimeoutExpired:
+        raise Wrong(f"{' '.join(words)} hangs")
+    return done.returncode, done.stdout, done.stderr
+
+
+def need(*words):
+    """Leaves the case out where these words are no command yet. The folder that they are tried in has no repository."""
+    folder = os.path.join(WORK, "nothing")
+    os.makedirs(folder, exist_ok=True)
+    if run(folder, *words) == (2, b"", USAGE):
+        raise Skipped(f"`testr {' '.join(words)}` is no command yet")
+
+
+def project(worker=WORKER, conf=CONF):
+    """A folder with a project and a repository without runs."""
+    folder = os.path.join(WORK, f"project-{len(os.listdir(WORK))}")
+    os.makedirs(os.path.join(folder, "packets"))
+    for name, status in STATUSES.items():
+        write(folder, f"packets/{name.decode()}", packet(name, status))
+    write(folder, "packets/listing", b"".join(packet(name, EXISTS) for name in STATUSES))
+    write(folder, ".testr.conf", conf.encode())
+    write(folder, "worker", worker.encode())
+    os.chmod(os.path.join(folder, "worker"), 0o755)
+    check(run(folder, "init") == (0, b"", b""), "init fails")
+    return folder
+
+
+def write(folder, name, bytes):
+    with open(os.path.join(folder, name), "wb") as file:
+        file.write(bytes)
+
+
+def bytes_of(folder, name):
+    with open(os.path.join(folder, ".testrepository", name), "rb") as file:
+        return file.read()
+
+
+def report(failed, total, number):
+    """The report of a run in which these tests failed, each with its text."""
+    blocks = b"".join(b"=" * 70 + b"\nFAIL: " + name + b"\n" + b"-" * 70 + b"\n" + said for name, said in failed)
+    ended = b"FAILED (id=%d, failures=%d)\n" % (number, len(failed)) if failed else b"PASSED (id=%d)\n" % number
+    return blocks + b"Ran %d tests\n" % total + ended
+
+
+def check_answer(found, status, out, text, err=b""):
+    check(found == (status, out, err), f"{text} answers {found}")
+
+
+def check_clean(folder):
+    """No draft and no file of ids is left."""
+    left = [name for name in os.listdir(folder) if name.startswith(".testr-ids")]
+    left += [name for name in os.listdir(os.path.join(folder, ".testrepository")) if name == "draft"]
+    check(not left, f"{left} are left")
+
+
+# Loading.
+
+@case
+def what_a_worker_printed_is_loaded():
+    folder = project()
+    given = subprocess.run(["sh", "-c", "./worker"], cwd=folder, capture_output=True, timeout=LIMIT, check=True).stdout
+    check_answer(run(folder, "load", given=given), 1, report([(b"c", b"")], 3, 0), "load")
+    check(bytes_of(folder, "0") == kept([b"a", b"b", b"c"]), "the run is wrong")
+    check_answer(run(folder, "last"), 1, report([(b"c", b"")], 3, 0), "last")
+    check_answer(run(folder, "failing"), 1, b"FAIL: c\nfailures=1\n", "failing")
+    check_clean(folder)
+
+
+@case
+def two_files_are_loaded():
+    need("load", "x")
+    folder = project()
+    both = report([(b"c", b"")], 2, 0)
+    check_answer(run(folder, "load", "packets/a", "packets/c"), 1, both, "load of two files")
+    check(bytes_of(folder, "0") == kept([b"a"], b"0") + kept([b"c"], b"1"), "the run of two files is wrong")
+    check_answer(run(folder, "load", "--partial", "packets/b"), 0, report([], 1, 1), "load of one file")
+    check(bytes_of(folder, "1.part") == kept([b"b"]), "the run of one file is wrong")
+
+
+@case
+def a_pipe_is_loaded_by_its_name():
+    need("load", "x")
+    folder = project()
+    check_answer(run(folder, "load", "/dev/stdin", given=packet(b"a", SUCCESS)), 0, report([], 1, 0), "load of a pipe")
+    check(bytes_of(folder, "0") == kept([b"a"]), "the run of a pipe is wrong")
+
+
+@case
+def a_missing_file_is_refused():
+    need("load", "x")
+    folder = project()
+    check_answer(run(folder, "load", "packets/a", "missing"), 3, b"", "load of a missing file", b"testr: no file missing\n")
+    check(not os.path.exists(os.path.join(folder, ".testrepository", "0")), "a refused load has a run")
+    check_clean(folder)
+
+
+@case
+def a_folder_is_a_fault():
+    need("load", "x")
+    folder = project()
+    status, out, err = run(folder, "load", "packets")
+    check((status, out) == (4, b"") and err.startswith(b"testr: fault reading a file\n"), f"load of a folder: {status}, {err}")
+    check(not os.path.exists(os.path.join(folder, ".testrepository", "0")), "a load that failed has a run")
+    check_clean(folder)
+
+
+# Listing.
+
+@case
+def tests_are_listed():
+    need("list-tests")
+    folder = project()
+    check_answer(run(folder, "list-tests"), 0, b"a\nb\nc\n", "list-tests")
+    check_answer(run(folder, "list-tests", "^[bc]"), 0, b"b\nc\n", "list-tests with a pattern")
+    shutil.rmtree(os.path.join(folder, ".testrepository"))
+    check_answer(run(folder, "list-tests"), 0, b"a\nb\nc\n", "list-tests without a repository")
+
+
+@case
+def a_listing_that_fails_is_refused():
+    need("list-tests")
+    folder = project(worker="#!/bin/sh\nexit 7\n")
+    check_answer(run(folder, "list-tests"), 3, b"", "list-tests", b"testr: listing ended with 7\n")
+    folder = project(conf="[DEFAULT]\ntest_command=./worker\n")
+    check_answer(run(folder, "list-tests"), 3, b"", "list-tests", b"testr: .testr.conf: test_list_option is needed\n")
+
+
+# Running.
+
+@case
+def all_is_run():
+    need("run")
+    folder = project()
+    check_answer(run(folder, "run"), 1, report([(b"c", b"")], 3, 0), "run")
+    check(bytes_of(folder, "0") == kept([b"a", b"b", b"c"]), "the run is wrong")
+    check_answer(run(folder, "last"), 1, report([(b"c", b"")], 3, 0), "last")
+    check_answer(run(folder, "failing"), 1, b"FAIL: c\nfailures=1\n", "failing")
+    check_clean(folder)
+
+
+@case
+def some_are_run():
+    need("run")
+    folder = project()
+    run(folder, "run")
+    check_answer(run(folder, "run", "--failing"), 1, report([(b"c", b"")], 1, 1), "run --failing")
+    check(bytes_of(folder, "1.part") == kept([b"c"]), "the run of the failing tests is wrong")
+    check_answer(run(folder, "run", "a|b"), 0, report([], 2, 2), "run with a pattern")
+    write(folder, "list", b"b\n\n a\n")
+    check_answer(run(folder, "run", "--load-list=list"), 0, report([], 2, 3), "run --load-list")
+    check(bytes_of(folder, "3.part") == kept([b"b", b"a"]), "the run of a list is wrong")
+    check_clean(folder)
+
+
+@case
+def several_workers_run():
+    need("run")
+    folder = project()
+    check_answer(run(folder, "run", "--parallel", "--concurrency=2"), 1, report([(b"c", b"")], 3, 0), "run --parallel")
+    # Without known times the first share has a and c, and the second b. The second may come at any place.
+    first = [kept([name], b"0") for name in (b"a", b"c")]
+    other = kept([b"b"], b"1")
+    mixed = {b"".join(first[:place] + [other] + first[place:]) for place in range(3)}
+    check(bytes_of(folder, "0") in mixed, "the run of two workers is wrong")
+    check_clean(folder)
+
+
+@case
+def a_project_without_settings_is_refused():
+    need("run")
+    folder = project()
+    os.remove(os.path.join(folder, ".testr.conf"))
+    check_answer(run(folder, "run"), 3, b"", "run", b"testr: no .testr.conf\n")
+
+
+def run_of(script, total, failed, status, number=0):
+    """Runs a project of this worker alone."""
+    folder = project(worker="#!/bin/sh\n" + script)
+    check_answer(run(folder, "run"), status, report(failed, total, number), f"run of {script!r}")
+    check_clean(folder)
+    return folder
+
+
+@case
+def a_worker_fails():
+    need("run")
+    run_of("cat packets/a; exit 3\n", 2, [(b"process-returncode", b"returncode 3\n")], 1)
+    run_of("exec ./no-such-program 2>/dev/null\n", 1, [(b"process-returncode", b"returncode 127\n")], 1)
+
+
+@case
+def a_worker_is_killed():
+    need("run")
+    folder = project(worker="#!/bin/sh\ncat packets/a\nkill -9 $$\n", conf=CONF.replace("./worker", "exec ./worker"))
+    check_answer(run(folder, "run"), 1, report([(b"process-returncode", b"returncode -9\n")], 2, 0), "run")
+    check_clean(folder)
+
+
+@case
+def a_worker_goes_its_own_way():
+    need("run")
+    # It has no input, and what it says on its errors is passed on.
+    folder = project(worker=f"#!/bin/sh\n{LISTS}cat\necho a word >&2\ncat packets/a packets/b\n")
+    check_answer(run(folder, "run", given=b"not for it"), 0, report([], 2, 0), "run", b"a word\n")
+    # It is told to run one test, and runs others.
+    check_answer(run(folder, "run", "c"), 0, report([], 2, 1), "run c", b"a word\n")
+    check_clean(folder)
+    # A program that writes to one that has gone is ended, as in any shell.
+    run_of("yes | head -n 1 >/dev/null; cat packets/a\n", 1, [], 0)
+
+
+@case
+def a_worker_prints_much():
+    need("run")
+    folder = project(worker=f"#!/bin/sh\nexec head -c {MUCH} /dev/zero\n")
+    said = os.path.join(folder, "memory")
+    before = [TIME, "-f", "%M", "-o", said] if os.access(TIME, os.X_OK) else []
+    check_answer(run(folder, "run", before=before, limit=5 * LIMIT), 0, report([], 0, 0), "run")
+    piece = len(event(RUNNABLE | streams.FILE, text(b"stdout") + streams.number(65_536) + bytes(65_536), b"0"))
+    size = os.path.getsize(os.path.join(folder, ".testrepository", "0"))
+    check(size == MUCH // 65_536 * piece, f"the run has {size} bytes")
+    if before:
+        with open(said) as file:
+            most = int(file.read().split()[-1])
+        print(f"         {MUCH >> 20} MiB in {most} KiB of memory", flush=True)
+        check(most <= MOST_MEMORY, f"{most} KiB were held")
+    shutil.rmtree(folder)
+
+
+@case
+def the_program_is_killed():
+    need("run")
+    folder = project(worker=f"#!/bin/sh\n{LISTS}cat packets/a\ntouch begun\nexec sleep 2\n")
+    child = subprocess.Popen([PROGRAM, "testr", "run", "a"], cwd=folder, stdout=subprocess.DEVNULL)
+    until = time.monotonic() + LIMIT
+    while not os.path.exists(os.path.join(folder, "begun")) and time.monotonic() < until and child.poll() is None:
+        time.sleep(0.01)
+    child.send_signal(signal.SIGKILL)
+    check(child.wait(LIMIT) == -signal.SIGKILL, "the program has ended before")
+    write(folder, "worker", WORKER.encode())
+    check_answer(run(folder, "run", "a"), 0, report([], 1, 0), "the next run")
+    check_clean(folder)
+
+
+def main(*names):
+    counts = {"ok": 0, "wrong": 0, "left out": 0}
+    for function in CASES:
+        name = function.__name__
+        if names and name not in names:
+            continue
+        try:
+            function()
+            counts["ok"] += 1
+            print(f"ok       {name}", flush=True)
+        except Skipped as why:
+            counts["left out"] += 1
+            print(f"left out {name}: {why}", flush=True)
+        except Wrong as why:
+            counts["wrong"] += 1
+            print(f"WRONG    {name}: {why}", flush=True)
+    print("projects: {ok} cases as they must be, {wrong} wrong, {left out} left out".format(**counts))
+    sys.exit(1 if counts["wrong"] else 0)
+
+
+main(*sys.argv[3:])
+PYTHON
