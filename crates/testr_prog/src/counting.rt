@@ -1,6 +1,6 @@
 // Counts of the calls that fail.
-ghost use Rattle.std.specs.Prelude.{◌≡◌, Ok, IsErr, MatchResult};
-ghost use Rattle.edge_io.specs.Causes.{HasCause};
+ghost use Rattle.std.specs.Prelude.{◌≡◌, ◌≤◌, Ok, IsErr, MatchResult};
+ghost use Rattle.edge_io.specs.Causes.{HasCause, Rose};
 ghost use Rattle.edge_io.specs.Names.{HasNamesCause};
 
 use crate::cause::Cause;
@@ -24,6 +24,16 @@ impl Faults {
         }
     }
 
+    /// A failure of a call of the system, which raises the count by one, up to its last value.
+    pub fn fail(&mut self, cause: Cause) -> Failed
+        ensures later { self.old.count ≤ self.new.count }
+        ensures rose { Rose self.old.count self.new.count }
+    {
+        self.count = self.count.saturating_add(1);
+        self.cause = Some(cause);
+        Failed
+    }
+
     /// What a call of the system gave, where a failure raises the count by one, up to its last value.
     pub fn counted<T>(&mut self, outcome: Result<T, Cause>) -> Result<T, Failed>
         ensures given { MatchResult outcome (λ value. result ≡ Ok value) (λ _. IsErr result) }
@@ -31,11 +41,7 @@ impl Faults {
     {
         match outcome {
             Ok(value) => Ok(value),
-            Err(cause) => {
-                self.count = self.count.saturating_add(1);
-                self.cause = Some(cause);
-                Err(Failed)
-            }
+            Err(cause) => Err(self.fail(cause)),
         }
     }
 

@@ -8,9 +8,13 @@ mod filter_help;
 mod folder;
 mod folder_shelf;
 mod help;
+mod id_paper;
 mod identity;
 mod lock;
 mod published;
+mod real_child;
+mod real_site;
+mod real_spawner;
 mod stream_sink;
 mod stream_source;
 #[cfg(test)]

@@ -42,8 +42,8 @@ impl<R: Read> Source for StreamSource<R> {
     }
 }
 
-// One read, begun again as often as a signal interrupts it.
-fn read_retried<R: Read>(stream: &mut R, buf: &mut [u8]) -> io::Result<usize>
+/// One read, begun again as often as a signal interrupts it.
+pub fn read_retried<R: Read>(stream: &mut R, buf: &mut [u8]) -> io::Result<usize>
     ensures bound { ReadsAtMost result buf.new }
     ensures bytes { ReadConsumes (R.remaining stream.old) (R.remaining stream.new) result buf.new }
 {

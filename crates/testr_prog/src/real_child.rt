@@ -1,0 +1,108 @@
+// A process of the system as a child.
+ghost use Rattle.std.specs.Prelude.{None};
+ghost use Rattle.std.specs.Io.{ReadsAtMost};
+
+use crate::cause::{Cause, told};
+use crate::counting::Faults;
+use crate::id_paper::IdPaper;
+use crate::stream_source::read_retried;
+use edge_io::{Child, Failed};
+use std::fs::Files;
+use std::io::ErrorKind;
+use std::os::unix::process::ExitStatusExt;
+use std::process::{ExitStatus, OpenProcess, Processes};
+use std::{io, process};
+
+const OUTPUT: &str = "the output of a program";
+
+const PROGRAM: &str = "a program";
+
+/// A shell that was started, whose standard output is a pipe. Counts the reads and waits that fail.
+#[derive(Drop)]
+pub struct RealChild<'r, R: Processes> {
+    running: Running<'r, R>,
+    faults: Faults,
+}
+
+// The shell, and the file of ids that it reads, until it was waited for.
+#[derive(Drop)]
+struct Running<'r, R: Processes> {
+    rt: &'r R,
+    process: process::Child<R::Started>,
+    ids: Option<IdPaper>,
+}
+
+impl<'r, R: Processes + Files> RealChild<'r, R> {
+    /// The child over this process, whose file of ids is removed when it was waited for.
+    pub fn new(rt: &'r R, process: process::Child<R::Started>, ids: Option<IdPaper>) -> Self {
+        RealChild {
+            running: Running { rt, process, ids },
+            faults: Faults::new(),
+        }
+    }
+
+    /// Why the last read or wait that failed did so.
+    pub fn cause(&self) -> Option<&Cause> {
+        self.faults.cause.as_ref()
+    }
+}
+
+impl<R: Processes + Files> Running<'_, R> {
+    fn read(&mut self, buf: &mut [u8]) -> io::Result<usize>
+        ensures { ReadsAtMost result buf.new }
+    {
+        match &mut self.process.stdout {
+            Some(output) => read_retried(output, buf),
+            None => Ok(0),
+        }
+    }
+
+    // The file of ids is removed also where the wait fails, since then the system has lost the child.
+    fn wait(&mut self) -> io::Result<i32> {
+        let outcome = self.process.wait();
+        if let Some(ids) = self.ids.take() {
+            ids.remove(self.rt);
+        }
+        number_of(outcome?)
+    }
+
+    fn stop(&mut self) {
+        let _ = self.process.kill();
+        self.process.stdout = None;
+    }
+}
+
+impl<R: Processes + Files> Child for RealChild<'_, R> {
+    ghost seen = { λ s. record { told = None; faults = s.faults.count } };
+
+    ghost are_bytes = { λ _. tt };
+
+    /// One read of the pipe. After a stop there is nothing more to read.
+    fn read(&mut self, buf: &mut [u8]) -> Result<usize, Failed> {
+        let result = self.running.read(buf);
+        self.faults.counted(told("read", OUTPUT, result))
+    }
+
+    /// Waits for the shell. What it has started and left behind is not waited for.
+    fn wait(&mut self) -> Result<i32, Failed> {
+        let result = self.running.wait();
+        self.faults.counted(told("wait for", PROGRAM, result))
+    }
+
+    /// Kills the shell, and closes the pipe, so that what the shell has started is ended by its next write.
+    fn stop(&mut self) {
+        self.running.stop();
+    }
+}
+
+// The exit status, or the signal's number below zero.
+fn number_of(status: ExitStatus) -> io::Result<i32> {
+    match (status.code(), status.signal()) {
+        (Some(code), _) => Ok(code),
+        (None, Some(signal)) => Ok(signal.wrapping_neg()),
+        (None, None) => Err(io::Error::new(
+            ErrorKind::InvalidData,
+            "it neither exited nor was ended by a signal",
+        )),
+    }
+}
