@@ -11,6 +11,8 @@ mod help;
 mod id_paper;
 mod identity;
 mod lock;
+#[cfg(test)]
+mod outside_tests;
 mod published;
 mod real_child;
 mod real_site;

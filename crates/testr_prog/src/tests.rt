@@ -94,7 +94,7 @@ fn publish_two(shelf: &mut FolderShelf<'_, HostRuntime>, large: &[u8]) -> Result
 }
 
 // Runs a test in a folder of its own, which a failed one leaves behind.
-fn enter_home(rt: &HostRuntime, name: &str) -> io::Result<PathBuf> {
+pub fn enter_home(rt: &HostRuntime, name: &str) -> io::Result<PathBuf> {
     let number = process::id(rt.process());
     let mut home = env::temp_dir(rt)?;
     home.push(format!(in rt.alloc(); "testr_prog_{name}_{number}")?.as_str())?;
@@ -104,7 +104,7 @@ fn enter_home(rt: &HostRuntime, name: &str) -> io::Result<PathBuf> {
     Ok(home)
 }
 
-fn leave_home(rt: &HostRuntime, home: &PathBuf) -> io::Result<()> {
+pub fn leave_home(rt: &HostRuntime, home: &PathBuf) -> io::Result<()> {
     env::set_current_dir(rt, "/")?;
     fs::remove_dir_all(rt, home)
 }
@@ -146,7 +146,7 @@ fn an_absent_folder_is_empty(rt: HostRuntime) -> Result<(), Fail> {
 }
 
 // Makes files by the shell, since std takes no path that is not UTF-8, and makes no pipe that has a name.
-fn shell(rt: &HostRuntime, text: &str) -> io::Result<()> {
+pub fn shell(rt: &HostRuntime, text: &str) -> io::Result<()> {
     let status = Command::new(rt.alloc(), "sh")?
         .arg("-c")?
         .arg(text)?
@@ -247,11 +247,11 @@ fn publish_one(rt: &HostRuntime, name: &str) -> Result<(), Failed> {
     shelf.publish(name)
 }
 
-fn is_there(rt: &HostRuntime, path: &str) -> bool {
+pub fn is_there(rt: &HostRuntime, path: &str) -> bool {
     fs::symlink_metadata(rt, path).is_ok()
 }
 
-fn holds(rt: &HostRuntime, path: &str, wanted: &str) -> bool {
+pub fn holds(rt: &HostRuntime, path: &str, wanted: &str) -> bool {
     match fs::read_to_string(rt, path) {
         Ok(text) => text.as_str() == wanted,
         Err(_) => false,
