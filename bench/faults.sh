@@ -1,8 +1,8 @@
 #!/bin/sh
 # Tries the program where something outside is wrong: links, pipes and folders in place of files, closed descriptors, a
 # full disk, a limit on files, a file system without some call, modes, several users, a removed lock, two at once, killed
-# programs, and a build that fails. What cannot be tried here is skipped with a word: some cases want to be run by root,
-# some want `strace`.
+# programs, a build that fails, the names of the program, and its installation. What cannot be tried here is skipped with a
+# word: some cases want to be run by root, some want `strace`.
 # usage: bench/faults.sh [CASE..]: by default all cases.
 set -eu
 
@@ -668,6 +668,9 @@ def help_is_told():
     for words in (["--help"], ["--version"], ["load", "--help"], ["stats", "--help"]):
         status, out, err = run(folder, *words)
         check(status == 0 and out.endswith(b"\n") and err == b"", f"{words} answers {status}")
+    for name in NAMES[1:]:
+        status, out, err = run(folder, "--help", program=[PROGRAM, name])
+        check(status == 0 and out.startswith(b"usage: " + name.encode()) and err == b"", f"{name} --help answers {status}")
     check(run(folder) == (2, b"", USAGE), "no words are no wrong usage")
     check(run(folder, "unknown", "--help") == (2, b"", USAGE), "an unknown command has help")
     check(run(folder, "load", "--help", "--help") == (2, b"", USAGE), "two words are help")
@@ -692,6 +695,74 @@ def the_build_fails():
         status, out, err = run(top, "stats", program=[os.path.join(top, "bin", "testr")], env={"PATH": tools})
         check((status, out) == (4, b""), f"{text} answers {status}")
         check(err.endswith(b"testr: the build failed\n"), f"{text} says {err!r}")
+
+
+NAMES = ("testr", "subunit-filter", "subunit-tags", "subunit-ls", "subunit-stats", "tap2subunit", "subunit2tap")
+
+
+def pretended():
+    """A top folder with the launchers, and a program that prints its words."""
+    top = os.path.join(new_folder(), "a top")
+    out = os.path.join(top, "crates", "testr_prog", "out")
+    os.makedirs(out)
+    shutil.copytree(os.path.dirname(LAUNCHER), os.path.join(top, "bin"), symlinks=True)
+    with open(os.path.join(out, "testr_prog"), "w") as file:
+        file.write("#!/bin/sh\nprintf '<%s>' \"$@\"\n")
+    os.chmod(file.name, 0o755)
+    return top
+
+
+def says(folder, path, words):
+    found = run(folder, "a", "b c", "--x=", program=[path])
+    check(found == (0, f"<{words}><a><b c><--x=>".encode(), b""), f"{path} answers {found}")
+
+
+@case
+def each_name_is_a_face():
+    top = pretended()
+    for name in NAMES:
+        says(top, os.path.join("bin", name), name)
+        os.symlink(os.path.join("bin", name), os.path.join(top, f"my-{name}"))
+        says(top, f"./my-{name}", name)
+    # The first of the program's names on the way decides.
+    os.symlink("my-subunit-ls", os.path.join(top, "again"))
+    says(top, "./again", "subunit-ls")
+    os.symlink("bin/testr", os.path.join(top, "subunit-tags"))
+    says(top, "./subunit-tags", "subunit-tags")
+
+
+def install(top, *words):
+    return run(top, *words, program=[os.path.join(top, "bin", "install")])
+
+
+@case
+def it_is_installed():
+    top, prefix = pretended(), os.path.join(new_folder(), "it's here")
+    for _ in range(2):
+        status, out, err = install(top, prefix)
+        check(status == 0 and out.startswith(b"install:") and err == b"", f"install answers {status}, {err}")
+    check(sorted(os.listdir(os.path.join(prefix, "bin"))) == sorted(NAMES), "other names are installed")
+    shutil.rmtree(top)
+    for name in NAMES:
+        says(WORK, os.path.join(prefix, "bin", name), name)
+
+
+@case
+def an_install_is_refused():
+    top, prefix = pretended(), new_folder()
+    for words in ((), ("",), ("--other",), ("one", "two")):
+        status, out, err = install(top, *words)
+        check((status, out) == (2, b"") and err.startswith(b"usage: bin/install PREFIX\n"), f"{words} answers {status}")
+    # A program of the same name is left alone, and so is a file in the folder's place.
+    os.mkdir(os.path.join(prefix, "bin"))
+    with open(os.path.join(prefix, "bin", "testr"), "w") as file:
+        file.write("another's")
+    for place, text in ((prefix, b"remove it first\n"), (file.name, b"\n")):
+        status, out, err = install(top, place)
+        check((status, out) == (4, b"") and err.endswith(text), f"{place} answers {status}, {err}")
+    with open(file.name) as kept_file:
+        check(kept_file.read() == "another's", "another's program is replaced")
+    check(os.listdir(prefix) == ["bin"], "a refused install leaves folders")
 
 
 def main(*names):
