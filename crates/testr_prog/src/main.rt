@@ -51,7 +51,12 @@ fn main(rt: HostRuntime) -> ExitCode {
         (Err(error), _) => {
             // No folder can be opened then.
             let _ = write_whole(&mut err, b"testr: fault of the repository folder\n");
-            tell(rt.alloc(), Some(&Cause::new("open", "/", *error)), &mut err);
+            tell(
+                rt.alloc(),
+                "testr",
+                Some(&Cause::new("open", "/", *error)),
+                &mut err,
+            );
             FAULT
         }
         (Ok(_), Ok(words)) => run(&rt, &words, &mut out, &mut err),
@@ -74,13 +79,22 @@ fn run(
     err: &mut StreamSink<Stderr>,
 ) -> u8 {
     match help(words) {
-        Some(text) => print_help(rt.alloc(), text, out, err),
+        Some(text) => print_help(rt.alloc(), face_of(words), text, out, err),
         None => run_program(rt, words, out, err),
+    }
+}
+
+// The name that stands before each line of the program that was called.
+fn face_of(words: &[String]) -> &str {
+    match words.get(0) {
+        Some(word) => word.as_str(),
+        None => "testr",
     }
 }
 
 fn print_help(
     alloc: Global,
+    face: &str,
     text: &str,
     out: &mut StreamSink<Stdout>,
     err: &mut StreamSink<Stderr>,
@@ -88,8 +102,10 @@ fn print_help(
     match write_whole(out, text.as_bytes()) {
         Ok(()) => 0,
         Err(_) => {
-            let _ = write_whole(err, b"testr: fault writing output\n");
-            tell(alloc, out.cause(), err);
+            if let Ok(line) = format!(in alloc; "{face}: fault writing output\n") {
+                let _ = write_whole(err, line.as_bytes());
+            }
+            tell(alloc, face, out.cause(), err);
             FAULT
         }
     }
@@ -109,17 +125,18 @@ fn run_program(
     let status = program(alloc, words, &mut shelf, &mut input, out, err);
     shelf.give_up();
     if status == FAULT {
-        tell(alloc, shelf.cause(), err);
-        tell(alloc, input.cause(), err);
-        tell(alloc, out.cause(), err);
+        let face = face_of(words);
+        tell(alloc, face, shelf.cause(), err);
+        tell(alloc, face, input.cause(), err);
+        tell(alloc, face, out.cause(), err);
     }
     status
 }
 
 // Writes the cause of a fault, where there is one.
-fn tell(alloc: Global, cause: Option<&Cause>, err: &mut StreamSink<Stderr>) {
+fn tell(alloc: Global, face: &str, cause: Option<&Cause>, err: &mut StreamSink<Stderr>) {
     if let Some(cause) = cause
-        && let Ok(line) = format!(in alloc; "testr: cause: {cause}\n")
+        && let Ok(line) = format!(in alloc; "{face}: cause: {cause}\n")
     {
         let _ = write_whole(err, line.as_bytes());
     }
