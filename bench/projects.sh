@@ -316,6 +316,29 @@ def a_worker_prints_much():
 
 
 @case
+def a_planned_file_of_ids_is_not_written():
+    need("run")
+    folder = project()
+    write(folder, "precious", b"mine")
+    for make in (lambda path: os.symlink("precious", path), os.mkfifo, lambda path: write(folder, path, b"old\n")):
+        make(os.path.join(folder, ".testr-ids.0"))
+        found = run(folder, "run", "--partial", "a")
+        check(found[0] == 0 and found[1].startswith(b"Ran 1 tests\n") and found[2] == b"", f"run answers {found}")
+        check_clean(folder)
+    with open(os.path.join(folder, "precious"), "rb") as file:
+        check(file.read() == b"mine", "another's file is written")
+
+
+@case
+def ends_are_not_told():
+    """Where the caller ignores SIGCHLD, the system forgets how a child has ended, and the wait fails."""
+    need("run")
+    folder = project(conf="[DEFAULT]\ntest_command=exec cat packets/a\n")
+    found = run(folder, "run", preexec_fn=lambda: signal.signal(signal.SIGCHLD, signal.SIG_IGN))
+    check_answer(found, 1, report([(b"process-returncode", b"read fault\n")], 2, 0), "run")
+
+
+@case
 def the_program_is_killed():
     need("run")
     folder = project(worker=f"#!/bin/sh\n{LISTS}cat packets/a\ntouch begun\nexec sleep 2\n")
