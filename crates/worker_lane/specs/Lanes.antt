@@ -1,5 +1,5 @@
 -- What contracts see of a lane (docs/FORMATS.md, "What a lane gives").
-use Rattle.std.specs.Prelude.{◌≡◌, ◌⊎◌, ℕ, ◌≤◌, Bool, true, Option, List}
+use Rattle.std.specs.Prelude.{◌≡◌, ◌⊎◌, ℕ, ◌≤◌, Bool, true, Option, List, length}
 use Rattle.std.specs.Option.{option_map}
 use Rattle.edge_io.specs.Causes.{Rose}
 use Rattle.edge_io.specs.Children.{Output}
@@ -36,6 +36,10 @@ module _ {C : Type 0} where
   -- how often a call of its child has failed
   abbrev pub lane_faults : (seen : C → Seen Output) → Lane C → ℕ
   lane_faults seen lane = (seen lane.child).faults
+
+  -- how many bytes it holds of which no note was taken
+  abbrev pub lane_held : Lane C → ℕ
+  lane_held lane = length lane.course.scribe.held.bytes
 
   -- it has given its end
   abbrev pub IsPast : Lane C → Type 0

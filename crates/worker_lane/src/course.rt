@@ -54,6 +54,7 @@ impl Course {
 
     /// How many bytes were given to it of which no note was taken.
     pub(crate) fn held(&self) -> usize
+        ensures held { result ≡ length self.now.scribe.held.bytes }
         ensures few { result ≤ room }
     {
         self.scribe.held()
@@ -112,6 +113,7 @@ impl Course {
         ensures marked { IfOk result (λ answer. IfSome answer (λ lot. IsMarkedLot lot self.new.failed)) }
         ensures none { IfOk result (λ answer. (answer ≡ None) ↔ (self.old.stage ≡ Over)) }
         ensures over { IfOk result (λ answer. IfSome answer (λ lot. IsEnd lot ↔ (self.new.stage ≡ Over))) }
+        ensures stays { IfOk result (λ answer. IfNone answer (self.new.stage ≡ Over)) }
         ensures err { OnErr result (self.old.stage ≡ Over → ⊥) }
     {
         match self.stage {

@@ -29,7 +29,7 @@ impl<C: Child> Lane<C> {
     ghost use Rattle.worker_lane.specs.Endings.{IsPacketOf, IsLotOf};
     ghost use Rattle.worker_lane.specs.Rest.{Gives, IsOver, lots_for, IsMarkedLot, IsEnd};
     ghost use Rattle.stream_reader.specs.Room.{room, most_held};
-    ghost use Rattle.worker_lane.specs.Lanes.{rest, lane_number, lane_failed, lane_faults, IsPast, KeepsLane};
+    ghost use Rattle.worker_lane.specs.Lanes.{rest, lane_number, lane_failed, lane_faults, lane_held, IsPast, KeepsLane};
     ghost use Rattle.worker_lane.specs.declared.lot.Lot.TheVariants.{Packet, End};
     ghost use Rattle.worker_lane.specs.declared.lot.Ending.TheVariants.{Fault, NoMemory as without_memory};
     ghost use Rattle.worker_lane.specs.declared.stage.Stage.TheVariants.{Reading, Over};
@@ -61,7 +61,8 @@ impl<C: Child> Lane<C> {
 
     /// How many bytes the lane holds of which no note was taken: 4,325,376 at most.
     pub fn held(&self) -> usize
-        ensures { result ≤ room }
+        ensures held { result ≡ lane_held self.now }
+        ensures few { result ≤ room }
     {
         self.course.held()
     }
@@ -78,6 +79,7 @@ impl<C: Child> Lane<C> {
         ensures fault { result ≡ Some (End Fault) → lane_failed self.new ≡ true }
         ensures none { (result ≡ None) ↔ IsPast self.old }
         ensures over { IfNone result (IsOver (rest C.seen self.new)) }
+        ensures stays { IfNone result (IsPast self.new) }
         ensures past { IfSome result (λ lot. IsEnd lot ↔ IsPast self.new) }
     {
         match self.next_lot() {
@@ -105,6 +107,7 @@ impl<C: Child> Lane<C> {
         ensures marked { IfOk result (λ answer. IfSome answer (λ lot. IsMarkedLot lot (lane_failed self.new))) }
         ensures none { IfOk result (λ answer. (answer ≡ None) ↔ IsPast self.old) }
         ensures past { IfOk result (λ answer. IfSome answer (λ lot. IsEnd lot ↔ IsPast self.new)) }
+        ensures stays { IfOk result (λ answer. IfNone answer (IsPast self.new)) }
         ensures err { OnErr result (IsPast self.old → ⊥) }
     {
         if self.course.is_reading() {
