@@ -1,5 +1,7 @@
 //! Lines as packets and packets as lines, over streams in memory.
 
+ghost use Rattle.std.specs.Prelude.{◌≤◌};
+
 use crate::{SubunitToTap, pass_notes, tap_to_subunit};
 use edge_io::{ListSink, ListSource};
 use std::alloc::Global;
@@ -7,7 +9,9 @@ use std::test::Fail;
 use sub_number::Bytes;
 
 // The input gives so many bytes a read.
-fn source(alloc: Global, input: &[u8], chunk: usize) -> Result<ListSource, Fail> {
+fn source(alloc: Global, input: &[u8], chunk: usize) -> Result<ListSource, Fail>
+    requires { 1 ≤ chunk }
+{
     Ok(ListSource::new(Bytes::new(alloc, input)?, chunk, Vec::new(alloc)))
 }
 
@@ -84,7 +88,9 @@ fn the_last_line_needs_no_newline(rt: HostRuntime) -> Result<(), Fail> {
 }
 
 // What a line of so many `a` gives behind a test line, and before its comment.
-fn long_line(alloc: Global, count: usize, chunk: usize) -> Option<ListSink> {
+fn long_line(alloc: Global, count: usize, chunk: usize) -> Option<ListSink>
+    requires { 1 ≤ chunk }
+{
     let mut lines = Vec::new(alloc);
     lines.extend_from_slice(b"ok\n").ok()?;
     for _ in 0..count {
