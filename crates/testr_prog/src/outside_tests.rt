@@ -63,14 +63,20 @@ fn gives(rt: &HostRuntime, command: &str, wanted: &[u8], status: i32) -> bool {
     job_gives(rt, job_of(rt.alloc(), command, None), wanted, status)
 }
 
+const ENDS: [(&str, &[u8], i32); 6] = [
+    ("printf 'one\\0two\\377'", b"one\0two\xff", 0),
+    ("echo left; exit 7", b"left\n", 7),
+    ("exit 255", b"", 255),
+    ("no-such-program-here 2>/dev/null", b"", 127),
+    ("echo part; kill -9 $$", b"part\n", -9),
+    ("kill -TERM $$", b"", -15),
+];
+
 #[test]
 fn a_child_gives_its_bytes_and_its_end(rt: HostRuntime) {
-    assert!(rt; gives(&rt, "printf 'one\\0two\\377'", b"one\0two\xff", 0));
-    assert!(rt; gives(&rt, "echo left; exit 7", b"left\n", 7));
-    assert!(rt; gives(&rt, "exit 255", b"", 255));
-    assert!(rt; gives(&rt, "no-such-program-here 2>/dev/null", b"", 127));
-    assert!(rt; gives(&rt, "echo part; kill -9 $$", b"part\n", -9));
-    assert!(rt; gives(&rt, "kill -TERM $$", b"", -15));
+    for (command, wanted, status) in ENDS {
+        assert!(rt; gives(&rt, command, wanted, status));
+    }
 }
 
 // A child has no input, and no file of this program is open in it.
@@ -183,28 +189,39 @@ fn finds(site: &mut RealSite<'_, HostRuntime>, name: &str, place: u64, wanted: &
     }
 }
 
+const FILES: &str =
+    "printf abcde > five; : > empty; mkdir folder; ln -s nowhere lost; ln -s five found";
+
+const READS: [(&str, u64, &[u8]); 8] = [
+    ("five", 0, b"abc"),
+    ("found", 1, b"bcd"),
+    ("five", 3, b"de"),
+    ("five", 5, b""),
+    ("five", 9, b""),
+    ("./five", 0, b"abc"),
+    ("empty", 0, b""),
+    ("/proc/cpuinfo", 0, b"pro"),
+];
+
+const UNREAD: [(&str, Result<Found, Failed>); 5] = [
+    ("absent", Ok(Found::Absent)),
+    ("five/absent", Ok(Found::Absent)),
+    ("", Ok(Found::Absent)),
+    ("folder", Err(Failed)),
+    ("lost", Err(Failed)),
+];
+
 #[test]
 fn files_are_read_by_name(rt: HostRuntime) -> Result<(), Fail> {
     let home = enter_home(&rt, "site")?;
-    shell(
-        &rt,
-        "printf abcde > five; : > empty; mkdir folder; ln -s nowhere lost; ln -s five found",
-    )?;
+    shell(&rt, FILES)?;
     let mut site = RealSite::new(rt.alloc(), &rt);
-    assert!(rt; finds(&mut site, "five", 0, b"abc"));
-    assert!(rt; finds(&mut site, "found", 1, b"bcd"));
-    assert!(rt; finds(&mut site, "five", 3, b"de"));
-    assert!(rt; finds(&mut site, "five", 5, b""));
-    assert!(rt; finds(&mut site, "five", 9, b""));
-    assert!(rt; finds(&mut site, "./five", 0, b"abc"));
-    assert!(rt; finds(&mut site, "empty", 0, b""));
-    assert!(rt; finds(&mut site, "/proc/cpuinfo", 0, b"pro"));
-    let mut buf = [0u8; 3];
-    for name in ["absent", "five/absent", ""] {
-        assert_eq!(rt; site.read_at(name, 0, &mut buf), Ok(Found::Absent));
+    for (name, place, wanted) in READS {
+        assert!(rt; finds(&mut site, name, place, wanted));
     }
-    for name in ["folder", "lost"] {
-        assert_eq!(rt; site.read_at(name, 0, &mut buf), Err(Failed));
+    let mut buf = [0u8; 3];
+    for (name, answer) in UNREAD {
+        assert_eq!(rt; site.read_at(name, 0, &mut buf), answer);
     }
     leave_home(&rt, &home)?;
     Ok(())
