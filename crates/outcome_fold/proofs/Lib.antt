@@ -15,3 +15,4 @@ pub mod TotalLemmas
 pub mod LawLemmas
 pub mod RouteLemmas
 pub mod MergedLemmas
+mod SaidLemmas

@@ -6,12 +6,12 @@ use Rattle.std.specs.FinMap as fin
 use Rattle.std.specs.FinMap.{FinMap, same_map, get-insert, get-remove}
 use Rattle.std.specs.Ordering.{eq_by_cmp}
 use Rattle.std.specs.Cmp.{eq_by_cmp_equiv}
-use Rattle.packet_codec.specs.declared.event.Event.{Event}
 use Rattle.outcome_fold.specs.declared.part.Started.{Started}
+use Rattle.outcome_fold.specs.declared.part.Said.{Said}
 use Rattle.outcome_fold.specs.declared.test_key.TestKey.{TestKey}
 use Rattle.outcome_fold.specs.Order.{test_cmp}
-use Rattle.outcome_fold.specs.Started.{after}
-use Rattle.outcome_fold.specs.Folded.{extended, with_extended}
+use Rattle.outcome_fold.specs.Started.{after_said}
+use Rattle.outcome_fold.specs.Folded.{extended_by, with_extended}
 use Rattle.outcome_fold.proofs.OrderLemmas.{tests_total, exact_tests}
 use Rattle.outcome_fold.proofs.TableLemmas.{inserted, tied_is, lookup_in_map}
 
@@ -52,11 +52,11 @@ found : (old : Entries) (t : TestKey) (part : Started) → Some part ≡ lookup 
 found old t part is = sym (lookup_in_map tests_total t old) ∙ sym is
 
 -- a part that took an event where it stands
-pub taken_through : (old new : Entries) (t : TestKey) (part next : Started) (e : Event) → Writes old new t next → Some part ≡ lookup (is_at (test_cmp t)) old → next ≡ after part e → fin.from_entries {R = test_cmp} new ≡ with_extended (fin.from_entries {R = test_cmp} old) t e
+pub taken_through : (old new : Entries) (t : TestKey) (part next : Started) (e : Said) → Writes old new t next → Some part ≡ lookup (is_at (test_cmp t)) old → next ≡ after_said part e → fin.from_entries {R = test_cmp} new ≡ with_extended (fin.from_entries {R = test_cmp} old) t e
 taken_through old new t part next e writes is taken =
     let m : Open = fin.from_entries {R = test_cmp} old in
     inserted tests_total exact_tests old new t next writes ∙ ap (fin.insert m t) taken
-    ∙ ap (λ (o : Option Started). cond (is_some o) (fin.insert m t (extended o e)) m) (sym (found old t part is))
+    ∙ ap (λ (o : Option Started). cond (is_some o) (fin.insert m t (extended_by o e)) m) (sym (found old t part is))
 
 -- a part that stayed as it was
 pub kept_through : (old new : Entries) (t : TestKey) (part next : Started) → Writes old new t next → Some part ≡ lookup (is_at (test_cmp t)) old → next ≡ part → fin.from_entries {R = test_cmp} new ≡ fin.from_entries {R = test_cmp} old
@@ -69,34 +69,34 @@ no_part None is = refl
 no_part (Some s) is = absurd (true≢false (sym is))
 
 -- the test is open: its part has one event more
-pub open_goes_on : (m n : Open) (t : TestKey) (e : Event) → true ≡ is_some (fin.get m t) → n ≡ with_extended m t e → n ≡ fin.insert m t (extended (fin.get m t) e)
-open_goes_on m n t e is next = next ∙ ap (λ b. cond b (fin.insert m t (extended (fin.get m t) e)) m) (sym is)
+pub open_goes_on : (m n : Open) (t : TestKey) (e : Said) → true ≡ is_some (fin.get m t) → n ≡ with_extended m t e → n ≡ fin.insert m t (extended_by (fin.get m t) e)
+open_goes_on m n t e is next = next ∙ ap (λ b. cond b (fin.insert m t (extended_by (fin.get m t) e)) m) (sym is)
 
 -- the test is not open
-pub closed_stays : (m n : Open) (t : TestKey) (e : Event) → false ≡ is_some (fin.get m t) → n ≡ with_extended m t e → n ≡ m
-closed_stays m n t e is next = next ∙ ap (λ b. cond b (fin.insert m t (extended (fin.get m t) e)) m) (sym is)
+pub closed_stays : (m n : Open) (t : TestKey) (e : Said) → false ≡ is_some (fin.get m t) → n ≡ with_extended m t e → n ≡ m
+closed_stays m n t e is next = next ∙ ap (λ b. cond b (fin.insert m t (extended_by (fin.get m t) e)) m) (sym is)
 
-pub closed_is : (m n : Open) (t : TestKey) (e : Event) → false ≡ is_some (fin.get m t) → n ≡ m → n ≡ with_extended m t e
-closed_is m n t e is same = same ∙ ap (λ b. cond b (fin.insert m t (extended (fin.get m t) e)) m) is
+pub closed_is : (m n : Open) (t : TestKey) (e : Said) → false ≡ is_some (fin.get m t) → n ≡ m → n ≡ with_extended m t e
+closed_is m n t e is same = same ∙ ap (λ b. cond b (fin.insert m t (extended_by (fin.get m t) e)) m) is
 
-pub closed_begins : (m n k : Open) (t : TestKey) (e : Event) (s : Started) → false ≡ is_some (fin.get m t) → n ≡ with_extended m t e → k ≡ fin.insert n t s → s ≡ extended None e → k ≡ fin.insert m t (extended (fin.get m t) e)
+pub closed_begins : (m n k : Open) (t : TestKey) (e : Said) (s : Started) → false ≡ is_some (fin.get m t) → n ≡ with_extended m t e → k ≡ fin.insert n t s → s ≡ extended_by None e → k ≡ fin.insert m t (extended_by (fin.get m t) e)
 closed_begins m n k t e s is next put begins =
     put ∙ ap (λ (n : Open). fin.insert n t s) (closed_stays m n t e is next)
-    ∙ ap (fin.insert m t) (begins ∙ ap (λ (o : Option Started). extended o e) (sym (no_part (fin.get m t) is)))
+    ∙ ap (fin.insert m t) (begins ∙ ap (λ (o : Option Started). extended_by o e) (sym (no_part (fin.get m t) is)))
 
-pub closed_part : (m : Open) (t : TestKey) (e : Event) (s : Started) → false ≡ is_some (fin.get m t) → s ≡ extended None e → s ≡ extended (fin.get m t) e
-closed_part m t e s is begins = begins ∙ ap (λ (o : Option Started). extended o e) (sym (no_part (fin.get m t) is))
+pub closed_part : (m : Open) (t : TestKey) (e : Said) (s : Started) → false ≡ is_some (fin.get m t) → s ≡ extended_by None e → s ≡ extended_by (fin.get m t) e
+closed_part m t e s is begins = begins ∙ ap (λ (o : Option Started). extended_by o e) (sym (no_part (fin.get m t) is))
 
-pub closed_removed : (m n : Open) (t : TestKey) (e : Event) → false ≡ is_some (fin.get m t) → n ≡ with_extended m t e → n ≡ fin.remove m t
+pub closed_removed : (m n : Open) (t : TestKey) (e : Said) → false ≡ is_some (fin.get m t) → n ≡ with_extended m t e → n ≡ fin.remove m t
 closed_removed m n t e is next = closed_stays m n t e is next ∙ sym (remove_none m t (no_part (fin.get m t) is))
 
-pub open_removed : (m n k : Open) (t : TestKey) (e : Event) → true ≡ is_some (fin.get m t) → n ≡ with_extended m t e → k ≡ fin.remove n t → k ≡ fin.remove m t
+pub open_removed : (m n k : Open) (t : TestKey) (e : Said) → true ≡ is_some (fin.get m t) → n ≡ with_extended m t e → k ≡ fin.remove n t → k ≡ fin.remove m t
 open_removed m n k t e is next gone =
-    gone ∙ ap (λ (n : Open). fin.remove n t) (open_goes_on m n t e is next) ∙ remove_insert m t (extended (fin.get m t) e)
+    gone ∙ ap (λ (n : Open). fin.remove n t) (open_goes_on m n t e is next) ∙ remove_insert m t (extended_by (fin.get m t) e)
 
 -- what an open test's part says
-pub open_part : (m : Open) (es : Entries) (t : TestKey) (e : Event) → true ≡ is_some (fin.get m t) → fin.from_entries {R = test_cmp} es ≡ with_extended m t e → lookup (is_at (test_cmp t)) es ≡ Some (extended (fin.get m t) e)
+pub open_part : (m : Open) (es : Entries) (t : TestKey) (e : Said) → true ≡ is_some (fin.get m t) → fin.from_entries {R = test_cmp} es ≡ with_extended m t e → lookup (is_at (test_cmp t)) es ≡ Some (extended_by (fin.get m t) e)
 open_part m es t e is next =
     lookup_in_map tests_total t es ∙ ap (λ (n : Open). fin.get n t) (open_goes_on m _ t e is next)
-    ∙ get-insert tests_total m t (extended (fin.get m t) e) t
-    ∙ ap (λ b. cond b (Some (extended (fin.get m t) e)) (fin.get m t)) ((eq_by_cmp_equiv tests_total).refl t)
+    ∙ get-insert tests_total m t (extended_by (fin.get m t) e) t
+    ∙ ap (λ b. cond b (Some (extended_by (fin.get m t) e)) (fin.get m t)) ((eq_by_cmp_equiv tests_total).refl t)

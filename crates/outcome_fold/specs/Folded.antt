@@ -10,7 +10,9 @@ use Rattle.outcome_fold.specs.declared.row.Row.{Row}
 use Rattle.outcome_fold.specs.declared.fold.Fold.{Fold}
 use Rattle.outcome_fold.specs.Order.{test_cmp}
 use Rattle.outcome_fold.specs.Rows.{is_failure}
-use Rattle.outcome_fold.specs.Started.{fresh, after, open_table}
+use Rattle.outcome_fold.specs.declared.part.Said.{Said}
+use Rattle.outcome_fold.specs.Parts.{test_of, ended_by}
+use Rattle.outcome_fold.specs.Started.{fresh, after, open_table, Says, fresh_said, after_said}
 
 -- what the parts of the open tests say, by test
 abbrev pub open_in : Fold → FinMap test_cmp Started
@@ -25,9 +27,20 @@ abbrev pub extended : Option Started → Event → Started
 extended None e = after (fresh e) e
 extended (Some s) e = after s e
 
--- the table where the part of the test has one event more, if the test is open
-abbrev pub with_extended : FinMap test_cmp Started → TestKey → Event → FinMap test_cmp Started
-with_extended kept test e = if is_some (map.get kept test) then map.insert kept test (extended (map.get kept test) e) else kept
+-- the same, by what the event says
+abbrev pub extended_by : Option Started → Said → Started
+extended_by None said = after_said (fresh_said said) said
+extended_by (Some s) said = after_said s said
+
+-- the table where the part of the test has one event more, which says this, if the test is open
+abbrev pub with_extended : FinMap test_cmp Started → TestKey → Said → FinMap test_cmp Started
+with_extended kept test said = if is_some (map.get kept test) then map.insert kept test (extended_by (map.get kept test) said) else kept
+
+-- the event speaks of this test, ends it so, and says this of it
+pub record Speaks (e : Event) (test : TestKey) (how : Option Ended) (said : Said) : Type 0 where
+  pub test_is : Some test ≡ test_of e
+  pub how_is : how ≡ ended_by e.status
+  pub says : Says said e
 
 -- the row of a part that says this
 abbrev pub row_at : TestKey → Ended → Option ℕ → Started → Row

@@ -1,9 +1,10 @@
 -- What the events of a part say together, event by event (docs/FORMATS.md, "The fold").
-use Rattle.std.specs.Prelude.{ℕ, Option, None, Some, List, [], ◌++◌, take}
+use Rattle.std.specs.Prelude.{◌≡◌, ℕ, Option, None, Some, List, [], ◌++◌, take}
 use Rattle.std.specs.FinMap.{FinMap}
-use Rattle.std.specs.Option.{option_map}
+use Rattle.std.specs.Option.{option_map, unwrap_or}
 use Rattle.packet_codec.specs.declared.event.Event.{Event}
 use Rattle.outcome_fold.specs.declared.part.Started.{Started}
+use Rattle.outcome_fold.specs.declared.part.Said.{Said}
 use Rattle.outcome_fold.specs.Order.{test_cmp, in_byte_order, table}
 use Rattle.outcome_fold.specs.Parts.{instant, start_of, tags_of, text_in, text_limit, text_of, events_of_test, last_part}
 use Rattle.outcome_fold.specs.Rows.{open_tests}
@@ -19,6 +20,26 @@ fresh e = record { start = option_map instant e.stamp; tags = []; text = [] }
 -- after one event more
 abbrev pub after : Started → Event → Started
 after s e = record { start = s.start; tags = next_tags s.tags e.tags; text = take text_limit (s.text ++ text_in e.mime e.file) }
+
+-- this is what the event says of its test
+pub record Says (said : Said) (e : Event) : Type 0 where
+  pub instant : said.instant ≡ option_map instant e.stamp
+  pub tags : said.tags ≡ option_map in_byte_order e.tags
+  pub text : said.text.now ≡ text_in e.mime e.file
+
+-- The second event is the first one, of which the id, the route and the tags may have been moved out.
+pub record IsBut (whole left : Event) : Type 0 where
+  pub stamp : left.stamp ≡ whole.stamp
+  pub status : left.status ≡ whole.status
+  pub mime : left.mime ≡ whole.mime
+  pub file : left.file ≡ whole.file
+
+-- the same as `fresh` and `after`, by what an event says
+abbrev pub fresh_said : Said → Started
+fresh_said said = record { start = said.instant; tags = []; text = [] }
+
+abbrev pub after_said : Started → Said → Started
+after_said s said = record { start = s.start; tags = unwrap_or said.tags s.tags; text = take text_limit (s.text ++ said.text.now) }
 
 -- what a whole part says
 abbrev pub started_of : List Event → Started

@@ -1,16 +1,16 @@
 //! The fold of events into rows.
 
-ghost use Rattle.std.specs.Prelude.{◌≡◌, List, [], ◌∷◌, ◌++◌, IfOk, OnOk, OnErr, is_some, if◌then◌else◌};
+ghost use Rattle.std.specs.Prelude.{◌≡◌, List, [], ◌∷◌, ◌++◌, false, IfOk, OnOk, OnErr, is_some, if◌then◌else◌};
 ghost use Rattle.std.specs.FinMap as map;
 ghost use Rattle.packet_codec.specs.declared.event.Event.{Event as AnEvent};
 ghost use Rattle.outcome_fold.specs.Rows.{is_failure, completed_row, open_rows};
-ghost use Rattle.outcome_fold.specs.Folded.{HasSeen, open_in, extended, with_extended, row_at};
+ghost use Rattle.outcome_fold.specs.Folded.{HasSeen, Speaks, open_in, extended_by, with_extended, row_at};
 
 use crate::ended::{Ended, ended_by};
 use crate::kept_text::KeptText;
-use crate::part::{Started, elapsed, instant_of};
+use crate::part::{Said, Started, elapsed, moved_tags, said_by, said_with};
 use crate::row::Row;
-use crate::test_key::{TestKey, key_of};
+use crate::test_key::{TestKey, key_of, take_key};
 use packet_codec::Event;
 use std::alloc::Global;
 use std::collections::BTreeMap;
@@ -34,45 +34,70 @@ impl Fold {
         }
     }
 
-    // Whether the test is open. Where it is, its part takes the event.
-    fn extend(&mut self, key: &TestKey, event: &Event) -> Result<bool, NoMemory>
+    // Whether the test is open. Where it is, its part takes what the event says.
+    fn extend(&mut self, key: &TestKey, said: &mut Said<'_>) -> Result<bool, NoMemory>
         ensures was_open { IfOk result (λ was_open. was_open ≡ is_some (map.get (open_in self.old) key.now)) }
-        ensures ok { OnOk result (open_in self.new ≡ with_extended (open_in self.old) key.now event.now) }
+        ensures kept { IfOk result (λ was_open. was_open ≡ false → said.new ≡ said.old) }
+        ensures ok { OnOk result (open_in self.new ≡ with_extended (open_in self.old) key.now said.old) }
         ensures err { OnErr result (open_in self.new ≡ open_in self.old) }
     {
-        let alloc = self.alloc;
         match self.open.get_mut(key) {
             Some(started) => {
-                started.take(alloc, event)?;
+                started.take(said)?;
                 Ok(true)
             }
             None => Ok(false),
         }
     }
 
-    // Takes an event that does not complete its test, which is open then.
-    fn go_on(&mut self, key: TestKey, event: &Event) -> Result<(), NoMemory>
-        ensures ok { OnOk result (open_in self.new ≡ map.insert (open_in self.old) key (extended (map.get (open_in self.old) key) event.now)) }
+    // Takes what an event says that does not complete its test, which is open then.
+    fn go_on(&mut self, key: TestKey, mut said: Said<'_>) -> Result<(), NoMemory>
+        ensures ok { OnOk result (open_in self.new ≡ map.insert (open_in self.old) key (extended_by (map.get (open_in self.old) key) said.entry)) }
         ensures err { OnErr result (open_in self.new ≡ open_in self.old) }
     {
-        if self.extend(&key, event)? {
+        if self.extend(&key, &mut said)? {
             return Ok(());
         }
-        let started = Started::begun(self.alloc, event)?;
+        let started = Started::begun(self.alloc, said)?;
         self.open.insert(key, started)?;
         Ok(())
     }
 
-    // What the part of the test says with this event, and the test is no longer open.
-    fn finish(&mut self, key: &TestKey, event: &Event) -> Result<Started, NoMemory>
-        ensures part { IfOk result (λ started. started ≡ extended (map.get (open_in self.old) key.now) event.now) }
+    // What the part of the test says with this, and the test is no longer open.
+    fn finish(&mut self, key: &TestKey, mut said: Said<'_>) -> Result<Started, NoMemory>
+        ensures part { IfOk result (λ started. started ≡ extended_by (map.get (open_in self.old) key.now) said.entry) }
         ensures ok { OnOk result (open_in self.new ≡ map.remove (open_in self.old) key.now) }
         ensures err { OnErr result (open_in self.new ≡ open_in self.old) }
     {
-        if self.extend(key, event)? {
+        if self.extend(key, &mut said)? {
             Ok(self.open.remove(key).unwrap())
         } else {
-            Started::begun(self.alloc, event)
+            Started::begun(self.alloc, said)
+        }
+    }
+
+    // Takes what an event says of this test, which it ends so, or not.
+    fn tell(
+        &mut self,
+        key: TestKey,
+        ended: Option<Ended>,
+        said: Said<'_>,
+    ) -> Result<Option<Row>, NoMemory>
+        ensures row { (seen : List AnEvent) (e : AnEvent) → HasSeen self.old seen → Speaks e key ended said.entry → IfOk result (λ row. row ≡ completed_row seen e) }
+        ensures ok { (seen : List AnEvent) (e : AnEvent) → HasSeen self.old seen → Speaks e key ended said.entry → OnOk result (HasSeen self.new (seen ++ e ∷ [])) }
+        ensures err { OnErr result (open_in self.new ≡ open_in self.old) }
+    {
+        let instant = said.instant;
+        match ended {
+            Some(ended) => {
+                let started = self.finish(&key, said)?;
+                let nanos = elapsed(started.start, instant);
+                Ok(Some(row_of(self.alloc, key, ended, nanos, started)))
+            }
+            None => {
+                self.go_on(key, said)?;
+                Ok(None)
+            }
         }
     }
 }
@@ -90,17 +115,23 @@ impl Fold {
         let Some(key) = key_of(event)? else {
             return Ok(None);
         };
-        match ended_by(event.status) {
-            Some(ended) => {
-                let started = self.finish(&key, event)?;
-                let nanos = elapsed(started.start, instant_of(event));
-                Ok(Some(row_of(self.alloc, key, ended, nanos, started)))
-            }
-            None => {
-                self.go_on(key, event)?;
-                Ok(None)
-            }
-        }
+        let said = said_by(self.alloc, event)?;
+        self.tell(key, ended_by(event.status), said)
+    }
+
+    /// The same of an event that is given away: its id, its route and its tags are moved, and not copied.
+    ///
+    /// `NoMemory` comes only for want of memory, and then the fold is as before.
+    pub fn take(&mut self, mut event: Event) -> Result<Option<Row>, NoMemory>
+        ensures row { (seen : List AnEvent) → HasSeen self.old seen → IfOk result (λ row. row ≡ completed_row seen event) }
+        ensures ok { (seen : List AnEvent) → HasSeen self.old seen → OnOk result (HasSeen self.new (seen ++ event ∷ [])) }
+        ensures err { OnErr result (open_in self.new ≡ open_in self.old) }
+    {
+        let Some(key) = take_key(&mut event) else {
+            return Ok(None);
+        };
+        let tags = moved_tags(self.alloc, event.tags.take())?;
+        self.tell(key, ended_by(event.status), said_with(tags, &event))
     }
 
     /// Ends the fold, and gives a row for each open test, by route, no route first, and then by id.

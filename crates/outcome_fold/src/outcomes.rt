@@ -47,6 +47,20 @@ impl Outcomes {
         Ok(())
     }
 
+    /// The same of an event that is given away: its id, its route and its tags are moved, and not copied.
+    ///
+    /// `NoMemory` comes only for want of memory, and then the outcomes are as before.
+    pub fn take(&mut self, event: Event) -> Result<(), NoMemory>
+        ensures ok { (seen : List AnEvent) → HasFolded self.old seen → OnOk result (HasFolded self.new (seen ++ event ∷ [])) }
+        ensures err { (seen : List AnEvent) → HasFolded self.old seen → OnErr result (HasFolded self.new seen) }
+    {
+        self.completed.reserve(1)?;
+        if let Some(row) = self.fold.take(event)? {
+            self.completed.push(row)?;
+        }
+        Ok(())
+    }
+
     /// Ends the run, and gives its rows: by route, no route first, and in a route first the completed ones in the order
     /// of their completing events, then the open ones by id.
     ///

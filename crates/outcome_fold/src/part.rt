@@ -4,10 +4,11 @@ ghost use Rattle.std.specs.Prelude.{◌≡◌, IfOk, OnOk, OnErr};
 ghost use Rattle.std.specs.Option.{option_map};
 ghost use Rattle.outcome_fold.specs.Parts as parts;
 ghost use Rattle.outcome_fold.specs.Order.{in_byte_order};
-ghost use Rattle.outcome_fold.specs.Started.{after, fresh};
+ghost use Rattle.outcome_fold.specs.Started.{Says, IsBut, after_said, fresh_said};
+ghost use Rattle.packet_codec.specs.declared.event.Event.{Event as AnEvent};
 
 use crate::kept_text::KeptText;
-use crate::sorting::sorted_tags;
+use crate::sorting::{into_sorted, sorted_tags};
 use packet_codec::{Event, Tags};
 use std::alloc::Global;
 use sub_number::NoMemory;
@@ -54,6 +55,41 @@ pub fn text_in(event: &Event) -> &[u8]
     }
 }
 
+/// What one event says of its test.
+#[derive(Drop)]
+pub(crate) struct Said<'a> {
+    /// When it happened, in nanoseconds since 1970 in UTC, where it has a stamp.
+    pub(crate) instant: Option<u64>,
+    /// Its tags in the order of their bytes, each once, where it has tags.
+    pub(crate) tags: Option<Tags>,
+    /// The bytes of its file of text.
+    pub(crate) text: &'a [u8],
+}
+
+/// What the event says. Its tags are copied.
+///
+/// `NoMemory` comes only for want of memory.
+pub(crate) fn said_by(alloc: Global, event: &Event) -> Result<Said<'_>, NoMemory>
+    ensures { IfOk result (λ said. Says said event.now) }
+{
+    Ok(Said {
+        instant: instant_of(event),
+        tags: new_tags(alloc, &event.tags)?,
+        text: text_in(event),
+    })
+}
+
+/// What an event says that has these tags, in order, and else is like this one.
+pub(crate) fn said_with(tags: Option<Tags>, event: &Event) -> Said<'_>
+    ensures { (whole : AnEvent) → IsBut whole event.now → tags ≡ option_map in_byte_order whole.tags → Says result whole }
+{
+    Said {
+        instant: instant_of(event),
+        tags,
+        text: text_in(event),
+    }
+}
+
 // The tags of an event in the order of their bytes, each once, where it has tags.
 fn new_tags(alloc: Global, tags: &Option<Tags>) -> Result<Option<Tags>, NoMemory>
     ensures { IfOk result (λ sorted. sorted ≡ option_map in_byte_order tags.now) }
@@ -64,32 +100,43 @@ fn new_tags(alloc: Global, tags: &Option<Tags>) -> Result<Option<Tags>, NoMemory
     }
 }
 
+/// The tags of an event in the order of their bytes, each once, where it has tags. Where they are in order they are moved.
+///
+/// `NoMemory` comes only for want of memory.
+pub(crate) fn moved_tags(alloc: Global, tags: Option<Tags>) -> Result<Option<Tags>, NoMemory>
+    ensures { IfOk result (λ sorted. sorted ≡ option_map in_byte_order tags) }
+{
+    match tags {
+        Some(tags) => Ok(Some(into_sorted(alloc, tags)?)),
+        None => Ok(None),
+    }
+}
+
 impl Started {
-    /// What a part says whose first event is this one.
+    /// What a part says whose first event says this.
     ///
     /// `NoMemory` comes only for want of memory.
-    pub fn begun(alloc: Global, event: &Event) -> Result<Self, NoMemory>
-        ensures { IfOk result (λ started. started ≡ after (fresh event.now) event.now) }
+    pub(crate) fn begun(alloc: Global, mut said: Said<'_>) -> Result<Self, NoMemory>
+        ensures { IfOk result (λ started. started ≡ after_said (fresh_said said.entry) said.entry) }
     {
         let mut started = Started {
-            start: instant_of(event),
+            start: said.instant,
             tags: Tags::new(alloc),
             text: KeptText::new(alloc),
         };
-        started.take(alloc, event)?;
+        started.take(&mut said)?;
         Ok(started)
     }
 
-    /// Takes one event more.
+    /// Takes what one event more says.
     ///
     /// `NoMemory` comes only for want of memory, and then all is as before.
-    pub fn take(&mut self, alloc: Global, event: &Event) -> Result<(), NoMemory>
-        ensures ok { OnOk result (self.new ≡ after self.old event.now) }
-        ensures err { OnErr result (self.new ≡ self.old) }
+    pub(crate) fn take(&mut self, said: &mut Said<'_>) -> Result<(), NoMemory>
+        ensures ok { OnOk result (self.new ≡ after_said self.old said.old) }
+        ensures err { OnErr result ((self.new ≡ self.old) × (said.new ≡ said.old)) }
     {
-        let tags = new_tags(alloc, &event.tags)?;
-        self.text.append(text_in(event))?;
-        if let Some(tags) = tags {
+        self.text.append(said.text)?;
+        if let Some(tags) = said.tags.take() {
             self.tags = tags;
         }
         Ok(())

@@ -23,6 +23,18 @@ pub fn sorted_tags(alloc: Global, tags: &[Text]) -> Result<Tags, NoMemory>
     }
 }
 
+/// The tags in the order of their bytes, each once. Where they are so already they are moved, and none is copied.
+///
+/// `NoMemory` comes only for want of memory.
+pub fn into_sorted(alloc: Global, tags: Tags) -> Result<Tags, NoMemory>
+    ensures { IfOk result (λ sorted. sorted ≡ in_byte_order tags) }
+{
+    if are_in_order(tags.list()) {
+        return Ok(tags);
+    }
+    set_of(alloc, tags.list())?.into_tags(alloc)
+}
+
 // Whether each tag is greater than the one before it.
 fn are_in_order(tags: &[Text]) -> bool
     ensures { OnTrue result (IsStrictlySortedBy text_cmp tags.now) }

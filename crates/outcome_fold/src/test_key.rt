@@ -2,6 +2,7 @@
 
 ghost use Rattle.std.specs.Prelude.{◌≡◌, IfOk};
 ghost use Rattle.outcome_fold.specs.Parts.{test_of};
+ghost use Rattle.outcome_fold.specs.Started.{IsBut};
 
 use packet_codec::Event;
 use sub_number::{NoMemory, Text};
@@ -28,6 +29,17 @@ pub fn key_of(event: &Event) -> Result<Option<TestKey>, NoMemory>
     };
     let route = copy_route(&event.route)?;
     Ok(Some(TestKey { route, id }))
+}
+
+/// The test that the event speaks of, moved out of it. None comes exactly where it has no id, and the event is then as
+/// before.
+pub(crate) fn take_key(event: &mut Event) -> Option<TestKey>
+    ensures key { result ≡ test_of event.old }
+    ensures rest { IsBut event.old event.new × (event.new.tags ≡ event.old.tags) }
+{
+    let id = event.id.take()?;
+    let route = event.route.take();
+    Some(TestKey { route, id })
 }
 
 /// Another route of the same bytes.

@@ -12,7 +12,7 @@ use Rattle.outcome_fold.proofs.fold.Fold.extend.Goals as goal
 pub returns-in_err-take-in-Some-clause-err : goal.returns-in_err-take-in-Some-clause-err
 returns-in_err-take-in-Some-clause-err c =
     let p = err_from_is_err_and c.from_residual.result c.from_residual.ensures.1 in
-    rw p.1 (kept_through _ _ _ c.in-Some.started.now c.take.new.self ((c.get_mut.follows.holds c.take.new.self).3 (found_some _ _ c.in-Some.ensures.value)).0 c.in-Some.ensures.value c.in_err-take-in-Some.ensures.err)
+    rw p.1 (kept_through _ _ _ c.in-Some.started.now c.take.new.self ((c.get_mut.follows.holds c.take.new.self).3 (found_some _ _ c.in-Some.ensures.value)).0 c.in-Some.ensures.value c.in_err-take-in-Some.ensures.err.0)
 
 pub returns-in_ok-take-in-Some-clause-was_open : goal.returns-in_ok-take-in-Some-clause-was_open
 returns-in_ok-take-in-Some-clause-was_open c = ap is_some (c.in-Some.ensures.value ∙ lookup_in_map tests_total _ _)
@@ -26,4 +26,4 @@ returns-in-None-clause-was_open c = ap is_some (c.in-None.ensures.value ∙ look
 
 pub returns-in-None-clause-ok : goal.returns-in-None-clause-ok
 returns-in-None-clause-ok c =
-    closed_is (open_in c.args.self.now) _ c.args.key.now c.args.event.now (ap is_some (c.in-None.ensures.value ∙ lookup_in_map tests_total _ _)) (ap (λ m. map.from_entries {R = test_cmp} m.entries) c.get_mut.follows.holds-at-none)
+    closed_is (open_in c.args.self.now) _ c.args.key.now c.args.said.now (ap is_some (c.in-None.ensures.value ∙ lookup_in_map tests_total _ _)) (ap (λ m. map.from_entries {R = test_cmp} m.entries) c.get_mut.follows.holds-at-none)
