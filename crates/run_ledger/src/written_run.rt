@@ -27,16 +27,16 @@ impl WrittenRun {
         }
     }
 
-    /// Takes the event whose packet is written next, in its shortest spelling.
+    /// Takes the event whose packet is written next, in its shortest spelling. Of its parts those that are kept are moved.
     ///
     /// `NoMemory` comes only for want of memory, and then all is as before.
-    pub fn add(&mut self, event: &Event) -> Result<(), NoMemory>
-        requires event { IsEvent event.now }
-        requires fits { Fits event.now }
-        ensures ok { (run : List ℕ) → HasWritten self.old run → OnOk result (HasWritten self.new (run ++ canonical event.now)) }
+    pub fn add(&mut self, event: Event) -> Result<(), NoMemory>
+        requires event { IsEvent event }
+        requires fits { Fits event }
+        ensures ok { (run : List ℕ) → HasWritten self.old run → OnOk result (HasWritten self.new (run ++ canonical event)) }
         ensures err { (run : List ℕ) → HasWritten self.old run → OnErr result (HasWritten self.new run) }
     {
-        self.outcomes.add(event)
+        self.outcomes.take(event)
     }
 
     /// Ends the run, and gives its rows.

@@ -220,7 +220,7 @@ fn gather_next(
     let Some(event) = scribe.next_event_into(packets)? else {
         return Ok(false);
     };
-    rows.add(&event)?;
+    rows.add(event)?;
     Ok(true)
 }
 
