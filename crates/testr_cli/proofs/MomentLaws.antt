@@ -33,7 +33,7 @@ use Rattle.testr_cli.proofs.StepLaws.{still_quiet, open_quiet, begin_quiet, reco
 abbrev LeftBy : Bool → Option (List ℕ) → Folder → Files → Type 0
 LeftBy partial left s image = IsImage s.disk image ⊎ HasLoadedRun partial left s.disk.published image
 
-quiet_moves : (partial : Bool) (left : Option (List ℕ)) (a b : Option Folder) → Goes a b Rests → Goes a b (PassesLoad partial left)
+pub quiet_moves : (partial : Bool) (left : Option (List ℕ)) (a b : Option Folder) → Goes a b Rests → Goes a b (PassesLoad partial left)
 quiet_moves partial left a b quiet = goes_weaker a b Rests (PassesLoad partial left) quiet (λ s t rests. passes_weaker (IsImage s.disk) (LeftBy partial left s) (λ image left. inl left) s t rests.old)
 
 module _ (partial : Bool) (number : ℕ) (run : List ℕ) where

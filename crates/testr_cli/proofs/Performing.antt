@@ -1,17 +1,29 @@
--- A command that was read is the one that is performed.
-use Rattle.std.proofs.Common.{◌≡◌, Option, None, Result, Err, sym, ap, subst, ◌∙◌}
+-- A command is the one that is performed.
+use Rattle.std.proofs.Common.{◌≡◌, ◌⊎◌, inl, inr, Bool, IsTrue, Option, None, Result, Err, refl, sym, ap, subst, ◌∙◌}
+use Rattle.sub_number.specs.declared.memory.NoMemory.{NoMemory}
 use Rattle.testr_cli.specs.Outside.{Work}
-use Rattle.testr_cli.specs.Program.{Performs}
-use Rattle.testr_cli.specs.declared.words.UsageFault.{UsageFault}
+use Rattle.testr_cli.specs.Program.{Performs, GivesUp, PerformsOrNot}
+use Rattle.testr_cli.specs.Tasks.{Task, task_with}
 use Rattle.testr_cli.specs.declared.command.Command.{Command}
+use Rattle.testr_cli.specs.declared.command.Verb.{Verb}
+use Rattle.testr_cli.specs.declared.command.Verb.TheVariants.{Run, ListTests, SelfTest}
+use Rattle.testr_cli.specs.declared.words.UsageFault.{UsageFault}
 use Rattle.testr_cli.specs.declared.answer.Verdict.{Verdict}
 use Rattle.testr_cli.specs.declared.answer.Refusal.{Refusal}
-use Rattle.testr_cli.specs.declared.answer.Refusal.TheVariants.{Usage}
+use Rattle.testr_cli.specs.declared.answer.Refusal.TheVariants.{Usage, Memory}
 
-pub performs : {given fault : UsageFault} {read command : Option Command} (before after : Work) (outcome : Result Verdict Refusal) → given ≡ fault → read ≡ command → Performs given read before after outcome → Performs fault command before after outcome
-performs {given = given} {command = command} before after outcome same is done =
-    subst (λ f. Performs f command before after outcome) same (subst (λ c. Performs given c before after outcome) is done)
+pub performs : (wrong : UsageFault) {read asked : Option Task} (before after : Work) (outcome : Result Verdict Refusal) → read ≡ asked → Performs wrong read before after outcome → Performs wrong asked before after outcome
+performs wrong before after outcome is done = subst (λ c. Performs wrong c before after outcome) is done
 
 -- words that are no command touch nothing
-pub refuses : {given fault : UsageFault} {command : Option Command} (before : Work) → given ≡ fault → command ≡ None → Performs fault command before before (Err (Usage given))
-refuses {given = given} {fault = fault} before same none = subst (λ c. Performs fault c before before (Err (Usage given))) (sym none) (record { usage = ap (λ f. Err (Usage f)) same; same = λ i. before })
+pub refuses : (wrong : UsageFault) {asked : Option Task} (before : Work) → asked ≡ None → Performs wrong asked before before (Err (Usage wrong))
+refuses wrong before none = subst (λ c. Performs wrong c before before (Err (Usage wrong))) (sym none) (record { usage = refl; same = λ i. before })
+
+-- a command of these verbs is none that is done
+pub not_done : (v : Verb) (c : Command) → (v ≡ Run) ⊎ ((v ≡ ListTests) ⊎ (v ≡ SelfTest)) → task_with v c ≡ None
+not_done v c (inl is) = ap (λ v. task_with v c) is
+not_done v c (inr (inl is)) = ap (λ v. task_with v c) is
+not_done v c (inr (inr is)) = ap (λ v. task_with v c) is
+
+pub gives_up : (before : Work) (fault : NoMemory) → GivesUp before before (Err (Memory fault))
+gives_up before fault = record { fault = fault; memory = refl; same = λ i. before }

@@ -1,51 +1,52 @@
 -- Which command words are.
-use Rattle.std.proofs.Common.{◌≡◌, ℕ, Bool, true, false, List, [], ◌∷◌, drop, None, Some, String, string_bytes, refl, sym, ap, ◌∙◌}
-use Rattle.std.specs.Prelude.{not}
+use Rattle.std.proofs.Common.{◌≡◌, ℕ, Bool, true, false, List, [], ◌∷◌, ◌++◌, drop, map, None, Some, Option, String, string_bytes, cond, append_assoc, append-nil, refl, sym, ap, ◌∙◌}
 use Rattle.std.specs.declared.alloc.Global.{Global}
 use Rattle.std.specs.Str.{bytes_eq}
-use Rattle.std.specs.List.{list_all}
-use Rattle.std.proofs.lemmas.List.Folds.{list_all-map}
-use Rattle.std.proofs.lemmas.Bool.{cond-true, cond-false}
+use Rattle.std.specs.Prelude.{◌&&◌, ◌||◌}
+use Rattle.std.specs.List.{list_any, list_all}
+use Rattle.std.proofs.lemmas.List.Folds.{list_all-append}
 use Rattle.std.proofs.lemmas.Slice.Eq.{bytes_eq-Decides}
-use Rattle.testr_cli.specs.Words.{texts, testr_word, names_testr, command_of, command_behind, has_words, flag_in, usage_fault}
-use Rattle.testr_cli.specs.declared.words.UsageFault.TheVariants.{Verb, Tool}
+use Rattle.command_words.specs.Items.{texts, is_text}
+use Rattle.testr_cli.specs.Words.{testr_word, names_testr, and_then, if_texts}
 
 -- words that name this program are its name and the words behind it
 pub names_first : (words : List (String Global)) → names_testr (texts words) ≡ true → texts words ≡ testr_word ∷ texts (drop 1 words)
 names_first [] is = cc
 names_first (word ∷ words) is = λ i. (bytes_eq-Decides (string_bytes word) testr_word).0 is i ∷ texts words
 
--- words that do not name it are no command of it
-pub names_no_command : (words : List (List ℕ)) → names_testr words ≡ false → command_of words ≡ None
-names_no_command [] unnamed = refl
-names_no_command (word ∷ words) unnamed = cond-false (bytes_eq word testr_word) (command_behind words) None unnamed
+-- and others are not
+pub names_other : (words : List (List ℕ)) → names_testr words ≡ false → (behind : List (List ℕ)) → words ≡ testr_word ∷ behind → ⊥
+names_other words unnamed behind is =
+    let named : names_testr words ≡ true = ap names_testr is ∙ (bytes_eq-Decides testr_word testr_word).1 refl in
+    cc
 
--- behind the name, the words decide
-pub named_command : (words : List (List ℕ)) → command_of (testr_word ∷ words) ≡ command_behind words
-named_command words = cond-true (bytes_eq testr_word testr_word) (command_behind words) None ((bytes_eq-Decides testr_word testr_word).1 refl)
+-- these names behind others, where each of them is a text
+abbrev pub behind : List (List ℕ) → List (List ℕ) → Option (List (List ℕ))
+behind done names = and_then (if_texts names) (λ rest. Some (done ++ rest))
 
--- words behind the name of `testr` are those of a verb
-pub named_fault : (words : List (List ℕ)) → usage_fault (testr_word ∷ words) ≡ Verb
-named_fault words = cond-true (bytes_eq testr_word testr_word) Verb Tool ((bytes_eq-Decides testr_word testr_word).1 refl)
+by_case : (b : Bool) (done front rest : List (List ℕ)) → and_then (cond b (Some (front ++ rest)) None) (λ r. Some (done ++ r)) ≡ and_then (cond b (Some rest) None) (λ r. Some ((done ++ front) ++ r))
+by_case true done front rest = ap Some (sym (append_assoc done front rest))
+by_case false done front rest = refl
 
--- words that name no tool tell of that
-pub unnamed_fault : (words : List (List ℕ)) → names_testr words ≡ false → usage_fault words ≡ Tool
-unnamed_fault words unnamed = cond-false (names_testr words) Verb Tool unnamed
+pub behind_more : (done front rest : List (List ℕ)) → list_all is_text front ≡ true → behind done (front ++ rest) ≡ behind (done ++ front) rest
+behind_more done front rest texts =
+    ap (λ b. and_then (cond b (Some (front ++ rest)) None) (λ r. Some (done ++ r))) (list_all-append is_text front rest ∙ ap (λ b. b && list_all is_text rest) texts)
+    ∙ by_case (list_all is_text rest) done front rest
 
--- whether all words are this flag
-all_are : (words : List (String Global)) (flag : List ℕ) → list_all (λ word. bytes_eq word flag) (texts words) ≡ list_all (λ word. bytes_eq (string_bytes word) flag) words
-all_are words flag = list_all-map (λ word. bytes_eq word flag) string_bytes words
+pub behind_none : (done front rest : List (List ℕ)) → list_all is_text front ≡ false → behind done (front ++ rest) ≡ None
+behind_none done front rest no_texts =
+    ap (λ b. and_then (cond b (Some (front ++ rest)) None) (λ r. Some (done ++ r))) (list_all-append is_text front rest ∙ ap (λ b. b && list_all is_text rest) no_texts)
 
-not_not : (b : Bool) → not (not b) ≡ b
-not_not true = refl
-not_not false = refl
+pub behind_all : (done : List (List ℕ)) → behind done [] ≡ Some done
+behind_all done = ap Some (append-nil done)
 
-pub flag_given : (words : List (String Global)) (flag : List ℕ) (all none : Bool) → all ≡ list_all (λ word. bytes_eq (string_bytes word) flag) words → all ≡ true → none ≡ not (has_words (texts words)) → Some (not none) ≡ flag_in flag (texts words)
-flag_given words flag all none is given none_is =
-    ap (λ (b : Bool). Some (not b)) none_is
-    ∙ ap Some (not_not (has_words (texts words)))
-    ∙ sym (cond-true (list_all (λ word. bytes_eq word flag) (texts words)) (Some (has_words (texts words))) None (all_are words flag ∙ sym is ∙ given))
+pub behind_front : (names : List (List ℕ)) → behind [] names ≡ if_texts names
+behind_front names = by (list_all is_text names)
+  where
+    by : (b : Bool) → and_then (cond b (Some names) None) (λ rest. Some rest) ≡ cond b (Some names) None
+    by true = refl
+    by false = refl
 
-pub flag_not_given : (words : List (String Global)) (flag : List ℕ) (all : Bool) → all ≡ list_all (λ word. bytes_eq (string_bytes word) flag) words → all ≡ false → None ≡ flag_in flag (texts words)
-flag_not_given words flag all is other =
-    sym (cond-false (list_all (λ word. bytes_eq word flag) (texts words)) (Some (has_words (texts words))) None (all_are words flag ∙ sym is ∙ other))
+pub any_map : {A B : Type 0} (p : B → Bool) (f : A → B) (xs : List A) → list_any p (map f xs) ≡ list_any (λ x. p (f x)) xs
+any_map p f [] = refl
+any_map p f (x ∷ xs) = ap (λ b. p (f x) || b) (any_map p f xs)

@@ -1,5 +1,6 @@
 pub mod Steps
 pub mod Outside
+pub mod Tasks
 pub mod Words
 pub mod Runs
 pub mod Verdicts

@@ -1,5 +1,5 @@
 -- What a call of the program promises.
-use Rattle.std.specs.Prelude.{◌≡◌, ◌⊎◌, ◌↔◌, ℕ, ◌≤◌, ◌<◌, Bool, Option, Some, None, IsSomeAnd, IfSome, List, [], ◌∷◌, ◌++◌, length, Result, Ok, Err}
+use Rattle.std.specs.Prelude.{◌≡◌, ◌⊎◌, ◌↔◌, ℕ, ◌≤◌, ◌<◌, Bool, IsTrue, true, false, Option, Some, None, IsSomeAnd, IfSome, List, [], ◌∷◌, ◌++◌, length, Result, Ok, Err}
 use Rattle.std.specs.Io.KnownBytes.{Appends, IsAtEnd}
 use Rattle.edge_io.specs.Bytes.{AppendsPrefix}
 use Rattle.edge_io.specs.Causes.{Rose}
@@ -7,6 +7,7 @@ use Rattle.edge_io.specs.Disk.{Folder}
 use Rattle.edge_io.specs.Moments.{LeavesOnly}
 use Rattle.edge_io.specs.Seen.{Seen}
 use Rattle.edge_io.specs.Steps.{Goes}
+use Rattle.sub_number.specs.declared.memory.NoMemory.{NoMemory}
 use Rattle.packet_codec.specs.declared.event.Event.{Event}
 use Rattle.packet_codec.specs.Grammar.{AreBytes}
 use Rattle.outcome_fold.specs.Rows.{rows_of}
@@ -17,7 +18,8 @@ use Rattle.run_shelf.specs.Repository.{Run, run_of, Shows, IsRepository, most_ru
 use Rattle.sub_text.specs.Texts.{report_of}
 use Rattle.testr_cli.specs.Steps.{Step, At}
 use Rattle.testr_cli.specs.Outside.{Outside, Work, work_of, work_folder, work_shown, SomeRose, RisesAt}
-use Rattle.testr_cli.specs.Words.{command_of, usage_fault}
+use Rattle.testr_cli.specs.Tasks.{Task, init, load, ask}
+use Rattle.testr_cli.specs.Words.{testr_word, asked_by}
 use Rattle.testr_cli.specs.Runs.{run_bytes, HasRuns, KeepsFiles}
 use Rattle.testr_cli.specs.Verdicts.{verdict_code}
 use Rattle.testr_cli.specs.Says.{SaysOfFolder, OfLastRun}
@@ -28,12 +30,11 @@ use Rattle.testr_cli.specs.Load.{Loads}
 use Rattle.testr_cli.specs.Ask.{Asks}
 use Rattle.testr_cli.specs.Stops.{PassesCommand}
 use Rattle.testr_cli.specs.declared.words.UsageFault.{UsageFault}
+use Rattle.testr_cli.specs.declared.words.UsageFault.TheVariants.{Words, Tool}
 use Rattle.testr_cli.specs.declared.command.Question.{Question}
-use Rattle.testr_cli.specs.declared.command.Command.{Command}
-use Rattle.testr_cli.specs.declared.command.Command.TheVariants.{Init, Load, Ask}
 use Rattle.testr_cli.specs.declared.answer.Verdict.{Verdict}
 use Rattle.testr_cli.specs.declared.answer.Refusal.{Refusal}
-use Rattle.testr_cli.specs.declared.answer.Refusal.TheVariants.{Usage}
+use Rattle.testr_cli.specs.declared.answer.Refusal.TheVariants.{Usage, Memory}
 
 -- ---- the answer
 
@@ -43,11 +44,11 @@ pub record Refuses (fault : UsageFault) (before after : Work) (outcome : Result 
   pub same : after ≡ before
 
 -- what a command does to the parts that it touches; all else stays
-abbrev pub Performs : UsageFault → Option Command → Step Work Verdict Refusal
+abbrev pub Performs : UsageFault → Option Task → Step Work Verdict Refusal
 Performs fault None = Refuses fault
-Performs fault (Some Init) = At work_folder Inits
-Performs fault (Some (Load partial)) = Loads partial
-Performs fault (Some (Ask question)) = At work_shown (Asks question)
+Performs fault (Some init) = At work_folder Inits
+Performs fault (Some (load partial)) = Loads partial
+Performs fault (Some (ask question)) = At work_shown (Asks question)
 
 -- the line of a refusal went to the errors' sink: whole, or in part where that sink failed
 abbrev pub TellsLine : Result Verdict Refusal → Seen (List ℕ) → Seen (List ℕ) → Type 0
@@ -58,10 +59,20 @@ pub record Tells (outcome : Result Verdict Refusal) (before after : Seen (List �
   pub line : TellsLine outcome before after
   pub code : answer ≡ code_of outcome
 
+-- memory was wanting while the words were read, and nothing was touched
+pub record GivesUp (before after : Work) (outcome : Result Verdict Refusal) : Type 0 where
+  pub fault : NoMemory
+  pub memory : outcome ≡ Err (Memory fault)
+  pub same : after ≡ before
+
+-- what was asked for was done; or, where words were read for it, memory was wanting for them
+abbrev pub PerformsOrNot : (reading : Bool) → UsageFault → Option Task → Step Work Verdict Refusal
+PerformsOrNot reading fault asked before after outcome = Performs fault asked before after outcome ⊎ (IsTrue reading × GivesUp before after outcome)
+
 -- one outcome, which the steps of the command made, and its line and its status
-pub record Answers (words : List (List ℕ)) (before after : Outside) (answer : ℕ) : Type 0 where
+pub record Answers (reading : Bool) (wrong : UsageFault) (asked : Option Task) (before after : Outside) (answer : ℕ) : Type 0 where
   pub outcome : Result Verdict Refusal
-  pub done : Performs (usage_fault words) (command_of words) (work_of before) (work_of after) outcome
+  pub done : PerformsOrNot reading wrong asked (work_of before) (work_of after) outcome
   pub told : Tells outcome before.errors after.errors answer
 
 -- ---- what is kept
@@ -120,36 +131,44 @@ pub record CanAsk (question : Question) (before : Work) : Type 0 where
   pub some : OfLastRun question → IsSomeAnd before.folder.told (λ s. (number : ℕ) × (0 < number) × HasRuns number s)
 
 -- no refusal of the command but a fault or want of memory has a cause
-abbrev pub CanPerform : Option Command → Work → Type 0
+abbrev pub CanPerform : Option Task → Work → Type 0
 CanPerform None before = ⊥
-CanPerform (Some Init) before = CanInit before
-CanPerform (Some (Load partial)) before = CanLoad before
-CanPerform (Some (Ask question)) before = CanAsk question before
+CanPerform (Some init) before = CanInit before
+CanPerform (Some (load partial)) before = CanLoad before
+CanPerform (Some (ask question)) before = CanAsk question before
 
 -- it was done, or memory was wanting; `init` takes no memory
-abbrev pub IsPerformed : Option Command → ℕ → Type 0
+abbrev pub IsPerformed : Option Task → ℕ → Type 0
 IsPerformed None answer = ⊥
-IsPerformed (Some Init) answer = answer ≡ 0
-IsPerformed (Some (Load partial)) answer = (answer ≤ 1) ⊎ (answer ≡ 5)
-IsPerformed (Some (Ask question)) answer = (answer ≤ 1) ⊎ (answer ≡ 5)
+IsPerformed (Some init) answer = answer ≡ 0
+IsPerformed (Some (load partial)) answer = (answer ≤ 1) ⊎ (answer ≡ 5)
+IsPerformed (Some (ask question)) answer = (answer ≤ 1) ⊎ (answer ≡ 5)
 
 -- ---- the promises
 
--- What each call of the program promises, for these words, from the outside before it to that after it.
-pub record Promises (words : List (List ℕ)) (before after : Outside) (answer : ℕ) : Type 0 where
+-- What each call promises that is asked for this, from the outside before it to that after it. Where nothing is asked for,
+-- it says what is wrong. Where words were read for it, `reading`, memory may be wanting for them.
+pub record Promises (reading : Bool) (wrong : UsageFault) (asked : Option Task) (before after : Outside) (answer : ℕ) : Type 0 where
   -- there is one outcome, which the command's steps made, and the status and the line on the errors' sink are its own
-  pub answers : Answers words before after answer
+  pub answers : Answers reading wrong asked before after answer
   -- the count of that part's faults rose whose fault the outcome is, and no other
   pub counts : RisesAt (place_in answers.outcome) (work_of before) (work_of after)
-  pub usage : (answer ≡ 2) ↔ (command_of words ≡ None)
+  pub usage : answer ≡ 2 → asked ≡ None
+  pub no_command : asked ≡ None → (answer ≡ 2) ⊎ (IsTrue reading × (answer ≡ 5))
   pub fault : answer ≡ 4 → SomeRose (work_of before) (work_of after)
   -- what is refused leaves the runs that the folder shows; only a fault may leave one more
   pub kept : 2 ≤ answer → (answer ≡ 4 → ⊥) → Goes before.folder.told after.folder.told KeepsRuns
   -- a stop at each moment leaves what one before the call might have left, or the files as reads gave them before the
   -- call with all that the command adds
-  pub any_moment : Goes before.folder.told after.folder.told (PassesCommand (command_of words) before.input.told)
-  pub made : command_of words ≡ Some Init → answer ≡ 0 → Goes before.folder.told after.folder.told MakesRepository
-  pub loaded : (partial : Bool) → command_of words ≡ Some (Load partial) → answer ≤ 1 → IfSome before.input.told (LoadsAll partial (work_of before) (work_of after) answer)
-  pub asked : (question : Question) → command_of words ≡ Some (Ask question) → answer ≤ 1 → AnswersQuestion question (work_of before) (work_of after) answer
+  pub any_moment : Goes before.folder.told after.folder.told (PassesCommand asked before.input.told)
+  pub made : asked ≡ Some init → answer ≡ 0 → Goes before.folder.told after.folder.told MakesRepository
+  pub loaded : (partial : Bool) → asked ≡ Some (load partial) → answer ≤ 1 → IfSome before.input.told (LoadsAll partial (work_of before) (work_of after) answer)
+  pub answered : (question : Question) → asked ≡ Some (ask question) → answer ≤ 1 → AnswersQuestion question (work_of before) (work_of after) answer
   -- it does not give up without a cause
-  pub completeness : CanPerform (command_of words) (work_of before) → (SomeRose (work_of before) (work_of after) → ⊥) → IsPerformed (command_of words) answer
+  pub completeness : CanPerform asked (work_of before) → (SomeRose (work_of before) (work_of after) → ⊥) → IsPerformed asked answer ⊎ (IsTrue reading × (answer ≡ 5))
+
+-- What each call of the program promises for all its words: what `testr` does for those behind its name; for others that
+-- they are wrong.
+pub record ProgramPromises (words : List (List ℕ)) (before after : Outside) (answer : ℕ) : Type 0 where
+  pub testr : (behind : List (List ℕ)) → words ≡ testr_word ∷ behind → Promises true Words (asked_by behind) before after answer
+  pub others : ((behind : List (List ℕ)) → words ≡ testr_word ∷ behind → ⊥) → Promises false Tool None before after answer

@@ -9,8 +9,7 @@ use Rattle.worker_lane.specs.Recorded.{HasRecorded}
 use Rattle.run_shelf.specs.Repository.{run_of}
 use Rattle.run_shelf.specs.Images.{HasRunBeside, PassesOld, PassesFormat}
 use Rattle.testr_cli.specs.Runs.{run_bytes}
-use Rattle.testr_cli.specs.declared.command.Command.{Command}
-use Rattle.testr_cli.specs.declared.command.Command.TheVariants.{Init, Load, Ask}
+use Rattle.testr_cli.specs.Tasks.{Task, init, load, ask}
 
 -- The files and one run more, whole: the run of what is recorded of the whole input. Where the input tells its bytes,
 -- these are they.
@@ -27,8 +26,8 @@ pub record HasLoadedRun (partial : Bool) (left : Option (List ℕ)) (files image
 abbrev pub PassesLoad : Bool → Option (List ℕ) → Folder → Folder → Type 0
 PassesLoad partial left s t = Passes (λ image. IsImage s.disk image ⊎ HasLoadedRun partial left s.disk.published image) s t
 
-abbrev pub PassesCommand : Option Command → Option (List ℕ) → Folder → Folder → Type 0
+abbrev pub PassesCommand : Option Task → Option (List ℕ) → Folder → Folder → Type 0
 PassesCommand None left = Stays
-PassesCommand (Some Init) left = PassesFormat
-PassesCommand (Some (Load partial)) left = PassesLoad partial left
-PassesCommand (Some (Ask question)) left = PassesOld
+PassesCommand (Some init) left = PassesFormat
+PassesCommand (Some (load partial)) left = PassesLoad partial left
+PassesCommand (Some (ask question)) left = PassesOld

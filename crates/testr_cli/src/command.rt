@@ -1,17 +1,59 @@
 //! What words may ask for.
 
-/// What the words behind `testr` ask for.
+use sub_number::{IdList, Text};
+
+/// Which command it is.
 #[derive(Clone, Copy, Debug, PartialEq, Eq)]
-pub enum Command {
+pub enum Verb {
     /// Make a repository.
     Init,
-    /// Keep what is recorded of standard input as a run.
-    Load {
-        /// The run tells of a part of the tests alone.
-        partial: bool,
-    },
-    /// Tell of a repository, and change nothing.
-    Ask(Question),
+    /// Keep what is recorded of streams as a run.
+    Load,
+    /// Run tests, and keep what is recorded of them as a run.
+    Run,
+    /// Tell of the last run.
+    Last,
+    /// Tell of the tests that fail by all runs.
+    Failing,
+    /// Tell of the slowest tests of the last run.
+    Slowest,
+    /// Tell how many runs there are.
+    Stats,
+    /// List the tests that there are.
+    ListTests,
+    /// Run generated outputs.
+    SelfTest,
+}
+
+/// What the words behind `testr` ask for. A field that the verb does not use is false, 0, none or empty.
+#[derive(Drop)]
+pub struct Command {
+    /// Which command it is.
+    pub verb: Verb,
+    /// The run tells of a part of the tests alone.
+    pub partial: bool,
+    /// Only the tests that fail are wanted.
+    pub failing: bool,
+    /// The tests run side by side.
+    pub parallel: bool,
+    /// How many of them; 0 where the words do not say it.
+    pub concurrency: u32,
+    /// The file of the ids that are wanted.
+    pub load_list: Option<Text>,
+    /// Ids alone are printed.
+    pub list: bool,
+    /// All tests are printed, and not ten.
+    pub all: bool,
+    /// The run's bytes are printed, and not its report.
+    pub subunit: bool,
+    /// The files or patterns, in their order.
+    pub names: IdList,
+    /// The seed of generated outputs.
+    pub seed: u32,
+    /// How many of them there are.
+    pub lanes: u32,
+    /// How many tests each of them has.
+    pub tests: u32,
 }
 
 /// What is asked of a repository.

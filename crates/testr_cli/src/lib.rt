@@ -27,14 +27,14 @@ mod top;
 mod words;
 
 pub use answer::{Refusal, Verdict};
-pub use command::{Command, Question};
+pub use command::{Command, Question, Verb};
 pub use laws::refusals_are_exact;
 pub use recording::RecordFault;
 pub use reporting::PrintFault;
 pub use store::{KeepFault, RunsFault};
 pub use told::TellFault;
-pub use top::{program, testr};
-pub use words::UsageFault;
+pub use top::{program, quiet, testr};
+pub use words::{UsageFault, reads};
 
 #[cfg(test)]
 mod tests;

@@ -1,17 +1,19 @@
 //! The top call.
 
-ghost use Rattle.std.specs.Prelude.{◌∷◌};
+ghost use Rattle.std.specs.Prelude.{true, false, Some};
+ghost use Rattle.command_words.specs.Items.{texts};
 ghost use Rattle.testr_cli.specs.Outside.{outside, work};
-ghost use Rattle.testr_cli.specs.Program.{Promises, Performs, Tells};
-ghost use Rattle.testr_cli.specs.Words.{texts, testr_word, command_of, command_behind, usage_fault};
-ghost use Rattle.testr_cli.specs.declared.words.UsageFault.TheVariants.{Verb};
+ghost use Rattle.testr_cli.specs.Program.{ProgramPromises, Promises, Performs, Tells};
+ghost use Rattle.testr_cli.specs.Tasks.{task_of};
+ghost use Rattle.testr_cli.specs.Words.{asked_by};
+ghost use Rattle.testr_cli.specs.declared.words.UsageFault.TheVariants.{Words};
 
 use crate::ask::ask;
-use crate::command::Command;
+use crate::command::{Command, Question, Verb};
 use crate::init::init;
 use crate::load::load;
 use crate::telling::tell;
-use crate::words::{UsageFault, command, is_testr};
+use crate::words::{UsageFault, is_testr, reads};
 use crate::{Refusal, Verdict};
 use edge_io::{Shelf, Sink, Source};
 use std::alloc::Global;
@@ -28,13 +30,15 @@ pub fn program<H: Shelf, I: Source, O: Sink, E: Sink>(
     out: &mut O,
     err: &mut E,
 ) -> u8
-    ensures promises { Promises (texts words.now)
+    ensures promises { ProgramPromises (texts words.now)
         (outside (H.seen shelf.old) (I.seen input.old) (O.seen out.old) (E.seen err.old))
         (outside (H.seen shelf.new) (I.seen input.new) (O.seen out.new) (E.seen err.new))
         result }
 {
-    let outcome = dispatch(alloc, words, shelf, input, out);
-    answer(outcome, err)
+    if !is_testr(words) {
+        return answer(Err(Refusal::Usage(UsageFault::Tool)), err);
+    }
+    testr(alloc, &words[1..], shelf, input, out, err)
 }
 
 /// Does what the words behind `testr` say, and answers the exit status: 0 where it was done and no test failed, 1 where a
@@ -53,52 +57,65 @@ pub fn testr<H: Shelf, I: Source, O: Sink, E: Sink>(
     out: &mut O,
     err: &mut E,
 ) -> u8
-    ensures promises { Promises (testr_word ∷ texts words.now)
+    ensures promises { Promises true Words (asked_by (texts words.now))
         (outside (H.seen shelf.old) (I.seen input.old) (O.seen out.old) (E.seen err.old))
         (outside (H.seen shelf.new) (I.seen input.new) (O.seen out.new) (E.seen err.new))
         result }
 {
-    let outcome = perform(alloc, words, shelf, input, out);
+    match reads(alloc, words) {
+        Ok(Some(command)) => quiet(alloc, &command, shelf, input, out, err),
+        Ok(None) => answer(Err(Refusal::Usage(UsageFault::Words)), err),
+        Err(fault) => answer(Err(Refusal::Memory(fault)), err),
+    }
+}
+
+/// Does what `testr` does on the words of this command, and answers its status. It starts no program and no thread, and
+/// returns. A command that needs them is answered as words that are no command.
+pub fn quiet<H: Shelf, I: Source, O: Sink, E: Sink>(
+    alloc: Global,
+    command: &Command,
+    shelf: &mut H,
+    input: &mut I,
+    out: &mut O,
+    err: &mut E,
+) -> u8
+    ensures promises { Promises false Words (task_of command.now)
+        (outside (H.seen shelf.old) (I.seen input.old) (O.seen out.old) (E.seen err.old))
+        (outside (H.seen shelf.new) (I.seen input.new) (O.seen out.new) (E.seen err.new))
+        result }
+{
+    let outcome = perform(alloc, command, shelf, input, out);
     answer(outcome, err)
 }
 
-// Does what the words say, where the first one names a tool.
-fn dispatch<H: Shelf, I: Source, O: Sink>(
-    alloc: Global,
-    words: &[String],
-    shelf: &mut H,
-    input: &mut I,
-    out: &mut O,
-) -> Result<Verdict, Refusal>
-    ensures { Performs (usage_fault (texts words.now)) (command_of (texts words.now))
-        (work (H.seen shelf.old) (I.seen input.old) (O.seen out.old))
-        (work (H.seen shelf.new) (I.seen input.new) (O.seen out.new))
-        result }
-{
-    if !is_testr(words) {
-        return Err(Refusal::Usage(UsageFault::Tool));
-    }
-    perform(alloc, &words[1..], shelf, input, out)
-}
-
-// Does what the words behind `testr` say.
+// Does what the command says.
 fn perform<H: Shelf, I: Source, O: Sink>(
     alloc: Global,
-    words: &[String],
+    command: &Command,
     shelf: &mut H,
     input: &mut I,
     out: &mut O,
 ) -> Result<Verdict, Refusal>
-    ensures { Performs Verb (command_behind (texts words.now))
+    ensures { Performs Words (task_of command.now)
         (work (H.seen shelf.old) (I.seen input.old) (O.seen out.old))
         (work (H.seen shelf.new) (I.seen input.new) (O.seen out.new))
         result }
 {
-    match command(words) {
-        None => Err(Refusal::Usage(UsageFault::Verb)),
-        Some(Command::Init) => init(shelf),
-        Some(Command::Load { partial }) => load(alloc, partial, shelf, input, out),
-        Some(Command::Ask(question)) => ask(alloc, question, shelf, out),
+    match command.verb {
+        Verb::Init => init(shelf),
+        Verb::Load => load(alloc, command.partial, shelf, input, out),
+        Verb::Last => ask(
+            alloc,
+            Question::Last {
+                subunit: command.subunit,
+            },
+            shelf,
+            out,
+        ),
+        Verb::Failing => ask(alloc, Question::Failing { list: command.list }, shelf, out),
+        Verb::Slowest => ask(alloc, Question::Slowest { all: command.all }, shelf, out),
+        Verb::Stats => ask(alloc, Question::Stats, shelf, out),
+        Verb::Run | Verb::ListTests | Verb::SelfTest => { Err(Refusal::Usage(UsageFault::Words)) }
     }
 }
 

@@ -1,19 +1,23 @@
 //! Reads the words of the command line.
 
-ghost use Rattle.std.specs.Prelude.{◌≡◌, not, string_bytes};
-ghost use Rattle.std.specs.List.{list_all};
-ghost use Rattle.std.specs.Str.{bytes_eq};
+ghost use Rattle.std.specs.Prelude.{◌≡◌, ◌++◌, true, map, IfOk};
+ghost use Rattle.command_words.specs.Code.{shown};
+ghost use Rattle.command_words.specs.Items.{texts, is_text};
+ghost use Rattle.std.specs.List.{list_any, list_all};
 ghost use Rattle.testr_cli.specs.Telling.{line_text};
-ghost use Rattle.testr_cli.specs.Words.{usage_text, texts, names_testr, has_words, flag_in, question_with, command_with, command_behind};
+ghost use Rattle.testr_cli.specs.Words.{usage_text, names_testr, verb_of, kinds_of, only_flag, most_names, has_flag, is_flag as is_this_flag, names_in, names_of, if_texts, command_of_items, command_of_verb, command_of};
 
-use crate::command::{Command, Question};
+use crate::command::{Command, Verb};
 use crate::telling::Line;
+use command_words::{Item, Kind, OptionTable, read_items, text_of};
+use std::alloc::Global;
+use sub_number::{IdList, NoMemory};
 
 /// Why words are no command.
 #[derive(Clone, Copy, Debug, PartialEq, Eq)]
 pub enum UsageFault {
     /// Those behind `testr` are none.
-    Verb,
+    Words,
     /// The first one names no tool.
     Tool,
 }
@@ -24,7 +28,7 @@ impl UsageFault {
         ensures { line_text result ≡ usage_text self }
     {
         match self {
-            UsageFault::Verb => Line::of("testr: wrong usage\n"),
+            UsageFault::Words => Line::of("testr: wrong usage\n"),
             UsageFault::Tool => Line::of("usage: testr COMMAND or a subunit filter\n"),
         }
     }
@@ -40,76 +44,164 @@ pub fn is_testr(words: &[String]) -> bool
     }
 }
 
-/// The command that the words behind `testr` are, or none.
-pub fn command(words: &[String]) -> Option<Command>
-    ensures { result ≡ command_behind (texts words.now) }
+/// The command that the words behind `testr` are. None comes exactly where they are none.
+///
+/// `NoMemory` comes only for want of memory.
+pub fn reads(alloc: Global, words: &[String]) -> Result<Option<Command>, NoMemory>
+    ensures { IfOk result (λ command. command ≡ command_of (texts words.now)) }
 {
-    let (verb, options) = words.split_first()?;
-    command_of_verb(verb.as_str(), options)
-}
-
-fn command_of_verb(verb: &str, options: &[String]) -> Option<Command>
-    ensures { result ≡ command_with verb.now (texts options.now) }
-{
-    if verb == "init" {
-        return if has_none(options) {
-            Some(Command::Init)
-        } else {
-            None
-        };
-    }
-    if verb == "load" {
-        let partial = flag(options, "--partial")?;
-        return Some(Command::Load { partial });
-    }
-    Some(Command::Ask(question(verb, options)?))
-}
-
-// The question of this verb and these options, or none.
-fn question(verb: &str, options: &[String]) -> Option<Question>
-    ensures { result ≡ question_with verb.now (texts options.now) }
-{
-    if verb == "last" {
-        let subunit = flag(options, "--subunit")?;
-        return Some(Question::Last { subunit });
-    }
-    if verb == "failing" {
-        let list = flag(options, "--list")?;
-        return Some(Question::Failing { list });
-    }
-    if verb == "slowest" {
-        let all = flag(options, "--all")?;
-        return Some(Question::Slowest { all });
-    }
-    if verb == "stats" && has_none(options) {
-        return Some(Question::Stats);
-    }
-    None
-}
-
-// Whether the options are this one, given any number of times. None where there are others.
-fn flag(options: &[String], flag: &str) -> Option<bool>
-    ensures { result ≡ flag_in flag.now (texts options.now) }
-{
-    if all_are(options, flag) {
-        Some(!has_none(options))
-    } else {
-        None
+    let Some((word, rest)) = words.split_first() else {
+        return Ok(None);
+    };
+    match verb(word.as_str()) {
+        Some(verb) => reads_behind(alloc, verb, rest),
+        None => Ok(None),
     }
 }
 
-fn has_none(options: &[String]) -> bool
-    ensures { result ≡ not (has_words (texts options.now)) }
+fn verb(word: &str) -> Option<Verb>
+    ensures { result ≡ verb_of word.now }
 {
-    match options {
-        [] => true,
-        [_, ..] => false,
+    match word {
+        "init" => Some(Verb::Init),
+        "load" => Some(Verb::Load),
+        "last" => Some(Verb::Last),
+        "failing" => Some(Verb::Failing),
+        "slowest" => Some(Verb::Slowest),
+        "stats" => Some(Verb::Stats),
+        _ => None,
     }
 }
 
-// Whether each word is this one.
-fn all_are(words: &[String], flag: &str) -> bool
-    ensures { result ≡ list_all (λ word. bytes_eq (string_bytes word) flag.now) words.now }
+// The options of a verb.
+#[derive(Clone, Copy)]
+struct Options {
+    verb: Verb,
+}
+
+impl OptionTable for Options {
+    ghost kinds = { λ options word. kinds_of options.verb word };
+
+    fn kind(&self, name: &str) -> Option<Kind> {
+        match self.verb {
+            Verb::Load => flag(name, "--partial"),
+            Verb::Last => flag(name, "--subunit"),
+            Verb::Failing => flag(name, "--list"),
+            Verb::Slowest => flag(name, "--all"),
+            Verb::Init | Verb::Run | Verb::Stats | Verb::ListTests | Verb::SelfTest => None,
+        }
+    }
+}
+
+// The option is a flag of this name, or none.
+fn flag(name: &str, key: &str) -> Option<Kind>
+    ensures { result ≡ only_flag key.now name.now }
 {
-    words.iter().all(|word| word.as_str() == flag)
+    if name == key { Some(Kind::Flag) } else { None }
+}
+
+// The command of this verb and the words behind it.
+fn reads_behind(alloc: Global, verb: Verb, words: &[String]) -> Result<Option<Command>, NoMemory>
+    ensures { IfOk result (λ command. command ≡ command_of_verb (texts words.now) verb) }
+{
+    match read_items(alloc, &Options { verb }, words)? {
+        Some(items) => command(alloc, verb, &items),
+        None => Ok(None),
+    }
+}
+
+// How many names the verb has at most.
+fn most(verb: Verb) -> usize
+    ensures { result ≡ most_names verb }
+{
+    match verb {
+        Verb::Load => 0,
+        Verb::Init
+        | Verb::Run
+        | Verb::Last
+        | Verb::Failing
+        | Verb::Slowest
+        | Verb::Stats
+        | Verb::ListTests
+        | Verb::SelfTest => 0,
+    }
+}
+
+// The command of this verb and these options and names.
+fn command(alloc: Global, verb: Verb, items: &[Item<'_>]) -> Result<Option<Command>, NoMemory>
+    ensures { IfOk result (λ command. command ≡ command_of_items verb (map shown items.now)) }
+{
+    let Some(names) = names(alloc, items)? else {
+        return Ok(None);
+    };
+    if names.list().len() > most(verb) {
+        return Ok(None);
+    }
+    Ok(Some(Command {
+        verb,
+        partial: has(items, "--partial"),
+        failing: false,
+        parallel: false,
+        concurrency: 0,
+        load_list: None,
+        list: has(items, "--list"),
+        all: has(items, "--all"),
+        subunit: has(items, "--subunit"),
+        names,
+        seed: 0,
+        lanes: 0,
+        tests: 0,
+    }))
+}
+
+// Whether this flag stands among the items.
+fn has(items: &[Item<'_>], key: &str) -> bool
+    ensures { result ≡ has_flag key.now (map shown items.now) }
+{
+    any_is(items, key)
+}
+
+fn any_is(items: &[Item<'_>], key: &str) -> bool
+    ensures { result ≡ list_any (λ item. is_this_flag key.now (shown item)) items.now }
+{
+    items.iter().any(|item| is_flag(*item, key))
+}
+
+fn is_flag(item: Item<'_>, key: &str) -> bool
+    ensures { result ≡ is_this_flag key.now (shown item.entry) }
+{
+    match item {
+        Item::Flag(word) => word == key,
+        Item::Valued(_, _) | Item::Name(_) => false,
+    }
+}
+
+// The names among the items. None comes where one of them is no text.
+fn names(alloc: Global, items: &[Item<'_>]) -> Result<Option<IdList>, NoMemory>
+    ensures { IfOk result (λ names. names ≡ if_texts (names_in (map shown items.now))) }
+{
+    let mut names = IdList::new(alloc);
+    for item in items {
+        if !take_name(alloc, *item, &mut names)? {
+            return Ok(None);
+        }
+    }
+    Ok(Some(names))
+}
+
+// Adds the name that the item is, or nothing. False comes where it is no text.
+fn take_name(alloc: Global, item: Item<'_>, names: &mut IdList) -> Result<bool, NoMemory>
+    ensures added { IfOk result (λ taken. taken ≡ true → names.new ≡ names.old ++ names_of (shown item.entry)) }
+    ensures texts { IfOk result (λ taken. taken ≡ list_all is_text (names_of (shown item.entry))) }
+{
+    let Item::Name(word) = item else {
+        return Ok(true);
+    };
+    let Some(name) = text_of(alloc, word)? else {
+        return Ok(false);
+    };
+    match names.push(name) {
+        Ok(()) => Ok(true),
+        Err(_) => Err(NoMemory),
+    }
 }

@@ -1,5 +1,29 @@
-use Rattle.testr_cli.proofs.PromiseLemmas.{promises}
+use Rattle.std.proofs.Common.{◌≡◌, ◌∷◌, inl, true, false, drop, refl, sym, ap, subst, ◌∙◌}
+use Rattle.std.proofs.lemmas.List.{take_rest}
+use Rattle.command_words.specs.Items.{texts}
+use Rattle.testr_cli.specs.Words.{names_testr, testr_word, asked_by}
+use Rattle.testr_cli.proofs.PromiseLemmas.{promises, behind_name}
+use Rattle.testr_cli.proofs.Performing.{refuses}
+use Rattle.testr_cli.proofs.WordsLemmas.{names_first, names_other}
 use Rattle.testr_cli.proofs.top.program.Goals as goal
 
+pub returns-then-not-is_testr : goal.returns-then-not-is_testr
+returns-then-not-is_testr g c =
+    let unnamed : names_testr (texts c.args.words.now) ≡ false = sym c.is_testr.ensures ∙ c.if-not-is_testr.true in
+    record {
+      promises = record {
+        testr = λ behind is. absurd (names_other _ unnamed behind is);
+        others = λ none. promises _ _ _ _ _ _ (record { outcome = _; done = inl (refuses _ _ refl); told = c.answer.ensures });
+      };
+    }
+
 pub returns : goal.returns
-returns g c = record { promises = promises _ _ _ _ (record { outcome = c.dispatch-outcome.result; done = c.dispatch-outcome.ensures; told = c.answer.ensures }) }
+returns g c =
+    let named : names_testr (texts c.args.words.now) ≡ true = sym c.is_testr.ensures ∙ c.if-not-is_testr.false in
+    let first = names_first c.args.words.now named in
+    record {
+      promises = record {
+        testr = λ behind is. behind_name _ behind (ap (λ l. testr_word ∷ texts l) (take_rest c.args.words.now 1) ∙ sym first ∙ is) _ _ _ c.testr.ensures.promises;
+        others = λ none. absurd (none (texts (drop 1 c.args.words.now)) first);
+      };
+    }

@@ -1,0 +1,9 @@
+use Rattle.std.proofs.Common.{◌≡◌, map, drop}
+use Rattle.command_words.specs.Code.{shown}
+use Rattle.testr_cli.specs.Words.{names_in, if_texts}
+use Rattle.testr_cli.proofs.WordsLemmas.{behind}
+use Rattle.testr_cli.proofs.words.names.Given as goal
+
+-- the names taken so far, with those of the items that are left
+abbrev pub invariant-loop-item : goal.invariant-loop-item
+invariant-loop-item l = behind l.names (names_in (map shown (drop l.item-index l.items))) ≡ if_texts (names_in (map shown l.items))

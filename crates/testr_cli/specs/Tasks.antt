@@ -1,0 +1,32 @@
+-- What a command asks for.
+use Rattle.std.specs.Prelude.{Bool, Option, Some, None, List, ℕ}
+use Rattle.testr_cli.specs.declared.command.Verb.{Verb}
+use Rattle.testr_cli.specs.declared.command.Verb.TheVariants as verb
+use Rattle.testr_cli.specs.declared.command.Command.{Command}
+use Rattle.testr_cli.specs.declared.command.Question.{Question}
+use Rattle.testr_cli.specs.declared.command.Question.TheVariants.{Last, Failing, Slowest, Stats}
+
+-- what is done for a command
+pub data Task : Type 0 where
+  -- a repository is made
+  init : Task
+  -- a run is kept: full, or partial
+  load : Bool → Task
+  -- a question is answered of the runs
+  ask : Question → Task
+
+-- what is done for a command of this verb
+abbrev pub task_with : Verb → Command → Option Task
+task_with verb.Init command = Some init
+task_with verb.Load command = Some (load command.partial)
+task_with verb.Run command = None
+task_with verb.Last command = Some (ask (Last command.subunit))
+task_with verb.Failing command = Some (ask (Failing command.list))
+task_with verb.Slowest command = Some (ask (Slowest command.all))
+task_with verb.Stats command = Some (ask Stats)
+task_with verb.ListTests command = None
+task_with verb.SelfTest command = None
+
+-- what is done for a command; none where it is not one of those that are done
+abbrev pub task_of : Command → Option Task
+task_of command = task_with command.verb command
