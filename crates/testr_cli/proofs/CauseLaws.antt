@@ -1,5 +1,5 @@
 -- A command that has no cause to refuse does not: its refusals of status 3 are contradicted one by one.
-use Rattle.std.proofs.Common.{◌≡◌, ℕ, ◌<◌, ◌≤◌, Bool, Option, None, Some, IfSome, IsSomeAnd, IsSome, Result, Ok, Err, List, length, refl, sym, ap, subst, ◌∙◌, arith}
+use Rattle.std.proofs.Common.{◌≡◌, ◌⊎◌, inl, inr, ℕ, ◌<◌, ◌≤◌, Bool, Option, None, Some, IfSome, IsSomeAnd, IsSome, All, Result, Ok, Err, List, [], ◌∷◌, ◌++◌, length, refl, sym, ap, subst, ◌∙◌, arith}
 use Rattle.edge_io.specs.Disk.{Files, Disk, Folder}
 use Rattle.edge_io.specs.Seen.{Seen}
 use Rattle.edge_io.specs.Steps.{Goes, Settled}
@@ -11,16 +11,19 @@ use Rattle.run_shelf.specs.Repository.{IsRepository, HasKinds, HasFormat, HasOth
 use Rattle.run_shelf.specs.Holds.{kinds_of}
 use Rattle.run_shelf.specs.Outcomes.{InitFails, OpenFails, Surveys}
 use Rattle.testr_cli.specs.Steps.{stops, goes_on}
-use Rattle.testr_cli.specs.Outside.{Work, Shown, SameCounts, SomeRose}
+use Rattle.std.proofs.lemmas.List.Elements.{All-head, All-tail}
+use Rattle.testr_cli.specs.Outside.{Work, Filed, Shown, fed, filed, SameCounts, SomeRose}
+use Rattle.testr_cli.specs.Files.{RecordsSources, HasFilesCause}
 use Rattle.testr_cli.specs.Runs.{HasRuns}
 use Rattle.testr_cli.specs.Answer.{refusal_code}
 use Rattle.testr_cli.specs.Store.{Opens, open_code}
-use Rattle.testr_cli.specs.Recording.{most_bytes}
+use Rattle.testr_cli.specs.Recording.{Records, most_bytes, record_code}
 use Rattle.testr_cli.specs.Init.{Inits}
 use Rattle.testr_cli.specs.Load.{Loads}
 use Rattle.testr_cli.specs.Ask.{Asks}
-use Rattle.testr_cli.specs.Program.{CanLoad, CanAsk}
+use Rattle.testr_cli.specs.Program.{CanLoad, HasSources, CanAsk}
 use Rattle.testr_cli.specs.declared.command.Question.{Question}
+use Rattle.testr_cli.specs.declared.recording.RecordFault.{RecordFault}
 use Rattle.testr_cli.specs.declared.recording.RecordFault.TheVariants as record_fault
 use Rattle.testr_cli.specs.declared.told.TellFault.TheVariants as tell_fault
 use Rattle.testr_cli.specs.declared.answer.Verdict.{Verdict}
@@ -78,31 +81,88 @@ not_long : (left : Option (List ℕ)) → IsSomeAnd left (λ bytes. length bytes
 not_long None short long = absurd short
 not_long (Some told) short long = omega (arith, short, long)
 
-pub load_never : (partial : Bool) (a b : Work) (r : Refusal) → Loads partial a b (Err r) → CanLoad a → refusal_code r ≡ 3 → ⊥
-load_never partial a b r (stops fault is step) can three =
+-- the input alone
+input_never : (a b : Work) (fault : RecordFault) → Records (fed a.folder a.input) (fed b.folder b.input) (Err fault) → IsSomeAnd a.input.told (λ bytes. length bytes ≤ most_bytes) → record_code fault ≡ 3 → ⊥
+input_never a b (record_fault.Shelf call) records short three = omega arith
+input_never a b record_fault.Input records short three = omega arith
+input_never a b record_fault.TooLong records short three = not_long a.input.told short records.refused.0
+input_never a b record_fault.Site records short three = records.refused
+input_never a b (record_fault.NoFile name) records short three = records.refused
+input_never a b (record_fault.FileTooLong name) records short three = records.refused
+input_never a b record_fault.NoMemory records short three = omega arith
+
+abbrev IsShort : Files → List ℕ → Type 0
+IsShort files name = IsSomeAnd (files name) (λ bytes. length bytes ≤ most_bytes)
+
+-- what is among the names is there, and not too long
+short_at : (files : Files) (done : List (List ℕ)) (name : List ℕ) (rest : List (List ℕ)) → All (IsShort files) (done ++ name ∷ rest) → IsShort files name
+short_at files [] name rest all = All-head (IsShort files) name rest all
+short_at files (first ∷ done) name rest all = short_at files done name rest (All-tail (IsShort files) first (done ++ name ∷ rest) all)
+
+not_absent : (file : Option (List ℕ)) → IsSomeAnd file (λ bytes. length bytes ≤ most_bytes) → file ≡ None → ⊥
+not_absent None short none = short
+not_absent (Some bytes) short none = cc
+
+module _ (names : List (List ℕ)) (told : Option Files) (all : IsSomeAnd told (λ files. All (IsShort files) names)) where
+  file_there : (done : List (List ℕ)) (name : List ℕ) (rest : List (List ℕ)) → names ≡ done ++ name ∷ rest → IfSome told (λ files. files name ≡ None) → ⊥
+  file_there done name rest is none = by told all none
+    where
+      by : (o : Option Files) → IsSomeAnd o (λ files. All (IsShort files) names) → IfSome o (λ files. files name ≡ None) → ⊥
+      by None all none = all
+      by (Some files) all none = not_absent (files name) (short_at files done name rest (subst (All (IsShort files)) is all)) none
+
+  file_short : (done : List (List ℕ)) (name : List ℕ) (rest : List (List ℕ)) → names ≡ done ++ name ∷ rest → IfSome told (λ files. IfSome (files name) (λ bytes. most_bytes < length bytes)) → ⊥
+  file_short done name rest is long = by told all long
+    where
+      by : (o : Option Files) → IsSomeAnd o (λ files. All (IsShort files) names) → IfSome o (λ files. IfSome (files name) (λ bytes. most_bytes < length bytes)) → ⊥
+      by None all long = all
+      by (Some files) all long = not_long (files name) (short_at files done name rest (subst (All (IsShort files)) is all)) long
+
+-- the files that are named
+files_never : (names : List (List ℕ)) (a b : Filed) (fault : RecordFault) → HasFilesCause names a b fault → IsSomeAnd a.site.told (λ files. All (IsShort files) names) → record_code fault ≡ 3 → ⊥
+files_never names a b fault (inr (is, none)) all three =
+    let five : record_code fault ≡ 5 = ap record_code is in
+    omega (arith, five, three)
+files_never names a b (record_fault.Shelf call) (inl stop) all three = omega arith
+files_never names a b record_fault.Input (inl stop) all three = stop.cause
+files_never names a b record_fault.TooLong (inl stop) all three = stop.cause
+files_never names a b record_fault.Site (inl stop) all three = omega arith
+files_never names a b (record_fault.NoFile name) (inl stop) all three = file_there names a.site.told all stop.done stop.name stop.rest stop.names_are (subst (λ (o : Option Files). IfSome o (λ files. files stop.name ≡ None)) stop.recorded.files stop.cause.1)
+files_never names a b (record_fault.FileTooLong name) (inl stop) all three = file_short names a.site.told all stop.done stop.name stop.rest stop.names_are (subst (λ (o : Option Files). IfSome o (λ files. IfSome (files stop.name) (λ bytes. most_bytes < length bytes))) stop.recorded.files stop.cause.1)
+files_never names a b record_fault.NoMemory (inl stop) all three = omega arith
+
+record_never : (names : List (List ℕ)) (a b : Work) (fault : RecordFault) → RecordsSources names a b (Err fault) → HasSources names a → record_code fault ≡ 3 → ⊥
+record_never [] a b fault step short three = input_never a b fault step.at short three
+record_never (name ∷ names) a b fault step short three = files_never (name ∷ names) (filed a.folder a.site) (filed b.folder b.site) fault step.at.refused short three
+
+sources_still : (names : List (List ℕ)) (a m : Work) → m.input ≡ a.input → m.site ≡ a.site → HasSources names a → HasSources names m
+sources_still [] a m input site short = subst (λ (s : Seen (List ℕ)). IsSomeAnd s.told (λ bytes. length bytes ≤ most_bytes)) (sym input) short
+sources_still (name ∷ names) a m input site short = subst (λ (s : Seen Files). IsSomeAnd s.told (λ files. All (IsShort files) (name ∷ names))) (sym site) short
+
+pub load_never : (partial : Bool) (names : List (List ℕ)) (a b : Work) (r : Refusal) → Loads partial names a b (Err r) → CanLoad names a → refusal_code r ≡ 3 → ⊥
+load_never partial names a b r (stops fault is step) can three =
     let same : r ≡ refusal.Open fault = cc in
     open_never a.folder b.folder fault (takes_in_repository a.folder.told can.free) step.at (sym (ap refusal_code same) ∙ three)
-load_never partial a b r (goes_on found m opened (stops fault is step)) can three = not_full a.folder.told can.free (runs_are a.folder m.folder found most_runs opened.at step.says.full.1)
-load_never partial a b r (goes_on found m opened (goes_on _ m2 took (stops fault is step))) can three = other (refusal.Keep fault) r is (λ s. omega arith) three
-load_never partial a b r (goes_on found m opened (goes_on _ m2 took (goes_on _ m3 begun (stops record_fault.TooLong is step)))) can three =
+load_never partial names a b r (goes_on found m opened (stops fault is step)) can three = not_full a.folder.told can.free (runs_are a.folder m.folder found most_runs opened.at step.says.full.1)
+load_never partial names a b r (goes_on found m opened (goes_on _ m2 took (stops fault is step))) can three = other (refusal.Keep fault) r is (λ s. omega arith) three
+load_never partial names a b r (goes_on found m opened (goes_on _ m2 took (goes_on _ m3 begun (stops fault is step)))) can three =
     let input : m3.input ≡ a.input = (λ i. (begun.rest i).input) ∙ (λ i. (took.same i).input) ∙ (λ i. (opened.rest i).input) in
-    not_long a.input.told can.short (subst (λ (s : Seen (List ℕ)). IfSome s.told (λ bytes. most_bytes < length bytes)) input step.at.refused.0)
-load_never partial a b r (goes_on found m opened (goes_on _ m2 took (goes_on _ m3 begun (stops (record_fault.Shelf call) is step)))) can three = other (refusal.Record (record_fault.Shelf call)) r is (λ s. omega arith) three
-load_never partial a b r (goes_on found m opened (goes_on _ m2 took (goes_on _ m3 begun (stops record_fault.Input is step)))) can three = other (refusal.Record record_fault.Input) r is (λ s. omega arith) three
-load_never partial a b r (goes_on found m opened (goes_on _ m2 took (goes_on _ m3 begun (stops record_fault.NoMemory is step)))) can three = other (refusal.Record record_fault.NoMemory) r is (λ s. omega arith) three
-load_never partial a b r (goes_on found m opened (goes_on _ m2 took (goes_on _ m3 begun (goes_on rows m4 recorded (stops fault is step))))) can three = other (refusal.Memory fault) r is (λ s. omega arith) three
-load_never partial a b r (goes_on found m opened (goes_on _ m2 took (goes_on _ m3 begun (goes_on rows m4 recorded (goes_on report m5 told (stops fault is step)))))) can three = other (refusal.Keep fault) r is (λ s. omega arith) three
-load_never partial a b r (goes_on found m opened (goes_on _ m2 took (goes_on _ m3 begun (goes_on rows m4 recorded (goes_on report m5 told (goes_on _ m6 kept (stops fault is step))))))) can three = other (refusal.Print fault) r is (λ s. omega arith) three
-load_never partial a b r (goes_on found m opened (goes_on _ m2 took (goes_on _ m3 begun (goes_on rows m4 recorded (goes_on report m5 told (goes_on _ m6 kept (goes_on _ m7 printed gives))))))) can three = gives_not m7 b r gives
+    let site : m3.site ≡ a.site = (λ i. (begun.rest i).site) ∙ (λ i. (took.same i).site) ∙ (λ i. (opened.rest i).site) in
+    let same : r ≡ refusal.Record fault = cc in
+    record_never names m3 b fault step (sources_still names a m3 input site can.short) (sym (ap refusal_code same) ∙ three)
+load_never partial names a b r (goes_on found m opened (goes_on _ m2 took (goes_on _ m3 begun (goes_on rows m4 recorded (stops fault is step))))) can three = other (refusal.Memory fault) r is (λ s. omega arith) three
+load_never partial names a b r (goes_on found m opened (goes_on _ m2 took (goes_on _ m3 begun (goes_on rows m4 recorded (goes_on report m5 told (stops fault is step)))))) can three = other (refusal.Keep fault) r is (λ s. omega arith) three
+load_never partial names a b r (goes_on found m opened (goes_on _ m2 took (goes_on _ m3 begun (goes_on rows m4 recorded (goes_on report m5 told (goes_on _ m6 kept (stops fault is step))))))) can three = other (refusal.Print fault) r is (λ s. omega arith) three
+load_never partial names a b r (goes_on found m opened (goes_on _ m2 took (goes_on _ m3 begun (goes_on rows m4 recorded (goes_on report m5 told (goes_on _ m6 kept (goes_on _ m7 printed gives))))))) can three = gives_not m7 b r gives
 
 -- ---- questions
 
-pub ask_never : (question : Question) (input : Seen (List ℕ)) (a b : Shown) (r : Refusal) → Asks question a b (Err r) → CanAsk question (of_shown input a) → refusal_code r ≡ 3 → ⊥
-ask_never question input a b r (stops fault is step) can three =
+pub ask_never : (question : Question) (site : Seen Files) (input : Seen (List ℕ)) (a b : Shown) (r : Refusal) → Asks question a b (Err r) → CanAsk question (of_shown site input a) → refusal_code r ≡ 3 → ⊥
+ask_never question site input a b r (stops fault is step) can three =
     let same : r ≡ refusal.Open fault = cc in
     open_never a.folder b.folder fault can.repository step.at (sym (ap refusal_code same) ∙ three)
-ask_never question input a b r (goes_on found m opened (stops fault is step)) can three = not_empty a.folder.told (can.some step.says.none.1) (runs_are a.folder m.folder found 0 opened.at step.says.none.2)
-ask_never question input a b r (goes_on found m opened (goes_on _ m2 had (stops tell_fault.Shelf is step))) can three = other (refusal.Tell tell_fault.Shelf) r is (λ s. omega arith) three
-ask_never question input a b r (goes_on found m opened (goes_on _ m2 had (stops tell_fault.NoMemory is step))) can three = other (refusal.Tell tell_fault.NoMemory) r is (λ s. omega arith) three
-ask_never question input a b r (goes_on found m opened (goes_on _ m2 had (goes_on told m3 found_it (stops fault is step)))) can three = other (refusal.Print fault) r is (λ s. omega arith) three
-ask_never question input a b r (goes_on found m opened (goes_on _ m2 had (goes_on told m3 found_it (goes_on _ m4 printed gives)))) can three = gives_not m4 b r gives
+ask_never question site input a b r (goes_on found m opened (stops fault is step)) can three = not_empty a.folder.told (can.some step.says.none.1) (runs_are a.folder m.folder found 0 opened.at step.says.none.2)
+ask_never question site input a b r (goes_on found m opened (goes_on _ m2 had (stops tell_fault.Shelf is step))) can three = other (refusal.Tell tell_fault.Shelf) r is (λ s. omega arith) three
+ask_never question site input a b r (goes_on found m opened (goes_on _ m2 had (stops tell_fault.NoMemory is step))) can three = other (refusal.Tell tell_fault.NoMemory) r is (λ s. omega arith) three
+ask_never question site input a b r (goes_on found m opened (goes_on _ m2 had (goes_on told m3 found_it (stops fault is step)))) can three = other (refusal.Print fault) r is (λ s. omega arith) three
+ask_never question site input a b r (goes_on found m opened (goes_on _ m2 had (goes_on told m3 found_it (goes_on _ m4 printed gives)))) can three = gives_not m4 b r gives

@@ -1,9 +1,9 @@
 -- What holds of a chain because it holds of its steps.
-use Rattle.std.proofs.Common.{◌≡◌, inl, inr, ℕ, ◌≤◌, Option, None, Some, Result, Ok, Err, refl, sym, subst, ◌∙◌, arith}
+use Rattle.std.proofs.Common.{◌≡◌, ℕ, ◌≤◌, Option, None, Some, Result, Ok, Err, refl, sym, subst, ◌∙◌, arith}
 use Rattle.edge_io.specs.Causes.{Rose}
 use Rattle.edge_io.specs.Steps.{Goes}
 use Rattle.testr_cli.specs.Steps.{Step, Then, stops, goes_on, Gives}
-use Rattle.testr_cli.specs.Outside.{Work, Place, in_folder, in_input, in_out, SameCounts, RisesAt, SomeRose}
+use Rattle.testr_cli.specs.Outside.{Work, Place, in_folder, in_site, in_input, in_out, SameCounts, RisesAt, SomeRose, of_folder, of_site, of_input, of_out}
 use Rattle.testr_cli.specs.Answer.{refusal_code, place_of}
 use Rattle.testr_cli.specs.declared.answer.Refusal.{Refusal}
 use Rattle.testr_cli.proofs.Resting.{Rests, rests_same, rests_then}
@@ -37,15 +37,17 @@ pub record IsFault (refusal : Refusal) (a b : Work) : Type 0 where
   pub rose : SomeRose a b
 
 counts_after : (place : Option Place) (a m b : Work) → SameCounts a m → RisesAt place m b → RisesAt place a b
-counts_after None a m b same rises = record { folder = rises.folder ∙ same.folder; input = rises.input ∙ same.input; out = rises.out ∙ same.out }
-counts_after (Some in_folder) a m b same rises = (subst (λ (n : ℕ). Rose n b.folder.faults) same.folder rises.0, rises.1 ∙ same.input, rises.2 ∙ same.out)
-counts_after (Some in_input) a m b same rises = (subst (λ (n : ℕ). Rose n b.input.faults) same.input rises.0, rises.1 ∙ same.folder, rises.2 ∙ same.out)
-counts_after (Some in_out) a m b same rises = (subst (λ (n : ℕ). Rose n b.out.faults) same.out rises.0, rises.1 ∙ same.folder, rises.2 ∙ same.input)
+counts_after None a m b same rises = record { folder = rises.folder ∙ same.folder; site = rises.site ∙ same.site; input = rises.input ∙ same.input; out = rises.out ∙ same.out }
+counts_after (Some in_folder) a m b same rises = (subst (λ (n : ℕ). Rose n b.folder.faults) same.folder rises.0, rises.1 ∙ same.site, rises.2 ∙ same.input, rises.3 ∙ same.out)
+counts_after (Some in_site) a m b same rises = (subst (λ (n : ℕ). Rose n b.site.faults) same.site rises.0, rises.1 ∙ same.folder, rises.2 ∙ same.input, rises.3 ∙ same.out)
+counts_after (Some in_input) a m b same rises = (subst (λ (n : ℕ). Rose n b.input.faults) same.input rises.0, rises.1 ∙ same.folder, rises.2 ∙ same.site, rises.3 ∙ same.out)
+counts_after (Some in_out) a m b same rises = (subst (λ (n : ℕ). Rose n b.out.faults) same.out rises.0, rises.1 ∙ same.folder, rises.2 ∙ same.site, rises.3 ∙ same.input)
 
 rose_after : (a m b : Work) → SameCounts a m → SomeRose m b → SomeRose a b
-rose_after a m b same (inl rose) = inl (subst (λ (n : ℕ). Rose n b.folder.faults) same.folder rose)
-rose_after a m b same (inr (inl rose)) = inr (inl (subst (λ (n : ℕ). Rose n b.input.faults) same.input rose))
-rose_after a m b same (inr (inr rose)) = inr (inr (subst (λ (n : ℕ). Rose n b.out.faults) same.out rose))
+rose_after a m b same (of_folder rose) = of_folder (subst (λ (n : ℕ). Rose n b.folder.faults) same.folder rose)
+rose_after a m b same (of_site rose) = of_site (subst (λ (n : ℕ). Rose n b.site.faults) same.site rose)
+rose_after a m b same (of_input rose) = of_input (subst (λ (n : ℕ). Rose n b.input.faults) same.input rose)
+rose_after a m b same (of_out rose) = of_out (subst (λ (n : ℕ). Rose n b.out.faults) same.out rose)
 
 pub counts_then : (a m b : Work) → SameCounts a m → SameCounts m b → SameCounts a b
 counts_then a m b first second = counts_after None a m b first second

@@ -1,6 +1,6 @@
 -- What is true where a command refuses, and at each of its exits, from its chain: one line a step, in the chain's order.
 use Rattle.std.proofs.Common.{◌≡◌, ℕ, Bool, Result, List, ap}
-use Rattle.edge_io.specs.Disk.{Folder}
+use Rattle.edge_io.specs.Disk.{Files, Folder}
 use Rattle.edge_io.specs.Seen.{Seen}
 use Rattle.testr_cli.specs.Outside.{Work, Shown, work}
 use Rattle.testr_cli.specs.Init.{Inits}
@@ -13,30 +13,30 @@ use Rattle.testr_cli.proofs.StepLaws.{still_counts, still_quiet, runs_refuse, me
 abbrev all : Work → Work
 all w = w
 
-pub load_refuses : (partial : Bool) → Refuses all (λ r. r) (Loads partial)
-load_refuses partial =
+pub load_refuses : (partial : Bool) (names : List (List ℕ)) → Refuses all (λ r. r) (Loads partial names)
+load_refuses partial names =
     then_refuses all (λ a b v s. open_counts a b v s.at s.rest) (λ a b r s. open_quiet a b r s.at) (λ a b e s. open_refuses a b e s.at s.rest) (λ found.
     then_refuses all (λ a b v s. still_counts a b s.same) (λ a b r s. still_quiet a b s.same) (λ a b e s. runs_refuse a b e s.same) (λ _.
     then_refuses all (λ a b v s. begin_counts a b v s.at s.rest) (λ a b r s. begin_quiet a b r s.at) (λ a b e s. begin_refuses a b e s.at s.rest) (λ _.
-    then_refuses all (λ a b v s. record_counts a b v s.at s.rest) (λ a b r s. record_quiet a b r s.at) (λ a b e s. record_refuses a b e s.at s.rest) (λ rows.
+    then_refuses all (λ a b v s. record_counts a b names v s) (λ a b r s. record_quiet a b names r s) (λ a b e s. record_refuses a b names e s) (λ rows.
     then_refuses all (λ a b v s. still_counts a b s.same) (λ a b r s. still_quiet a b s.same) (λ a b e s. memory_refuses a b e s.same) (λ report.
     then_late all (λ a b v s. keep_counts a b _ _ v s.at s.rest) (λ a b e s. is_fault _ a b (keep_faults a b _ _ e s.at s.rest)) (λ _.
     then_last all (λ a b e s. print_faults a b _ e s.at s.rest) (λ _. gives_not)))))))
 
-pub load_counts : (partial : Bool) → Counts all (Loads partial)
-load_counts partial =
+pub load_counts : (partial : Bool) (names : List (List ℕ)) → Counts all (Loads partial names)
+load_counts partial names =
     then_counts all (λ a b v s. open_counts a b v s.at s.rest) (λ found.
     then_counts all (λ a b v s. still_counts a b s.same) (λ _.
     then_counts all (λ a b v s. begin_counts a b v s.at s.rest) (λ _.
-    then_counts all (λ a b v s. record_counts a b v s.at s.rest) (λ rows.
+    then_counts all (λ a b v s. record_counts a b names v s) (λ rows.
     then_counts all (λ a b v s. still_counts a b s.same) (λ report.
     then_counts all (λ a b v s. keep_counts a b _ _ v s.at s.rest) (λ _.
     then_counts all (λ a b v s. print_counts a b _ v s.at s.rest) (λ _.
     gives_counts all)))))))
 
-module _ (input : Seen (List ℕ)) where
+module _ (site : Seen Files) (input : Seen (List ℕ)) where
   abbrev pub of_shown : Shown → Work
-  of_shown w = work w.folder input w.out
+  of_shown w = work w.folder site input w.out
 
   pub ask_refuses : (question : Question) → Refuses of_shown (λ r. r) (Asks question)
   ask_refuses question =
@@ -63,7 +63,7 @@ module _ (input : Seen (List ℕ)) where
 
   module _ (out : Seen (List ℕ)) where
     abbrev pub of_folder : Seen Folder → Work
-    of_folder folder = work folder input out
+    of_folder folder = work folder site input out
 
     pub init_refuses : Refuses of_folder (λ r. r) Inits
     init_refuses =

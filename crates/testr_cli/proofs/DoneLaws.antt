@@ -1,5 +1,5 @@
 -- What a command has done, from its chain.
-use Rattle.std.proofs.Common.{◌≡◌, inl, ℕ, Bool, true, false, Option, None, Some, IfSome, Result, Ok, List, [], length, refl, sym, ap, subst, ◌∙◌, if◌then◌else◌}
+use Rattle.std.proofs.Common.{◌≡◌, inl, ℕ, Bool, true, false, Option, None, Some, IfSome, Result, Ok, List, [], ◌∷◌, length, refl, sym, ap, subst, ◌∙◌, if◌then◌else◌}
 use Rattle.std.specs.Io.KnownBytes.{Appends, IsAtEnd}
 use Rattle.std.specs.List.{list_any}
 use Rattle.edge_io.specs.Disk.{Files, Disk, Folder, IsImage, at_rest, put}
@@ -20,18 +20,19 @@ use Rattle.testr_cli.specs.Outside.{Work, Shown}
 use Rattle.testr_cli.specs.Runs.{run_bytes, KeepsFiles}
 use Rattle.testr_cli.specs.Verdicts.{verdict_of, verdict_code}
 use Rattle.testr_cli.specs.Says.{SaysOfFolder}
-use Rattle.testr_cli.specs.Recording.{RecordsInput}
+use Rattle.testr_cli.specs.Files.{RecordsSources}
+use Rattle.testr_cli.specs.declared.recording.RecordFault.{RecordFault}
 use Rattle.testr_cli.specs.Reporting.{IsReport}
 use Rattle.testr_cli.specs.Init.{Inits}
 use Rattle.testr_cli.specs.Load.{Loads}
 use Rattle.testr_cli.specs.Ask.{Asks}
-use Rattle.testr_cli.specs.Program.{LoadsAll, AddsRun, AnswersQuestion}
+use Rattle.testr_cli.specs.Program.{LoadsAll, ReadsInputFor, AddsRun, AnswersQuestion}
 use Rattle.testr_cli.specs.declared.command.Question.{Question}
 use Rattle.testr_cli.specs.declared.answer.Verdict.{Verdict}
 use Rattle.testr_cli.specs.declared.answer.Verdict.TheVariants.{Passed, Failed}
 use Rattle.testr_cli.specs.declared.answer.Refusal.{Refusal}
-use Rattle.testr_cli.proofs.ReadLemmas.{told_all}
-use Rattle.testr_cli.proofs.RowsLemmas.{have_packets, rows_of_written}
+use Rattle.testr_cli.proofs.SourcesLemmas.{IsRunOf, writes_run}
+use Rattle.testr_cli.proofs.RowsLemmas.{have_in_turn, rows_of_written}
 use Rattle.testr_cli.proofs.Resting.{Rests}
 use Rattle.testr_cli.proofs.ChainLemmas.{then_did}
 use Rattle.testr_cli.proofs.StepLaws.{open_quiet}
@@ -87,8 +88,12 @@ reports partial (Some s) None printed new number events kept appends = absurd ke
 reports partial (Some s) (Some t) printed new number events kept appends = λ runs shows.
     subst (λ n. Appends printed new (report_of (rows_of events) n [])) ((kept_beside number (run_of partial (run_bytes events)) s t kept).counts runs shows) appends
 
-pub load_did : (partial : Bool) (a b : Work) (v : Verdict) → Loads partial a b (Ok v) → IfSome a.input.told (LoadsAll partial a b (verdict_code v))
-load_did partial a b v loads =
+out_stays : (names : List (List ℕ)) (result : Result (List Row) RecordFault) (a b : Work) → RecordsSources names a b result → b.out.told ≡ a.out.told
+out_stays [] result a b step = λ i. (step.rest i).out.told
+out_stays (name ∷ names) result a b step = λ i. (step.rest i).out.told
+
+pub load_did : (partial : Bool) (names : List (List ℕ)) (a b : Work) (v : Verdict) → Loads partial names a b (Ok v) → LoadsAll partial names a b (verdict_code v)
+load_did partial names a b v loads =
     let opened = then_did v loads in
     let took = then_did v opened.next in
     let begun = then_did v took.next in
@@ -100,15 +105,15 @@ load_did partial a b v loads =
     let number = length (kinds_of opened.value) in
     let input : begun.between.input ≡ a.input = (λ i. (begun.done.rest i).input) ∙ (λ i. (took.done.same i).input) ∙ (λ i. (opened.done.rest i).input) in
     let input_left : b.input ≡ read.between.input = (λ i. (gives.same i).input) ∙ (λ i. (printed.done.rest i).input) ∙ (λ i. (kept.done.rest i).input) ∙ (λ i. (told.done.same i).input) in
+    let all = writes_run names read.value begun.between read.between read.done in
     let begins : Goes opened.between.folder.told begun.between.folder.told Opened = subst (λ (o : Option Folder). Goes o begun.between.folder.told Opened) (λ i. (took.done.same i).folder.told) begun.done.at.begun in
-    let grows : Goes begun.between.folder.told told.between.folder.told (Grown read.done.at.recorded.run) = subst (λ (o : Option Folder). Goes begun.between.folder.told o (Grown read.done.at.recorded.run)) (λ i. (sym told.done.same i).folder.told) read.done.at.recorded.written in
-    let all = read.done.at.recorded in
+    let grows : Goes begun.between.folder.told told.between.folder.told (Grown all.run) = subst (λ (o : Option Folder). Goes begun.between.folder.told o (Grown all.run)) (λ i. (sym told.done.same i).folder.told) all.written in
     let folder_left : b.folder.told ≡ kept.between.folder.told = (λ i. (gives.same i).folder.told) ∙ (λ i. (printed.done.rest i).folder.told) in
-    let out : kept.between.out.told ≡ a.out.told = (λ i. (kept.done.rest i).out.told) ∙ (λ i. (told.done.same i).out.told) ∙ (λ i. (read.done.rest i).out.told) ∙ (λ i. (begun.done.rest i).out.told) ∙ (λ i. (took.done.same i).out.told) ∙ (λ i. (opened.done.rest i).out.told) in
-    let records : RecordsInput a.input.told read.between.input.told all.run = subst (λ (s : Seen (List ℕ)). RecordsInput s.told read.between.input.told all.run) input all.recorded in
-    let (bytes, reads, recorded) = records in
-    let packets = have_packets bytes recorded.events reads.are_bytes recorded.has in
-    let rows : read.value ≡ rows_of recorded.events = rows_of_written all.run recorded.events read.value all.are_bytes packets.are_events packets.fit recorded.packets all.rows_are in
+    let out : kept.between.out.told ≡ a.out.told = (λ i. (kept.done.rest i).out.told) ∙ (λ i. (told.done.same i).out.told) ∙ out_stays names (Ok read.value) begun.between read.between read.done ∙ (λ i. (begun.done.rest i).out.told) ∙ (λ i. (took.done.same i).out.told) ∙ (λ i. (opened.done.rest i).out.told) in
+    let site : begun.between.site ≡ a.site = (λ i. (begun.done.rest i).site) ∙ (λ i. (took.done.same i).site) ∙ (λ i. (opened.done.rest i).site) in
+    let recorded : IsRunOf names a.site.told a.input.told all.run = subst (λ (s : Seen Files). IsRunOf names s.told a.input.told all.run) site (subst (λ (s : Seen (List ℕ)). IsRunOf names begun.between.site.told s.told all.run) input all.is) in
+    let packets = have_in_turn 0 recorded.sources recorded.events recorded.few recorded.are_bytes recorded.recorded in
+    let rows : read.value ≡ rows_of recorded.events = rows_of_written all.run recorded.events read.value all.run_is packets.are_events packets.fit recorded.packets all.rows_are in
     let report : IsReport number (rows_of recorded.events) told.value = subst (λ (list : List Row). IsReport number list told.value) rows told.done.says.told in
     let run_is : all.run ≡ run_bytes recorded.events = recorded.packets in
     let keeps : Goes opened.between.folder.told b.folder.told (KeepsRun number (run_of partial (run_bytes recorded.events))) =
@@ -117,20 +122,22 @@ load_did partial a b v loads =
     (run_kept number partial all.run opened.between.folder.told told.between.folder.told kept.between.folder.told (goes_writes opened.between.folder.told begun.between.folder.told told.between.folder.told all.run begins grows) kept.done.at.kept)) in
     let stored = kept_through number (run_of partial (run_bytes recorded.events)) a.folder.told opened.between.folder.told b.folder.told (open_quiet a opened.between (Ok opened.value) opened.done.at) keeps in
     let prints : Appends a.out.told b.out.told (report_of (rows_of recorded.events) number []) = appended {z = printed.between.out.told} out (λ i. (sym gives.same i).out.told) report.text printed.done.at.whole in
-    told_all (LoadsAll partial a b (verdict_code v)) a.input.told read.between.input.told bytes reads.read reads.at_end (record {
+    record {
+      sources = recorded.sources;
+      are_sources = recorded.are_sources;
+      are_bytes = recorded.are_bytes;
       events = recorded.events;
-      are_bytes = reads.are_bytes;
-      recorded = recorded.has;
-      at_end = subst (λ (s : Seen (List ℕ)). IsAtEnd s.told) (sym input_left) reads.at_end;
+      recorded = recorded.recorded;
+      at_end = subst (λ (s : Seen (List ℕ)). ReadsInputFor names a.input s) (sym input_left) (subst (λ (s : Seen (List ℕ)). ReadsInputFor names s read.between.input) input all.at_end);
       stored = goes_weaker a.folder.told b.folder.told (KeepsRun number (run_of partial (run_bytes recorded.events))) (AddsRun partial recorded.events) stored (adds_run partial number recorded.events);
       printed = reports partial a.folder.told b.folder.told a.out.told b.out.told number recorded.events stored prints;
       status = ap verdict_code (same_verdict gives.answer ∙ report.verdict) ∙ status_is (rows_of recorded.events);
-    })
+    }
 
 -- ---- questions
 
-pub ask_did : (question : Question) (input : Seen (List ℕ)) (a b : Shown) (v : Verdict) → Asks question a b (Ok v) → AnswersQuestion question (of_shown input a) (of_shown input b) (verdict_code v)
-ask_did question input a b v asks =
+pub ask_did : (question : Question) (site : Seen Files) (input : Seen (List ℕ)) (a b : Shown) (v : Verdict) → Asks question a b (Ok v) → AnswersQuestion question (of_shown site input a) (of_shown site input b) (verdict_code v)
+ask_did question site input a b v asks =
     let opened = then_did v asks in
     let had = then_did v opened.next in
     let told = then_did v had.next in
@@ -144,7 +151,8 @@ ask_did question input a b v asks =
       text = text;
       verdict = told.value.verdict;
       says = subst (λ (o : Option Folder). IfSome o (SaysOfFolder question text told.value.verdict)) (sym folder_left) says;
-      kept = goes_weaker a.folder.told b.folder.told Rests KeepsFiles (ask_quiet input question a b (Ok v) asks) (λ s t rests. rests.files);
+      kept = goes_weaker a.folder.told b.folder.told Rests KeepsFiles (ask_quiet site input question a b (Ok v) asks) (λ s t rests. rests.files);
+      site = refl;
       input = refl;
       printed = appended {z = printed.between.out.told} out (λ i. (sym gives.same i).out.told) refl printed.done.at.whole;
       status = ap verdict_code (same_verdict gives.answer);

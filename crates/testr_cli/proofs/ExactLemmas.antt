@@ -157,4 +157,7 @@ too_long before after (Ok rows) records holds = absurd (not_read before after ro
 too_long before after (Err (record_fault.Shelf call)) records holds = inr tt
 too_long before after (Err record_fault.Input) records holds = inr tt
 too_long before after (Err record_fault.TooLong) records holds = inl refl
+too_long before after (Err record_fault.Site) records holds = inr tt
+too_long before after (Err (record_fault.NoFile name)) records holds = absurd records.refused
+too_long before after (Err (record_fault.FileTooLong name)) records holds = absurd records.refused
 too_long before after (Err record_fault.NoMemory) records holds = inr tt

@@ -5,6 +5,8 @@ pub mod WordsLemmas
 pub mod ReadLemmas
 pub mod RowsLemmas
 pub mod RecordLemmas
+pub mod FilesLemmas
+pub mod SourcesLemmas
 pub mod TellLemmas
 pub mod FolderLemmas
 pub mod Resting

@@ -16,7 +16,6 @@ use Rattle.testr_cli.specs.Steps.{Step, Then, stops, goes_on, Still, Gives, At}
 use Rattle.testr_cli.specs.Outside.{Work, work_folder, work_out}
 use Rattle.testr_cli.specs.Store.{Opens, TakesRun, Keeps}
 use Rattle.testr_cli.specs.declared.store.RunsFault.{RunsFault}
-use Rattle.testr_cli.specs.Recording.{RecordsInput}
 use Rattle.testr_cli.specs.Reporting.{Reports, Prints}
 use Rattle.testr_cli.specs.Stops.{HasLoadedRun, PassesLoad}
 use Rattle.testr_cli.specs.Init.{Inits}
@@ -25,16 +24,16 @@ use Rattle.testr_cli.specs.declared.told.Told.{Told}
 use Rattle.testr_cli.specs.declared.answer.Verdict.{Verdict}
 use Rattle.testr_cli.specs.declared.answer.Refusal.{Refusal}
 use Rattle.testr_cli.specs.declared.answer.Refusal.TheVariants.{Memory, Keep, Print}
-use Rattle.testr_cli.proofs.ReadLemmas.{told_all}
+use Rattle.testr_cli.proofs.SourcesLemmas.{IsRunOf, writes_run}
 use Rattle.testr_cli.proofs.Resting.{Rests, rests_same, rests_then, rests_images}
 use Rattle.testr_cli.proofs.ChainLemmas.{IsQuiet}
 use Rattle.testr_cli.proofs.StepLaws.{still_quiet, open_quiet, begin_quiet, record_quiet}
 
-abbrev LeftBy : Bool → Option (List ℕ) → Folder → Files → Type 0
-LeftBy partial left s image = IsImage s.disk image ⊎ HasLoadedRun partial left s.disk.published image
+abbrev LeftBy : Bool → List (List ℕ) → Option Files → Option (List ℕ) → Folder → Files → Type 0
+LeftBy partial names told left s image = IsImage s.disk image ⊎ HasLoadedRun partial names told left s.disk.published image
 
-pub quiet_moves : (partial : Bool) (left : Option (List ℕ)) (a b : Option Folder) → Goes a b Rests → Goes a b (PassesLoad partial left)
-quiet_moves partial left a b quiet = goes_weaker a b Rests (PassesLoad partial left) quiet (λ s t rests. passes_weaker (IsImage s.disk) (LeftBy partial left s) (λ image left. inl left) s t rests.old)
+pub quiet_moves : (partial : Bool) (names : List (List ℕ)) (told : Option Files) (left : Option (List ℕ)) (a b : Option Folder) → Goes a b Rests → Goes a b (PassesLoad partial names told left)
+quiet_moves partial names told left a b quiet = goes_weaker a b Rests (PassesLoad partial names told left) quiet (λ s t rests. passes_weaker (IsImage s.disk) (LeftBy partial names told left s) (λ image left. inl left) s t rests.old)
 
 module _ (partial : Bool) (number : ℕ) (run : List ℕ) where
   abbrev Runs : Folder → Folder → Type 0
@@ -62,45 +61,44 @@ module _ (partial : Bool) (number : ℕ) (run : List ℕ) where
     reported_or_not rows result (stops fault is step) = rests_run s b.folder.told (subst (λ (w : Work). Goes s w.folder.told Rests) (sym step.same) quiet)
     reported_or_not rows result (goes_on report m step next) = kept_or_not report.text.items report.verdict m result (λ i. (step.same i).folder) next
 
-  module _ (left after : Option (List ℕ)) (records : RecordsInput left after run) where
-    loaded_run : (files image : Files) → HasRunBeside files number (run_of partial run) image → HasLoadedRun partial left files image
-    loaded_run files image beside =
-        let (bytes, reads, recorded) = records in
-        record {
-          number = number;
-          bytes = bytes;
-          are_bytes = reads.are_bytes;
-          told = told_all (λ told. told ≡ bytes) left after bytes reads.read reads.at_end refl;
-          events = recorded.events;
-          recorded = recorded.has;
-          beside = subst (λ (l : List ℕ). HasRunBeside files number (run_of partial l) image) recorded.packets beside;
-        }
+  module _ (names : List (List ℕ)) (told : Option Files) (left : Option (List ℕ)) (records : IsRunOf names told left run) where
+    loaded_run : (files image : Files) → HasRunBeside files number (run_of partial run) image → HasLoadedRun partial names told left files image
+    loaded_run files image beside = record {
+      number = number;
+      sources = records.sources;
+      are_sources = records.are_sources;
+      are_bytes = records.are_bytes;
+      events = records.events;
+      recorded = records.recorded;
+      beside = subst (λ (l : List ℕ). HasRunBeside files number (run_of partial l) image) records.packets beside;
+    }
 
-    left_by : (s m : Folder) → Rests s m → (image : Files) → IsImage m.disk image ⊎ HasRunBeside m.disk.published number (run_of partial run) image → LeftBy partial left s image
+    left_by : (s m : Folder) → Rests s m → (image : Files) → IsImage m.disk image ⊎ HasRunBeside m.disk.published number (run_of partial run) image → LeftBy partial names told left s image
     left_by s m rests image (inl before) = inl (rests_images s m rests image before)
     left_by s m rests image (inr beside) = inr (loaded_run s.disk.published image (subst (λ (files : Files). HasRunBeside files number (run_of partial run) image) rests.files beside))
 
-    run_moves : (a m b : Option Folder) → Goes a m Rests → Goes m b Runs → Goes a b (PassesLoad partial left)
-    run_moves a m b quiet runs = goes_then a m b Rests Runs (PassesLoad partial left) quiet runs (λ s m t rests passes.
-        passes_then (LeftBy partial left s) s m t
-        (passes_weaker (IsImage s.disk) (LeftBy partial left s) (λ image left. inl left) s m rests.old)
-        (passes_weaker (λ image. IsImage m.disk image ⊎ HasRunBeside m.disk.published number (run_of partial run) image) (LeftBy partial left s) (left_by s m rests) m t passes))
+    run_moves : (a m b : Option Folder) → Goes a m Rests → Goes m b Runs → Goes a b (PassesLoad partial names told left)
+    run_moves a m b quiet runs = goes_then a m b Rests Runs (PassesLoad partial names told left) quiet runs (λ s m t rests passes.
+        passes_then (LeftBy partial names told left s) s m t
+        (passes_weaker (IsImage s.disk) (LeftBy partial names told left s) (λ image left. inl left) s m rests.old)
+        (passes_weaker (λ image. IsImage m.disk image ⊎ HasRunBeside m.disk.published number (run_of partial run) image) (LeftBy partial names told left s) (left_by s m rests) m t passes))
 
 taken : (a m m2 : Work) (found : Found) → At work_folder Opens a m (Ok found) → Still {E = RunsFault} (TakesRun (length (kinds_of found))) m m2 (Ok tt) → IsQuiet a m2
 taken a m m2 found opened took = rests_then a.folder.told m.folder.told m2.folder.told (open_quiet a m (Ok found) opened.at) (still_quiet m m2 took.same)
 
-pub load_moves : (partial : Bool) (a b : Work) (result : Result Verdict Refusal) → Loads partial a b result → Goes a.folder.told b.folder.told (PassesLoad partial a.input.told)
-load_moves partial a b result (stops fault is step) = quiet_moves partial a.input.told a.folder.told b.folder.told (open_quiet a b (Err fault) step.at)
-load_moves partial a b result (goes_on found m opened (stops fault is step)) = quiet_moves partial a.input.told a.folder.told b.folder.told (rests_then a.folder.told m.folder.told b.folder.told (open_quiet a m (Ok found) opened.at) (still_quiet m b step.same))
-load_moves partial a b result (goes_on found m opened (goes_on _ m2 took (stops fault is step))) = quiet_moves partial a.input.told a.folder.told b.folder.told (rests_then a.folder.told m2.folder.told b.folder.told (taken a m m2 found opened took) (begin_quiet m2 b (Err fault) step.at))
-load_moves partial a b result (goes_on found m opened (goes_on _ m2 took (goes_on _ m3 begun (stops refused is step)))) = quiet_moves partial a.input.told a.folder.told b.folder.told (rests_then a.folder.told m2.folder.told b.folder.told (taken a m m2 found opened took) (rests_then m2.folder.told m3.folder.told b.folder.told (begin_quiet m2 m3 (Ok tt) begun.at) (record_quiet m3 b (Err refused) step.at)))
-load_moves partial a b result (goes_on found m opened (goes_on _ m2 took (goes_on _ m3 begun (goes_on rows m4 recorded next)))) =
+pub load_moves : (partial : Bool) (names : List (List ℕ)) (a b : Work) (result : Result Verdict Refusal) → Loads partial names a b result → Goes a.folder.told b.folder.told (PassesLoad partial names a.site.told a.input.told)
+load_moves partial names a b result (stops fault is step) = quiet_moves partial names a.site.told a.input.told a.folder.told b.folder.told (open_quiet a b (Err fault) step.at)
+load_moves partial names a b result (goes_on found m opened (stops fault is step)) = quiet_moves partial names a.site.told a.input.told a.folder.told b.folder.told (rests_then a.folder.told m.folder.told b.folder.told (open_quiet a m (Ok found) opened.at) (still_quiet m b step.same))
+load_moves partial names a b result (goes_on found m opened (goes_on _ m2 took (stops fault is step))) = quiet_moves partial names a.site.told a.input.told a.folder.told b.folder.told (rests_then a.folder.told m2.folder.told b.folder.told (taken a m m2 found opened took) (begin_quiet m2 b (Err fault) step.at))
+load_moves partial names a b result (goes_on found m opened (goes_on _ m2 took (goes_on _ m3 begun (stops refused is step)))) = quiet_moves partial names a.site.told a.input.told a.folder.told b.folder.told (rests_then a.folder.told m2.folder.told b.folder.told (taken a m m2 found opened took) (rests_then m2.folder.told m3.folder.told b.folder.told (begin_quiet m2 m3 (Ok tt) begun.at) (record_quiet m3 b names (Err refused) step)))
+load_moves partial names a b result (goes_on found m opened (goes_on _ m2 took (goes_on _ m3 begun (goes_on rows m4 recorded next)))) =
     let input : m3.input ≡ a.input = (λ i. (begun.rest i).input) ∙ (λ i. (took.same i).input) ∙ (λ i. (opened.rest i).input) in
-    let all = recorded.at.recorded in
-    let records : RecordsInput a.input.told m4.input.told all.run = subst (λ (s : Seen (List ℕ)). RecordsInput s.told m4.input.told all.run) input all.recorded in
+    let site : m3.site ≡ a.site = (λ i. (begun.rest i).site) ∙ (λ i. (took.same i).site) ∙ (λ i. (opened.rest i).site) in
+    let all = writes_run names rows m3 m4 recorded in
+    let records : IsRunOf names a.site.told a.input.told all.run = subst (λ (s : Seen Files). IsRunOf names s.told a.input.told all.run) site (subst (λ (s : Seen (List ℕ)). IsRunOf names m3.site.told s.told all.run) input all.is) in
     let written : Goes m2.folder.told m4.folder.told (Writes all.run) = goes_writes m2.folder.told m3.folder.told m4.folder.told all.run begun.at.begun all.written in
-    let quiet : IsQuiet m2 m4 = rests_then m2.folder.told m3.folder.told m4.folder.told (begin_quiet m2 m3 (Ok tt) begun.at) (record_quiet m3 m4 (Ok rows) recorded.at) in
-    run_moves partial (length (kinds_of found)) all.run a.input.told m4.input.told records a.folder.told m2.folder.told b.folder.told (taken a m m2 found opened took) (reported_or_not partial (length (kinds_of found)) all.run m2.folder.told m4 b written quiet rows result next)
+    let quiet : IsQuiet m2 m4 = rests_then m2.folder.told m3.folder.told m4.folder.told (begin_quiet m2 m3 (Ok tt) begun.at) (record_quiet m3 m4 names (Ok rows) recorded) in
+    run_moves partial (length (kinds_of found)) all.run names a.site.told a.input.told records a.folder.told m2.folder.told b.folder.told (taken a m m2 found opened took) (reported_or_not partial (length (kinds_of found)) all.run m2.folder.told m4 b written quiet rows result next)
 
 pub init_moves : (a b : Seen Folder) (result : Result Verdict Refusal) → Inits a b result → Goes a.told b.told PassesFormat
 init_moves a b result (stops fault is step) = step.any_moment

@@ -1,12 +1,14 @@
 -- A command is the one that is performed.
-use Rattle.std.proofs.Common.{◌≡◌, ◌⊎◌, inl, inr, Bool, IsTrue, Option, None, Result, Err, refl, sym, ap, subst, ◌∙◌}
+use Rattle.std.proofs.Common.{◌≡◌, ◌⊎◌, inl, inr, Bool, IsTrue, ℕ, ◌<◌, ◌≤◌, length, Option, None, Some, Result, Err, refl, sym, ap, subst, ◌∙◌}
+use Rattle.std.specs.Prelude.{nat_le}
+use Rattle.std.proofs.lemmas.Bool.{cond-true, cond-false, le-leb, lt-leb}
 use Rattle.sub_number.specs.declared.memory.NoMemory.{NoMemory}
 use Rattle.testr_cli.specs.Outside.{Work}
 use Rattle.testr_cli.specs.Program.{Performs, GivesUp, PerformsOrNot}
-use Rattle.testr_cli.specs.Tasks.{Task, task_with}
+use Rattle.testr_cli.specs.Tasks.{Task, load, task_with}
 use Rattle.testr_cli.specs.declared.command.Command.{Command}
 use Rattle.testr_cli.specs.declared.command.Verb.{Verb}
-use Rattle.testr_cli.specs.declared.command.Verb.TheVariants.{Run, ListTests, SelfTest}
+use Rattle.testr_cli.specs.declared.command.Verb.TheVariants.{Load, Run, ListTests, SelfTest}
 use Rattle.testr_cli.specs.declared.words.UsageFault.{UsageFault}
 use Rattle.testr_cli.specs.declared.answer.Verdict.{Verdict}
 use Rattle.testr_cli.specs.declared.answer.Refusal.{Refusal}
@@ -18,6 +20,13 @@ performs wrong before after outcome is done = subst (λ c. Performs wrong c befo
 -- words that are no command touch nothing
 pub refuses : (wrong : UsageFault) {asked : Option Task} (before : Work) → asked ≡ None → Performs wrong asked before before (Err (Usage wrong))
 refuses wrong before none = subst (λ c. Performs wrong c before before (Err (Usage wrong))) (sym none) (record { usage = refl; same = λ i. before })
+
+-- a load has 64 names at most
+pub too_many : (c : Command) → 64 < length c.names → task_with Load c ≡ None
+too_many c more = cond-false (nat_le (length c.names) 64) (Some (load c.partial c.names)) None (lt-leb (length c.names) 64 more)
+
+pub few_enough : (c : Command) → length c.names ≤ 64 → task_with Load c ≡ Some (load c.partial c.names)
+few_enough c few = cond-true (nat_le (length c.names) 64) (Some (load c.partial c.names)) None (le-leb (length c.names) 64 few)
 
 -- a command of these verbs is none that is done
 pub not_done : (v : Verb) (c : Command) → (v ≡ Run) ⊎ ((v ≡ ListTests) ⊎ (v ≡ SelfTest)) → task_with v c ≡ None

@@ -42,25 +42,25 @@ stays (Some s) (Some t) same = cc
 
 module _ (fault : UsageFault) (a b : Work) where
   refused : (command : Task) (r : Refusal) → Performs fault (Some command) a b (Err r) → IsRefused r a b
-  refused init r done = subst (IsRefused r a) (sym done.rest) (init_refuses a.input a.out a.folder b.folder r done.at)
-  refused (load partial) r done = load_refuses partial a b r done
-  refused (ask question) r done = subst (IsRefused r a) (sym done.rest) (ask_refuses a.input question (shown a.folder a.out) (shown b.folder b.out) r done.at)
+  refused init r done = subst (IsRefused r a) (sym done.rest) (init_refuses a.site a.input a.out a.folder b.folder r done.at)
+  refused (load partial names) r done = load_refuses partial names a b r done
+  refused (ask question) r done = subst (IsRefused r a) (sym done.rest) (ask_refuses a.site a.input question (shown a.folder a.out) (shown b.folder b.out) r done.at)
 
   counted : (command : Task) (v : Verdict) → Performs fault (Some command) a b (Ok v) → SameCounts a b
-  counted init v done = subst (SameCounts a) (sym done.rest) (init_counts a.input a.out a.folder b.folder v done.at)
-  counted (load partial) v done = load_counts partial a b v done
-  counted (ask question) v done = subst (SameCounts a) (sym done.rest) (ask_counts a.input question (shown a.folder a.out) (shown b.folder b.out) v done.at)
+  counted init v done = subst (SameCounts a) (sym done.rest) (init_counts a.site a.input a.out a.folder b.folder v done.at)
+  counted (load partial names) v done = load_counts partial names a b v done
+  counted (ask question) v done = subst (SameCounts a) (sym done.rest) (ask_counts a.site a.input question (shown a.folder a.out) (shown b.folder b.out) v done.at)
 
   counts_of : (command : Option Task) (outcome : Result Verdict Refusal) → Performs fault command a b outcome → RisesAt (place_in outcome) a b
   counts_of None outcome done = subst (λ (r : Result Verdict Refusal). RisesAt (place_in r) a b) (sym done.usage) (still_counts a b done.same)
   counts_of (Some command) (Ok v) done = counted command v done
   counts_of (Some command) (Err r) done = (refused command r done).counts
 
-  moments_of : (command : Option Task) (outcome : Result Verdict Refusal) → Performs fault command a b outcome → Goes a.folder.told b.folder.told (PassesCommand command a.input.told)
+  moments_of : (command : Option Task) (outcome : Result Verdict Refusal) → Performs fault command a b outcome → Goes a.folder.told b.folder.told (PassesCommand command a.site.told a.input.told)
   moments_of None outcome done = stays a.folder.told b.folder.told (λ i. (done.same i).folder.told)
   moments_of (Some init) outcome done = init_moves a.folder b.folder outcome done.at
-  moments_of (Some (load partial)) outcome done = load_moves partial a b outcome done
-  moments_of (Some (ask question)) outcome done = goes_weaker a.folder.told b.folder.told Rests PassesOld (ask_quiet a.input question (shown a.folder a.out) (shown b.folder b.out) outcome done.at) (λ s t rests. rests.old)
+  moments_of (Some (load partial names)) outcome done = load_moves partial names a b outcome done
+  moments_of (Some (ask question)) outcome done = goes_weaker a.folder.told b.folder.told Rests PassesOld (ask_quiet a.site a.input question (shown a.folder a.out) (shown b.folder b.out) outcome done.at) (λ s t rests. rests.old)
 
   module _ (answer : ℕ) where
     usage_of : (command : Option Task) (outcome : Result Verdict Refusal) → Performs fault command a b outcome → answer ≡ code_of outcome → (answer ≡ 2 → command ≡ None) × (command ≡ None → answer ≡ 2)
@@ -84,12 +84,12 @@ module _ (fault : UsageFault) (a b : Work) where
     made_of (Ok v) done code zero = init_made a.folder b.folder v done.at
     made_of (Err r) done code zero = absurd (omega (arith, code, zero, (refused init r done).least))
 
-    loaded_of : (partial : Bool) (outcome : Result Verdict Refusal) → Performs fault (Some (load partial)) a b outcome → answer ≡ code_of outcome → answer ≤ 1 → IfSome a.input.told (LoadsAll partial a b answer)
-    loaded_of partial (Ok v) done code less = subst (λ (n : ℕ). IfSome a.input.told (LoadsAll partial a b n)) (sym code) (load_did partial a b v done)
-    loaded_of partial (Err r) done code less = absurd (omega (arith, code, less, (refused (load partial) r done).least))
+    loaded_of : (partial : Bool) (names : List (List ℕ)) (outcome : Result Verdict Refusal) → Performs fault (Some (load partial names)) a b outcome → answer ≡ code_of outcome → answer ≤ 1 → LoadsAll partial names a b answer
+    loaded_of partial names (Ok v) done code less = subst (λ (n : ℕ). LoadsAll partial names a b n) (sym code) (load_did partial names a b v done)
+    loaded_of partial names (Err r) done code less = absurd (omega (arith, code, less, (refused (load partial names) r done).least))
 
     asked_of : (question : Question) (outcome : Result Verdict Refusal) → Performs fault (Some (ask question)) a b outcome → answer ≡ code_of outcome → answer ≤ 1 → AnswersQuestion question a b answer
-    asked_of question (Ok v) done code less = subst (λ (n : ℕ). AnswersQuestion question a b n) (sym code) (subst (λ (w : Work). AnswersQuestion question a w (verdict_code v)) (sym done.rest) (ask_did question a.input (shown a.folder a.out) (shown b.folder b.out) v done.at))
+    asked_of question (Ok v) done code less = subst (λ (n : ℕ). AnswersQuestion question a b n) (sym code) (subst (λ (w : Work). AnswersQuestion question a w (verdict_code v)) (sym done.rest) (ask_did question a.site a.input (shown a.folder a.out) (shown b.folder b.out) v done.at))
     asked_of question (Err r) done code less = absurd (omega (arith, code, less, (refused (ask question) r done).least))
 
     five : (command : Task) (r : Refusal) → Performs fault (Some command) a b (Err r) → answer ≡ refusal_code r → (refusal_code r ≡ 3 → ⊥) → (SomeRose a b → ⊥) → answer ≡ 5
@@ -105,10 +105,10 @@ module _ (fault : UsageFault) (a b : Work) where
     complete_of None outcome done code can none = can
     complete_of (Some init) (Ok v) done code can none = code ∙ init_passed a.folder b.folder v done.at
     complete_of (Some init) (Err r) done code can none = absurd (none ((refused init r done).fault (init_never a.folder b.folder r done.at can)))
-    complete_of (Some (load partial)) (Ok v) done code can none = inl (omega (arith, verdicts v, code))
-    complete_of (Some (load partial)) (Err r) done code can none = inr (five (load partial) r done code (load_never partial a b r done can) none)
+    complete_of (Some (load partial names)) (Ok v) done code can none = inl (omega (arith, verdicts v, code))
+    complete_of (Some (load partial names)) (Err r) done code can none = inr (five (load partial names) r done code (load_never partial names a b r done can) none)
     complete_of (Some (ask question)) (Ok v) done code can none = inl (omega (arith, verdicts v, code))
-    complete_of (Some (ask question)) (Err r) done code can none = inr (five (ask question) r done code (ask_never question a.input (shown a.folder a.out) (shown b.folder b.out) r done.at can) none)
+    complete_of (Some (ask question)) (Err r) done code can none = inr (five (ask question) r done code (ask_never question a.site a.input (shown a.folder a.out) (shown b.folder b.out) r done.at can) none)
 
 -- where memory was wanting for the words
 module _ (a b : Work) (outcome : Result Verdict Refusal) (gives : GivesUp a b outcome) where
@@ -118,10 +118,10 @@ module _ (a b : Work) (outcome : Result Verdict Refusal) (gives : GivesUp a b ou
   gave_up_counts : RisesAt (place_in outcome) a b
   gave_up_counts = subst (λ (r : Result Verdict Refusal). RisesAt (place_in r) a b) (sym gives.memory) (still_counts a b gives.same)
 
-  gave_up_moments : (asked : Option Task) → Goes a.folder.told b.folder.told (PassesCommand asked a.input.told)
+  gave_up_moments : (asked : Option Task) → Goes a.folder.told b.folder.told (PassesCommand asked a.site.told a.input.told)
   gave_up_moments None = stays a.folder.told b.folder.told (λ i. (gives.same i).folder.told)
   gave_up_moments (Some init) = goes_weaker a.folder.told b.folder.told Rests PassesFormat gave_up_quiet (λ s t rests. passes_weaker (IsImage s.disk) (λ image. IsImage s.disk image ⊎ HasFormatBeside s.disk.published image) (λ image left. inl left) s t rests.old)
-  gave_up_moments (Some (load partial)) = quiet_moves partial a.input.told a.folder.told b.folder.told gave_up_quiet
+  gave_up_moments (Some (load partial names)) = quiet_moves partial names a.site.told a.input.told a.folder.told b.folder.told gave_up_quiet
   gave_up_moments (Some (ask question)) = goes_weaker a.folder.told b.folder.told Rests PassesOld gave_up_quiet (λ s t rests. rests.old)
 
 module _ (reading : Bool) (wrong : UsageFault) (asked : Option Task) (before after : Outside) (answer : ℕ) where
@@ -147,7 +147,7 @@ module _ (reading : Bool) (wrong : UsageFault) (asked : Option Task) (before aft
         kept = λ more other. goes_weaker a.folder.told b.folder.told Rests KeepsRuns (kept_of wrong a b answer asked outcome done code more other) keeps_runs;
         any_moment = moments_of wrong a b asked outcome done;
         made = λ is. made_of wrong a b answer outcome (as_named outcome is done) code;
-        loaded = λ partial is. loaded_of wrong a b answer partial outcome (as_named outcome is done) code;
+        loaded = λ partial names is. loaded_of wrong a b answer partial names outcome (as_named outcome is done) code;
         answered = λ question is. asked_of wrong a b answer question outcome (as_named outcome is done) code;
         completeness = λ can none. inl (complete_of wrong a b answer asked outcome done code can none);
       }
@@ -164,7 +164,7 @@ module _ (reading : Bool) (wrong : UsageFault) (asked : Option Task) (before aft
         kept = λ more other. goes_weaker a.folder.told b.folder.told Rests KeepsRuns (gave_up_quiet a b answers.outcome gives) keeps_runs;
         any_moment = gave_up_moments a b answers.outcome gives asked;
         made = λ is zero. absurd (omega (arith, five, zero));
-        loaded = λ partial is less. absurd (omega (arith, five, less));
+        loaded = λ partial names is less. absurd (omega (arith, five, less));
         answered = λ question is less. absurd (omega (arith, five, less));
         completeness = λ can none. inr (reads, five);
       }

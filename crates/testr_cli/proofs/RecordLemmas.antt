@@ -22,7 +22,7 @@ use Rattle.worker_lane.proofs.RecordingLemmas.{as_packet, packets_none, packets_
 use Rattle.testr_cli.specs.Outside.{Fed, fed}
 use Rattle.testr_cli.specs.Recording.{most_bytes, ReadsFew, ReadsTooMany, NoneFailed, WritesPackets, HasRecordCause, HasWriteCause, RecordsInput, RecordsPieces, RecordsAll, Records}
 use Rattle.testr_cli.specs.declared.recording.RecordFault.{RecordFault}
-use Rattle.testr_cli.specs.declared.recording.RecordFault.TheVariants.{Shelf, Input, TooLong, NoMemory}
+use Rattle.testr_cli.specs.declared.recording.RecordFault.TheVariants.{Shelf, Input, TooLong, Site, NoFile, FileTooLong, NoMemory}
 
 -- ---- packets that are written
 
@@ -72,6 +72,9 @@ pub write_cause : (before : Fed) (folder between : Seen Folder) (input : Seen (L
 write_cause before folder between input (Shelf call) none cause reads = (subst (λ (n : ℕ). Rose n folder.faults) none.folder cause.0, none.input, cause.1, reads)
 write_cause before folder between input Input none cause reads = absurd cause
 write_cause before folder between input TooLong none cause reads = absurd cause
+write_cause before folder between input Site none cause reads = absurd cause
+write_cause before folder between input (NoFile name) none cause reads = absurd cause
+write_cause before folder between input (FileTooLong name) none cause reads = absurd cause
 write_cause before folder between input NoMemory none cause reads = (record { folder = cause ∙ none.folder; input = none.input }, reads)
 
 -- an exit by `?`

@@ -1,5 +1,6 @@
 -- The rows of a run that is read back.
-use Rattle.std.proofs.Common.{◌≡◌, List, [], ℕ, arith, All, sym, ap, subst, ◌∙◌}
+use Rattle.std.proofs.Common.{◌≡◌, List, [], ◌∷◌, ◌++◌, ℕ, ◌+◌, ◌<◌, ◌≤◌, length, arith, All, sym, ap, subst, ◌∙◌}
+use Rattle.std.proofs.lemmas.List.Elements.{All-nil, All-append, All-head, All-tail}
 use Rattle.packet_codec.specs.declared.event.Event.{Event}
 use Rattle.packet_codec.specs.Grammar.{AreBytes}
 use Rattle.packet_codec.specs.Canonical.{IsEvent, Fits}
@@ -11,6 +12,7 @@ use Rattle.worker_lane.proofs.NoteLemmas.{notes_have_packets, HavePackets}
 use Rattle.outcome_fold.specs.declared.row.Row.{Row}
 use Rattle.outcome_fold.specs.Rows.{rows_of}
 use Rattle.run_ledger.specs.Reading.{AreRowsOf}
+use Rattle.testr_cli.specs.Files.{HasRecordedInTurn}
 use Rattle.testr_cli.specs.Runs.{run_bytes}
 
 -- bytes have one list of events
@@ -27,6 +29,14 @@ rows_of_written run events list bytes are fit is rows =
     rows.folded ∙ ap rows_of (one_events run rows.events events bytes rows.told (subst (λ (l : List ℕ). HasEvents l events) (sym is) (written events are fit)))
 
 -- what is recorded has packets
-pub have_packets : (bytes : List ℕ) (events : List Event) → AreBytes bytes → HasRecorded 0 bytes events → HavePackets events
-have_packets bytes events are h =
-    rw (h.made) (notes_have_packets 0 h.notes bytes (omega arith) are (rw (h.are_notes.made) (are_made h.are_notes.pieces [] bytes h.are_notes.cut)) (rw (h.are_notes.made) (are_full h.are_notes.pieces [] (omega arith))))
+have_packets : (lane : ℕ) (bytes : List ℕ) (events : List Event) → lane < 64 → AreBytes bytes → HasRecorded lane bytes events → HavePackets events
+have_packets lane bytes events small are h =
+    rw (h.made) (notes_have_packets lane h.notes bytes small are (rw (h.are_notes.made) (are_made h.are_notes.pieces [] bytes h.are_notes.cut)) (rw (h.are_notes.made) (are_full h.are_notes.pieces [] (omega arith))))
+
+-- so has what is recorded of sources in turn
+pub have_in_turn : (lane : ℕ) (sources : List (List ℕ)) (events : List Event) → lane + length sources ≤ 64 → All AreBytes sources → HasRecordedInTurn lane sources events → HavePackets events
+have_in_turn lane [] events few are none = rw none (record { are_events = All-nil IsEvent; fit = All-nil Fits })
+have_in_turn lane (source ∷ sources) events few are (front, rest, is, first, others) =
+    let h = have_packets lane source front (omega (arith, few)) (All-head AreBytes source sources are) first in
+    let k = have_in_turn (lane + 1) sources rest (omega (arith, few)) (All-tail AreBytes source sources are) others in
+    rw is (record { are_events = All-append IsEvent front rest h.are_events k.are_events; fit = All-append Fits front rest h.fit k.fit })

@@ -1,5 +1,5 @@
 -- What each step keeps, and what is true where it refuses.
-use Rattle.std.proofs.Common.{◌≡◌, inl, inr, ℕ, ◌≤◌, Bool, Option, Some, Result, Ok, Err, List, refl, sym, ap, subst, arith}
+use Rattle.std.proofs.Common.{◌≡◌, inl, inr, ℕ, ◌≤◌, Bool, Option, Some, Result, Ok, Err, List, [], ◌∷◌, refl, sym, ap, subst, ◌∙◌, arith}
 use Rattle.outcome_fold.specs.declared.row.Row.{Row}
 use Rattle.edge_io.specs.Causes.{Rose}
 use Rattle.sub_number.specs.declared.memory.NoMemory.{NoMemory}
@@ -10,7 +10,9 @@ use Rattle.run_shelf.specs.declared.faults.OpenFault.TheVariants as open_fault
 use Rattle.run_shelf.specs.declared.found.Found.{Found}
 use Rattle.run_shelf.specs.Outcomes.{InitFails}
 use Rattle.run_shelf.specs.Images.{PassesFormat}
-use Rattle.testr_cli.specs.Outside.{Work, fed, work_folder, work_fed, work_out, Place, in_folder, SameCounts, RisesAt}
+use Rattle.testr_cli.specs.Outside.{Work, fed, filed, work_folder, work_fed, work_filed, work_out, Place, in_folder, SameCounts, RisesAt, SomeRose, of_folder, of_site, of_input, of_out}
+use Rattle.testr_cli.specs.Files.{RecordsSources, HasFilesCause, StopsAtFile, NoneFailed as NoFileFailed}
+use Rattle.testr_cli.proofs.FilesLemmas.{counts_then as files_counts}
 use Rattle.testr_cli.specs.Answer.{refusal_code, place_of}
 use Rattle.testr_cli.specs.Steps.{Gives}
 use Rattle.testr_cli.specs.Store.{Makes, Opens, Begins, Keeps}
@@ -36,13 +38,13 @@ module _ (a b : Work) where
   -- ---- where one part alone is touched
 
   folder_same : b ≡ work_folder.put a b.folder → b.folder.faults ≡ a.folder.faults → SameCounts a b
-  folder_same rest count = record { folder = count; input = λ i. (rest i).input.faults; out = λ i. (rest i).out.faults }
+  folder_same rest count = record { folder = count; site = λ i. (rest i).site.faults; input = λ i. (rest i).input.faults; out = λ i. (rest i).out.faults }
 
   folder_rises : b ≡ work_folder.put a b.folder → Rose a.folder.faults b.folder.faults → RisesAt (Some in_folder) a b
-  folder_rises rest rose = (rose, (λ i. (rest i).input.faults), (λ i. (rest i).out.faults))
+  folder_rises rest rose = (rose, (λ i. (rest i).site.faults), (λ i. (rest i).input.faults), (λ i. (rest i).out.faults))
 
   out_same : b ≡ work_out.put a b.out → b.out.faults ≡ a.out.faults → SameCounts a b
-  out_same rest count = record { folder = λ i. (rest i).folder.faults; input = λ i. (rest i).input.faults; out = count }
+  out_same rest count = record { folder = λ i. (rest i).folder.faults; site = λ i. (rest i).site.faults; input = λ i. (rest i).input.faults; out = count }
 
   by_folder : b.folder ≡ a.folder → IsQuiet a b
   by_folder same = rests_same a.folder.told b.folder.told (λ i. (same i).told)
@@ -50,7 +52,7 @@ module _ (a b : Work) where
   -- ---- steps that touch nothing
 
   pub still_counts : b ≡ a → SameCounts a b
-  still_counts same = record { folder = λ i. (same i).folder.faults; input = λ i. (same i).input.faults; out = λ i. (same i).out.faults }
+  still_counts same = record { folder = λ i. (same i).folder.faults; site = λ i. (same i).site.faults; input = λ i. (same i).input.faults; out = λ i. (same i).out.faults }
 
   pub still_quiet : b ≡ a → IsQuiet a b
   still_quiet same = by_folder (λ i. (same i).folder)
@@ -68,7 +70,7 @@ module _ (a b : Work) where
   -- ---- steps of the folder
 
   folder_fault : (r : Refusal) → refusal_code r ≡ 4 → place_of r ≡ Some in_folder → b ≡ work_folder.put a b.folder → Rose a.folder.faults b.folder.faults → IsFault r a b
-  folder_fault r code place rest rose = record { code = code; counts = subst (λ (p : Option Place). RisesAt p a b) (sym place) (folder_rises rest rose); rose = inl rose }
+  folder_fault r code place rest rose = record { code = code; counts = subst (λ (p : Option Place). RisesAt p a b) (sym place) (folder_rises rest rose); rose = of_folder rose }
 
   pub make_counts : (done : Unit {0}) → Makes a.folder b.folder (Ok done) → b ≡ work_folder.put a b.folder → SameCounts a b
   make_counts done makes rest = folder_same rest (makes.count.stands refl)
@@ -115,30 +117,64 @@ module _ (a b : Work) where
   pub keep_faults : (partial : Bool) (number : ℕ) (fault : KeepFault) → Keeps partial number a.folder b.folder (Err fault) → b ≡ work_folder.put a b.folder → IsFault (refusal.Keep fault) a b
   keep_faults partial number fault keeps rest = folder_fault (refusal.Keep fault) refl refl rest keeps.count.failed
 
-  -- ---- the step of the input and the draft
+  -- ---- the step of the sources and the draft
 
   fed_same : b ≡ work_fed.put a (fed b.folder b.input) → NoneFailed (fed a.folder a.input) (fed b.folder b.input) → SameCounts a b
-  fed_same rest none = record { folder = none.folder; input = none.input; out = λ i. (rest i).out.faults }
+  fed_same rest none = record { folder = none.folder; site = λ i. (rest i).site.faults; input = none.input; out = λ i. (rest i).out.faults }
 
-  pub record_counts : (rows : List Row) → Records (fed a.folder a.input) (fed b.folder b.input) (Ok rows) → b ≡ work_fed.put a (fed b.folder b.input) → SameCounts a b
-  record_counts rows records rest = fed_same rest records.recorded.counts
+  filed_same : b ≡ work_filed.put a (filed b.folder b.site) → NoFileFailed (filed a.folder a.site) (filed b.folder b.site) → SameCounts a b
+  filed_same rest none = record { folder = none.folder; site = none.site; input = λ i. (rest i).input.faults; out = λ i. (rest i).out.faults }
 
-  pub record_quiet : (result : Result (List Row) RecordFault) → Records (fed a.folder a.input) (fed b.folder b.input) result → IsQuiet a b
-  record_quiet result records = rests_of_same a.folder.told b.folder.told records.rests
+  pub record_counts : (names : List (List ℕ)) (rows : List Row) → RecordsSources names a b (Ok rows) → SameCounts a b
+  record_counts [] rows step = fed_same step.rest step.at.recorded.counts
+  record_counts (name ∷ names) rows step = filed_same step.rest step.at.recorded.recorded.counts
 
-  pub record_refuses : (fault : RecordFault) → Records (fed a.folder a.input) (fed b.folder b.input) (Err fault) → b ≡ work_fed.put a (fed b.folder b.input) → IsRefused (refusal.Record fault) a b
-  record_refuses (record_fault.Shelf call) records rest = is_fault (refusal.Record (record_fault.Shelf call)) a b (record {
+  pub record_quiet : (names : List (List ℕ)) (result : Result (List Row) RecordFault) → RecordsSources names a b result → IsQuiet a b
+  record_quiet [] result step = rests_of_same a.folder.told b.folder.told step.at.rests
+  record_quiet (name ∷ names) result step = rests_of_same a.folder.told b.folder.told step.at.rests
+
+  input_refuses : (fault : RecordFault) → Records (fed a.folder a.input) (fed b.folder b.input) (Err fault) → b ≡ work_fed.put a (fed b.folder b.input) → IsRefused (refusal.Record fault) a b
+  input_refuses (record_fault.Shelf call) records rest = is_fault (refusal.Record (record_fault.Shelf call)) a b (record {
     code = refl;
-    counts = (records.refused.0, records.refused.1, (λ i. (rest i).out.faults));
-    rose = inl records.refused.0;
+    counts = (records.refused.0, (λ i. (rest i).site.faults), records.refused.1, (λ i. (rest i).out.faults));
+    rose = of_folder records.refused.0;
   })
-  record_refuses record_fault.Input records rest = is_fault (refusal.Record record_fault.Input) a b (record {
+  input_refuses record_fault.Input records rest = is_fault (refusal.Record record_fault.Input) a b (record {
     code = refl;
-    counts = (records.refused.0, records.refused.1, (λ i. (rest i).out.faults));
-    rose = inr (inl records.refused.0);
+    counts = (records.refused.0, records.refused.1, (λ i. (rest i).site.faults), (λ i. (rest i).out.faults));
+    rose = of_input records.refused.0;
   })
-  record_refuses record_fault.TooLong records rest = named (refusal.Record record_fault.TooLong) (omega arith) (omega arith) (λ four. omega arith) (fed_same rest records.refused.1) (record_quiet (Err record_fault.TooLong) records)
-  record_refuses record_fault.NoMemory records rest = named (refusal.Record record_fault.NoMemory) (omega arith) (omega arith) (λ four. omega arith) (fed_same rest records.refused.0) (record_quiet (Err record_fault.NoMemory) records)
+  input_refuses record_fault.TooLong records rest = named (refusal.Record record_fault.TooLong) (omega arith) (omega arith) (λ four. omega arith) (fed_same rest records.refused.1) (rests_of_same a.folder.told b.folder.told records.rests)
+  input_refuses record_fault.Site records rest = absurd records.refused
+  input_refuses (record_fault.NoFile name) records rest = absurd records.refused
+  input_refuses (record_fault.FileTooLong name) records rest = absurd records.refused
+  input_refuses record_fault.NoMemory records rest = named (refusal.Record record_fault.NoMemory) (omega arith) (omega arith) (λ four. omega arith) (fed_same rest records.refused.0) (rests_of_same a.folder.told b.folder.told records.rests)
+
+  module _ (names : List (List ℕ)) (quiet : IsQuiet a b) (rest : b ≡ work_filed.put a (filed b.folder b.site)) where
+    file_refuses : (fault : RecordFault) → StopsAtFile names (filed a.folder a.site) (filed b.folder b.site) fault → IsRefused (refusal.Record fault) a b
+    file_refuses (record_fault.Shelf call) stop = is_fault (refusal.Record (record_fault.Shelf call)) a b (record {
+      code = refl;
+      counts = (subst (λ (n : ℕ). Rose n b.folder.faults) stop.recorded.counts.folder stop.cause.0, stop.cause.1 ∙ stop.recorded.counts.site, (λ i. (rest i).input.faults), (λ i. (rest i).out.faults));
+      rose = of_folder (subst (λ (n : ℕ). Rose n b.folder.faults) stop.recorded.counts.folder stop.cause.0);
+    })
+    file_refuses record_fault.Input stop = absurd stop.cause
+    file_refuses record_fault.TooLong stop = absurd stop.cause
+    file_refuses record_fault.Site stop = is_fault (refusal.Record record_fault.Site) a b (record {
+      code = refl;
+      counts = (subst (λ (n : ℕ). Rose n b.site.faults) stop.recorded.counts.site stop.cause.0, stop.cause.1 ∙ stop.recorded.counts.folder, (λ i. (rest i).input.faults), (λ i. (rest i).out.faults));
+      rose = of_site (subst (λ (n : ℕ). Rose n b.site.faults) stop.recorded.counts.site stop.cause.0);
+    })
+    file_refuses (record_fault.NoFile name) stop = named (refusal.Record (record_fault.NoFile name)) (omega arith) (omega arith) (λ four. omega arith) (filed_same rest (files_counts _ _ _ stop.recorded.counts stop.cause.2)) quiet
+    file_refuses (record_fault.FileTooLong name) stop = named (refusal.Record (record_fault.FileTooLong name)) (omega arith) (omega arith) (λ four. omega arith) (filed_same rest (files_counts _ _ _ stop.recorded.counts stop.cause.2)) quiet
+    file_refuses record_fault.NoMemory stop = named (refusal.Record record_fault.NoMemory) (omega arith) (omega arith) (λ four. omega arith) (filed_same rest (files_counts _ _ _ stop.recorded.counts stop.cause)) quiet
+
+    files_refuse : (fault : RecordFault) → HasFilesCause names (filed a.folder a.site) (filed b.folder b.site) fault → IsRefused (refusal.Record fault) a b
+    files_refuse fault (inl stop) = file_refuses fault stop
+    files_refuse fault (inr (is, none)) = subst (λ (f : RecordFault). IsRefused (refusal.Record f) a b) (sym is) (named (refusal.Record record_fault.NoMemory) (omega arith) (omega arith) (λ four. omega arith) (filed_same rest none) quiet)
+
+  pub record_refuses : (names : List (List ℕ)) (fault : RecordFault) → RecordsSources names a b (Err fault) → IsRefused (refusal.Record fault) a b
+  record_refuses [] fault step = input_refuses fault step.at step.rest
+  record_refuses (name ∷ names) fault step = files_refuse (name ∷ names) (rests_of_same a.folder.told b.folder.told step.at.rests) step.rest fault step.at.refused
 
   -- ---- the step of the output
 
@@ -151,8 +187,8 @@ module _ (a b : Work) where
   pub print_faults : (text : List ℕ) (fault : PrintFault) → Prints text a.out b.out (Err fault) → b ≡ work_out.put a b.out → IsFault (refusal.Print fault) a b
   print_faults text fault prints rest = record {
     code = refl;
-    counts = (prints.count.failed, (λ i. (rest i).folder.faults), (λ i. (rest i).input.faults));
-    rose = inr (inr prints.count.failed);
+    counts = (prints.count.failed, (λ i. (rest i).folder.faults), (λ i. (rest i).site.faults), (λ i. (rest i).input.faults));
+    rose = of_out prints.count.failed;
   }
 
 -- ---- chains that end

@@ -2,7 +2,7 @@
 use Rattle.std.specs.Prelude.{ℕ, Option, None, Some, List, Result, Ok, Err}
 use Rattle.run_shelf.specs.declared.faults.InitFault.TheVariants as init_fault
 use Rattle.run_shelf.specs.declared.faults.OpenFault.TheVariants as open_fault
-use Rattle.testr_cli.specs.Outside.{Place, in_folder, in_input, in_out}
+use Rattle.testr_cli.specs.Outside.{Place, in_folder, in_site, in_input, in_out}
 use Rattle.testr_cli.specs.Words.{usage_text}
 use Rattle.testr_cli.specs.Store.{init_code, init_text, open_code, open_text, runs_text, keep_text}
 use Rattle.testr_cli.specs.Recording.{record_code, record_text}
@@ -43,6 +43,7 @@ place_of (Init (init_fault.Shelf call)) = Some in_folder
 place_of (Open (open_fault.Shelf call)) = Some in_folder
 place_of (Record (record_fault.Shelf call)) = Some in_folder
 place_of (Record record_fault.Input) = Some in_input
+place_of (Record record_fault.Site) = Some in_site
 place_of (Keep fault) = Some in_folder
 place_of (Tell tell_fault.Shelf) = Some in_folder
 place_of (Print fault) = Some in_out

@@ -28,4 +28,7 @@ RecordEnds (Ok value) = ⊥
 RecordEnds (Err (record_fault.Shelf call)) = ⊤
 RecordEnds (Err record_fault.Input) = ⊤
 RecordEnds (Err record_fault.TooLong) = ⊥
+RecordEnds (Err record_fault.Site) = ⊤
+RecordEnds (Err (record_fault.NoFile name)) = ⊥
+RecordEnds (Err (record_fault.FileTooLong name)) = ⊥
 RecordEnds (Err record_fault.NoMemory) = ⊤

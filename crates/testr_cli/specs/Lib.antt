@@ -7,6 +7,7 @@ pub mod Verdicts
 pub mod Says
 pub mod Store
 pub mod Recording
+pub mod Files
 pub mod Reporting
 pub mod Told
 pub mod Telling

@@ -1,21 +1,21 @@
 -- `testr load`, as the chain of its steps.
-use Rattle.std.specs.Prelude.{Bool, length}
+use Rattle.std.specs.Prelude.{Bool, ℕ, List, length}
 use Rattle.run_shelf.specs.Holds.{kinds_of}
 use Rattle.testr_cli.specs.Steps.{Step, Then, Still, Gives, At}
-use Rattle.testr_cli.specs.Outside.{Work, work_folder, work_fed, work_out}
+use Rattle.testr_cli.specs.Outside.{Work, work_folder, work_out}
 use Rattle.testr_cli.specs.Store.{Opens, TakesRun, Begins, Keeps}
-use Rattle.testr_cli.specs.Recording.{Records}
+use Rattle.testr_cli.specs.Files.{RecordsSources}
 use Rattle.testr_cli.specs.Reporting.{Reports, Prints}
 use Rattle.testr_cli.specs.declared.answer.Verdict.{Verdict}
 use Rattle.testr_cli.specs.declared.answer.Refusal.{Refusal}
 use Rattle.testr_cli.specs.declared.answer.Refusal.TheVariants.{Open, Runs, Keep, Record, Memory, Print}
 
-abbrev pub Loads : Bool → Step Work Verdict Refusal
-Loads partial =
+abbrev pub Loads : Bool → List (List ℕ) → Step Work Verdict Refusal
+Loads partial names =
     Then Open (At work_folder Opens) (λ found.
     Then Runs (Still (TakesRun (length (kinds_of found)))) (λ _.
     Then Keep (At work_folder Begins) (λ _.
-    Then Record (At work_fed Records) (λ rows.
+    Then Record (RecordsSources names) (λ rows.
     Then Memory (Still (Reports (length (kinds_of found)) rows)) (λ report.
     Then Keep (At work_folder (Keeps partial (length (kinds_of found)))) (λ _.
     Then Print (At work_out (Prints report.text.items)) (λ _.

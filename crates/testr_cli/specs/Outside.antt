@@ -1,30 +1,32 @@
 -- The outside at one moment, and the parts of it that the commands touch.
-use Rattle.std.specs.Prelude.{◌≡◌, ◌⊎◌, ℕ, Option, None, Some, List, refl}
+use Rattle.std.specs.Prelude.{◌≡◌, ℕ, Option, None, Some, List, refl}
 use Rattle.edge_io.specs.Causes.{Rose}
-use Rattle.edge_io.specs.Disk.{Folder}
+use Rattle.edge_io.specs.Disk.{Files, Folder}
 use Rattle.edge_io.specs.Seen.{Seen}
 use Rattle.testr_cli.specs.Steps.{Part}
 
 pub record Outside : Type 0 where
   pub folder : Seen Folder
+  pub site : Seen Files
   pub input : Seen (List ℕ)
   pub out : Seen (List ℕ)
   pub errors : Seen (List ℕ)
 
-abbrev pub outside : Seen Folder → Seen (List ℕ) → Seen (List ℕ) → Seen (List ℕ) → Outside
-outside folder input out errors = record { folder = folder; input = input; out = out; errors = errors }
+abbrev pub outside : Seen Folder → Seen Files → Seen (List ℕ) → Seen (List ℕ) → Seen (List ℕ) → Outside
+outside folder site input out errors = record { folder = folder; site = site; input = input; out = out; errors = errors }
 
 -- all but the errors' sink: what a command may touch
 pub record Work : Type 0 where
   pub folder : Seen Folder
+  pub site : Seen Files
   pub input : Seen (List ℕ)
   pub out : Seen (List ℕ)
 
-abbrev pub work : Seen Folder → Seen (List ℕ) → Seen (List ℕ) → Work
-work folder input out = record { folder = folder; input = input; out = out }
+abbrev pub work : Seen Folder → Seen Files → Seen (List ℕ) → Seen (List ℕ) → Work
+work folder site input out = record { folder = folder; site = site; input = input; out = out }
 
 abbrev pub work_of : Outside → Work
-work_of w = work w.folder w.input w.out
+work_of w = work w.folder w.site w.input w.out
 
 -- what a question touches
 pub record Shown : Type 0 where
@@ -34,13 +36,21 @@ pub record Shown : Type 0 where
 abbrev pub shown : Seen Folder → Seen (List ℕ) → Shown
 shown folder out = record { folder = folder; out = out }
 
--- what a recording touches
+-- what a recording of the input touches
 pub record Fed : Type 0 where
   pub folder : Seen Folder
   pub input : Seen (List ℕ)
 
 abbrev pub fed : Seen Folder → Seen (List ℕ) → Fed
 fed folder input = record { folder = folder; input = input }
+
+-- what a recording of files touches
+pub record Filed : Type 0 where
+  pub folder : Seen Folder
+  pub site : Seen Files
+
+abbrev pub filed : Seen Folder → Seen Files → Filed
+filed folder site = record { folder = folder; site = site }
 
 -- ---- the parts
 
@@ -49,6 +59,9 @@ work_folder = record { of = λ w. w.folder; put = λ w folder. record w { folder
 
 abbrev pub work_fed : Part Work Fed
 work_fed = record { of = λ w. fed w.folder w.input; put = λ w part. record w { folder = part.folder; input = part.input }; of_put = λ _ _. refl }
+
+abbrev pub work_filed : Part Work Filed
+work_filed = record { of = λ w. filed w.folder w.site; put = λ w part. record w { folder = part.folder; site = part.site }; of_put = λ _ _. refl }
 
 abbrev pub work_out : Part Work (Seen (List ℕ))
 work_out = record { of = λ w. w.out; put = λ w out. record w { out = out }; of_put = λ _ _. refl }
@@ -67,21 +80,28 @@ shown_out = record { of = λ w. w.out; put = λ w out. record w { out = out }; o
 -- the parts that can fail
 pub data Place : Type 0 where
   in_folder : Place
+  in_site : Place
   in_input : Place
   in_out : Place
 
 -- no count of faults differs
 pub record SameCounts (before after : Work) : Type 0 where
   pub folder : after.folder.faults ≡ before.folder.faults
+  pub site : after.site.faults ≡ before.site.faults
   pub input : after.input.faults ≡ before.input.faults
   pub out : after.out.faults ≡ before.out.faults
 
 -- the count of this part rose, and the others stand; where no part is named all stand
 abbrev pub RisesAt : Option Place → Work → Work → Type 0
 RisesAt None before after = SameCounts before after
-RisesAt (Some in_folder) before after = Rose before.folder.faults after.folder.faults × (after.input.faults ≡ before.input.faults) × (after.out.faults ≡ before.out.faults)
-RisesAt (Some in_input) before after = Rose before.input.faults after.input.faults × (after.folder.faults ≡ before.folder.faults) × (after.out.faults ≡ before.out.faults)
-RisesAt (Some in_out) before after = Rose before.out.faults after.out.faults × (after.folder.faults ≡ before.folder.faults) × (after.input.faults ≡ before.input.faults)
+RisesAt (Some in_folder) before after = Rose before.folder.faults after.folder.faults × (after.site.faults ≡ before.site.faults) × (after.input.faults ≡ before.input.faults) × (after.out.faults ≡ before.out.faults)
+RisesAt (Some in_site) before after = Rose before.site.faults after.site.faults × (after.folder.faults ≡ before.folder.faults) × (after.input.faults ≡ before.input.faults) × (after.out.faults ≡ before.out.faults)
+RisesAt (Some in_input) before after = Rose before.input.faults after.input.faults × (after.folder.faults ≡ before.folder.faults) × (after.site.faults ≡ before.site.faults) × (after.out.faults ≡ before.out.faults)
+RisesAt (Some in_out) before after = Rose before.out.faults after.out.faults × (after.folder.faults ≡ before.folder.faults) × (after.site.faults ≡ before.site.faults) × (after.input.faults ≡ before.input.faults)
 
-abbrev pub SomeRose : Work → Work → Type 0
-SomeRose before after = Rose before.folder.faults after.folder.faults ⊎ (Rose before.input.faults after.input.faults ⊎ Rose before.out.faults after.out.faults)
+-- the count of one of them rose
+pub data SomeRose (before after : Work) : Type 0 where
+  of_folder : Rose before.folder.faults after.folder.faults → SomeRose before after
+  of_site : Rose before.site.faults after.site.faults → SomeRose before after
+  of_input : Rose before.input.faults after.input.faults → SomeRose before after
+  of_out : Rose before.out.faults after.out.faults → SomeRose before after

@@ -1,5 +1,5 @@
 -- What a call of the program promises.
-use Rattle.std.specs.Prelude.{◌≡◌, ◌⊎◌, ◌↔◌, ℕ, ◌≤◌, ◌<◌, Bool, IsTrue, true, false, Option, Some, None, IsSomeAnd, IfSome, List, [], ◌∷◌, ◌++◌, length, Result, Ok, Err}
+use Rattle.std.specs.Prelude.{◌≡◌, ◌⊎◌, ◌↔◌, ℕ, ◌≤◌, ◌<◌, Bool, IsTrue, true, false, Option, Some, None, IsSomeAnd, IfSome, All, List, [], ◌∷◌, ◌++◌, length, Result, Ok, Err}
 use Rattle.std.specs.Io.KnownBytes.{Appends, IsAtEnd}
 use Rattle.edge_io.specs.Bytes.{AppendsPrefix}
 use Rattle.edge_io.specs.Causes.{Rose}
@@ -12,7 +12,7 @@ use Rattle.packet_codec.specs.declared.event.Event.{Event}
 use Rattle.packet_codec.specs.Grammar.{AreBytes}
 use Rattle.outcome_fold.specs.Rows.{rows_of}
 use Rattle.outcome_fold.specs.Answers.{status_of}
-use Rattle.worker_lane.specs.Recorded.{HasRecorded}
+use Rattle.testr_cli.specs.Files.{AreSources, HasRecordedInTurn}
 use Rattle.run_shelf.specs.Images.{MakesRepository}
 use Rattle.run_shelf.specs.Repository.{Run, run_of, Shows, IsRepository, most_runs, format_name}
 use Rattle.sub_text.specs.Texts.{report_of}
@@ -47,7 +47,7 @@ pub record Refuses (fault : UsageFault) (before after : Work) (outcome : Result 
 abbrev pub Performs : UsageFault → Option Task → Step Work Verdict Refusal
 Performs fault None = Refuses fault
 Performs fault (Some init) = At work_folder Inits
-Performs fault (Some (load partial)) = Loads partial
+Performs fault (Some (load partial names)) = Loads partial names
 Performs fault (Some (ask question)) = At work_shown (Asks question)
 
 -- the line of a refusal went to the errors' sink: whole, or in part where that sink failed
@@ -91,13 +91,20 @@ with_run partial runs events = runs ++ run_of partial (run_bytes events) ∷ []
 abbrev pub AddsRun : Bool → List Event → Folder → Folder → Type 0
 AddsRun partial events s t = (runs : List Run) → Shows s.disk.published runs → Shows t.disk.published (with_run partial runs events) × LeavesOnly (λ image. Shows image (with_run partial runs events)) t.disk
 
--- Over a told input, and whatever runs the folder shows, the input was read to its end, the folder shows one run more, of
--- what is recorded of the input, and the report of its rows was printed; the status is theirs.
-pub record LoadsAll (partial : Bool) (before after : Work) (answer : ℕ) (bytes : List ℕ) : Type 0 where
+-- the input was read to its end where no file is named, and is as before where files are
+abbrev pub ReadsInputFor : List (List ℕ) → Seen (List ℕ) → Seen (List ℕ) → Type 0
+ReadsInputFor [] before after = IsAtEnd after.told
+ReadsInputFor (name ∷ names) before after = after ≡ before
+
+-- Each source was read to its end. Whatever runs the folder shows, it shows one run more, of what is recorded of the
+-- sources in turn, and the report of its rows was printed; the status is theirs.
+pub record LoadsAll (partial : Bool) (names : List (List ℕ)) (before after : Work) (answer : ℕ) : Type 0 where
+  pub sources : List (List ℕ)
+  pub are_sources : AreSources names before.site.told before.input.told sources
+  pub are_bytes : All AreBytes sources
   pub events : List Event
-  pub are_bytes : AreBytes bytes
-  pub recorded : HasRecorded 0 bytes events
-  pub at_end : IsAtEnd after.input.told
+  pub recorded : HasRecordedInTurn 0 sources events
+  pub at_end : ReadsInputFor names before.input after.input
   pub stored : Goes before.folder.told after.folder.told (AddsRun partial events)
   pub printed : IfSome before.folder.told (λ s. (runs : List Run) → Shows s.disk.published runs → Appends before.out.told after.out.told (report_of (rows_of events) (length runs) []))
   pub status : answer ≡ status_of (rows_of events)
@@ -110,6 +117,7 @@ pub record AnswersQuestion (question : Question) (before after : Work) (answer :
   pub verdict : Verdict
   pub says : IfSome after.folder.told (SaysOfFolder question text verdict)
   pub kept : Goes before.folder.told after.folder.told KeepsFiles
+  pub site : after.site ≡ before.site
   pub input : after.input ≡ before.input
   pub printed : Appends before.out.told after.out.told text
   pub status : answer ≡ verdict_code verdict
@@ -120,10 +128,15 @@ pub record AnswersQuestion (question : Question) (before after : Work) (answer :
 abbrev pub CanInit : Work → Type 0
 CanInit before = IsSomeAnd before.folder.told (λ s. s.disk.published format_name ≡ None)
 
--- the folder is told to take a run, and the input not to be too long
-pub record CanLoad (before : Work) : Type 0 where
+-- no source is missing, nor too long, as they are told
+abbrev pub HasSources : List (List ℕ) → Work → Type 0
+HasSources [] before = IsSomeAnd before.input.told (λ bytes. length bytes ≤ most_bytes)
+HasSources (name ∷ names) before = IsSomeAnd before.site.told (λ files. All (λ n. IsSomeAnd (files n) (λ bytes. length bytes ≤ most_bytes)) (name ∷ names))
+
+-- the folder is told to take a run, and no source to be missing or too long
+pub record CanLoad (names : List (List ℕ)) (before : Work) : Type 0 where
   pub free : IsSomeAnd before.folder.told (λ s. (number : ℕ) × (number < most_runs) × HasRuns number s)
-  pub short : IsSomeAnd before.input.told (λ bytes. length bytes ≤ most_bytes)
+  pub short : HasSources names before
 
 -- the folder is told to be a repository, with a run where the question is of the last one
 pub record CanAsk (question : Question) (before : Work) : Type 0 where
@@ -134,14 +147,14 @@ pub record CanAsk (question : Question) (before : Work) : Type 0 where
 abbrev pub CanPerform : Option Task → Work → Type 0
 CanPerform None before = ⊥
 CanPerform (Some init) before = CanInit before
-CanPerform (Some (load partial)) before = CanLoad before
+CanPerform (Some (load partial names)) before = CanLoad names before
 CanPerform (Some (ask question)) before = CanAsk question before
 
 -- it was done, or memory was wanting; `init` takes no memory
 abbrev pub IsPerformed : Option Task → ℕ → Type 0
 IsPerformed None answer = ⊥
 IsPerformed (Some init) answer = answer ≡ 0
-IsPerformed (Some (load partial)) answer = (answer ≤ 1) ⊎ (answer ≡ 5)
+IsPerformed (Some (load partial names)) answer = (answer ≤ 1) ⊎ (answer ≡ 5)
 IsPerformed (Some (ask question)) answer = (answer ≤ 1) ⊎ (answer ≡ 5)
 
 -- ---- the promises
@@ -160,9 +173,9 @@ pub record Promises (reading : Bool) (wrong : UsageFault) (asked : Option Task) 
   pub kept : 2 ≤ answer → (answer ≡ 4 → ⊥) → Goes before.folder.told after.folder.told KeepsRuns
   -- a stop at each moment leaves what one before the call might have left, or the files as reads gave them before the
   -- call with all that the command adds
-  pub any_moment : Goes before.folder.told after.folder.told (PassesCommand asked before.input.told)
+  pub any_moment : Goes before.folder.told after.folder.told (PassesCommand asked before.site.told before.input.told)
   pub made : asked ≡ Some init → answer ≡ 0 → Goes before.folder.told after.folder.told MakesRepository
-  pub loaded : (partial : Bool) → asked ≡ Some (load partial) → answer ≤ 1 → IfSome before.input.told (LoadsAll partial (work_of before) (work_of after) answer)
+  pub loaded : (partial : Bool) (names : List (List ℕ)) → asked ≡ Some (load partial names) → answer ≤ 1 → LoadsAll partial names (work_of before) (work_of after) answer
   pub answered : (question : Question) → asked ≡ Some (ask question) → answer ≤ 1 → AnswersQuestion question (work_of before) (work_of after) answer
   -- it does not give up without a cause
   pub completeness : CanPerform asked (work_of before) → (SomeRose (work_of before) (work_of after) → ⊥) → IsPerformed asked answer ⊎ (IsTrue reading × (answer ≡ 5))

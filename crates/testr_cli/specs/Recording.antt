@@ -17,7 +17,7 @@ use Rattle.worker_lane.specs.Recorded.{IsRecorded}
 use Rattle.worker_lane.specs.Scribing.{Scribing, Recording, GivesPacket, GivesPackets}
 use Rattle.testr_cli.specs.Outside.{Fed}
 use Rattle.testr_cli.specs.declared.recording.RecordFault.{RecordFault}
-use Rattle.testr_cli.specs.declared.recording.RecordFault.TheVariants.{Shelf, Input, TooLong, NoMemory}
+use Rattle.testr_cli.specs.declared.recording.RecordFault.TheVariants.{Shelf, Input, TooLong, Site, NoFile, FileTooLong, NoMemory}
 
 -- how many bytes an input may have
 abbrev pub most_bytes : ℕ
@@ -105,6 +105,9 @@ abbrev pub HasRecordCause : Fed → Fed → RecordFault → Type 0
 HasRecordCause before after (Shelf call) = Rose before.folder.faults after.folder.faults × (after.input.faults ≡ before.input.faults) × (call ≡ Append) × ReadsFew before.input.told after.input.told
 HasRecordCause before after Input = Rose before.input.faults after.input.faults × (after.folder.faults ≡ before.folder.faults) × ReadsFew before.input.told after.input.told
 HasRecordCause before after TooLong = IfSome before.input.told (λ bytes. most_bytes < length bytes) × NoneFailed before after × ReadsTooMany before.input.told after.input.told
+HasRecordCause before after Site = ⊥
+HasRecordCause before after (NoFile name) = ⊥
+HasRecordCause before after (FileTooLong name) = ⊥
 HasRecordCause before after NoMemory = NoneFailed before after × ReadsFew before.input.told after.input.told
 
 -- the same where nothing is read
@@ -112,6 +115,9 @@ abbrev pub HasWriteCause : Seen Folder → Seen Folder → RecordFault → Type 
 HasWriteCause before after (Shelf call) = Rose before.faults after.faults × (call ≡ Append)
 HasWriteCause before after Input = ⊥
 HasWriteCause before after TooLong = ⊥
+HasWriteCause before after Site = ⊥
+HasWriteCause before after (NoFile name) = ⊥
+HasWriteCause before after (FileTooLong name) = ⊥
 HasWriteCause before after NoMemory = after.faults ≡ before.faults
 
 -- at each exit nothing of the folder but the draft has changed
@@ -124,10 +130,16 @@ abbrev pub record_code : RecordFault → ℕ
 record_code (Shelf call) = 4
 record_code Input = 4
 record_code TooLong = 3
+record_code Site = 4
+record_code (NoFile name) = 3
+record_code (FileTooLong name) = 3
 record_code NoMemory = 5
 
 abbrev pub record_text : RecordFault → List ℕ
 record_text (Shelf call) = codes "testr: fault of the repository folder\n"
 record_text Input = codes "testr: fault reading standard input\n"
 record_text TooLong = codes "testr: standard input is too long\n"
+record_text Site = codes "testr: fault reading a file\n"
+record_text (NoFile name) = codes "testr: no file " ++ name.now ++ codes "\n"
+record_text (FileTooLong name) = codes "testr: " ++ name.now ++ codes " is too long\n"
 record_text NoMemory = codes "testr: out of memory\n"

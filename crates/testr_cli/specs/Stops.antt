@@ -1,33 +1,33 @@
 -- What a stop at each moment of a command leaves (docs/DISK.md, the shelf).
-use Rattle.std.specs.Prelude.{◌≡◌, ◌⊎◌, ℕ, Bool, Option, Some, None, IfSome, List}
+use Rattle.std.specs.Prelude.{◌≡◌, ◌⊎◌, ℕ, Bool, Option, Some, None, All, List}
 use Rattle.edge_io.specs.Disk.{Files, Folder, IsImage}
 use Rattle.edge_io.specs.Steps.{Stays}
 use Rattle.edge_io.specs.Moments.{Passes}
 use Rattle.packet_codec.specs.Grammar.{AreBytes}
 use Rattle.packet_codec.specs.declared.event.Event.{Event}
-use Rattle.worker_lane.specs.Recorded.{HasRecorded}
+use Rattle.testr_cli.specs.Files.{AreSources, HasRecordedInTurn}
 use Rattle.run_shelf.specs.Repository.{run_of}
 use Rattle.run_shelf.specs.Images.{HasRunBeside, PassesOld, PassesFormat}
 use Rattle.testr_cli.specs.Runs.{run_bytes}
 use Rattle.testr_cli.specs.Tasks.{Task, init, load, ask}
 
--- The files and one run more, whole: the run of what is recorded of the whole input. Where the input tells its bytes,
--- these are they.
-pub record HasLoadedRun (partial : Bool) (left : Option (List ℕ)) (files image : Files) : Type 0 where
+-- The files and one run more, whole: the run of what is recorded of all sources, which are the input's bytes or those of
+-- the files named, where these are told.
+pub record HasLoadedRun (partial : Bool) (names : List (List ℕ)) (told : Option Files) (left : Option (List ℕ)) (files image : Files) : Type 0 where
   pub number : ℕ
-  pub bytes : List ℕ
-  pub are_bytes : AreBytes bytes
-  pub told : IfSome left (λ given. given ≡ bytes)
+  pub sources : List (List ℕ)
+  pub are_sources : AreSources names told left sources
+  pub are_bytes : All AreBytes sources
   pub events : List Event
-  pub recorded : HasRecorded 0 bytes events
+  pub recorded : HasRecordedInTurn 0 sources events
   pub beside : HasRunBeside files number (run_of partial (run_bytes events)) image
 
 -- a stop at each moment leaves what one before the command might have left, or these files with the new run
-abbrev pub PassesLoad : Bool → Option (List ℕ) → Folder → Folder → Type 0
-PassesLoad partial left s t = Passes (λ image. IsImage s.disk image ⊎ HasLoadedRun partial left s.disk.published image) s t
+abbrev pub PassesLoad : Bool → List (List ℕ) → Option Files → Option (List ℕ) → Folder → Folder → Type 0
+PassesLoad partial names told left s t = Passes (λ image. IsImage s.disk image ⊎ HasLoadedRun partial names told left s.disk.published image) s t
 
-abbrev pub PassesCommand : Option Task → Option (List ℕ) → Folder → Folder → Type 0
-PassesCommand None left = Stays
-PassesCommand (Some init) left = PassesFormat
-PassesCommand (Some (load partial)) left = PassesLoad partial left
-PassesCommand (Some (ask question)) left = PassesOld
+abbrev pub PassesCommand : Option Task → Option Files → Option (List ℕ) → Folder → Folder → Type 0
+PassesCommand None told left = Stays
+PassesCommand (Some init) told left = PassesFormat
+PassesCommand (Some (load partial names)) told left = PassesLoad partial names told left
+PassesCommand (Some (ask question)) told left = PassesOld

@@ -1,5 +1,5 @@
 -- What a command asks for.
-use Rattle.std.specs.Prelude.{Bool, Option, Some, None, List, ℕ}
+use Rattle.std.specs.Prelude.{Bool, nat_le, Option, Some, None, List, ℕ, length, if◌then◌else◌}
 use Rattle.testr_cli.specs.declared.command.Verb.{Verb}
 use Rattle.testr_cli.specs.declared.command.Verb.TheVariants as verb
 use Rattle.testr_cli.specs.declared.command.Command.{Command}
@@ -10,15 +10,15 @@ use Rattle.testr_cli.specs.declared.command.Question.TheVariants.{Last, Failing,
 pub data Task : Type 0 where
   -- a repository is made
   init : Task
-  -- a run is kept: full, or partial
-  load : Bool → Task
+  -- a run is kept, full or partial, of the input or of these files
+  load : Bool → List (List ℕ) → Task
   -- a question is answered of the runs
   ask : Question → Task
 
 -- what is done for a command of this verb
 abbrev pub task_with : Verb → Command → Option Task
 task_with verb.Init command = Some init
-task_with verb.Load command = Some (load command.partial)
+task_with verb.Load command = if nat_le (length command.names) 64 then Some (load command.partial command.names) else None
 task_with verb.Run command = None
 task_with verb.Last command = Some (ask (Last command.subunit))
 task_with verb.Failing command = Some (ask (Failing command.list))

@@ -58,7 +58,7 @@ kinds_of SelfTest word = None
 
 -- how many names there may be
 abbrev pub most_names : Verb → ℕ
-most_names Load = 0
+most_names Load = 64
 most_names Init = 0
 most_names Run = 0
 most_names Last = 0

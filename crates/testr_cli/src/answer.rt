@@ -37,7 +37,7 @@ impl Verdict {
 
 /// Why a command was not done, or not done to its end: by the step that refused.
 #[derive(Clone, Copy, Debug, PartialEq, Eq)]
-pub enum Refusal {
+pub enum Refusal<'a> {
     /// The words are no command.
     Usage(UsageFault),
     /// No repository was made.
@@ -46,8 +46,8 @@ pub enum Refusal {
     Open(OpenFault),
     /// Its runs do not serve the command.
     Runs(RunsFault),
-    /// Standard input was not recorded whole.
-    Record(RecordFault),
+    /// A source was not recorded whole.
+    Record(RecordFault<'a>),
     /// There is not enough memory for the report.
     Memory(NoMemory),
     /// The run was not begun, or not kept, or not surely.
@@ -58,7 +58,7 @@ pub enum Refusal {
     Print(PrintFault),
 }
 
-impl From<InitFault> for Refusal {
+impl<'a> From<InitFault> for Refusal<'a> {
     ghost use Rattle.testr_cli.specs.declared.answer.Refusal.TheVariants.{Init};
 
     ghost from_gives = { λ fault refusal. refusal ≡ Init fault };
@@ -68,7 +68,7 @@ impl From<InitFault> for Refusal {
     }
 }
 
-impl From<OpenFault> for Refusal {
+impl<'a> From<OpenFault> for Refusal<'a> {
     ghost use Rattle.testr_cli.specs.declared.answer.Refusal.TheVariants.{Open};
 
     ghost from_gives = { λ fault refusal. refusal ≡ Open fault };
@@ -78,7 +78,7 @@ impl From<OpenFault> for Refusal {
     }
 }
 
-impl From<RunsFault> for Refusal {
+impl<'a> From<RunsFault> for Refusal<'a> {
     ghost use Rattle.testr_cli.specs.declared.answer.Refusal.TheVariants.{Runs};
 
     ghost from_gives = { λ fault refusal. refusal ≡ Runs fault };
@@ -88,17 +88,17 @@ impl From<RunsFault> for Refusal {
     }
 }
 
-impl From<RecordFault> for Refusal {
+impl<'a> From<RecordFault<'a>> for Refusal<'a> {
     ghost use Rattle.testr_cli.specs.declared.answer.Refusal.TheVariants.{Record};
 
     ghost from_gives = { λ fault refusal. refusal ≡ Record fault };
 
-    fn from(fault: RecordFault) -> Self {
+    fn from(fault: RecordFault<'a>) -> Self {
         Refusal::Record(fault)
     }
 }
 
-impl From<NoMemory> for Refusal {
+impl<'a> From<NoMemory> for Refusal<'a> {
     ghost use Rattle.testr_cli.specs.declared.answer.Refusal.TheVariants.{Memory};
 
     ghost from_gives = { λ fault refusal. refusal ≡ Memory fault };
@@ -108,7 +108,7 @@ impl From<NoMemory> for Refusal {
     }
 }
 
-impl From<KeepFault> for Refusal {
+impl<'a> From<KeepFault> for Refusal<'a> {
     ghost use Rattle.testr_cli.specs.declared.answer.Refusal.TheVariants.{Keep};
 
     ghost from_gives = { λ fault refusal. refusal ≡ Keep fault };
@@ -118,7 +118,7 @@ impl From<KeepFault> for Refusal {
     }
 }
 
-impl From<TellFault> for Refusal {
+impl<'a> From<TellFault> for Refusal<'a> {
     ghost use Rattle.testr_cli.specs.declared.answer.Refusal.TheVariants.{Tell};
 
     ghost from_gives = { λ fault refusal. refusal ≡ Tell fault };
@@ -128,7 +128,7 @@ impl From<TellFault> for Refusal {
     }
 }
 
-impl From<PrintFault> for Refusal {
+impl<'a> From<PrintFault> for Refusal<'a> {
     ghost use Rattle.testr_cli.specs.declared.answer.Refusal.TheVariants.{Print};
 
     ghost from_gives = { λ fault refusal. refusal ≡ Print fault };
@@ -138,12 +138,12 @@ impl From<PrintFault> for Refusal {
     }
 }
 
-impl Refusal {
+impl<'a> Refusal<'a> {
     ghost use Rattle.testr_cli.specs.Answer.{refusal_code, refusal_text};
 
     /// The exit status: 2 for words, 3 for a named refusal, 4 for a fault of the outside, 5 for want of memory.
     pub fn code(self) -> u8
-        ensures { result ≡ refusal_code self }
+        ensures { result ≡ refusal_code self.entry }
     {
         match self {
             Refusal::Usage(_) => 2,
@@ -158,8 +158,8 @@ impl Refusal {
     }
 
     /// The line that tells of it.
-    pub fn line(self) -> Line
-        ensures { line_text result ≡ refusal_text self }
+    pub fn line(self) -> Line<'a>
+        ensures { line_text result ≡ refusal_text self.entry }
     {
         match self {
             Refusal::Usage(fault) => fault.line(),

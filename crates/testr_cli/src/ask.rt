@@ -17,7 +17,7 @@ pub fn ask<H: Shelf, O: Sink>(
     question: Question,
     shelf: &mut H,
     out: &mut O,
-) -> Result<Verdict, Refusal>
+) -> Result<Verdict, Refusal<'static>>
     ensures { Asks question
         (shown (H.seen shelf.old) (O.seen out.old))
         (shown (H.seen shelf.new) (O.seen out.new))

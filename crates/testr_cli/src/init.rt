@@ -7,7 +7,7 @@ use crate::{Refusal, Verdict};
 use edge_io::Shelf;
 
 /// Makes a repository. It takes no memory.
-pub fn init<H: Shelf>(shelf: &mut H) -> Result<Verdict, Refusal>
+pub fn init<H: Shelf>(shelf: &mut H) -> Result<Verdict, Refusal<'static>>
     ensures { Inits (H.seen shelf.old) (H.seen shelf.new) result }
 {
     make(shelf)?;

@@ -5,7 +5,7 @@
 //! refusals, and never a real file.
 //!
 //! - `command`, `words`: which words are a command
-//! - `store`, `recording`, `reporting`, `told`: the steps, each with why it refuses
+//! - `store`, `recording`, `files`, `reporting`, `told`: the steps, each with why it refuses
 //! - `answer`, `telling`: statuses and refusals by step, and the lines that tell of them
 //! - `init`, `load`, `ask`: the commands, each a chain of steps
 //! - `top`: `program` and `testr`
@@ -15,6 +15,7 @@
 mod answer;
 mod ask;
 mod command;
+mod files;
 mod init;
 mod laws;
 mod load;
@@ -40,6 +41,8 @@ pub use words::{UsageFault, reads};
 mod tests;
 #[cfg(test)]
 mod tests_ask;
+#[cfg(test)]
+mod tests_files;
 #[cfg(test)]
 mod tests_load;
 #[cfg(test)]

@@ -2,32 +2,38 @@
 
 ghost use Rattle.testr_cli.specs.Load.{Loads};
 ghost use Rattle.testr_cli.specs.Outside.{work};
+ghost use Rattle.std.specs.Prelude.{◌≤◌, length};
 
-use crate::recording::record;
+use crate::files::record_sources;
 use crate::reporting::{print, report_rows};
 use crate::store::{begin, keep, open, take_run};
 use crate::{Refusal, Verdict};
-use edge_io::{Shelf, Sink, Source};
+use edge_io::{Shelf, Sink, Site, Source};
 use std::alloc::Global;
+use sub_number::IdList;
 
-/// Reads the input to its end, keeps what is recorded of it as the next run, and prints the run's report. What is recorded
-/// is written as it is read; the report is made before the run is kept, so that no want of memory comes after.
-pub fn load<H: Shelf, I: Source, O: Sink>(
+/// Reads the sources to their ends, one after another, keeps what is recorded of them as the next run, and prints the run's
+/// report. They are the files of these names, of which there are 64 at most, or the input where there are none. What is
+/// recorded is written as it is read; the report is made before the run is kept, so that no want of memory comes after.
+pub fn load<'a, H: Shelf, F: Site, I: Source, O: Sink>(
     alloc: Global,
     partial: bool,
+    names: &'a IdList,
     shelf: &mut H,
+    site: &mut F,
     input: &mut I,
     out: &mut O,
-) -> Result<Verdict, Refusal>
-    ensures { Loads partial
-        (work (H.seen shelf.old) (I.seen input.old) (O.seen out.old))
-        (work (H.seen shelf.new) (I.seen input.new) (O.seen out.new))
+) -> Result<Verdict, Refusal<'a>>
+    requires { length names.now ≤ 64 }
+    ensures { Loads partial names.now
+        (work (H.seen shelf.old) (F.seen site.old) (I.seen input.old) (O.seen out.old))
+        (work (H.seen shelf.new) (F.seen site.new) (I.seen input.new) (O.seen out.new))
         result }
 {
     let found = open(alloc, shelf)?;
     take_run(&found)?;
     begin(shelf)?;
-    let rows = record(alloc, shelf, input)?;
+    let rows = record_sources(alloc, names, shelf, site, input)?;
     let report = report_rows(alloc, found.runs(), &rows)?;
     keep(shelf, found, partial)?;
     print(out, &report.text)?;

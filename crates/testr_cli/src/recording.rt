@@ -14,7 +14,7 @@ ghost use Rattle.testr_cli.specs.Telling.{line_text};
 ghost use Rattle.testr_cli.specs.declared.recording.RecordFault.TheVariants.{Shelf as ShelfFailed, Input, NoMemory};
 ghost use Rattle.worker_lane.specs.Scribing.{Recording, GivesPacket, GivesPackets, HasNone, most_left};
 
-use crate::telling::Line;
+use crate::telling::{Line, Part};
 use edge_io::{Failed, Shelf, Source};
 use outcome_fold::Rows;
 use run_ledger::WrittenRun;
@@ -30,43 +30,60 @@ pub const PIECE: usize = 65_536;
 
 /// Why an input was not recorded whole.
 #[derive(Clone, Copy, Debug, PartialEq, Eq)]
-pub enum RecordFault {
+pub enum RecordFault<'a> {
     /// This call of the repository's folder failed.
     Shelf(ShelfCall),
     /// A read of the input failed.
     Input,
     /// The input has more than `MOST_BYTES`.
     TooLong,
+    /// A read of a file failed.
+    Site,
+    /// There is no file of this name.
+    NoFile(&'a str),
+    /// The file of this name has more than `MOST_BYTES`.
+    FileTooLong(&'a str),
     /// There is not enough memory.
     NoMemory,
 }
 
-impl RecordFault {
+impl<'a> RecordFault<'a> {
     /// The exit status.
     pub fn code(self) -> u8
-        ensures { result ≡ record_code self }
+        ensures { result ≡ record_code self.entry }
     {
         match self {
-            RecordFault::Shelf(_) | RecordFault::Input => 4,
-            RecordFault::TooLong => 3,
+            RecordFault::Shelf(_) | RecordFault::Input | RecordFault::Site => 4,
+            RecordFault::TooLong | RecordFault::NoFile(_) | RecordFault::FileTooLong(_) => 3,
             RecordFault::NoMemory => 5,
         }
     }
 
     /// The line that tells of it.
-    pub fn line(self) -> Line
-        ensures { line_text result ≡ record_text self }
+    pub fn line(self) -> Line<'a>
+        ensures { line_text result ≡ record_text self.entry }
     {
         match self {
             RecordFault::Shelf(_) => Line::of("testr: fault of the repository folder\n"),
             RecordFault::Input => Line::of("testr: fault reading standard input\n"),
             RecordFault::TooLong => Line::of("testr: standard input is too long\n"),
+            RecordFault::Site => Line::of("testr: fault reading a file\n"),
+            RecordFault::NoFile(name) => Line {
+                front: "testr: no file ",
+                part: Part::Name(name),
+                rest: "\n",
+            },
+            RecordFault::FileTooLong(name) => Line {
+                front: "testr: ",
+                part: Part::Name(name),
+                rest: " is too long\n",
+            },
             RecordFault::NoMemory => Line::of("testr: out of memory\n"),
         }
     }
 }
 
-impl From<ShelfCall> for RecordFault {
+impl<'a> From<ShelfCall> for RecordFault<'a> {
     ghost from_gives = { λ call fault. fault ≡ ShelfFailed call };
 
     fn from(call: ShelfCall) -> Self {
@@ -74,7 +91,7 @@ impl From<ShelfCall> for RecordFault {
     }
 }
 
-impl From<Failed> for RecordFault {
+impl<'a> From<Failed> for RecordFault<'a> {
     ghost from_gives = { λ _ fault. fault ≡ Input };
 
     fn from(_: Failed) -> Self {
@@ -82,7 +99,7 @@ impl From<Failed> for RecordFault {
     }
 }
 
-impl From<sub_number::NoMemory> for RecordFault {
+impl<'a> From<sub_number::NoMemory> for RecordFault<'a> {
     ghost from_gives = { λ _ fault. fault ≡ NoMemory };
 
     fn from(_: sub_number::NoMemory) -> Self {
@@ -96,7 +113,7 @@ pub fn record<H: Shelf, I: Source>(
     alloc: Global,
     shelf: &mut H,
     input: &mut I,
-) -> Result<Rows, RecordFault>
+) -> Result<Rows, RecordFault<'static>>
     requires { HasDraft (H.seen shelf.old).told }
     ensures { Records
         (fed (H.seen shelf.old) (I.seen input.old))
@@ -120,7 +137,7 @@ fn record_pieces<H: Shelf, I: Source>(
     scribe: &mut Scribe,
     rows: &mut WrittenRun,
     packets: &mut Vec<u8>,
-) -> Result<(), RecordFault>
+) -> Result<(), RecordFault<'static>>
     requires draft { HasDraft (H.seen shelf.old).told }
     requires going_on { scribe.old.held.ended ≡ false }
     requires held { length scribe.old.held.bytes ≤ most_held }
@@ -156,12 +173,12 @@ fn record_pieces<H: Shelf, I: Source>(
 }
 
 // Writes all packets that are decided by now behind the draft, and folds them. None are gathered before, nor afterwards.
-fn write_packets<H: Shelf>(
+pub(crate) fn write_packets<'a, H: Shelf>(
     shelf: &mut H,
     scribe: &mut Scribe,
     rows: &mut WrittenRun,
     packets: &mut Vec<u8>,
-) -> Result<(), RecordFault>
+) -> Result<(), RecordFault<'a>>
     requires draft { HasDraft (H.seen shelf.old).told }
     requires empty { packets.old.items ≡ [] }
     ensures written { OnOk result (WritesPackets (H.seen shelf.old) (H.seen shelf.new) scribe.old scribe.new rows.old rows.new) }
@@ -225,7 +242,7 @@ fn gather_next(
 }
 
 // Writes the packets that were gathered behind the draft. Where there are none the folder is not called.
-fn write_gathered<H: Shelf>(shelf: &mut H, packets: &mut Vec<u8>) -> Result<(), RecordFault>
+fn write_gathered<'a, H: Shelf>(shelf: &mut H, packets: &mut Vec<u8>) -> Result<(), RecordFault<'a>>
     requires { HasDraft (H.seen shelf.old).told }
     ensures idle { packets.old.items ≡ [] → H.clock shelf.new ≡ H.clock shelf.old }
     ensures are_bytes { AreBytes packets.old.items }

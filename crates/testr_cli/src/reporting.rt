@@ -35,7 +35,7 @@ pub struct PrintFault;
 
 impl PrintFault {
     /// The line that tells of it.
-    pub fn line(self) -> Line
+    pub fn line(self) -> Line<'static>
         ensures { line_text result ≡ print_text }
     {
         Line::of("testr: fault writing output\n")

@@ -8,7 +8,7 @@ ghost use Rattle.testr_cli.specs.Store.{Makes, init_code, init_text, Opens, open
 ghost use Rattle.testr_cli.specs.Telling.{line_text};
 
 use crate::command::Question;
-use crate::telling::Line;
+use crate::telling::{Line, Part};
 use edge_io::Shelf;
 use run_shelf::{
     Found, InitFault, MOST_RUNS, OpenFault, ShelfCall, begin_run, finish_run, make_repository,
@@ -34,7 +34,7 @@ pub fn init_status(fault: InitFault) -> u8
 }
 
 /// The line that tells why it was not made.
-pub fn init_line(fault: InitFault) -> Line
+pub fn init_line(fault: InitFault) -> Line<'static>
     ensures { line_text result ≡ init_text fault }
 {
     match fault {
@@ -62,7 +62,7 @@ pub fn open_status(fault: OpenFault) -> u8
 }
 
 /// The line that tells why it was not opened.
-pub fn open_line(fault: OpenFault) -> Line
+pub fn open_line(fault: OpenFault) -> Line<'static>
     ensures { line_text result ≡ open_text fault }
 {
     match fault {
@@ -70,7 +70,7 @@ pub fn open_line(fault: OpenFault) -> Line
         OpenFault::UnknownFormat => Line::of("testr: unknown repository format\n"),
         OpenFault::Gap(number) => Line {
             front: "testr: run ",
-            number: Some(number),
+            part: Part::Number(number),
             rest: " is missing\n",
         },
         OpenFault::Shelf(_) => Line::of("testr: fault of the repository folder\n"),
@@ -89,7 +89,7 @@ pub enum RunsFault {
 
 impl RunsFault {
     /// The line that tells of it.
-    pub fn line(self) -> Line
+    pub fn line(self) -> Line<'static>
         ensures { line_text result ≡ runs_text self }
     {
         match self {
@@ -130,7 +130,7 @@ pub struct KeepFault {
 
 impl KeepFault {
     /// The line that tells of it.
-    pub fn line(self) -> Line
+    pub fn line(self) -> Line<'static>
         ensures { line_text result ≡ keep_text }
     {
         Line::of("testr: fault of the repository folder\n")

@@ -1,60 +1,81 @@
 //! Tells of a refusal.
 
 ghost use Rattle.std.specs.Prelude.{OnOk};
+ghost use Rattle.std.specs.Fmt.{decimal};
 ghost use Rattle.std.specs.Io.KnownBytes.{Appends};
 ghost use Rattle.edge_io.specs.Bytes.{AppendsPrefix};
 ghost use Rattle.edge_io.specs.Causes.{HasCause};
-ghost use Rattle.testr_cli.specs.Telling.{line_text, digits_of};
+ghost use Rattle.testr_cli.specs.Telling.{line_text, part_text};
 
 use edge_io::{Failed, Sink, write_whole};
 use itoa::Buffer;
 
-/// A line in parts, so that a number in it takes no memory.
+/// What stands in the middle of a line.
 #[derive(Clone, Copy, Debug)]
-pub struct Line {
-    /// What stands before the number: the whole line where there is none.
+pub enum Part<'a> {
+    /// Nothing more.
+    Nothing,
+    /// A number.
+    Number(u32),
+    /// A name, as it is.
+    Name(&'a str),
+}
+
+/// A line in parts, so that a number or a name in it takes no memory.
+#[derive(Clone, Copy, Debug)]
+pub struct Line<'a> {
+    /// What stands in front: the whole line where nothing follows.
     pub front: &'static str,
-    /// The number.
-    pub number: Option<u32>,
+    /// What stands in the middle.
+    pub part: Part<'a>,
     /// What stands behind it.
     pub rest: &'static str,
 }
 
-impl Line {
+impl Line<'_> {
     ghost use Rattle.std.specs.Prelude.{◌≡◌};
 
-    /// A line without a number.
-    pub fn of(front: &'static str) -> Line
+    /// A line of one part.
+    pub fn of(front: &'static str) -> Line<'static>
         ensures { line_text result ≡ front.now }
     {
         Line {
             front,
-            number: None,
+            part: Part::Nothing,
             rest: "",
         }
     }
 }
 
 /// Writes the line.
-pub fn tell<E: Sink>(err: &mut E, line: Line) -> Result<(), Failed>
-    ensures whole { OnOk result (Appends (E.seen err.old).told (E.seen err.new).told (line_text line)) }
-    ensures prefix { AppendsPrefix (E.seen err.old).told (E.seen err.new).told (line_text line) }
+pub fn tell<E: Sink>(err: &mut E, line: Line<'_>) -> Result<(), Failed>
+    ensures whole { OnOk result (Appends (E.seen err.old).told (E.seen err.new).told (line_text line.entry)) }
+    ensures prefix { AppendsPrefix (E.seen err.old).told (E.seen err.new).told (line_text line.entry) }
     ensures cause { HasCause (E.seen err.old).faults (E.seen err.new).faults result }
 {
     write_whole(err, line.front.as_bytes())?;
-    tell_number(err, line.number)?;
+    tell_part(err, line.part)?;
     write_whole(err, line.rest.as_bytes())
 }
 
-// Writes the number, where there is one.
-fn tell_number<E: Sink>(err: &mut E, number: Option<u32>) -> Result<(), Failed>
-    ensures whole { OnOk result (Appends (E.seen err.old).told (E.seen err.new).told (digits_of number)) }
-    ensures prefix { AppendsPrefix (E.seen err.old).told (E.seen err.new).told (digits_of number) }
+// Writes the middle of a line.
+fn tell_part<E: Sink>(err: &mut E, part: Part<'_>) -> Result<(), Failed>
+    ensures whole { OnOk result (Appends (E.seen err.old).told (E.seen err.new).told (part_text part.entry)) }
+    ensures prefix { AppendsPrefix (E.seen err.old).told (E.seen err.new).told (part_text part.entry) }
     ensures cause { HasCause (E.seen err.old).faults (E.seen err.new).faults result }
 {
-    let Some(number) = number else {
-        return Ok(());
-    };
+    match part {
+        Part::Nothing => Ok(()),
+        Part::Number(number) => tell_number(err, number),
+        Part::Name(name) => write_whole(err, name.as_bytes()),
+    }
+}
+
+fn tell_number<E: Sink>(err: &mut E, number: u32) -> Result<(), Failed>
+    ensures whole { OnOk result (Appends (E.seen err.old).told (E.seen err.new).told (decimal number)) }
+    ensures prefix { AppendsPrefix (E.seen err.old).told (E.seen err.new).told (decimal number) }
+    ensures cause { HasCause (E.seen err.old).faults (E.seen err.new).faults result }
+{
     let mut digits = Buffer::new();
     write_whole(err, digits.format(number).as_bytes())
 }

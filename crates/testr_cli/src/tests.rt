@@ -4,7 +4,7 @@ ghost use Rattle.std.specs.Prelude.{◌≡◌, None, IfOk};
 ghost use Rattle.edge_io.specs.MemState.{folder_of};
 
 use crate::{program, testr};
-use edge_io::{ListSink, ListSource, MemShelf, Shelf};
+use edge_io::{ListSink, ListSource, MapSite, MemShelf, Shelf};
 use std::alloc::Global;
 use std::test::Fail;
 use sub_number::{Bytes, Text};
@@ -40,7 +40,7 @@ impl Told {
     }
 }
 
-fn owned(alloc: Global, words: &[&str]) -> Result<Vec<String>, Fail> {
+pub fn owned(alloc: Global, words: &[&str]) -> Result<Vec<String>, Fail> {
     let mut list = Vec::new(alloc);
     for word in words {
         list.push(String::from_str(alloc, word)?)?;
@@ -59,11 +59,11 @@ pub fn source(
     Ok(ListSource::new(bytes, piece.max(1), fails.to_vec(alloc)?))
 }
 
-fn sink(alloc: Global, fails: &[u64]) -> Result<ListSink, Fail> {
+pub fn sink(alloc: Global, fails: &[u64]) -> Result<ListSink, Fail> {
     Ok(ListSink::new(alloc, fails.to_vec(alloc)?))
 }
 
-// Calls the program over sinks that fail at these writes.
+// Calls the program over no files, and over sinks that fail at these writes.
 fn call_over<H: Shelf>(
     alloc: Global,
     words: &[&str],
@@ -75,7 +75,8 @@ fn call_over<H: Shelf>(
     let words = owned(alloc, words)?;
     let mut out = sink(alloc, out_fails)?;
     let mut err = sink(alloc, err_fails)?;
-    let status = program(alloc, &words, shelf, input, &mut out, &mut err);
+    let mut site = MapSite::new(alloc, Vec::new(alloc));
+    let status = program(alloc, &words, shelf, &mut site, input, &mut out, &mut err);
     Ok(Told {
         status,
         out: out.taken().to_vec(alloc)?,
@@ -133,10 +134,8 @@ pub fn has_file(shelf: &mut MemShelf, name: &str, wanted: &[u8]) -> Result<bool,
 fn other_words_are_no_command(rt: HostRuntime) -> Result<(), Fail> {
     let alloc = rt.alloc();
     let table = [
-        (["testr", "load", "x"].as_slice(), WRONG_USAGE),
         (["testr", "load", "--partial=1"].as_slice(), WRONG_USAGE),
         (["testr", "load", "--list"].as_slice(), WRONG_USAGE),
-        (["testr", "load", "--partial", "x"].as_slice(), WRONG_USAGE),
         (["testr", "init", "x"].as_slice(), WRONG_USAGE),
         (["testr", "init", "--partial"].as_slice(), WRONG_USAGE),
         (["testr", "testr"].as_slice(), WRONG_USAGE),
@@ -169,13 +168,18 @@ fn the_face_alone_takes_the_words_behind_its_name(rt: HostRuntime) -> Result<(),
     let mut input = source(alloc, FOO, 1, &[])?;
     let mut out = sink(alloc, &[])?;
     let mut err = sink(alloc, &[])?;
-    let status = testr(alloc, &words, &mut shelf, &mut input, &mut out, &mut err);
+    let mut site = MapSite::new(alloc, Vec::new(alloc));
+    let status = testr(
+        alloc, &words, &mut shelf, &mut site, &mut input, &mut out, &mut err,
+    );
     assert_eq!(rt; status, 0);
     assert_eq!(rt; out.taken(), PASSED_AS_0);
     assert_eq!(rt; err.taken().len(), 0);
     assert_eq!(rt; input.left().len(), 0);
     let wrong = owned(alloc, &["testr", "load"])?;
-    let status = testr(alloc, &wrong, &mut shelf, &mut input, &mut out, &mut err);
+    let status = testr(
+        alloc, &wrong, &mut shelf, &mut site, &mut input, &mut out, &mut err,
+    );
     assert_eq!(rt; status, 2);
     assert_eq!(rt; out.taken(), PASSED_AS_0);
     assert_eq!(rt; err.taken(), WRONG_USAGE);

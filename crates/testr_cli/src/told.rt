@@ -53,7 +53,7 @@ impl TellFault {
     }
 
     /// The line that tells of it.
-    pub fn line(self) -> Line
+    pub fn line(self) -> Line<'static>
         ensures { line_text result ≡ tell_text self }
     {
         match self {

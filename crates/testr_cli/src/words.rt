@@ -13,6 +13,9 @@ use command_words::{Item, Kind, OptionTable, read_items, text_of};
 use std::alloc::Global;
 use sub_number::{IdList, NoMemory};
 
+/// How many files a load may be given.
+pub const MOST_FILES: usize = 64;
+
 /// Why words are no command.
 #[derive(Clone, Copy, Debug, PartialEq, Eq)]
 pub enum UsageFault {
@@ -24,7 +27,7 @@ pub enum UsageFault {
 
 impl UsageFault {
     /// The line that tells of it.
-    pub fn line(self) -> Line
+    pub fn line(self) -> Line<'static>
         ensures { line_text result ≡ usage_text self }
     {
         match self {
@@ -115,7 +118,7 @@ fn most(verb: Verb) -> usize
     ensures { result ≡ most_names verb }
 {
     match verb {
-        Verb::Load => 0,
+        Verb::Load => MOST_FILES,
         Verb::Init
         | Verb::Run
         | Verb::Last

@@ -1,5 +1,6 @@
 use Rattle.std.proofs.Common.{refl}
-use Rattle.testr_cli.proofs.StepLemmas.{still_done, part_done, still_stops, part_stops, reports_as, prints_as, gives}
+use Rattle.testr_cli.specs.Steps.{goes_on}
+use Rattle.testr_cli.proofs.StepLemmas.{stopped, still_done, part_done, still_stops, part_stops, reports_as, prints_as, gives}
 use Rattle.testr_cli.proofs.load.load.Goals as goal
 
 pub returns-in_err-found : goal.returns-in_err-found
@@ -21,14 +22,14 @@ returns-in_err-rows g c =
     part_done _ _ c.in_ok-found.ensures
     (still_done _ c.in_ok-take_run.ensures
     (part_done _ _ c.in_ok-begin.ensures
-    (part_stops _ c.from_residual-in_err-rows.ensures.1 c.in_err-rows.ensures refl)))
+    (stopped _ c.from_residual-in_err-rows.ensures.1 (c.in_err-rows.ensures.step (g.O.Sink.seen c.args.out.now)))))
 
 pub returns-in_err-report : goal.returns-in_err-report
 returns-in_err-report g c =
     part_done _ _ c.in_ok-found.ensures
     (still_done _ c.in_ok-take_run.ensures
     (part_done _ _ c.in_ok-begin.ensures
-    (part_done c.in_ok-rows.rows _ c.in_ok-rows.ensures
+    (goes_on c.in_ok-rows.rows _ (c.in_ok-rows.ensures.step (g.O.Sink.seen c.args.out.now))
     (still_stops _ c.from_residual-in_err-report.ensures.1 (reports_as c.runs.ensures c.in_err-report.ensures) refl))))
 
 pub returns-in_err-keep : goal.returns-in_err-keep
@@ -36,7 +37,7 @@ returns-in_err-keep g c =
     part_done _ _ c.in_ok-found.ensures
     (still_done _ c.in_ok-take_run.ensures
     (part_done _ _ c.in_ok-begin.ensures
-    (part_done c.in_ok-rows.rows _ c.in_ok-rows.ensures
+    (goes_on c.in_ok-rows.rows _ (c.in_ok-rows.ensures.step (g.O.Sink.seen c.args.out.now))
     (still_done c.in_ok-report.report (reports_as c.runs.ensures c.in_ok-report.ensures)
     (part_stops _ c.from_residual-in_err-keep.ensures.1 c.in_err-keep.ensures refl)))))
 
@@ -45,7 +46,7 @@ returns-in_err-print g c =
     part_done _ _ c.in_ok-found.ensures
     (still_done _ c.in_ok-take_run.ensures
     (part_done _ _ c.in_ok-begin.ensures
-    (part_done c.in_ok-rows.rows _ c.in_ok-rows.ensures
+    (goes_on c.in_ok-rows.rows _ (c.in_ok-rows.ensures.step (g.O.Sink.seen c.args.out.now))
     (still_done c.in_ok-report.report (reports_as c.runs.ensures c.in_ok-report.ensures)
     (part_done _ _ c.in_ok-keep.ensures
     (part_stops _ c.from_residual-in_err-print.ensures.1 (prints_as c.deref.ensures.value c.in_err-print.ensures) refl))))))
@@ -55,7 +56,7 @@ returns g c =
     part_done _ _ c.in_ok-found.ensures
     (still_done _ c.in_ok-take_run.ensures
     (part_done _ _ c.in_ok-begin.ensures
-    (part_done c.in_ok-rows.rows _ c.in_ok-rows.ensures
+    (goes_on c.in_ok-rows.rows _ (c.in_ok-rows.ensures.step (g.O.Sink.seen c.args.out.now))
     (still_done c.in_ok-report.report (reports_as c.runs.ensures c.in_ok-report.ensures)
     (part_done _ _ c.in_ok-keep.ensures
     (part_done _ _ (prints_as c.deref.ensures.value c.in_ok-print.ensures)

@@ -7,7 +7,7 @@ pub returns-in-Init : goal.returns-in-Init
 returns-in-Init g c = performs _ _ _ _ (sym (ap (λ v. task_with v c.args.command.now) c.in-Init.is)) (record { at = c.init.ensures; rest = refl })
 
 pub returns-in-Load : goal.returns-in-Load
-returns-in-Load g c = performs _ _ _ _ (sym (ap (λ v. task_with v c.args.command.now) c.in-Load.is)) c.load.ensures
+returns-in-Load g c = performs _ _ _ _ (sym (ap (λ v. task_with v c.args.command.now) c.in-Load.is)) c.load_named.ensures
 
 pub returns-in-Last : goal.returns-in-Last
 returns-in-Last g c = performs _ _ _ _ (sym (ap (λ v. task_with v c.args.command.now) c.in-Last.is)) (record { at = c.ask.ensures; rest = refl })
