@@ -30,7 +30,9 @@ use Rattle.testr_cli.specs.Load.{Loads}
 use Rattle.testr_cli.specs.Ask.{Asks}
 use Rattle.testr_cli.specs.Stops.{PassesCommand}
 use Rattle.testr_cli.specs.declared.words.UsageFault.{UsageFault}
-use Rattle.testr_cli.specs.declared.words.UsageFault.TheVariants.{Words, Tool}
+use Rattle.testr_cli.specs.declared.words.UsageFault.TheVariants.{Words}
+use Rattle.filter_cli.specs.Outside.{outside as piped}
+use Rattle.filter_cli.specs.Promises.{Promises as FilterPromises}
 use Rattle.testr_cli.specs.declared.command.Question.{Question}
 use Rattle.testr_cli.specs.declared.answer.Verdict.{Verdict}
 use Rattle.testr_cli.specs.declared.answer.Refusal.{Refusal}
@@ -180,8 +182,14 @@ pub record Promises (reading : Bool) (wrong : UsageFault) (asked : Option Task) 
   -- it does not give up without a cause
   pub completeness : CanPerform asked (work_of before) → (SomeRose (work_of before) (work_of after) → ⊥) → IsPerformed asked answer ⊎ (IsTrue reading × (answer ≡ 5))
 
--- What each call of the program promises for all its words: what `testr` does for those behind its name; for others that
--- they are wrong.
+-- what the filters do for the words, from the input to the output; the folder and the files stay
+pub record PromisesOfFilters (words : List (List ℕ)) (before after : Outside) (answer : ℕ) : Type 0 where
+  pub filtered : FilterPromises words (piped before.input before.out before.errors) (piped after.input after.out after.errors) answer
+  pub folder : after.folder ≡ before.folder
+  pub site : after.site ≡ before.site
+
+-- What each call of the program promises for all its words: what `testr` does for those behind its name, and for others
+-- what the filters do, which also say where words are neither.
 pub record ProgramPromises (words : List (List ℕ)) (before after : Outside) (answer : ℕ) : Type 0 where
   pub testr : (behind : List (List ℕ)) → words ≡ testr_word ∷ behind → Promises true Words (asked_by behind) before after answer
-  pub others : ((behind : List (List ℕ)) → words ≡ testr_word ∷ behind → ⊥) → Promises false Tool None before after answer
+  pub filters : ((behind : List (List ℕ)) → words ≡ testr_word ∷ behind → ⊥) → PromisesOfFilters words before after answer

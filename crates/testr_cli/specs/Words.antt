@@ -6,7 +6,7 @@ use Rattle.command_words.specs.declared.table.Kind.{Kind}
 use Rattle.command_words.specs.declared.table.Kind.TheVariants.{Flag}
 use Rattle.command_words.specs.Items.{Item, flag, valued, name, is_text, items_of}
 use Rattle.testr_cli.specs.declared.words.UsageFault.{UsageFault}
-use Rattle.testr_cli.specs.declared.words.UsageFault.TheVariants.{Words, Tool}
+use Rattle.testr_cli.specs.declared.words.UsageFault.TheVariants.{Words}
 use Rattle.testr_cli.specs.declared.command.Verb.{Verb}
 use Rattle.testr_cli.specs.declared.command.Verb.TheVariants.{Init, Load, Run, Last, Failing, Slowest, Stats, ListTests, SelfTest}
 use Rattle.testr_cli.specs.declared.command.Command.{Command}
@@ -22,7 +22,6 @@ names_testr (word ∷ words) = bytes_eq word testr_word
 
 abbrev pub usage_text : UsageFault → List ℕ
 usage_text Words = codes "testr: wrong usage\n"
-usage_text Tool = codes "usage: testr COMMAND or a subunit filter\n"
 
 -- the second answer is made of the first, where that is there
 abbrev pub and_then : {A B : Type 0} → Option A → (A → Option B) → Option B

@@ -187,6 +187,18 @@ fn the_face_alone_takes_the_words_behind_its_name(rt: HostRuntime) -> Result<(),
 }
 
 #[test]
+fn a_filters_name_leads_to_the_filters(rt: HostRuntime) -> Result<(), Fail> {
+    let alloc = rt.alloc();
+    let mut shelf = repository(alloc, &[])?;
+    let mut input = source(alloc, FOO, 5, &[])?;
+    let told = call(alloc, &["subunit-stats"], &mut shelf, &mut input)?;
+    let text =
+        b"Total tests:       1\nPassed tests:      1\nFailed tests:      0\nSkipped tests:     0\nSeen tags: \n";
+    assert!(rt; told.is(0, text, NOTHING));
+    Ok(())
+}
+
+#[test]
 fn a_failed_read_leaves_the_runs(rt: HostRuntime) -> Result<(), Fail> {
     let alloc = rt.alloc();
     // Three reads give four bytes each, and the fourth finds the end.

@@ -17,12 +17,14 @@ use crate::telling::tell;
 use crate::words::{MOST_FILES, UsageFault, is_testr, reads};
 use crate::{Refusal, Verdict};
 use edge_io::{Shelf, Sink, Site, Source};
+use filter_cli::filters;
 use std::alloc::Global;
 
 /// Does what the words say, and answers the exit status.
 ///
-/// Where the first word is `testr`, it is that of [`testr`] for the words behind it. For all other words the usage line
-/// of the whole program is written to `err`, and the status is 2.
+/// Where the first word is `testr`, it is that of [`testr`] for the words behind it. For all other words it is that of
+/// [`filters`]; where the first one is no filter's name either, the usage line of the whole program is written to `err`,
+/// and the status is 2.
 pub fn program<H: Shelf, F: Site, I: Source, O: Sink, E: Sink>(
     alloc: Global,
     words: &[String],
@@ -38,7 +40,7 @@ pub fn program<H: Shelf, F: Site, I: Source, O: Sink, E: Sink>(
         result }
 {
     if !is_testr(words) {
-        return answer(Err(Refusal::Usage(UsageFault::Tool)), err);
+        return filters(alloc, words, input, out, err);
     }
     testr(alloc, &words[1..], shelf, site, input, out, err)
 }
@@ -48,9 +50,10 @@ pub fn program<H: Shelf, F: Site, I: Source, O: Sink, E: Sink>(
 /// memory.
 ///
 /// `init` makes a repository. `load` reads the files that are named, or the input where none is, to their ends, one after
-/// another; keeps what is recorded of them as the next run, the first file under lane 0; and prints the run's report. `last`, `failing`, `slowest` and `stats` tell of the runs and change nothing. A refusal prints one
-/// line to `err`. Before a run is kept a refusal leaves the shown runs as they were; a fault of `out` leaves the new run.
-/// A stop at any moment leaves the earlier runs, and the new one wholly or not at all.
+/// another; keeps what is recorded of them as the next run, the first file under lane 0; and prints the run's report.
+/// `last`, `failing`, `slowest` and `stats` tell of the runs and change nothing. A refusal prints one line to `err`. Before
+/// a run is kept a refusal leaves the shown runs as they were; a fault of `out` leaves the new run. A stop at any moment
+/// leaves the earlier runs, and the new one wholly or not at all.
 pub fn testr<H: Shelf, F: Site, I: Source, O: Sink, E: Sink>(
     alloc: Global,
     words: &[String],

@@ -21,8 +21,6 @@ pub const MOST_FILES: usize = 64;
 pub enum UsageFault {
     /// Those behind `testr` are none.
     Words,
-    /// The first one names no tool.
-    Tool,
 }
 
 impl UsageFault {
@@ -32,7 +30,6 @@ impl UsageFault {
     {
         match self {
             UsageFault::Words => Line::of("testr: wrong usage\n"),
-            UsageFault::Tool => Line::of("usage: testr COMMAND or a subunit filter\n"),
         }
     }
 }

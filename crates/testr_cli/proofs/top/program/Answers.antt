@@ -13,7 +13,7 @@ returns-then-not-is_testr g c =
     record {
       promises = record {
         testr = λ behind is. absurd (names_other _ unnamed behind is);
-        others = λ none. promises _ _ _ _ _ _ (record { outcome = _; done = inl (refuses _ _ refl); told = c.answer.ensures });
+        filters = λ none. record { filtered = c.filters.ensures.promises; folder = refl; site = refl };
       };
     }
 
@@ -24,6 +24,6 @@ returns g c =
     record {
       promises = record {
         testr = λ behind is. behind_name _ behind (ap (λ l. testr_word ∷ texts l) (take_rest c.args.words.now 1) ∙ sym first ∙ is) _ _ _ c.testr.ensures.promises;
-        others = λ none. absurd (none (texts (drop 1 c.args.words.now)) first);
+        filters = λ none. absurd (none (texts (drop 1 c.args.words.now)) first);
       };
     }
