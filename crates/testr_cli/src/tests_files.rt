@@ -91,28 +91,31 @@ fn each_read_of_a_file_may_fail(rt: HostRuntime) -> Result<(), Fail> {
 }
 
 // The command that these words are.
-fn read(alloc: Global, words: &[&str]) -> Option<Command> {
-    let words = owned(alloc, words).ok()?;
-    reads(alloc, &words).ok()?
+fn read(alloc: Global, words: &[&str]) -> Result<Option<Command>, Fail> {
+    let words = owned(alloc, words)?;
+    Ok(reads(alloc, &words)?)
 }
 
 #[test]
-fn options_and_names_stand_in_any_order(rt: HostRuntime) {
+fn options_and_names_stand_in_any_order(rt: HostRuntime) -> Result<(), Fail> {
     let alloc = rt.alloc();
-    let Some(command) = read(alloc, &["load", "a", "--partial", "-", "--partial"]) else {
+    let words = ["load", "a", "--partial", "-", "--partial"];
+    let Some(command) = read(alloc, &words)? else {
         assert!(rt; false);
-        return;
+        return Ok(());
     };
     assert!(rt; command.verb == Verb::Load && command.partial);
     assert_eq!(rt; command.names.list().len(), 2);
+    Ok(())
 }
 
 #[test]
-fn other_options_and_names_are_refused(rt: HostRuntime) {
+fn other_options_and_names_are_refused(rt: HostRuntime) -> Result<(), Fail> {
     let alloc = rt.alloc();
-    assert!(rt; read(alloc, &["last", "--subunit="]).is_none());
-    assert!(rt; read(alloc, &["stats", "--all"]).is_none());
-    assert!(rt; read(alloc, &["slowest", "-a"]).is_none());
-    assert!(rt; read(alloc, &["init", "a"]).is_none());
-    assert!(rt; read(alloc, &["load", "a\0"]).is_none());
+    assert!(rt; read(alloc, &["last", "--subunit="])?.is_none());
+    assert!(rt; read(alloc, &["stats", "--all"])?.is_none());
+    assert!(rt; read(alloc, &["slowest", "-a"])?.is_none());
+    assert!(rt; read(alloc, &["init", "a"])?.is_none());
+    assert!(rt; read(alloc, &["load", "a\0"])?.is_none());
+    Ok(())
 }
