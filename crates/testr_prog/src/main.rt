@@ -28,6 +28,7 @@ use edge_io::write_whole;
 use folder_shelf::FolderShelf;
 use help::help;
 use lock::Sharing;
+use real_site::RealSite;
 use std::alloc::Global;
 use std::env;
 use std::env::Env;
@@ -122,11 +123,13 @@ fn run_program(
     let alloc = rt.alloc();
     let mut shelf = FolderShelf::new(alloc, rt, sharing(words));
     let mut input = StreamSource::new(rt.stdin(), "standard input");
-    let status = program(alloc, words, &mut shelf, &mut input, out, err);
+    let mut site = RealSite::new(alloc, rt);
+    let status = program(alloc, words, &mut shelf, &mut site, &mut input, out, err);
     shelf.give_up();
     if status == FAULT {
         let face = face_of(words);
         tell(alloc, face, shelf.cause(), err);
+        tell(alloc, face, site.cause(), err);
         tell(alloc, face, input.cause(), err);
         tell(alloc, face, out.cause(), err);
     }
