@@ -7,7 +7,7 @@ use Rattle.filter_cli.specs.Pipe.{Pipe, NoFault}
 use Rattle.filter_cli.specs.Pumping.{PumpsAll, ReadFails, WriteFails, IsDue, IsTooLong, Pumps, most_bytes}
 use Rattle.filter_cli.specs.Tools.{tool_of}
 use Rattle.filter_cli.specs.Words.{asked_of}
-use Rattle.filter_cli.specs.Streams.{writing_of, sees_by, ends_by, AsksFor, HasBadPattern, Sees, Ends}
+use Rattle.filter_cli.specs.Streams.{writing_of, sees_by, ends_by, AsksFor, HasBadPattern, IsSeenBy, IsFilteredBy}
 use Rattle.filter_cli.specs.Outside.{Outside, pipe_of, SomeRose}
 use Rattle.filter_cli.specs.Refusals.{code_of}
 use Rattle.filter_cli.specs.Program.{Answers}
@@ -25,7 +25,7 @@ use Rattle.filter_cli.proofs.Ways.{Ways, by_usage, by_memory, by_bad, by_want, p
 -- ---- of a filter, and of words that ask for it
 
 module _ (words : List (List ℕ)) (asked : Asked) (asks : AsksFor words asked) (a b : Pipe) where
-  all_as : (status : ℕ) → PumpsAll (ends_by (writing_of asked)) a b status → PumpsAll (Ends words) a b status
+  all_as : (status : ℕ) → PumpsAll (ends_by (writing_of asked)) a b status → PumpsAll (IsFilteredBy words) a b status
   all_as status p = record {
     bytes = p.bytes;
     text = p.text;
@@ -36,7 +36,7 @@ module _ (words : List (List ℕ)) (asked : Asked) (asks : AsksFor words asked) 
     faults = p.faults;
   }
 
-  reads_as : ReadFails (sees_by (writing_of asked)) a b → ReadFails (Sees words) a b
+  reads_as : ReadFails (sees_by (writing_of asked)) a b → ReadFails (IsSeenBy words) a b
   reads_as p = record {
     bytes = p.bytes;
     text = p.text;
@@ -47,11 +47,11 @@ module _ (words : List (List ℕ)) (asked : Asked) (asks : AsksFor words asked) 
     out = p.out;
   }
 
-  due_as : (left : Option (List ℕ)) (bytes text : List ℕ) → IsDue (sees_by (writing_of asked)) (ends_by (writing_of asked)) left bytes text → IsDue (Sees words) (Ends words) left bytes text
+  due_as : (left : Option (List ℕ)) (bytes text : List ℕ) → IsDue (sees_by (writing_of asked)) (ends_by (writing_of asked)) left bytes text → IsDue (IsSeenBy words) (IsFilteredBy words) left bytes text
   due_as left bytes text (inl seen) = inl (record { asked = asked; asks = asks; seen = seen })
   due_as left bytes text (inr (status, ends, whole)) = inr (status, ends, record { asked = asked; asks = asks; whole = whole })
 
-  writes_as : WriteFails (sees_by (writing_of asked)) (ends_by (writing_of asked)) a b → WriteFails (Sees words) (Ends words) a b
+  writes_as : WriteFails (sees_by (writing_of asked)) (ends_by (writing_of asked)) a b → WriteFails (IsSeenBy words) (IsFilteredBy words) a b
   writes_as p = record {
     front = p.front;
     piece = p.piece;
@@ -67,7 +67,7 @@ module _ (words : List (List ℕ)) (asked : Asked) (asks : AsksFor words asked) 
     input = p.input;
   }
 
-  first_of : (result : Result ℕ PumpFault) → Pumps (sees_by (writing_of asked)) (ends_by (writing_of asked)) a b result → (bytes : List ℕ) → a.input.told ≡ Some bytes → AreBytes bytes → (text : List ℕ) (status : ℕ) → Ends words bytes text status → AppendsPrefix a.out.told b.out.told text
+  first_of : (result : Result ℕ PumpFault) → Pumps (sees_by (writing_of asked)) (ends_by (writing_of asked)) a b result → (bytes : List ℕ) → a.input.told ≡ Some bytes → AreBytes bytes → (text : List ℕ) (status : ℕ) → IsFilteredBy words bytes text status → AppendsPrefix a.out.told b.out.told text
   first_of result pumps bytes told are text status e =
       let whole = subst (λ (x : Asked). ends_by (writing_of x) bytes text status) (same_asked words e.asked asked e.asks.named asks.named) e.whole in
       pumped_prefix _ _ (by_front (writing_of asked)) (by_one (writing_of asked)) a b result bytes text status told are whole pumps
@@ -104,20 +104,20 @@ module _ (words : List (List ℕ)) (a b : Pipe) (answer : ℕ) (outcome : Result
   most_of (by_output asked is asks p) = let four = code ∙ ap code_of is in omega (arith, four)
   most_of (by_room asked is asks p) = let five = code ∙ ap code_of is in omega (arith, five)
 
-  done_of : Ways words a b outcome → answer ≤ 1 → PumpsAll (Ends words) a b answer
+  done_of : Ways words a b outcome → answer ≤ 1 → PumpsAll (IsFilteredBy words) a b answer
   done_of (by_usage is named same) le = let two = code ∙ ap code_of is in absurd (omega (arith, two, le))
   done_of (by_memory none is some same) le = let five = code ∙ ap code_of is in absurd (omega (arith, five, le))
   done_of (by_bad text is bad same) le = let three = code ∙ ap code_of is in absurd (omega (arith, three, le))
   done_of (by_want asked is named same) le = let five = code ∙ ap code_of is in absurd (omega (arith, five, le))
   done_of (passed asked status is asks p) le =
       let same : answer ≡ status = code ∙ ap code_of is in
-      subst (PumpsAll (Ends words) a b) (sym same) (all_as words asked asks a b status p)
+      subst (PumpsAll (IsFilteredBy words) a b) (sym same) (all_as words asked asks a b status p)
   done_of (by_input asked is asks p) le = let four = code ∙ ap code_of is in absurd (omega (arith, four, le))
   done_of (by_length asked is asks p) le = let three = code ∙ ap code_of is in absurd (omega (arith, three, le))
   done_of (by_output asked is asks p) le = let four = code ∙ ap code_of is in absurd (omega (arith, four, le))
   done_of (by_room asked is asks p) le = let five = code ∙ ap code_of is in absurd (omega (arith, five, le))
 
-  prefix_of : Ways words a b outcome → (bytes : List ℕ) → a.input.told ≡ Some bytes → AreBytes bytes → (text : List ℕ) (status : ℕ) → Ends words bytes text status → AppendsPrefix a.out.told b.out.told text
+  prefix_of : Ways words a b outcome → (bytes : List ℕ) → a.input.told ≡ Some bytes → AreBytes bytes → (text : List ℕ) (status : ℕ) → IsFilteredBy words bytes text status → AppendsPrefix a.out.told b.out.told text
   prefix_of (by_usage is named same) bytes told are text status e = none_first a b text same
   prefix_of (by_memory none is some same) bytes told are text status e = none_first a b text same
   prefix_of (by_bad bad_one is bad same) bytes told are text status e = none_first a b text same
@@ -190,7 +190,7 @@ module _ (words : List (List ℕ)) (a b : Pipe) (answer : ℕ) (outcome : Result
   faults_of (by_output asked is asks p) = faults_as _ is (writes_as words asked asks a b p)
   faults_of (by_room asked is asks p) = faults_as _ is p.faults
 
-  fault_of : Ways words a b outcome → answer ≡ 4 → ReadFails (Sees words) a b ⊎ WriteFails (Sees words) (Ends words) a b
+  fault_of : Ways words a b outcome → answer ≡ 4 → ReadFails (IsSeenBy words) a b ⊎ WriteFails (IsSeenBy words) (IsFilteredBy words) a b
   fault_of (by_usage is named same) four = let two = code ∙ ap code_of is in absurd (omega (arith, two, four))
   fault_of (by_memory none is some same) four = let five = code ∙ ap code_of is in absurd (omega (arith, five, four))
   fault_of (by_bad text is bad same) four = let three = code ∙ ap code_of is in absurd (omega (arith, three, four))
@@ -223,7 +223,7 @@ promises words before after answer answers =
       answers = answers;
       most = most_of words a b answer o code ways;
       done = done_of words a b answer o code ways;
-      prefix = if_told before.input.told (λ bytes. AreBytes bytes → (text : List ℕ) (status : ℕ) → Ends words bytes text status → AppendsPrefix before.out.told after.out.told text) (prefix_of words a b answer o code ways);
+      prefix = if_told before.input.told (λ bytes. AreBytes bytes → (text : List ℕ) (status : ℕ) → IsFilteredBy words bytes text status → AppendsPrefix before.out.told after.out.told text) (prefix_of words a b answer o code ways);
       nothing = nothing_of words a b answer o code ways;
       usage = usage_of words a b answer o code ways;
       refused = refused_of words a b answer o code ways;

@@ -6,7 +6,7 @@ use Rattle.filter_cli.specs.Pipe.{Pipe, NoFault}
 use Rattle.filter_cli.specs.Pumping.{PumpsAll, ReadFails, WriteFails, IsTooLong, most_bytes}
 use Rattle.filter_cli.specs.Tools.{tool_of}
 use Rattle.filter_cli.specs.Words.{asked_of}
-use Rattle.filter_cli.specs.Streams.{AsksFor, HasBadPattern, Sees, Ends}
+use Rattle.filter_cli.specs.Streams.{AsksFor, HasBadPattern, IsSeenBy, IsFilteredBy}
 use Rattle.filter_cli.specs.Outside.{Outside, pipe_of, SomeRose}
 use Rattle.filter_cli.specs.Program.{Answers}
 use Rattle.filter_cli.specs.declared.asked.Asked.{Asked}
@@ -17,8 +17,8 @@ use Rattle.filter_cli.specs.declared.pass.PumpFault.TheVariants as pump_fault
 -- Where a read failed, what was written is exactly what the bytes that the reads gave decide. Where a write failed, it is
 -- at least what the reads before the last piece decide. Else no call failed.
 abbrev pub FaultsOf : List (List ℕ) → Result ℕ Refusal → Pipe → Pipe → Type 0
-FaultsOf words (Err (Pump pump_fault.Input)) = ReadFails (Sees words)
-FaultsOf words (Err (Pump pump_fault.Output)) = WriteFails (Sees words) (Ends words)
+FaultsOf words (Err (Pump pump_fault.Input)) = ReadFails (IsSeenBy words)
+FaultsOf words (Err (Pump pump_fault.Output)) = WriteFails (IsSeenBy words) (IsFilteredBy words)
 FaultsOf words outcome = NoFault
 
 -- no refusal but a fault or want of memory has a cause
@@ -33,9 +33,9 @@ pub record Promises (words : List (List ℕ)) (before after : Outside) (answer :
   pub answers : Answers words before after answer
   pub most : answer ≤ 5
   -- the whole input was read, and the text of it was written; the status is its status
-  pub done : answer ≤ 1 → PumpsAll (Ends words) (pipe_of before) (pipe_of after) answer
+  pub done : answer ≤ 1 → PumpsAll (IsFilteredBy words) (pipe_of before) (pipe_of after) answer
   -- at every exit a first part of the text was written, and nothing else
-  pub prefix : IfSome before.input.told (λ bytes. AreBytes bytes → (text : List ℕ) (status : ℕ) → Ends words bytes text status → AppendsPrefix before.out.told after.out.told text)
+  pub prefix : IfSome before.input.told (λ bytes. AreBytes bytes → (text : List ℕ) (status : ℕ) → IsFilteredBy words bytes text status → AppendsPrefix before.out.told after.out.told text)
   -- words that are no filter, and bad patterns, touch nothing
   pub nothing : (asked_of words ≡ None) ⊎ HasBadPattern words → pipe_of after ≡ pipe_of before
   pub usage : answer ≡ 2 → asked_of words ≡ None
@@ -44,6 +44,6 @@ pub record Promises (words : List (List ℕ)) (before after : Outside) (answer :
   pub named : answer ≡ 3 → HasBadPattern words ⊎ IsTooLong (pipe_of before)
   -- what is said of faults, by the outcome
   pub faults : FaultsOf words answers.outcome (pipe_of before) (pipe_of after)
-  pub fault : answer ≡ 4 → ReadFails (Sees words) (pipe_of before) (pipe_of after) ⊎ WriteFails (Sees words) (Ends words) (pipe_of before) (pipe_of after)
+  pub fault : answer ≡ 4 → ReadFails (IsSeenBy words) (pipe_of before) (pipe_of after) ⊎ WriteFails (IsSeenBy words) (IsFilteredBy words) (pipe_of before) (pipe_of after)
   -- it does not give up without a cause
   pub completeness : CanFilter words (pipe_of before) → (SomeRose (pipe_of before) (pipe_of after) → ⊥) → (answer ≤ 1) ⊎ (answer ≡ 5)

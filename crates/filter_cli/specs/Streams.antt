@@ -58,13 +58,13 @@ pub record HasBadPattern (words : List (List ℕ)) : Type 0 where
   pub bad : IsFirstBadText (patterns_of asked) text
 
 -- the text that the first bytes of a stream decide for these words, whatever follows
-pub record Sees (words : List (List ℕ)) (bytes text : List ℕ) : Type 0 where
+pub record IsSeenBy (words : List (List ℕ)) (bytes text : List ℕ) : Type 0 where
   pub asked : Asked
   pub asks : AsksFor words asked
   pub seen : sees_by (writing_of asked) bytes text
 
 -- the text of a whole stream for these words, and its status
-pub record Ends (words : List (List ℕ)) (bytes text : List ℕ) (answer : ℕ) : Type 0 where
+pub record IsFilteredBy (words : List (List ℕ)) (bytes text : List ℕ) (answer : ℕ) : Type 0 where
   pub asked : Asked
   pub asks : AsksFor words asked
   pub whole : ends_by (writing_of asked) bytes text answer

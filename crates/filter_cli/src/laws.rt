@@ -3,16 +3,16 @@
 ghost use Rattle.std.specs.Prelude.{◌≡◌, ◌++◌, ◌≤◌, ℕ, List};
 ghost use Rattle.packet_codec.specs.Grammar.{AreBytes};
 ghost use Rattle.filter_cli.specs.declared.asked.Asked.{Asked as AnAsked};
-ghost use Rattle.filter_cli.specs.Streams.{AsksFor, Sees, Ends};
+ghost use Rattle.filter_cli.specs.Streams.{AsksFor, IsSeenBy, IsFilteredBy};
 
 /// Laws of what filters write of all streams.
 pub fn filtered_streams()
     // Words that ask for a filter, with good patterns, have a text of each stream, and a status.
-    ensures some { (words : List (List ℕ)) (asked : AnAsked) → AsksFor words asked → (bytes : List ℕ) → (all : List ℕ) × (status : ℕ) × (status ≤ 1) × Ends words bytes all status }
+    ensures some { (words : List (List ℕ)) (asked : AnAsked) → AsksFor words asked → (bytes : List ℕ) → (all : List ℕ) × (status : ℕ) × (status ≤ 1) × IsFilteredBy words bytes all status }
     // They have one.
-    ensures one { (words : List (List ℕ)) (bytes all other : List ℕ) (status another : ℕ) → AreBytes bytes → Ends words bytes all status → Ends words bytes other another → (all ≡ other) × (status ≡ another) }
+    ensures one { (words : List (List ℕ)) (bytes all other : List ℕ) (status another : ℕ) → AreBytes bytes → IsFilteredBy words bytes all status → IsFilteredBy words bytes other another → (all ≡ other) × (status ≡ another) }
     // First bytes decide one text.
-    ensures one_seen { (words : List (List ℕ)) (bytes shown other : List ℕ) → AreBytes bytes → Sees words bytes shown → Sees words bytes other → shown ≡ other }
+    ensures one_seen { (words : List (List ℕ)) (bytes shown other : List ℕ) → AreBytes bytes → IsSeenBy words bytes shown → IsSeenBy words bytes other → shown ≡ other }
     // What they decide comes first, whatever follows.
-    ensures first { (words : List (List ℕ)) (bytes more shown all : List ℕ) (status : ℕ) → AreBytes (bytes ++ more) → Sees words bytes shown → Ends words (bytes ++ more) all status → (rest : List ℕ) × (all ≡ shown ++ rest) }
+    ensures first { (words : List (List ℕ)) (bytes more shown all : List ℕ) (status : ℕ) → AreBytes (bytes ++ more) → IsSeenBy words bytes shown → IsFilteredBy words (bytes ++ more) all status → (rest : List ℕ) × (all ≡ shown ++ rest) }
 {}
