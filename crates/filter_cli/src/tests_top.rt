@@ -144,6 +144,7 @@ fn tests_are_let_through_as_is_asked_for(rt: HostRuntime) {
             0
         )
     );
+    assert!(rt; gives(alloc, &["subunit-filter", "--with-tag=a"], FAILED, b"", 0));
 }
 
 #[test]
@@ -272,6 +273,42 @@ fn what_was_read_is_written_before_a_fault(rt: HostRuntime) {
         LOG_AND_FAILED,
         b"subunit-filter: fault reading standard input\n",
         0,
+    );
+    assert!(rt; status == Some(4));
+}
+
+// The failed `foo`, and a long run of foreign bytes.
+fn failed_and_run(alloc: Global) -> Option<Bytes> {
+    let mut stream = FAILED.to_vec(alloc).ok()?;
+    for _ in 0..200_000 {
+        stream.push(b'a').ok()?;
+    }
+    Bytes::new(alloc, &stream).ok()
+}
+
+// The status where these writes fail, where this is the line and at least so many bytes are left.
+fn status_of_writes(alloc: Global, fails: &[u64], line: &[u8], left: usize) -> Option<u8> {
+    let words = owned(alloc, &["subunit-filter"])?;
+    let mut input = ListSource::new(failed_and_run(alloc)?, 65_536, Vec::new(alloc));
+    let mut out = ListSink::new(alloc, fails.to_vec(alloc).ok()?);
+    let mut err = ListSink::new(alloc, Vec::new(alloc));
+    let status = filters(alloc, &words, &mut input, &mut out, &mut err);
+    if out.taken() == b"" && err.taken() == line && input.left().len() >= left {
+        Some(status)
+    } else {
+        None
+    }
+}
+
+#[test]
+fn what_is_decided_is_written_before_the_next_read(rt: HostRuntime) {
+    let alloc = rt.alloc();
+    // Of 200,012 bytes at most 65,547 are read: no more than the first piece is, whose test is written.
+    let status = status_of_writes(
+        alloc,
+        &[0],
+        b"subunit-filter: fault writing output\n",
+        134_465,
     );
     assert!(rt; status == Some(4));
 }
