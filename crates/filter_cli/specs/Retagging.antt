@@ -1,13 +1,14 @@
 -- What the words of `subunit-tags` ask for (docs/COMMANDS.md, "subunit-tags").
-use Rattle.std.specs.Prelude.{ℕ, ◌^◌, Bool, ◌||◌, ◌==◌, nat_eq, nat_le, Option, Some, None, List, length, drop, codes, if◌then◌else◌}
+use Rattle.std.specs.Prelude.{ℕ, Bool, not, ◌||◌, ◌==◌, nat_eq, Option, Some, None, List, length, drop, codes, if◌then◌else◌}
 use Rattle.std.specs.List.{flat_map, list_any, starts_with}
 use Rattle.std.specs.Option.{option_to_list}
 use Rattle.std.specs.Str.{bytes_eq}
+use Rattle.command_words.specs.Items.{is_text}
 use Rattle.filter_cli.specs.declared.retagging.Retagging.{Retagging}
 
--- The empty word and `-` are refused, and so is what is no text: a word with a NUL, or of 2^30 bytes and more.
+-- The empty word and `-` are refused, and so is what is no text.
 abbrev pub is_refused : List ℕ → Bool
-is_refused word = (length word == 0) || (bytes_eq word (codes "-") || (nat_le (2 ^ 30) (length word) || list_any (λ byte. byte == 0) word))
+is_refused word = (length word == 0) || (bytes_eq word (codes "-") || not (is_text word))
 
 abbrev pub has_refused : List (List ℕ) → Bool
 has_refused words = list_any is_refused words

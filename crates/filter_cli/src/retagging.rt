@@ -3,6 +3,7 @@
 ghost use Rattle.std.specs.Prelude.{◌≡◌, option_map, string_bytes, IfOk};
 ghost use Rattle.std.specs.List.{list_any};
 ghost use Rattle.command_words.specs.Items.{texts};
+ghost use Rattle.command_words.specs.Items as items;
 ghost use Rattle.filter_cli.specs.Retagging as retagging;
 
 use crate::selection::word_text;
@@ -44,7 +45,14 @@ fn has_refused(words: &[String]) -> bool
 fn is_refused(word: &str) -> bool
     ensures { result ≡ retagging.is_refused word.now }
 {
-    word.is_empty() || word == "-" || word.len() >= 1 << 30 || word.as_bytes().contains(&0)
+    word.is_empty() || word == "-" || !is_text(word)
+}
+
+// Whether a word, which is UTF-8, has no NUL and is short enough for a text.
+fn is_text(word: &str) -> bool
+    ensures { result ≡ items.is_text word.now }
+{
+    !word.as_bytes().contains(&0) && word.len() < 1 << 30
 }
 
 // The tag that the word removes, where it begins with a dash.
