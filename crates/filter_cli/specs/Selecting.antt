@@ -16,17 +16,17 @@ use Rattle.filter_cli.specs.declared.selection.Added.TheVariants as added
 abbrev pub set_by : (on off : Bool) → Option Bool
 set_by on off = if on then Some true else (if off then Some false else None)
 
--- a flag for genuine failures alone stands for several that turn off
-abbrev pub is_off : (given off : List ℕ) → Bool
-is_off given off = bytes_eq given off || bytes_eq given (codes "--only-genuine-failures")
+-- this flag, or that for genuine failures alone
+abbrev pub is_or_genuine : (given key : List ℕ) → Bool
+is_or_genuine given key = bytes_eq given key || bytes_eq given (codes "--only-genuine-failures")
 
 -- how a flag sets a switch
 abbrev pub says : Switch → List ℕ → Option Bool
-says switch.Success given = set_by (bytes_eq given (codes "--success")) (is_off given (codes "--no-success"))
+says switch.Success given = set_by (bytes_eq given (codes "--success")) (is_or_genuine given (codes "--no-success"))
 says switch.Failure given = set_by (bytes_eq given (codes "--failure")) (bytes_eq given (codes "--no-failure"))
-says switch.Skip given = set_by false (is_off given (codes "--no-skip"))
-says switch.XFail given = set_by (bytes_eq given (codes "--xfail")) (is_off given (codes "--no-xfail"))
-says switch.Hidden given = set_by (is_off given (codes "--no-passthrough")) false
+says switch.Skip given = set_by false (is_or_genuine given (codes "--no-skip"))
+says switch.XFail given = set_by (bytes_eq given (codes "--xfail")) (is_or_genuine given (codes "--no-xfail"))
+says switch.Hidden given = set_by (is_or_genuine given (codes "--no-passthrough")) false
 
 abbrev pub said : Switch → Item → Option Bool
 said s (flag given) = says s given

@@ -100,11 +100,11 @@ fn says(switch: Switch, flag: &str) -> Option<bool>
     ensures { result ≡ selecting.says switch flag.now }
 {
     match switch {
-        Switch::Success => set_by(flag == "--success", is_off(flag, "--no-success")),
+        Switch::Success => set_by(flag == "--success", is_or_genuine(flag, "--no-success")),
         Switch::Failure => set_by(flag == "--failure", flag == "--no-failure"),
-        Switch::Skip => set_by(false, is_off(flag, "--no-skip")),
-        Switch::XFail => set_by(flag == "--xfail", is_off(flag, "--no-xfail")),
-        Switch::Hidden => set_by(is_off(flag, "--no-passthrough"), false),
+        Switch::Skip => set_by(false, is_or_genuine(flag, "--no-skip")),
+        Switch::XFail => set_by(flag == "--xfail", is_or_genuine(flag, "--no-xfail")),
+        Switch::Hidden => set_by(is_or_genuine(flag, "--no-passthrough"), false),
     }
 }
 
@@ -121,10 +121,10 @@ fn set_by(on: bool, off: bool) -> Option<bool>
 }
 
 // Whether the flag is this one, or that for genuine failures alone.
-fn is_off(flag: &str, off: &str) -> bool
-    ensures { result ≡ selecting.is_off flag.now off.now }
+fn is_or_genuine(flag: &str, key: &str) -> bool
+    ensures { result ≡ selecting.is_or_genuine flag.now key.now }
 {
-    flag == off || flag == "--only-genuine-failures"
+    flag == key || flag == "--only-genuine-failures"
 }
 
 // The value of the item, where it is an option that adds to this.
