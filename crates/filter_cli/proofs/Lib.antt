@@ -17,3 +17,4 @@ pub mod TapLemmas
 pub mod NewlineLemmas
 pub mod TapPrefix
 pub mod TapRowLemmas
+pub mod TapTextLemmas

@@ -5,7 +5,7 @@ use Rattle.stream_reader.specs.declared.note.Note.{Note}
 use Rattle.stream_reader.specs.Notes.{HasNotes, HasDecided, notes_of, decided_of}
 use Rattle.stream_reader.proofs.FrontLemmas.{are_before, are_behind}
 use Rattle.stream_reader.proofs.CutLemmas.{one_cut, one_open_cut, open_cut_first}
-use Rattle.stream_reader.proofs.ExistLemmas.{some_notes}
+use Rattle.stream_reader.proofs.ExistLemmas.{some_notes, some_decided}
 use Rattle.stream_reader.proofs.NotesLemmas.{decided_first}
 use Rattle.stream_reader.proofs.TurnLemmas.{begin_decided}
 use Rattle.filter_cli.specs.Plan.{Plan, IsSeen, IsFiltered}
@@ -44,3 +44,8 @@ pub plan_some : (plan : Plan) (bytes : List ℕ) → (notes : List Note) × IsFi
 plan_some plan bytes =
     let (notes, told) = some_notes bytes in
     (notes, record { notes = notes; told = told; made = refl; status = refl })
+
+pub plan_some_seen : (plan : Plan) (bytes : List ℕ) → AreBytes bytes → (text : List ℕ) × IsSeen plan bytes text
+plan_some_seen plan bytes are =
+    let (notes, decided) = some_decided bytes are in
+    (given_by plan notes, record { notes = notes; decided = decided; made = refl })

@@ -175,3 +175,8 @@ pub tap_some : (bytes : List ℕ) → (all : List ℕ) × IsTapFiltered bytes al
 tap_some bytes =
     let (lines, rest, split) = some_split bytes in
     (packets_of (tap_events (lines ++ last_line rest)), record { lines = lines; rest = rest; split = split; made = refl; status = refl })
+
+pub tap_some_seen : (bytes : List ℕ) → (text : List ℕ) × IsTapSeen bytes text
+tap_some_seen bytes =
+    let (lines, rest, split) = some_split bytes in
+    (packets_of (events_so_far lines ++ map stdout_event (full_pieces rest)), record { lines = lines; rest = rest; split = split; made = refl })

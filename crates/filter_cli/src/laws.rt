@@ -2,17 +2,31 @@
 
 ghost use Rattle.std.specs.Prelude.{◌≡◌, ◌++◌, ◌≤◌, ℕ, List};
 ghost use Rattle.packet_codec.specs.Grammar.{AreBytes};
+ghost use Rattle.stream_reader.specs.declared.note.Note.{Note};
+ghost use Rattle.tap_bridge.specs.Texts.{tap_text};
 ghost use Rattle.filter_cli.specs.declared.asked.Asked.{Asked as AnAsked};
+ghost use Rattle.filter_cli.specs.Script.{given_by};
+ghost use Rattle.filter_cli.specs.Events.{events_in};
+ghost use Rattle.filter_cli.specs.TapRows.{tap_rows, tap_plan};
 ghost use Rattle.filter_cli.specs.Streams.{AsksFor, IsSeenBy, IsFilteredBy};
 
 /// Laws of what filters write of all streams.
 pub fn filtered_streams()
     // Words that ask for a filter, with good patterns, have a text of each stream, and a status.
     ensures some { (words : List (List ℕ)) (asked : AnAsked) → AsksFor words asked → (bytes : List ℕ) → (all : List ℕ) × (status : ℕ) × (status ≤ 1) × IsFilteredBy words bytes all status }
-    // They have one.
+    // So have first bytes.
+    ensures some_seen { (words : List (List ℕ)) (asked : AnAsked) → AsksFor words asked → (bytes : List ℕ) → AreBytes bytes → (text : List ℕ) × IsSeenBy words bytes text }
+    // A stream has one.
     ensures one { (words : List (List ℕ)) (bytes all other : List ℕ) (status another : ℕ) → AreBytes bytes → IsFilteredBy words bytes all status → IsFilteredBy words bytes other another → (all ≡ other) × (status ≡ another) }
     // First bytes decide one text.
     ensures one_seen { (words : List (List ℕ)) (bytes shown other : List ℕ) → AreBytes bytes → IsSeenBy words bytes shown → IsSeenBy words bytes other → shown ≡ other }
     // What they decide comes first, whatever follows.
     ensures first { (words : List (List ℕ)) (bytes more shown all : List ℕ) (status : ℕ) → AreBytes (bytes ++ more) → IsSeenBy words bytes shown → IsFilteredBy words (bytes ++ more) all status → (rest : List ℕ) × (all ≡ shown ++ rest) }
+{}
+
+/// The text of a whole stream as lines of the Test Anything Protocol.
+pub fn lines_of_streams()
+    // It is that of the stream's tests, the lines in the order in which they complete, those left open behind them, and
+    // the plan.
+    ensures lines { (notes : List Note) → given_by tap_plan notes ++ tap_plan.at_end notes ≡ tap_text (tap_rows (events_in notes)) }
 {}

@@ -43,7 +43,7 @@ mod top;
 pub use asked::{Asked, read_asked};
 pub use event_laws::packets_of_streams;
 pub use filter::Filter;
-pub use laws::filtered_streams;
+pub use laws::{filtered_streams, lines_of_streams};
 pub use ls::{Listing, Ls};
 pub use notes::NoteFilter;
 pub use of_notes::OfNotes;

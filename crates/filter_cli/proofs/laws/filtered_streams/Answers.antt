@@ -3,13 +3,18 @@ use Rattle.filter_cli.specs.Streams.{writing_of, sees_by, ends_by}
 use Rattle.filter_cli.specs.declared.asked.Asked.{Asked}
 use Rattle.filter_cli.proofs.BadLemmas.{same_asked}
 use Rattle.filter_cli.proofs.StatusLemmas.{status_at_most}
-use Rattle.filter_cli.proofs.WritingLaws.{by_front, by_one, by_one_seen, by_some}
+use Rattle.filter_cli.proofs.WritingLaws.{by_front, by_one, by_one_seen, by_some, by_some_seen}
 use Rattle.filter_cli.proofs.laws.filtered_streams.Goals as goal
 
 pub returns-clause-some : goal.returns-clause-some
 returns-clause-some c = λ words asked asks bytes.
     let (all, status, whole) = by_some (writing_of asked) bytes in
     (all, status, status_at_most asked bytes all status whole, record { asked = asked; asks = asks; whole = whole })
+
+pub returns-clause-some_seen : goal.returns-clause-some_seen
+returns-clause-some_seen c = λ words asked asks bytes are.
+    let (text, seen) = by_some_seen (writing_of asked) bytes are in
+    (text, record { asked = asked; asks = asks; seen = seen })
 
 pub returns-clause-one : goal.returns-clause-one
 returns-clause-one c = λ words bytes all other status another are e f.
