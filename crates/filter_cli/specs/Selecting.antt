@@ -1,7 +1,7 @@
 -- What the options of `subunit-filter` ask for (docs/COMMANDS.md, "subunit-filter").
 use Rattle.std.specs.Prelude.{ℕ, Bool, true, false, ◌||◌, Option, Some, None, List, [], ◌∷◌, codes, if◌then◌else◌}
-use Rattle.std.specs.List.{flat_map}
-use Rattle.std.specs.Option.{unwrap_or, option_to_list}
+use Rattle.std.specs.List.{flat_map, fold}
+use Rattle.std.specs.Option.{option_to_list}
 use Rattle.std.specs.Str.{bytes_eq}
 use Rattle.command_words.specs.Items.{Item, flag, valued, name}
 use Rattle.filter_cli.specs.declared.selection.Selection.{Selection}
@@ -33,10 +33,17 @@ said s (flag given) = says s given
 said s (valued option value) = None
 said s (name word) = None
 
+-- what the items say of a switch, in their order
+abbrev pub said_by : Switch → List Item → List Bool
+said_by s items = flat_map (λ item. option_to_list (said s item)) items
+
+-- the last of the values, or this one where there are none
+abbrev pub last_or : (first : Bool) → List Bool → Bool
+last_or first values = fold (λ before now. now) first values
+
 -- A switch stands as the last item says that speaks of it. Where none does, it stands as at first.
 abbrev pub stands : Switch → (first : Bool) → List Item → Bool
-stands s first [] = first
-stands s first (item ∷ items) = stands s (unwrap_or (said s item) first) items
+stands s first items = last_or first (said_by s items)
 
 -- ---- values
 
