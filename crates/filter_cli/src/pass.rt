@@ -7,14 +7,8 @@ ghost use Rattle.filter_cli.specs.Pipe.{pipe};
 ghost use Rattle.filter_cli.specs.Pumping.{Pumps};
 
 use crate::filter::Filter;
-use edge_io::{Failed, Sink, Source, write_whole};
+use edge_io::{Failed, MOST_BYTES, PIECE, Sink, Source, write_whole};
 use std::alloc::Global;
-
-/// How many bytes an input may have: 2^60.
-pub const MOST_BYTES: usize = 1 << 60;
-
-/// How many bytes a read asks for.
-pub const PIECE: usize = 65_536;
 
 /// Why an input was not filtered to its end.
 #[derive(Clone, Copy, Debug, PartialEq, Eq)]
