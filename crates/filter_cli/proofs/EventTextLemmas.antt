@@ -12,8 +12,8 @@ use Rattle.event_sift.specs.Keeping.{keeps}
 use Rattle.event_sift.specs.Released.{released, released_behind, released_by, released_at_end, filtered}
 use Rattle.event_sift.specs.Tagging.{tagged}
 use Rattle.filter_cli.specs.Script.{given_behind, given_by}
-use Rattle.filter_cli.specs.Events.{events_in}
-use Rattle.filter_cli.specs.Filtering.{filter_plan, packets_of}
+use Rattle.filter_cli.specs.Events.{events_in, packets_of}
+use Rattle.filter_cli.specs.Filtering.{filter_plan}
 use Rattle.filter_cli.specs.Tagging.{tags_plan}
 use Rattle.filter_cli.proofs.EventLemmas.{event_more, foreign_more}
 

@@ -14,7 +14,8 @@ use Rattle.tap_bridge.proofs.SizeLemmas.{stdout_fits}
 use Rattle.tap_bridge.proofs.LongLines.{one_piece, too_long_is_read, too_long_gives}
 use Rattle.filter_cli.specs.Pipe.{Adds}
 use Rattle.filter_cli.specs.Lines.{IsPlain, ArePlain, ended, IsSplit, last_line}
-use Rattle.filter_cli.specs.Tap.{packets_of, IsTapFiltered}
+use Rattle.filter_cli.specs.Tap.{IsTapFiltered}
+use Rattle.filter_cli.specs.Events.{packets_of}
 use Rattle.filter_cli.specs.TapLaws.{behind_pieces, packets_then}
 use Rattle.filter_cli.specs.Tapped.{AreFull, most_open, GivesPieces, IsLonger, IsAdded, HasTapped, HasTaken}
 

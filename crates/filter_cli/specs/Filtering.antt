@@ -1,8 +1,7 @@
 -- The events of a stream that are let through (docs/COMMANDS.md, "subunit-filter").
 use Rattle.std.specs.Prelude.{ℕ, Bool, List, All}
-use Rattle.std.specs.List.{flat_map}
 use Rattle.packet_codec.specs.declared.event.Event.{Event}
-use Rattle.packet_codec.specs.Canonical.{Fits, canonical}
+use Rattle.packet_codec.specs.Canonical.{Fits}
 use Rattle.stream_reader.specs.declared.note.Note.{Note}
 use Rattle.stream_reader.specs.declared.note.Note.TheVariants as note
 use Rattle.event_sift.specs.declared.rules.Rules.{Rules}
@@ -11,11 +10,7 @@ use Rattle.event_sift.specs.Keeping.{keeps}
 use Rattle.event_sift.specs.Released.{released, released_at_end}
 use Rattle.event_sift.specs.Sifted.{HasSifted}
 use Rattle.filter_cli.specs.Plan.{Plan}
-use Rattle.filter_cli.specs.Events.{events_in, passed_on}
-
--- the shortest packets of the events, one after another
-abbrev pub packets_of : List Event → List ℕ
-packets_of events = flat_map canonical events
+use Rattle.filter_cli.specs.Events.{events_in, passed_on, packets_of}
 
 -- foreign bytes, or the packets of the events that are released at the event
 abbrev pub let_through : Rules → Bool → List Event → Note → List ℕ

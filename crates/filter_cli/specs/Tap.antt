@@ -1,16 +1,12 @@
 -- Lines of the Test Anything Protocol as packets, as the lines come (docs/FORMATS.md, "TAP").
 use Rattle.std.specs.Prelude.{◌≡◌, ℕ, Bool, Option, List, [], ◌++◌, length, map, nat_eq, nat_lt, if◌then◌else◌}
-use Rattle.std.specs.List.{filter, flat_map}
-use Rattle.packet_codec.specs.declared.event.Event.{Event}
-use Rattle.packet_codec.specs.Canonical.{canonical}
+use Rattle.std.specs.List.{filter}
 use Rattle.packet_codec.specs.Grammar.{AreBytes}
 use Rattle.edge_io.specs.Bytes.{AppendsPrefix}
 use Rattle.stream_reader.specs.Notes.{stdout_event}
 use Rattle.tap_bridge.specs.Events.{longest_line, pieces_of, events_so_far, tap_events}
+use Rattle.filter_cli.specs.Events.{packets_of}
 use Rattle.filter_cli.specs.Lines.{IsSplit, last_line}
-
-abbrev pub packets_of : List Event → List ℕ
-packets_of events = flat_map canonical events
 
 abbrev pub is_full : List ℕ → Bool
 is_full piece = nat_eq (length piece) longest_line

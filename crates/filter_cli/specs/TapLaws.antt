@@ -14,7 +14,8 @@ use Rattle.tap_bridge.specs.Events.{Input, longest_line, input_of, too_long, pie
 use Rattle.tap_bridge.proofs.LongLines.{one_piece, piece_in_front}
 use Rattle.filter_cli.specs.Lines.{last_line}
 use Rattle.filter_cli.specs.LineLaws.{next_line, one_split, some_split}
-use Rattle.filter_cli.specs.Tap.{packets_of, is_full, full_pieces, IsTapSeen, IsTapFiltered}
+use Rattle.filter_cli.specs.Tap.{is_full, full_pieces, IsTapSeen, IsTapFiltered}
+use Rattle.filter_cli.specs.Events.{packets_of}
 use Rattle.filter_cli.specs.Tapped.{AreFull, most_open, GivesPieces, HasTapped}
 
 -- Pieces.

@@ -6,7 +6,7 @@ use Rattle.tap_bridge.specs.declared.reader.TapReader.{TapReader}
 use Rattle.tap_bridge.specs.Events.{longest_line, events_so_far}
 use Rattle.tap_bridge.specs.Kept.{HasRead}
 use Rattle.filter_cli.specs.Lines.{IsSplit}
-use Rattle.filter_cli.specs.Tap.{packets_of}
+use Rattle.filter_cli.specs.Events.{packets_of}
 
 abbrev pub AreFull : List (List ℕ) → Type 0
 AreFull [] = ⊤

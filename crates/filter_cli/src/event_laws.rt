@@ -9,8 +9,8 @@ ghost use Rattle.event_sift.specs.Keeping.{keeps};
 ghost use Rattle.event_sift.specs.Released.{filtered};
 ghost use Rattle.event_sift.specs.Tagging.{tagged};
 ghost use Rattle.filter_cli.specs.Script.{given_by};
-ghost use Rattle.filter_cli.specs.Events.{events_in};
-ghost use Rattle.filter_cli.specs.Filtering.{filter_plan, packets_of};
+ghost use Rattle.filter_cli.specs.Events.{events_in, packets_of};
+ghost use Rattle.filter_cli.specs.Filtering.{filter_plan};
 ghost use Rattle.filter_cli.specs.Tagging.{tags_plan};
 
 /// The texts of whole streams as packets, one after another.

@@ -6,7 +6,7 @@ ghost use Rattle.tap_bridge.specs.Kept.{HasRead};
 ghost use Rattle.filter_cli.specs.Lines.{IsPlain, last_line};
 ghost use Rattle.filter_cli.specs.Pipe.{Adds};
 ghost use Rattle.filter_cli.specs.Pumping.{most_at_once};
-ghost use Rattle.filter_cli.specs.Tap.{packets_of};
+ghost use Rattle.filter_cli.specs.Events.{packets_of};
 ghost use Rattle.filter_cli.specs.Tapped.{most_open, HasTapped, HasTaken};
 
 use crate::filter::Filter;

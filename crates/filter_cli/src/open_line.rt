@@ -4,7 +4,7 @@ ghost use Rattle.stream_reader.specs.Notes.{stdout_event as event_of_output};
 ghost use Rattle.tap_bridge.specs.Events.{longest_line};
 ghost use Rattle.filter_cli.specs.Lines.{last_line};
 ghost use Rattle.filter_cli.specs.Pumping.{most_at_once};
-ghost use Rattle.filter_cli.specs.Tap.{packets_of};
+ghost use Rattle.filter_cli.specs.Events.{packets_of};
 ghost use Rattle.filter_cli.specs.Tapped.{most_open, IsAdded};
 
 use crate::packets::put_output;

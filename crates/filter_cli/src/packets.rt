@@ -3,7 +3,7 @@ ghost use Rattle.std.specs.Prelude.{◌≡◌, ◌++◌, ◌≤◌, length, All,
 ghost use Rattle.packet_codec.specs.Canonical.{canonical, Fits};
 ghost use Rattle.stream_reader.specs.Notes.{stdout_event as event_of_output};
 ghost use Rattle.tap_bridge.specs.Events.{longest_line};
-ghost use Rattle.filter_cli.specs.Tap.{packets_of};
+ghost use Rattle.filter_cli.specs.Events.{packets_of};
 
 use packet_codec::{Event, encode};
 use stream_reader::stdout_event;

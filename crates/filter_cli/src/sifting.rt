@@ -6,7 +6,8 @@ ghost use Rattle.event_sift.specs.Keeping.{keeps};
 ghost use Rattle.filter_cli.specs.Pipe.{pipe};
 ghost use Rattle.filter_cli.specs.Plan.{IsSeen, IsFiltered, WritesFirst};
 ghost use Rattle.filter_cli.specs.Pumping.{Pumps};
-ghost use Rattle.filter_cli.specs.Filtering.{filter_plan, packets_of};
+ghost use Rattle.filter_cli.specs.Filtering.{filter_plan};
+ghost use Rattle.filter_cli.specs.Events.{packets_of};
 
 use crate::ls::put_foreign;
 use crate::notes::NoteFilter;

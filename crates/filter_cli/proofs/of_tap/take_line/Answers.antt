@@ -1,5 +1,5 @@
 use Rattle.std.proofs.Common.{◌++◌, ◌∙◌, ap}
-use Rattle.filter_cli.specs.Tap.{packets_of}
+use Rattle.filter_cli.specs.Events.{packets_of}
 use Rattle.filter_cli.proofs.TapLemmas.{taken_line}
 use Rattle.filter_cli.proofs.of_tap.take_line.Goals as goal
 

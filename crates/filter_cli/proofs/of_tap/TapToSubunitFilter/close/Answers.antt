@@ -1,5 +1,5 @@
 use Rattle.std.proofs.Common.{◌++◌, ◌∙◌, ap}
-use Rattle.filter_cli.specs.Tap.{packets_of}
+use Rattle.filter_cli.specs.Events.{packets_of}
 use Rattle.filter_cli.proofs.TapLemmas.{tapped_all}
 use Rattle.filter_cli.proofs.of_tap.TapToSubunitFilter.close.Goals as goal
 
