@@ -1,17 +1,13 @@
 //! Filters: a stream in, a text out, in one pass.
 //!
 //! - `top`: the top call, from words to an answer
-//! - `tool`, `selection`, `patterns`, `retagging`, `asked`: which filter the words ask for
+//! - `asked`, `patterns`, `retagging`, `selection`, `tool`: which filter the words ask for
 //! - `refusal`, `telling`: why a filter was not done, and the lines that tell of it
-//! - `laws`: what filters write of all streams
-//! - `filter`: what a filter is, to the one loop that serves them all
-//! - `pass`: that loop
-//! - `through`: the loop over a filter of notes
-//! - `ls`, `stats`, `sifting`, `tagging`: the filters
-//! - `notes`, `taking`, `of_notes`: filters that go by the notes of a stream
-//! - `event_laws`: what those that write events write of a whole stream
+//! - `filter`, `pass`: what a filter is, and the one loop that serves them all
+//! - `notes`, `of_notes`, `taking`, `through`: filters that go by the notes of a stream
+//! - `ls`, `sifting`, `stats`, `subunit_to_tap`, `tagging`: those filters
 //! - `of_tap`, `open_line`, `packets`, `pass_tap`: lines of the Test Anything Protocol as packets
-//! - `subunit_to_tap`: the way back
+//! - `event_laws`, `laws`: what filters write of all streams
 #![tactic(auto)]
 
 mod asked;
@@ -62,10 +58,10 @@ pub use tool::{Tool, tool_of};
 pub use top::filters;
 
 #[cfg(test)]
-mod tap_tests;
-#[cfg(test)]
 mod tests;
 #[cfg(test)]
 mod tests_events;
+#[cfg(test)]
+mod tests_tap;
 #[cfg(test)]
 mod tests_top;
