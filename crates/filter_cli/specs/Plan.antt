@@ -1,7 +1,5 @@
 -- What a filter of notes writes, as a function of the notes.
-use Rattle.std.specs.Prelude.{◌≡◌, ℕ, Option, List, ◌++◌}
-use Rattle.packet_codec.specs.Grammar.{AreBytes}
-use Rattle.edge_io.specs.Bytes.{AppendsPrefix}
+use Rattle.std.specs.Prelude.{◌≡◌, ℕ, List, ◌++◌}
 use Rattle.stream_reader.specs.declared.note.Note.{Note}
 use Rattle.filter_cli.specs.Script.{Script, given_by}
 use Rattle.stream_reader.specs.Notes.{HasNotes, HasDecided}
@@ -21,14 +19,3 @@ pub record IsFiltered (plan : Plan) (bytes text : List ℕ) (answer : ℕ) : Typ
   pub told : HasNotes bytes notes
   pub made : text ≡ given_by plan notes ++ plan.at_end notes
   pub status : answer ≡ plan.status notes
-
--- The stream has a text, and of that text a first part was written.
-pub record HasWrittenFirst (plan : Plan) (old new : Option (List ℕ)) (bytes : List ℕ) : Type 0 where
-  pub text : List ℕ
-  pub status : ℕ
-  pub filtered : IsFiltered plan bytes text status
-  pub written : AppendsPrefix old new text
-
--- the same of a told input whose bytes are bytes
-abbrev pub WritesFirst : Plan → Option (List ℕ) → Option (List ℕ) → List ℕ → Type 0
-WritesFirst plan old new bytes = AreBytes bytes → HasWrittenFirst plan old new bytes

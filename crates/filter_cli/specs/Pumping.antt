@@ -2,6 +2,8 @@
 -- text and status of a whole stream.
 use Rattle.std.specs.Prelude.{◌≡◌, ◌⊎◌, ℕ, ◌<◌, ◌≤◌, ◌^◌, Option, IfSome, List, ◌++◌, length, take, Result, Ok, Err}
 use Rattle.std.specs.Io.KnownBytes.{IsAtEnd}
+use Rattle.packet_codec.specs.Grammar.{AreBytes}
+use Rattle.edge_io.specs.Bytes.{AppendsPrefix}
 use Rattle.edge_io.specs.Causes.{Rose}
 use Rattle.filter_cli.specs.Pipe.{Pipe, Moves, NoFault}
 use Rattle.filter_cli.specs.declared.pass.PumpFault.{PumpFault}
@@ -81,3 +83,14 @@ Pumps sees ends before after (Err Input) = ReadFails sees before after
 Pumps sees ends before after (Err TooLong) = PassesLimit sees before after
 Pumps sees ends before after (Err Output) = WriteFails sees ends before after
 Pumps sees ends before after (Err NoMemory) = StopsBefore sees before after
+
+-- The stream has a text, and of that text a first part was written.
+pub record HasWrittenFirst (ends : List ℕ → List ℕ → ℕ → Type 0) (old new : Option (List ℕ)) (bytes : List ℕ) : Type 0 where
+  pub text : List ℕ
+  pub status : ℕ
+  pub filtered : ends bytes text status
+  pub written : AppendsPrefix old new text
+
+-- the same of a told input whose bytes are bytes
+abbrev pub WritesFirst : (ends : List ℕ → List ℕ → ℕ → Type 0) → Option (List ℕ) → Option (List ℕ) → List ℕ → Type 0
+WritesFirst ends old new bytes = AreBytes bytes → HasWrittenFirst ends old new bytes

@@ -1,8 +1,6 @@
 -- Lines of the Test Anything Protocol as packets, as the lines come (docs/FORMATS.md, "TAP").
-use Rattle.std.specs.Prelude.{◌≡◌, ℕ, Bool, Option, List, [], ◌++◌, length, map, nat_eq, nat_lt, if◌then◌else◌}
+use Rattle.std.specs.Prelude.{◌≡◌, ℕ, Bool, List, [], ◌++◌, length, map, nat_eq, nat_lt, if◌then◌else◌}
 use Rattle.std.specs.List.{filter}
-use Rattle.packet_codec.specs.Grammar.{AreBytes}
-use Rattle.edge_io.specs.Bytes.{AppendsPrefix}
 use Rattle.stream_reader.specs.Notes.{stdout_event}
 use Rattle.tap_bridge.specs.Events.{longest_line, pieces_of, events_so_far, tap_events}
 use Rattle.filter_cli.specs.Events.{packets_of}
@@ -31,14 +29,3 @@ pub record IsTapFiltered (bytes text : List ℕ) (answer : ℕ) : Type 0 where
   pub split : IsSplit bytes lines rest
   pub made : text ≡ packets_of (tap_events (lines ++ last_line rest))
   pub status : answer ≡ 0
-
--- The stream has a text, and of that text a first part was written.
-pub record HasWrittenTapFirst (old new : Option (List ℕ)) (bytes : List ℕ) : Type 0 where
-  pub text : List ℕ
-  pub status : ℕ
-  pub filtered : IsTapFiltered bytes text status
-  pub written : AppendsPrefix old new text
-
--- the same of a told input whose bytes are bytes
-abbrev pub WritesTapFirst : Option (List ℕ) → Option (List ℕ) → List ℕ → Type 0
-WritesTapFirst old new bytes = AreBytes bytes → HasWrittenTapFirst old new bytes

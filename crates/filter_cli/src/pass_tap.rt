@@ -1,8 +1,8 @@
 // Lines of the Test Anything Protocol, from an input to an output.
 ghost use Rattle.std.specs.Prelude.{IfSome};
 ghost use Rattle.filter_cli.specs.Pipe.{pipe};
-ghost use Rattle.filter_cli.specs.Pumping.{Pumps};
-ghost use Rattle.filter_cli.specs.Tap.{IsTapSeen, IsTapFiltered, WritesTapFirst};
+ghost use Rattle.filter_cli.specs.Pumping.{Pumps, WritesFirst};
+ghost use Rattle.filter_cli.specs.Tap.{IsTapSeen, IsTapFiltered};
 
 use crate::of_tap::TapToSubunit;
 use crate::pass::{PumpFault, pump};
@@ -17,7 +17,7 @@ pub fn tap_to_subunit<I: Source, O: Sink>(
 ) -> Result<u8, PumpFault>
     ensures pumps { Pumps IsTapSeen IsTapFiltered (pipe (I.seen input.old) (O.seen out.old)) (pipe (I.seen input.new) (O.seen out.new)) result }
     // At every exit a first part of the input's text was written, and nothing else.
-    ensures prefix { IfSome (I.seen input.old).told (WritesTapFirst (O.seen out.old).told (O.seen out.new).told) }
+    ensures prefix { IfSome (I.seen input.old).told (WritesFirst IsTapFiltered (O.seen out.old).told (O.seen out.new).told) }
 {
     let lines = TapToSubunit::new(alloc);
     pump(alloc, lines, input, out)

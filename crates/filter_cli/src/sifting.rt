@@ -4,8 +4,8 @@ ghost use Rattle.std.specs.Prelude.{◌≡◌, ◌++◌, All, IfOk, IfSome, OnOk
 ghost use Rattle.packet_codec.specs.Canonical.{Fits};
 ghost use Rattle.event_sift.specs.Keeping.{keeps};
 ghost use Rattle.filter_cli.specs.Pipe.{pipe};
-ghost use Rattle.filter_cli.specs.Plan.{IsSeen, IsFiltered, WritesFirst};
-ghost use Rattle.filter_cli.specs.Pumping.{Pumps};
+ghost use Rattle.filter_cli.specs.Plan.{IsSeen, IsFiltered};
+ghost use Rattle.filter_cli.specs.Pumping.{Pumps, WritesFirst};
 ghost use Rattle.filter_cli.specs.Filtering.{filter_plan};
 ghost use Rattle.filter_cli.specs.Events.{packets_of};
 
@@ -119,7 +119,7 @@ pub fn filter_stream<I: Source, O: Sink>(
     out: &mut O,
 ) -> Result<u8, PumpFault>
     ensures pumps { Pumps (IsSeen (filter_plan rules.now hidden)) (IsFiltered (filter_plan rules.now hidden)) (pipe (I.seen input.old) (O.seen out.old)) (pipe (I.seen input.new) (O.seen out.new)) result }
-    ensures prefix { IfSome (I.seen input.old).told (WritesFirst (filter_plan rules.now hidden) (O.seen out.old).told (O.seen out.new).told) }
+    ensures prefix { IfSome (I.seen input.old).told (WritesFirst (IsFiltered (filter_plan rules.now hidden)) (O.seen out.old).told (O.seen out.new).told) }
 {
     let sifting = Sifting::new(
         alloc,

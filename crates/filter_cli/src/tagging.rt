@@ -2,8 +2,8 @@
 
 ghost use Rattle.std.specs.Prelude.{◌≡◌, IfSome};
 ghost use Rattle.filter_cli.specs.Pipe.{pipe};
-ghost use Rattle.filter_cli.specs.Plan.{IsSeen, IsFiltered, WritesFirst};
-ghost use Rattle.filter_cli.specs.Pumping.{Pumps};
+ghost use Rattle.filter_cli.specs.Plan.{IsSeen, IsFiltered};
+ghost use Rattle.filter_cli.specs.Pumping.{Pumps, WritesFirst};
 ghost use Rattle.filter_cli.specs.Tagging.{tags_plan};
 
 use crate::notes::NoteFilter;
@@ -64,7 +64,7 @@ pub fn tag_stream<I: Source, O: Sink>(
     out: &mut O,
 ) -> Result<u8, PumpFault>
     ensures pumps { Pumps (IsSeen (tags_plan tagger)) (IsFiltered (tags_plan tagger)) (pipe (I.seen input.old) (O.seen out.old)) (pipe (I.seen input.new) (O.seen out.new)) result }
-    ensures prefix { IfSome (I.seen input.old).told (WritesFirst (tags_plan tagger) (O.seen out.old).told (O.seen out.new).told) }
+    ensures prefix { IfSome (I.seen input.old).told (WritesFirst (IsFiltered (tags_plan tagger)) (O.seen out.old).told (O.seen out.new).told) }
 {
     pass_notes(alloc, Tagging::new(alloc, tagger), input, out)
 }

@@ -1,8 +1,8 @@
 // A filter of notes, from an input to an output.
 ghost use Rattle.std.specs.Prelude.{[], IfSome};
 ghost use Rattle.filter_cli.specs.Pipe.{pipe};
-ghost use Rattle.filter_cli.specs.Plan.{IsSeen, IsFiltered, WritesFirst};
-ghost use Rattle.filter_cli.specs.Pumping.{Pumps};
+ghost use Rattle.filter_cli.specs.Plan.{IsSeen, IsFiltered};
+ghost use Rattle.filter_cli.specs.Pumping.{Pumps, WritesFirst};
 
 use crate::notes::NoteFilter;
 use crate::of_notes::OfNotes;
@@ -21,7 +21,7 @@ pub fn pass_notes<F: NoteFilter, I: Source, O: Sink>(
     requires has { F.has filter [] }
     ensures pumps { Pumps (IsSeen (F.plan filter)) (IsFiltered (F.plan filter)) (pipe (I.seen input.old) (O.seen out.old)) (pipe (I.seen input.new) (O.seen out.new)) result }
     // At every exit a first part of the stream's text was written, and nothing else.
-    ensures prefix { IfSome (I.seen input.old).told (WritesFirst (F.plan filter) (O.seen out.old).told (O.seen out.new).told) }
+    ensures prefix { IfSome (I.seen input.old).told (WritesFirst (IsFiltered (F.plan filter)) (O.seen out.old).told (O.seen out.new).told) }
 {
     let notes = OfNotes::new(alloc, filter)?;
     pump(alloc, notes, input, out)
