@@ -293,7 +293,7 @@ fn status_of_writes(alloc: Global, fails: &[u64], line: &[u8], left: usize) -> O
     let mut out = ListSink::new(alloc, fails.to_vec(alloc).ok()?);
     let mut err = ListSink::new(alloc, Vec::new(alloc));
     let status = filters(alloc, &words, &mut input, &mut out, &mut err);
-    if out.taken() == b"" && err.taken() == line && input.left().len() >= left {
+    if out.taken().is_empty() && err.taken() == line && input.left().len() >= left {
         Some(status)
     } else {
         None
