@@ -10,8 +10,8 @@ ghost use Rattle.testr_cli.specs.Files.{RecordsSources, RecordsFiles, RecordsInT
 ghost use Rattle.testr_cli.specs.Outside.{work, filed};
 ghost use Rattle.worker_lane.specs.Scribing.{Recording};
 
-use crate::recording::{MOST_BYTES, PIECE, RecordFault, record, write_packets};
-use edge_io::{Found, Shelf, Site, Source};
+use crate::recording::{RecordFault, record, write_packets};
+use edge_io::{Found, MOST_BYTES, PIECE, Shelf, Site, Source};
 use outcome_fold::Rows;
 use run_ledger::WrittenRun;
 use std::alloc::Global;

@@ -1,14 +1,14 @@
 //! The top call: words become an answer.
 //!
-//! `program` is what the real program's `main` calls, over traits that stand for the outside: a folder of runs, an input
-//! and two sinks. Its contract is the theorem of each command. It knows the words, the order of the steps and the
-//! refusals, and never a real file.
+//! `program` is what the real program's `main` calls, over traits that stand for the outside: a folder of runs, files by
+//! name, an input and two sinks. Its contract is the theorem of each command. It knows the words, the order of the steps
+//! and the refusals, and never a real file.
 //!
 //! - `command`, `words`: which words are a command
 //! - `store`, `recording`, `files`, `reporting`, `told`: the steps, each with why it refuses
 //! - `answer`, `telling`: statuses and refusals by step, and the lines that tell of them
 //! - `init`, `load`, `ask`: the commands, each a chain of steps
-//! - `top`: `program` and `testr`
+//! - `top`: `program`, `testr` and `quiet`
 //! - `laws`: each named refusal comes exactly where its cause is
 #![tactic(auto)]
 

@@ -15,18 +15,12 @@ ghost use Rattle.testr_cli.specs.declared.recording.RecordFault.TheVariants.{She
 ghost use Rattle.worker_lane.specs.Scribing.{Recording, GivesPacket, GivesPackets, HasNone, most_left};
 
 use crate::telling::{Line, Part};
-use edge_io::{Failed, Shelf, Source};
+use edge_io::{Failed, MOST_BYTES, PIECE, Shelf, Source};
 use outcome_fold::Rows;
 use run_ledger::WrittenRun;
 use run_shelf::{ShelfCall, add_packet};
 use std::alloc::Global;
 use worker_lane::Scribe;
-
-/// How many bytes an input may have: 2^60.
-pub const MOST_BYTES: usize = 1 << 60;
-
-/// How many bytes a read asks for, and how many bytes of packets are enough for a write.
-pub const PIECE: usize = 65_536;
 
 /// Why an input was not recorded whole.
 #[derive(Clone, Copy, Debug, PartialEq, Eq)]

@@ -55,7 +55,8 @@ usage: testr COMMAND [OPTION]
 Keeps test results as numbered runs in the folder .testrepository of the current folder.
 
   testr init                makes a repository
-  testr load [--partial]    reads a Subunit v2 stream from standard input and keeps it as the next run
+  testr load [--partial] [FILE ..]
+                            reads a Subunit v2 stream from standard input, or these files, and keeps it as the next run
   testr last [--subunit]    prints the report of the last run, or the run itself
   testr failing [--list]    prints the tests that fail by all runs, or their ids alone
   testr slowest [--all]     prints the slowest ten tests of the last run, or all
@@ -72,10 +73,12 @@ Example: testr init
 ";
 
 const LOAD: &str = "\
-usage: testr load [--partial]
+usage: testr load [--partial] [FILE ..]
 Reads a Subunit v2 stream from standard input, keeps it as the next run, and prints its report. Status 0 where no test
 failed, 1 where one did.
   --partial    the run is marked as one of a part of the tests
+  FILE ..      reads these files in place of standard input, at most 64, one after another, as one run; what is kept of
+               the first is under the route 0, of the next one under 1, and so on
 Example: testr load < stream
 ";
 
