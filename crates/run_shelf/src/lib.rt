@@ -36,6 +36,7 @@ pub use found::{Found, MOST_RUNS};
 pub use laws::repositories_show_runs;
 pub use making::make_repository;
 pub use recorder::Recorder;
+pub use recording::Recording;
 pub use run::{add_packet, begin_run, finish_run, read_run, run_length};
 pub use store::Store;
 pub use surveying::survey;

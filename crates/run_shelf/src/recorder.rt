@@ -19,8 +19,10 @@ use edge_io::Shelf;
 /// A run that is dropped, or whose recorder is let go, leaves the runs as they were, and so does a stop before the commit.
 #[derive(Drop)]
 pub struct Recorder<'h, H: Shelf> {
-    shelf: &'h mut H,
-    recording: Recording,
+    /// The folder. Whoever adds to the run by calls of its own, as `add_packet`, keeps the fault in `recording`.
+    pub shelf: &'h mut H,
+    /// What is known of the run.
+    pub recording: Recording,
 }
 
 impl<'h, H: Shelf> Recorder<'h, H> {

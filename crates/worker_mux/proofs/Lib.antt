@@ -1,4 +1,7 @@
+pub mod Adding
 pub mod EveryStep
+pub mod Going
 pub mod Lists
+pub mod Merges
 pub mod Steps
 pub mod Told

@@ -2,7 +2,7 @@
 use Rattle.std.proofs.Common.{◌≡◌, ◌≢◌, ℕ, zero, suc, ◌+◌, ◌<◌, eqb, cond, length, List, [], ◌∷◌, ◌++◌, map, sym, ◌∙◌, ap, arith}
 use Rattle.std.specs.List.{AllByRecursion, range_with_len}
 use Rattle.std.proofs.lemmas.Bool.Decides.{nat_tests}
-use Rattle.std.proofs.lemmas.List.{map-append}
+use Rattle.std.proofs.lemmas.List.{map-append, length-append}
 use mathlib.Core.Option.{some, some-ne-none}
 use lib.ListN.{get_elem?}
 
@@ -39,3 +39,10 @@ numbers_more f xs x n so_far last =
 
     one : (n : ℕ) → suc n ≡ n + 1
     one n = omega arith
+
+-- one lane more, with the next number
+pub numbers_push : {X : Type 0} (f : X → ℕ) (xs : List X) (x : X) → map f xs ≡ range_with_len 0 (length xs) → f x ≡ length xs → map f (xs ++ x ∷ []) ≡ range_with_len 0 (length (xs ++ x ∷ []))
+numbers_push f xs x so_far last = numbers_more f xs x (length xs) so_far last ∙ ap (range_with_len 0) (longer (length xs) (length (xs ++ x ∷ [])) (length-append xs (x ∷ [])))
+  where
+    longer : (n m : ℕ) → m ≡ n + 1 → n + 1 ≡ m
+    longer n m is = omega (arith, is)

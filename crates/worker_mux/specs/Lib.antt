@@ -1,2 +1,5 @@
+pub mod Callers
 pub mod Passes
 pub mod Rule
+pub mod Runs
+pub mod Works

@@ -9,17 +9,27 @@
 //! - `knowledge`: what clauses see of both; no value of it is made
 //! - `rule`: the steps of the belt, which keep its rule
 //! - `laws`: what the rule says of each step
+//! - `run`: all lanes, each read on a thread of its own, and recorded by the one that called
+//! - `work`: the work of a lane; `caller`, `pen`: the part of the one that records; `levels`: a thread for each lane
+//! - `gate`: waiting for a move of the belt
 #![tactic(auto)]
 
 mod belt;
+mod caller;
+mod gate;
 mod knowledge;
 mod laws;
+mod levels;
 mod pass;
+mod pen;
 mod rule;
+mod run;
 #[cfg(test)]
 mod tests;
+mod work;
 
 pub use belt::Belt;
 pub use knowledge::{Carried, Knowledge, Parcel, Settled};
 pub use laws::lanes_stay_whole;
 pub use pass::{LanePass, Taker};
+pub use run::run_lanes;

@@ -1,0 +1,179 @@
+-- How a work goes on, lot by lot.
+use Rattle.std.proofs.Common.{◌≡◌, ℕ, List, [], ◌∷◌, ◌++◌, Bool, false, ◌⊎◌, ⊎_elim, refl, sym, ◌∙◌, ap, subst, append_assoc}
+use Rattle.std.specs.Prelude.{Option, None, Some, IfSome}
+use Rattle.std.specs.Option.{option_map, option_to_list}
+use Rattle.std.specs.List.{AllByRecursion}
+use Rattle.std.proofs.lemmas.List.{append-nil}
+use Rattle.edge_io.specs.Children.{Output}
+use Rattle.edge_io.specs.Seen.{Seen}
+use Rattle.worker_lane.specs.Lanes.{rest, lane_number}
+use Rattle.worker_lane.specs.Rest.{Gives, IsOver}
+use Rattle.worker_lane.specs.declared.lane.Lane.{Lane}
+use Rattle.worker_lane.specs.declared.lot.Ending.TheVariants.{NoMemory}
+use Rattle.worker_lane.specs.declared.lot.Lot.{Lot}
+use Rattle.worker_lane.specs.declared.lot.Lot.TheVariants.{End}
+use Rattle.worker_mux.specs.Passes.{number_of, lots_put, entry_of, IsPassFor}
+use Rattle.worker_mux.specs.Works.{AllWell, IsOwn, IsOwnPass, IsReady, given, left, whole, KeepsWork, IsPut, Drives, Settles, Pairs, IsEntryOf}
+use Rattle.worker_mux.specs.declared.belt.Belt.{Belt}
+use Rattle.worker_mux.specs.declared.knowledge.Settled.{Settled}
+use Rattle.worker_mux.specs.declared.pass.LanePass.{LanePass}
+use Rattle.worker_mux.specs.declared.work.Work.{Work}
+use Rattle.worker_mux.specs.declared.work.Outcome.{Outcome}
+use Rattle.worker_mux.specs.declared.work.Outcome.TheVariants.{Kept, Put, GivenUp}
+use Rattle.worker_mux.proofs.Lists.{all_more}
+
+well_front : (xs ys : List Lot) → AllWell (xs ++ ys) → AllWell xs
+well_front [] ys all = tt
+well_front (x ∷ xs) ys all = (all.0, well_front xs ys all.1)
+
+well_last : (xs : List Lot) (x : Lot) → AllWell (xs ++ x ∷ []) → x ≡ End NoMemory → ⊥
+well_last [] x all = all.0
+well_last (y ∷ ys) x all = well_last ys x all.1
+
+-- the lots before this one was well are those that were given before
+well_before : (xs : List Lot) (lot : Lot) (kept : Option Lot) → IfSome kept (λ k. Some lot ≡ Some k) → AllWell (xs ++ lot ∷ []) → AllWell (xs ++ option_to_list kept)
+well_before xs lot None first all = subst AllWell (sym (append-nil xs)) (well_front xs (lot ∷ []) all)
+well_before xs lot (Some k) first all = subst (λ (l : Lot). AllWell (xs ++ l ∷ [])) (let same : lot ≡ k = cc in same) all
+
+-- all lots, before and after one went on
+whole_step : (P PA KA KM : List Lot) (lot : Lot) (before R : Option (List Lot)) → before ≡ option_map (λ l. (lot ∷ []) ++ l) (option_map (λ l. KM ++ l) R) → KM ≡ []
+    → ((l : List Lot) → PA ++ (KA ++ l) ≡ P ++ (lot ∷ l)) → option_map (λ l. PA ++ l) (option_map (λ l. KA ++ l) R) ≡ option_map (λ l. P ++ l) before
+whole_step P PA KA KM lot before None is empty all = ap (option_map (λ l. P ++ l)) (sym is)
+whole_step P PA KA KM lot before (Some r) is empty all =
+    ap Some (all r) ∙ ap (λ (k : List Lot). Some (P ++ (lot ∷ (k ++ r)))) (sym empty) ∙ ap (option_map (λ l. P ++ l)) (sym is)
+
+-- nothing is left
+whole_end : (P : List Lot) (before mid : Option (List Lot)) → before ≡ option_map (λ l. [] ++ l) mid → IsOver mid → IfSome (option_map (λ l. P ++ l) before) (λ l. P ≡ l)
+whole_end P before None is over = subst (λ (o : Option (List Lot)). IfSome (option_map (λ l. P ++ l) o) (λ l. P ≡ l)) (sym is) tt
+whole_end P before (Some r) is over =
+    subst (λ (o : Option (List Lot)). IfSome (option_map (λ l. P ++ l) o) (λ l. P ≡ l)) (sym is) (sym (append-nil P) ∙ ap (λ l. P ++ l) (sym over))
+
+more_own : (n m : ℕ) (xs ys : List Lot) (lot : Lot) → m ≡ n → ys ≡ xs ++ lot ∷ [] → AllByRecursion (IsOwn n) xs → IsOwn n lot → AllByRecursion (IsOwn m) ys
+more_own n m xs ys lot number more own last =
+    subst (λ (k : ℕ). AllByRecursion (IsOwn k) ys) (sym number) (subst (AllByRecursion (IsOwn n)) (sym more) (all_more (IsOwn n) xs lot own last))
+
+module _ {C : Type 0} where
+  -- the work stays ready where a lot was put
+  pub ready_put : (belt : Belt) (before mid : Work C) (after : LanePass) (lot : Lot) → IsReady belt before → mid.pass ≡ before.pass → lane_number mid.lane ≡ lane_number before.lane → mid.kept ≡ None → IsOwn (number_of before.pass) lot
+      → IsPassFor belt after → number_of after ≡ number_of mid.pass → lots_put after ≡ lots_put mid.pass ++ lot ∷ []
+      → IsReady belt (record { lane = mid.lane; pass = after; kept = mid.kept })
+  ready_put belt before mid after lot ready pass lane empty own made_here number more =
+      let n : number_of after ≡ number_of before.pass = number ∙ ap number_of pass in
+      record {
+        pass = record {
+          made_here = made_here;
+          own = more_own (number_of before.pass) (number_of after) (lots_put before.pass) (lots_put after) lot n (more ∙ ap (λ (p : LanePass). lots_put p ++ lot ∷ []) pass) ready.pass.own own;
+        };
+        number = lane ∙ ready.number ∙ sym n;
+        kept = subst (λ (k : Option Lot). IfSome k (IsOwn (number_of after))) (sym empty) tt;
+      }
+
+  -- the same where the lot was handed back
+  pub ready_kept : (belt : Belt) (before mid : Work C) (after : LanePass) (lot back : Lot) → IsReady belt before → mid.pass ≡ before.pass → lane_number mid.lane ≡ lane_number before.lane → IsOwn (number_of before.pass) lot
+      → IsPassFor belt after → number_of after ≡ number_of mid.pass → lots_put after ≡ lots_put mid.pass → back ≡ lot
+      → IsReady belt (record { lane = mid.lane; pass = after; kept = Some back })
+  ready_kept belt before mid after lot back ready pass lane own made_here number same is =
+      let n : number_of after ≡ number_of before.pass = number ∙ ap number_of pass in
+      record {
+        pass = record {
+          made_here = made_here;
+          own = subst (λ (k : ℕ). AllByRecursion (IsOwn k) (lots_put after)) (sym n) (subst (AllByRecursion (IsOwn (number_of before.pass))) (sym (same ∙ ap lots_put pass)) ready.pass.own);
+        };
+        number = lane ∙ ready.number ∙ sym n;
+        kept = subst (λ (k : ℕ). IsOwn k back) (sym n) (subst (IsOwn (number_of before.pass)) (sym is) own);
+      }
+
+module _ {C : Type 0} (seen : C → Seen Output) where
+  -- a lot was put, or kept
+  went_on : (start before mid after : Work C) (lot : Lot) → KeepsWork seen start before → mid.kept ≡ None → IfSome before.kept (λ k. Some lot ≡ Some k)
+      → (Some lot ≡ Some (End NoMemory)) ⊎ Gives (left seen before) (lot ∷ []) (left seen mid)
+      → after.lane ≡ mid.lane → number_of after.pass ≡ number_of before.pass → given after ≡ lots_put before.pass ++ lot ∷ []
+      → ((l : List Lot) → lots_put after.pass ++ (option_to_list after.kept ++ l) ≡ lots_put before.pass ++ (lot ∷ l))
+      → KeepsWork seen start after
+  went_on start before mid after lot keeps empty first gives lane number all each =
+      let well : AllWell (given after) → AllWell (given before) = λ so. well_before (lots_put before.pass) lot before.kept first (subst AllWell all so) in
+      record {
+        number = number ∙ keeps.number;
+        well = λ so. keeps.well (well so);
+        same = λ so. ⊎_elim
+            (λ (out : Some lot ≡ Some (End NoMemory)). absurd (well_last (lots_put before.pass) lot (subst AllWell all so) (let same : lot ≡ End NoMemory = cc in same)))
+            (λ (g : Gives (left seen before) (lot ∷ []) (left seen mid)).
+            ap (λ (l : Lane C). option_map (λ x. lots_put after.pass ++ x) (option_map (λ x. option_to_list after.kept ++ x) (rest seen l))) lane
+            ∙ whole_step (lots_put before.pass) (lots_put after.pass) (option_to_list after.kept) (option_to_list mid.kept) lot (left seen before) (rest seen mid.lane) g (ap option_to_list empty) each
+            ∙ keeps.same (well so))
+            gives;
+      }
+
+  -- the belt took the lot
+  pub was_put : (start before mid : Work C) (after : LanePass) (lot : Lot) → KeepsWork seen start before → mid.pass ≡ before.pass → mid.kept ≡ None → IfSome before.kept (λ k. Some lot ≡ Some k)
+      → (Some lot ≡ Some (End NoMemory)) ⊎ Gives (left seen before) (lot ∷ []) (left seen mid)
+      → number_of after ≡ number_of mid.pass → lots_put after ≡ lots_put mid.pass ++ lot ∷ []
+      → KeepsWork seen start (record { lane = mid.lane; pass = after; kept = mid.kept })
+  was_put start before mid after lot keeps pass empty first gives number more =
+      let grown : lots_put after ≡ lots_put before.pass ++ lot ∷ [] = more ∙ ap (λ (p : LanePass). lots_put p ++ lot ∷ []) pass in
+      went_on start before mid (record { lane = mid.lane; pass = after; kept = mid.kept }) lot keeps empty first gives refl
+      (number ∙ ap number_of pass)
+      (ap (λ (k : Option Lot). lots_put after ++ option_to_list k) empty ∙ append-nil (lots_put after) ∙ grown)
+      (λ l. ap (λ (k : Option Lot). lots_put after ++ (option_to_list k ++ l)) empty ∙ ap (λ x. x ++ l) grown ∙ append_assoc (lots_put before.pass) (lot ∷ []) l)
+
+  -- the belt handed the lot back
+  pub was_kept : (start before mid : Work C) (after : LanePass) (lot back : Lot) → KeepsWork seen start before → mid.pass ≡ before.pass → mid.kept ≡ None → IfSome before.kept (λ k. Some lot ≡ Some k)
+      → (Some lot ≡ Some (End NoMemory)) ⊎ Gives (left seen before) (lot ∷ []) (left seen mid)
+      → number_of after ≡ number_of mid.pass → lots_put after ≡ lots_put mid.pass → back ≡ lot
+      → KeepsWork seen start (record { lane = mid.lane; pass = after; kept = Some back })
+  was_kept start before mid after lot back keeps pass empty first gives number same is =
+      let stays : lots_put after ≡ lots_put before.pass = same ∙ ap lots_put pass in
+      went_on start before mid (record { lane = mid.lane; pass = after; kept = Some back }) lot keeps empty first gives refl
+      (number ∙ ap number_of pass)
+      (ap (λ x. x ++ back ∷ []) stays ∙ ap (λ (b : Lot). lots_put before.pass ++ b ∷ []) is)
+      (λ l. ap (λ x. x ++ (back ∷ l)) stays ∙ ap (λ (b : Lot). lots_put before.pass ++ (b ∷ l)) is)
+
+  -- the lane gave no lot more
+  pub all_put : (start before mid : Work C) → KeepsWork seen start before → mid.pass ≡ before.pass → IfSome before.kept (λ k. None ≡ Some k)
+      → (None ≡ Some (End NoMemory)) ⊎ Gives (left seen before) [] (left seen mid) → IsOver (left seen mid)
+      → IsPut seen start mid.pass
+  all_put start before mid keeps pass first gives over =
+      let well : AllWell (lots_put mid.pass) → AllWell (given before) = λ so. well_end (lots_put before.pass) before.kept first (subst (λ (p : LanePass). AllWell (lots_put p)) pass so) in
+      record {
+        number = ap number_of pass ∙ keeps.number;
+        well = λ so. keeps.well (well so);
+        all = λ so. ⊎_elim
+            (λ (out : ◌≡◌ {A = Option Lot} None (Some (End NoMemory))). absurd (let never : ⊥ = cc in never))
+            (λ (g : Gives (left seen before) [] (left seen mid)).
+            subst (λ (p : LanePass). IfSome (whole seen start) (λ l. lots_put p ≡ l)) (sym pass)
+            (subst (λ (o : Option (List Lot)). IfSome o (λ l. lots_put before.pass ≡ l)) (keeps.same (well so))
+            (whole_end (lots_put before.pass) (left seen before) (left seen mid) g over)))
+            gives;
+      }
+    where
+      well_end : (xs : List Lot) (kept : Option Lot) → IfSome kept (λ k. None ≡ Some k) → AllWell xs → AllWell (xs ++ option_to_list kept)
+      well_end xs None first all = subst AllWell (sym (append-nil xs)) all
+      well_end xs (Some k) first all = absurd (let never : ⊥ = cc in never)
+
+  -- driving goes on
+  pub drives_then : (a b : Work C) (outcome : Outcome C) → KeepsWork seen a b → Drives seen b outcome → Drives seen a outcome
+  drives_then a b (Kept c) first second = record {
+    number = second.number ∙ first.number;
+    well = λ so. first.well (second.well so);
+    same = λ so. second.same so ∙ first.same (second.well so);
+  }
+  drives_then a b (Put pass) first second = record {
+    number = second.number ∙ first.number;
+    well = λ so. first.well (second.well so);
+    all = λ so. subst (λ (o : Option (List Lot)). IfSome o (λ l. lots_put pass ≡ l)) (first.same (second.well so)) (second.all so);
+  }
+  drives_then a b (GivenUp pass) first second = second ∙ first.number
+
+  -- one lane more is settled
+  pub settles_more : (work : Work C) (works others : List (Work C)) (pass : LanePass) (m m' : Bool) (first old mid last new : List Settled)
+      → works ≡ work ∷ others → first ≡ old → Settles seen m others first mid → last ≡ mid → new ≡ entry_of pass ∷ last
+      → (m' ≡ false → m ≡ false) → AllByRecursion (IsOwn (number_of pass)) (lots_put pass) → number_of pass ≡ number_of work.pass → (m' ≡ false → IsPut seen work pass)
+      → Settles seen m' works old new
+  settles_more work works others pass m m' first old mid last new all begin (table, grown, each) same more memory own number put_all = (
+    entry_of pass ∷ table,
+    more ∙ ap (λ l. entry_of pass ∷ l) (same ∙ grown ∙ ap (λ l. table ++ l) begin),
+    λ so. subst (λ (l : List (Work C)). Pairs (IsEntryOf seen) l (entry_of pass ∷ table)) (sym all) (record { lane = number; own = own; list = λ well. (put_all so).all well }, each (memory so)),
+  )
+
+  pub settles_none : (works : List (Work C)) (m : Bool) (old new : List Settled) → works ≡ [] → new ≡ old → Settles seen m works old new
+  settles_none works m old new empty same = ([], same, λ so. subst (λ (l : List (Work C)). Pairs (IsEntryOf seen) l []) (sym empty) tt)

@@ -1,0 +1,13 @@
+use Rattle.std.proofs.Common.{◌∙◌, ap}
+use Rattle.worker_mux.specs.Passes.{lane_count, lots_taken}
+use Rattle.worker_mux.proofs.Adding.{goes_one}
+use Rattle.worker_mux.proofs.caller.Caller.take_one.Goals as goal
+
+pub returns-in-Some-clause-goes : goal.returns-in-Some-clause-goes
+returns-in-Some-clause-goes g c =
+    goes_one _ _ _ _ c.in-Some.field-0-0 c.in-Some.lot
+    (ap lane_count c.record.ensures.taker ∙ c.take.ensures.lanes)
+    (ap lots_taken c.record.ensures.taker ∙ c.in-Some.ensures.taken)
+    c.record.ensures.memory
+    c.record.ensures.keeps
+    c.record.ensures.added

@@ -1,0 +1,9 @@
+use Rattle.worker_mux.proofs.Adding.{tape_then}
+use Rattle.worker_mux.proofs.Merges.{all_recorded}
+use Rattle.worker_mux.proofs.run.all_levels.Goals as goal
+
+pub returns-clause-keeps : goal.returns-clause-keeps
+returns-clause-keeps g c = tape_then _ _ _ c.level.ensures.goes.keeps c.take_rest.ensures.goes.keeps
+
+pub returns-clause-recorded : goal.returns-clause-recorded
+returns-clause-recorded g c = all_recorded g.C.Child.seen _ _ _ _ _ _ _ c.requires.begun.taker_new.nothing c.requires.begun.taker_new.none_settled c.level.ensures.goes c.level.ensures.settled c.take_rest.ensures.goes c.take_rest.ensures.settled c.take_rest.ensures.empty c.take_rest.ensures.ready.well

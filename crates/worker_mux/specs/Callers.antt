@@ -1,0 +1,70 @@
+-- What the one that records has taken, and what it has added to the run.
+use Rattle.std.specs.Prelude.{◌≡◌, ℕ, ◌≤◌, List, [], ◌∷◌, ◌++◌, Bool, false, Option, Some, None}
+use Rattle.std.specs.List.{AllByRecursion}
+use Rattle.edge_io.specs.Causes.{Rose}
+use Rattle.edge_io.specs.Disk.{Folder}
+use Rattle.edge_io.specs.Seen.{Seen}
+use Rattle.edge_io.specs.Steps.{Goes, Grown, HasDraft}
+use Rattle.run_shelf.specs.Drafts.{SameButDraft}
+use Rattle.run_shelf.specs.declared.faults.ShelfCall.{ShelfCall}
+use Rattle.run_shelf.specs.declared.faults.ShelfCall.TheVariants.{Append}
+use Rattle.worker_lane.specs.declared.lot.Ending.TheVariants.{NoMemory}
+use Rattle.worker_lane.specs.declared.lot.Lot.{Lot}
+use Rattle.worker_lane.specs.declared.lot.Lot.TheVariants.{Packet, End}
+use Rattle.worker_mux.specs.Passes.{lane_count, lots_taken, settled_lanes, IsTakerFor}
+use Rattle.worker_mux.specs.declared.belt.Belt.{Belt}
+use Rattle.worker_mux.specs.declared.caller.Caller.{Caller}
+use Rattle.worker_mux.specs.declared.knowledge.Parcel.{Parcel}
+use Rattle.worker_mux.specs.declared.pass.Taker.{Taker}
+
+-- its taker is this belt's, and it knows of each lane whose memory ran out
+pub record IsCaller (belt : Belt) (caller : Caller) : Type 0 where
+  pub taker : IsTakerFor belt caller.taker
+  pub well : caller.no_memory ≡ false → AllByRecursion (λ p. p.lot ≡ End NoMemory → ⊥) (lots_taken caller.taker)
+
+-- a taker that has taken nothing, and knows of no lane that is settled
+pub record IsNewTaker (belt : Belt) (taker : Taker) : Type 0 where
+  pub made_here : IsTakerFor belt taker
+  pub nothing : lots_taken taker ≡ []
+  pub none_settled : settled_lanes taker ≡ []
+
+-- what is recorded of a lot, and of all that was taken
+abbrev pub packet_of : Lot → List ℕ
+packet_of (Packet packet) = packet
+packet_of (End how) = []
+
+abbrev pub recorded : List Parcel → List ℕ
+recorded [] = []
+recorded (p ∷ ps) = packet_of p.lot ++ recorded ps
+
+-- what is seen of a run that is added to: the call of the folder that failed, and the folder
+pub record Tape : Type 0 where
+  pub fault : Option ShelfCall
+  pub folder : Seen Folder
+
+abbrev pub tape : Option ShelfCall → Seen Folder → Tape
+tape fault folder = record { fault = fault; folder = folder }
+
+-- until a call has failed, there is a run to add to
+pub record IsOpen (t : Tape) : Type 0 where
+  pub draft : t.fault ≡ None → HasDraft t.folder.told
+
+-- Nothing but the run has changed. A fault stays, and one comes exactly where an `append` failed.
+pub record KeepsTape (old new : Tape) : Type 0 where
+  pub files : Goes old.folder.told new.folder.told SameButDraft
+  pub is_open : IsOpen old → IsOpen new
+  pub stays : (call : ShelfCall) → old.fault ≡ Some call → new.fault ≡ Some call
+  pub later : old.folder.faults ≤ new.folder.faults
+  pub rose : old.fault ≡ None → (call : ShelfCall) → new.fault ≡ Some call → (call ≡ Append) × Rose old.folder.faults new.folder.faults
+  pub stands : new.fault ≡ old.fault → new.folder.faults ≡ old.folder.faults
+
+-- with no fault, what was taken has been added, from `start` on
+abbrev pub HasAdded : Option Folder → Caller → Tape → Type 0
+HasAdded start caller t = t.fault ≡ None → Goes start t.folder.told (Grown (recorded (lots_taken caller.taker)))
+
+-- the lanes stay as many, and what was taken stays added
+pub record GoesOn (before after : Caller) (old new : Tape) : Type 0 where
+  pub count : lane_count after.taker ≡ lane_count before.taker
+  pub memory : after.no_memory ≡ false → before.no_memory ≡ false
+  pub keeps : KeepsTape old new
+  pub added : (start : Option Folder) → HasAdded start before old → HasAdded start after new

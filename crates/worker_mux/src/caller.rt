@@ -1,0 +1,172 @@
+//! The part of the one that records: it alone takes lots and adds them to the run.
+
+ghost use Rattle.std.specs.Prelude.{◌≡◌, ◌∷◌, None, false, IsFalse};
+ghost use Rattle.edge_io.specs.Steps.{Goes, Grown};
+ghost use Rattle.worker_lane.specs.declared.lot.Lot.TheVariants.{End};
+ghost use Rattle.worker_lane.specs.declared.lot.Ending.TheVariants.{NoMemory as without_memory};
+ghost use Rattle.worker_mux.specs.Callers.{IsCaller, GoesOn, KeepsTape, IsOpen, Tape, packet_of, tape};
+ghost use Rattle.worker_mux.specs.Passes.{number_of, settled_lanes, entry_of, HasAll, IsOfLanes};
+ghost use Rattle.worker_mux.specs.Works.{IsOwnPass, IsPut, Drives, IsReadyOutcome};
+
+use crate::pass::{LanePass, Taker};
+use crate::pen::Pen;
+use crate::work::{Outcome, Shared, Work, drive};
+use edge_io::{Child, Shelf};
+use std::sync::Wait;
+use std::sync::atomic::{AtomicBool, Ordering};
+use worker_lane::{Ending, Lot};
+
+/// The taker, how many lanes have not ended yet, and whether memory ran out in a lane.
+#[derive(Drop)]
+pub(crate) struct Caller {
+    pub(crate) taker: Taker,
+    pub(crate) running: usize,
+    pub(crate) no_memory: bool,
+}
+
+impl Caller {
+    // Adds a lot. At the end of a lane whose memory ran out, all lanes are told to stop.
+    fn record<R: Wait, H: Shelf>(&mut self, rt: &R, shared: &Shared, pen: &mut Pen<'_, H>, lot: Lot)
+        requires is_open { IsOpen (tape pen.old.fault (H.seen pen.old.shelf.now)) }
+        ensures taker { self.new.taker ≡ self.old.taker }
+        ensures memory { self.new.no_memory ≡ false → self.old.no_memory ≡ false }
+        ensures well { self.new.no_memory ≡ false → lot ≡ End without_memory → ⊥ }
+        ensures loan { pen.new.shelf.ghost_name ≡ pen.old.shelf.ghost_name }
+        ensures keeps { KeepsTape (tape pen.old.fault (H.seen pen.old.shelf.now)) (tape pen.new.fault (H.seen pen.new.shelf.now)) }
+        ensures added { pen.new.fault ≡ None → Goes (H.seen pen.old.shelf.now).told (H.seen pen.new.shelf.now).told (Grown (packet_of lot)) }
+    {
+        match lot {
+            Lot::Packet(packet) => pen.add(packet.bytes()),
+            Lot::End(Ending::Exit(_)) => self.running = self.running.saturating_sub(1),
+            Lot::End(Ending::Fault) => self.running = self.running.saturating_sub(1),
+            Lot::End(Ending::NoMemory) => {
+                self.no_memory = true;
+                shared.stop.store(true, Ordering::SeqCst);
+                shared.gate.tell(rt);
+            }
+        }
+    }
+
+    /// Takes a lot and adds it. False where the belt was empty, or memory ran out before.
+    pub(crate) fn take_one<R: Wait, H: Shelf>(
+        &mut self,
+        rt: &R,
+        shared: &Shared,
+        pen: &mut Pen<'_, H>,
+    ) -> bool
+        requires ready { IsCaller shared.now.belt self.old }
+        requires is_open { IsOpen (tape pen.old.fault (H.seen pen.old.shelf.now)) }
+        ensures ready { IsCaller shared.now.belt self.new }
+        ensures loan { pen.new.shelf.ghost_name ≡ pen.old.shelf.ghost_name }
+        ensures goes { GoesOn self.old self.new (tape pen.old.fault (H.seen pen.old.shelf.now)) (tape pen.new.fault (H.seen pen.new.shelf.now)) }
+        ensures settled { settled_lanes self.new.taker ≡ settled_lanes self.old.taker }
+        ensures empty { IsFalse result → self.new.no_memory ≡ false → HasAll self.new.taker × IsOfLanes self.new.taker }
+    {
+        if self.no_memory {
+            return false;
+        }
+        match shared.belt.take(rt, &mut self.taker) {
+            Some((_, lot)) => {
+                shared.gate.tell(rt);
+                self.record(rt, shared, pen, lot);
+                true
+            }
+            None => false,
+        }
+    }
+
+    /// Drives a work on until all its lots are put, and takes a lot each time that the belt is full.
+    pub(crate) fn drive_out<C: Child + Drop, R: Wait, H: Shelf>(
+        &mut self,
+        rt: &R,
+        shared: &Shared,
+        flag: &AtomicBool,
+        mut outcome: Outcome<C>,
+        pen: &mut Pen<'_, H>,
+    ) -> LanePass
+        requires ready { IsCaller shared.now.belt self.old × IsReadyOutcome shared.now.belt outcome }
+        requires is_open { IsOpen (tape pen.old.fault (H.seen pen.old.shelf.now)) }
+        ensures ready { IsCaller shared.now.belt self.new × IsOwnPass shared.now.belt result }
+        ensures loan { pen.new.shelf.ghost_name ≡ pen.old.shelf.ghost_name }
+        ensures goes { GoesOn self.old self.new (tape pen.old.fault (H.seen pen.old.shelf.now)) (tape pen.new.fault (H.seen pen.new.shelf.now)) }
+        ensures settled { settled_lanes self.new.taker ≡ settled_lanes self.old.taker }
+        ensures number { (before : Work C) → Drives C.seen before outcome → number_of result ≡ number_of before.pass }
+        ensures put { (before : Work C) → Drives C.seen before outcome → self.new.no_memory ≡ false → IsPut C.seen before result }
+    {
+        flag.store(true, Ordering::SeqCst);
+        for _ in rt.forever() {
+            match outcome {
+                Outcome::Put(pass) => return pass,
+                Outcome::GivenUp(pass) => {
+                    self.no_memory = true;
+                    return pass;
+                }
+                Outcome::Kept(work) => {
+                    self.take_one(rt, shared, pen);
+                    outcome = drive(rt, shared, flag, work);
+                }
+            }
+        }
+        unreachable!()
+    }
+
+    /// Settles a lane: from then on the taker knows all that it put.
+    pub(crate) fn settle<R>(&mut self, rt: &R, shared: &Shared, pass: LanePass)
+        requires ready { IsCaller shared.now.belt self.old × IsOwnPass shared.now.belt pass }
+        ensures ready { IsCaller shared.now.belt self.new }
+        ensures goes { (now : Tape) → GoesOn self.old self.new now now }
+        ensures memory { self.new.no_memory ≡ self.old.no_memory }
+        ensures settled { settled_lanes self.new.taker ≡ entry_of pass ∷ settled_lanes self.old.taker }
+    {
+        shared.belt.settle(rt, &mut self.taker, pass);
+    }
+
+    /// Takes and adds until each lane has ended, or memory ran out.
+    pub(crate) fn take_all_ends<R: Wait, H: Shelf>(
+        &mut self,
+        rt: &R,
+        shared: &Shared,
+        pen: &mut Pen<'_, H>,
+    )
+        requires ready { IsCaller shared.now.belt self.old }
+        requires is_open { IsOpen (tape pen.old.fault (H.seen pen.old.shelf.now)) }
+        ensures ready { IsCaller shared.now.belt self.new }
+        ensures loan { pen.new.shelf.ghost_name ≡ pen.old.shelf.ghost_name }
+        ensures goes { GoesOn self.old self.new (tape pen.old.fault (H.seen pen.old.shelf.now)) (tape pen.new.fault (H.seen pen.new.shelf.now)) }
+        ensures settled { settled_lanes self.new.taker ≡ settled_lanes self.old.taker }
+    {
+        for _ in rt.forever() {
+            if self.running == 0 || self.no_memory {
+                return;
+            }
+            let seen = shared.gate.now(rt);
+            if !self.take_one(rt, shared, pen) {
+                shared.gate.wait_past(rt, seen);
+            }
+        }
+        unreachable!()
+    }
+
+    /// Takes and adds until the belt is empty, or memory ran out.
+    pub(crate) fn take_rest<R: Wait, H: Shelf>(
+        &mut self,
+        rt: &R,
+        shared: &Shared,
+        pen: &mut Pen<'_, H>,
+    )
+        requires ready { IsCaller shared.now.belt self.old }
+        requires is_open { IsOpen (tape pen.old.fault (H.seen pen.old.shelf.now)) }
+        ensures ready { IsCaller shared.now.belt self.new }
+        ensures loan { pen.new.shelf.ghost_name ≡ pen.old.shelf.ghost_name }
+        ensures goes { GoesOn self.old self.new (tape pen.old.fault (H.seen pen.old.shelf.now)) (tape pen.new.fault (H.seen pen.new.shelf.now)) }
+        ensures settled { settled_lanes self.new.taker ≡ settled_lanes self.old.taker }
+        ensures empty { self.new.no_memory ≡ false → HasAll self.new.taker × IsOfLanes self.new.taker }
+    {
+        for _ in rt.forever() {
+            if !self.take_one(rt, shared, pen) {
+                return;
+            }
+        }
+        unreachable!()
+    }
+}

@@ -1,0 +1,257 @@
+//! All lanes, each on a thread of its own, recorded by the caller.
+
+ghost use Rattle.std.specs.Prelude.{◌≡◌, ◌≤◌, ◌<◌, [], None, false, length, map, IfOk, OnOk};
+ghost use Rattle.std.specs.List.{AllByRecursion, range_with_len};
+ghost use Rattle.std.specs.VecDeque.{deque_capacity};
+ghost use Rattle.edge_io.specs.Steps.{Goes};
+ghost use Rattle.run_shelf.specs.Images.{PassesOld};
+ghost use Rattle.run_shelf.specs.Stores.{recorder_kinds, recorder_partial, recorder_fault, RecordsUnlessBroken};
+ghost use Rattle.worker_lane.specs.Lanes.{rest, lane_number};
+ghost use Rattle.worker_mux.specs.Callers.{IsNewTaker, KeepsTape, IsOpen, tape};
+ghost use Rattle.worker_mux.specs.Passes.{number_of, lane_count, IsFresh};
+ghost use Rattle.worker_mux.specs.Runs.{share, first_share, IsBegun, IsRecorded, AddsMerge};
+ghost use Rattle.worker_mux.specs.Works.{IsReady};
+
+use crate::belt::Belt;
+use crate::caller::Caller;
+use crate::gate::Gate;
+use crate::levels::level;
+use crate::pass::{LanePass, Taker};
+use crate::pen::Pen;
+use crate::work::{Shared, Work};
+use edge_io::{Child, Shelf};
+use run_shelf::{Recorder, ShelfCall};
+use std::alloc::Global;
+use std::collections::VecDeque;
+use std::sync::Wait;
+use std::sync::atomic::AtomicBool;
+use std::thread;
+use std::thread::{Scope, Threads};
+use sub_number::NoMemory;
+use worker_lane::Lane;
+
+// How many lots the belt has room for.
+const ROOM: usize = 16;
+
+/// Reads all lanes to their ends, each on a thread of its own, and adds their packets to the run as they come. It may wait
+/// for the children. Lane 0 stands first, then lane 1, and so on; there are at most 64.
+///
+/// At `Ok`, where no call of the folder has failed, the run has grown by the packets of events, each under one of the
+/// lanes; of each lane whose child tells they are all its events, once and in order. Where a call of the folder failed,
+/// the recorder is closed, and the lanes were still read to their ends.
+///
+/// `NoMemory` comes only for want of memory. All children were then stopped and waited for, and what was added is not
+/// known.
+pub fn run_lanes<R: Threads + Wait + Sync, C: Child + Send + Drop, H: Shelf>(
+    rt: &R,
+    alloc: Global,
+    lanes: Vec<Lane<C>>,
+    recorder: &mut Recorder<'_, H>,
+) -> Result<(), NoMemory>
+    requires numbers { map lane_number lanes.items ≡ range_with_len 0 (length lanes.items) }
+    requires few { length lanes.items ≤ 64 }
+    requires fits { RecordsUnlessBroken (recorder_kinds recorder.old) (recorder_fault recorder.old) (H.seen recorder.old.shelf.now).told }
+    ensures same_reference { recorder.new.shelf.ghost_name ≡ recorder.old.shelf.ghost_name }
+    // What each exit leaves.
+    ensures any_moment { Goes (H.seen recorder.old.shelf.now).told (H.seen recorder.new.shelf.now).told PassesOld }
+    ensures keeps { KeepsTape (tape (recorder_fault recorder.old) (H.seen recorder.old.shelf.now)) (tape (recorder_fault recorder.new) (H.seen recorder.new.shelf.now)) }
+    ensures fits { RecordsUnlessBroken (recorder_kinds recorder.new) (recorder_fault recorder.new) (H.seen recorder.new.shelf.now).told }
+    ensures kinds { recorder_kinds recorder.new ≡ recorder_kinds recorder.old }
+    ensures partial { recorder_partial recorder.new ≡ recorder_partial recorder.old }
+    // What was added.
+    ensures merged { OnOk result (recorder_fault recorder.new ≡ None → AddsMerge (map (rest C.seen) lanes.items) (H.seen recorder.old.shelf.now).told (H.seen recorder.new.shelf.now).told) }
+{
+    if lanes.len() == 0 {
+        return Ok(());
+    }
+    let Ok(stage) = Stage::new(alloc, lanes.len()) else {
+        give_up_all(lanes);
+        return Err(NoMemory);
+    };
+    let Stage {
+        belt,
+        taker,
+        passes,
+        works,
+        flags,
+    } = stage;
+    let works = begin(&belt, lanes, passes, works);
+    let shared = Shared {
+        belt,
+        gate: Gate::new(),
+        stop: AtomicBool::new(false),
+    };
+    let (fault, no_memory) = read_all(
+        rt,
+        &shared,
+        flags.as_slice(),
+        works,
+        taker,
+        &mut *recorder.shelf,
+        recorder.recording.fault,
+    );
+    recorder.recording.fault = fault;
+    if no_memory { Err(NoMemory) } else { Ok(()) }
+}
+
+// All the memory that a run takes, before a lane begins.
+#[derive(Drop)]
+struct Stage<C> {
+    belt: Belt,
+    taker: Taker,
+    passes: Vec<LanePass>,
+    works: VecDeque<Work<C>>,
+    flags: Vec<AtomicBool>,
+}
+
+impl<C: Drop> Stage<C> {
+    fn new(alloc: Global, count: usize) -> Result<Stage<C>, NoMemory>
+        requires count { (0 < count) × (count ≤ 64) }
+        ensures taker { IfOk result (λ s. IsNewTaker s.belt s.taker × (lane_count s.taker ≡ count)) }
+        ensures numbers { IfOk result (λ s. map number_of s.passes.items ≡ range_with_len 0 count) }
+        ensures fresh { IfOk result (λ s. AllByRecursion (IsFresh s.belt) s.passes.items) }
+        ensures works { IfOk result (λ s. (s.works.items ≡ []) × (count ≤ deque_capacity s.works)) }
+        ensures flags { IfOk result (λ s. length s.flags.items ≡ count) }
+    {
+        let (belt, taker, passes) = Belt::new(alloc, count as u32, ROOM)?;
+        let works = VecDeque::with_capacity(alloc, count)?;
+        let flags = unset_flags(alloc, count)?;
+        Ok(Stage {
+            belt,
+            taker,
+            passes,
+            works,
+            flags,
+        })
+    }
+}
+
+// Stops all children.
+fn give_up_all<C: Child + Drop>(lanes: Vec<Lane<C>>) {
+    for lane in lanes {
+        lane.give_up();
+    }
+}
+
+// The work of each lane, in order.
+fn begin<C: Child + Drop>(
+    belt: &Belt,
+    lanes: Vec<Lane<C>>,
+    passes: Vec<LanePass>,
+    mut works: VecDeque<Work<C>>,
+) -> VecDeque<Work<C>>
+    requires numbers { map lane_number lanes.items ≡ map number_of passes.items }
+    requires fresh { AllByRecursion (IsFresh belt.now) passes.items }
+    requires room { (works.items ≡ []) × (length lanes.items ≤ deque_capacity works) }
+    ensures ready { AllByRecursion (IsReady belt.now) result.items }
+    ensures shares { map (share C.seen) result.items ≡ map (first_share C.seen) lanes.items }
+{
+    let _ = belt;
+    let mut lanes = lanes.into_iter();
+    let mut passes = passes.into_iter();
+    while let Some(lane) = lanes.next() {
+        let Some(pass) = passes.next() else {
+            unreachable!()
+        };
+        works.push_back_reserved(Work {
+            lane,
+            pass,
+            kept: None,
+        });
+    }
+    works
+}
+
+// As many flags, none of which is set.
+fn unset_flags(alloc: Global, count: usize) -> Result<Vec<AtomicBool>, NoMemory>
+    ensures { IfOk result (λ flags. length flags.items ≡ count) }
+{
+    let mut flags = Vec::with_capacity(alloc, count)?;
+    while flags.len() < count {
+        flags.push(AtomicBool::new(false))?;
+    }
+    Ok(flags)
+}
+
+// Reads all works to their ends: the call of the folder that failed, and whether memory ran out.
+fn read_all<R: Threads + Wait + Sync, C: Child + Send + Drop, H: Shelf>(
+    rt: &R,
+    shared: &Shared,
+    flags: &[AtomicBool],
+    works: VecDeque<Work<C>>,
+    taker: Taker,
+    shelf: &mut H,
+    fault: Option<ShelfCall>,
+) -> (Option<ShelfCall>, bool)
+    requires taker { IsNewTaker shared.now.belt taker }
+    requires works { AllByRecursion (IsReady shared.now.belt) works.items }
+    requires flags { length works.items ≤ length flags.now }
+    requires is_open { IsOpen (tape fault (H.seen shelf.old)) }
+    ensures keeps { KeepsTape (tape fault (H.seen shelf.old)) (tape result.0 (H.seen shelf.new)) }
+    ensures recorded { result.1 ≡ false → result.0 ≡ None → IsRecorded C.seen (lane_count taker) works.items (H.seen shelf.old).told (H.seen shelf.new).told }
+{
+    in_scope(rt, shared, flags, works, taker, shelf, fault)
+}
+
+// The same. What it asks is one fact, so that the scope's closure asks one.
+fn in_scope<R: Threads + Wait + Sync, C: Child + Send + Drop, H: Shelf>(
+    rt: &R,
+    shared: &Shared,
+    flags: &[AtomicBool],
+    works: VecDeque<Work<C>>,
+    taker: Taker,
+    shelf: &mut H,
+    fault: Option<ShelfCall>,
+) -> (Option<ShelfCall>, bool)
+    requires begun { IsBegun shared.now.belt taker works.items (length flags.now) (tape fault (H.seen shelf.old)) }
+    ensures keeps { KeepsTape (tape fault (H.seen shelf.old)) (tape result.0 (H.seen shelf.new)) }
+    ensures recorded { result.1 ≡ false → result.0 ≡ None → IsRecorded C.seen (lane_count taker) works.items (H.seen shelf.old).told (H.seen shelf.new).told }
+{
+    let (shelf, fault, no_memory) = thread::scope(
+        thread::scope_env(),
+        rt,
+        move |scope| -> (&mut H, Option<ShelfCall>, bool)
+            requires begun { IsBegun shared.now.belt taker works.items (length flags.now) (tape fault (H.seen shelf.now)) }
+            ensures same { result.0.ghost_name ≡ shelf.entry.ghost_name }
+            ensures keeps { KeepsTape (tape fault (H.seen shelf.entry.now)) (tape result.1 (H.seen result.0.now)) }
+            ensures recorded { result.2 ≡ false → result.1 ≡ None → IsRecorded C.seen (lane_count taker) works.items (H.seen shelf.entry.now).told (H.seen result.0.now).told }
+        {
+            let mut pen = Pen { shelf, fault };
+            let no_memory = all_levels(rt, scope, shared, flags, works, taker, &mut pen);
+            let Pen { shelf, fault } = pen;
+            (shelf, fault, no_memory)
+        },
+    );
+    take_back(shelf);
+    (fault, no_memory)
+}
+
+// All levels, and then what is left on the belt. True where memory ran out.
+fn all_levels<'s, R: Threads + Wait + Sync, C: Child + Send + Drop + 's, H: Shelf, E>(
+    rt: &'s R,
+    scope: &Scope<'s, E>,
+    shared: &'s Shared,
+    flags: &'s [AtomicBool],
+    mut works: VecDeque<Work<C>>,
+    taker: Taker,
+    pen: &mut Pen<'_, H>,
+) -> bool
+    requires begun { IsBegun shared.now.belt taker works.items (length flags.now) (tape pen.old.fault (H.seen pen.old.shelf.now)) }
+    ensures loan { pen.new.shelf.ghost_name ≡ pen.old.shelf.ghost_name }
+    ensures keeps { KeepsTape (tape pen.old.fault (H.seen pen.old.shelf.now)) (tape pen.new.fault (H.seen pen.new.shelf.now)) }
+    ensures recorded { result ≡ false → pen.new.fault ≡ None → IsRecorded C.seen (lane_count taker) works.items (H.seen pen.old.shelf.now).told (H.seen pen.new.shelf.now).told }
+{
+    let mut caller = Caller {
+        taker,
+        running: works.len(),
+        no_memory: false,
+    };
+    level(rt, scope, shared, flags, &mut works, &mut caller, pen);
+    caller.take_rest(rt, shared, pen);
+    caller.no_memory
+}
+
+// This use of the returned reference ties it to the parameter that lent it.
+fn take_back<T>(x: &mut T)
+    ensures { x.new ≡ x.old }
+{}

@@ -1,0 +1,135 @@
+//! The work of a lane, and how it is driven.
+
+ghost use Rattle.std.specs.Prelude.{◌≡◌, ◌⊎◌, Some, None, IfNone, IfSome};
+ghost use Rattle.std.specs.Option.{option_to_list};
+ghost use Rattle.packet_codec.specs.Grammar.{AreBytes};
+ghost use Rattle.worker_lane.specs.Rest.{Gives, IsOver};
+ghost use Rattle.worker_lane.specs.Lanes.{rest, lane_number};
+ghost use Rattle.worker_lane.specs.declared.lot.Lot.TheVariants.{End};
+ghost use Rattle.worker_lane.specs.declared.lot.Ending.TheVariants.{NoMemory as without_memory};
+ghost use Rattle.worker_mux.specs.Passes.{number_of};
+ghost use Rattle.worker_mux.specs.Works.{HasBytes, IsOwn, left, IsReady, IsReadyOutcome, Drives};
+
+use crate::belt::Belt;
+use crate::gate::Gate;
+use crate::pass::LanePass;
+use edge_io::Child;
+use std::sync::Wait;
+use std::sync::atomic::{AtomicBool, Ordering};
+use worker_lane::{Lane, Lot};
+
+/// What all lanes share: the belt, the gate at which threads wait for its moves, and whether memory ran out.
+#[derive(Drop)]
+pub(crate) struct Shared {
+    pub(crate) belt: Belt,
+    pub(crate) gate: Gate,
+    pub(crate) stop: AtomicBool,
+}
+
+/// A lane, its pass, and at most one lot that the belt handed back.
+#[derive(Drop)]
+pub(crate) struct Work<C> {
+    pub(crate) lane: Lane<C>,
+    pub(crate) pass: LanePass,
+    pub(crate) kept: Option<Lot>,
+}
+
+/// What driving a work leads to.
+#[derive(Drop)]
+pub(crate) enum Outcome<C> {
+    /// The belt was full and the lane's flag was set.
+    Kept(Work<C>),
+    /// All lots are put.
+    Put(LanePass),
+    /// Memory ran out in some lane, and the child was stopped.
+    GivenUp(LanePass),
+}
+
+// What holds of the bytes of each slice: the type tells it.
+fn are_bytes(bytes: &[u8])
+    ensures { AreBytes bytes.now }
+{}
+
+// What holds of each lot: the type tells it.
+fn has_bytes(lot: &Lot)
+    ensures { HasBytes lot.now }
+{
+    match lot {
+        Lot::Packet(packet) => are_bytes(packet.bytes()),
+        Lot::End(_) => {}
+    }
+}
+
+impl<C: Child> Work<C> {
+    // The lane's next lot.
+    fn step(&mut self) -> Option<Lot>
+        ensures pass { self.new.pass ≡ self.old.pass }
+        ensures kept { self.new.kept ≡ self.old.kept }
+        ensures number { lane_number self.new.lane ≡ lane_number self.old.lane }
+        ensures own { IfSome result (IsOwn (lane_number self.old.lane)) }
+        ensures gives { (result ≡ Some (End without_memory)) ⊎ Gives (rest C.seen self.old.lane) (option_to_list result) (rest C.seen self.new.lane) }
+        ensures none { IfNone result (IsOver (rest C.seen self.new.lane)) }
+    {
+        let lot = self.lane.step()?;
+        has_bytes(&lot);
+        Some(lot)
+    }
+
+    // The lot to put next: the one that was handed back, or else the lane's next.
+    fn next(&mut self) -> Option<Lot>
+        requires number { lane_number self.old.lane ≡ number_of self.old.pass }
+        requires kept { IfSome self.old.kept (IsOwn (number_of self.old.pass)) }
+        ensures pass { self.new.pass ≡ self.old.pass }
+        ensures number { lane_number self.new.lane ≡ lane_number self.old.lane }
+        ensures own { IfSome result (IsOwn (number_of self.old.pass)) }
+        ensures kept { self.new.kept ≡ None }
+        ensures gives { (result ≡ Some (End without_memory)) ⊎ Gives (left C.seen self.old) (option_to_list result) (left C.seen self.new) }
+        ensures first { IfSome self.old.kept (λ lot. result ≡ Some lot) }
+        ensures none { IfNone result (IsOver (left C.seen self.new)) }
+    {
+        match self.kept.take() {
+            Some(lot) => Some(lot),
+            None => self.step(),
+        }
+    }
+}
+
+/// Puts each lot of the work, and waits while the belt is full. Where the flag is set, a full belt ends the call, and the
+/// lot is kept. Where memory ran out in some lane, the child is given up.
+pub(crate) fn drive<C: Child + Drop, R: Wait>(
+    rt: &R,
+    shared: &Shared,
+    flag: &AtomicBool,
+    mut work: Work<C>,
+) -> Outcome<C>
+    requires ready { IsReady shared.now.belt work }
+    ensures ready { IsReadyOutcome shared.now.belt result }
+    ensures drives { Drives C.seen work result }
+{
+    for _ in rt.forever() {
+        if shared.stop.load(Ordering::SeqCst) {
+            let Work {
+                lane,
+                pass,
+                kept: _,
+            } = work;
+            lane.give_up();
+            return Outcome::GivenUp(pass);
+        }
+        let seen = shared.gate.now(rt);
+        let Some(lot) = work.next() else {
+            return Outcome::Put(work.pass);
+        };
+        match shared.belt.put(rt, &mut work.pass, lot) {
+            Ok(()) => shared.gate.tell(rt),
+            Err(back) => {
+                work.kept = Some(back);
+                if flag.load(Ordering::SeqCst) {
+                    return Outcome::Kept(work);
+                }
+                shared.gate.wait_past(rt, seen);
+            }
+        }
+    }
+    unreachable!()
+}
