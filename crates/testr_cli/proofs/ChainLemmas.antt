@@ -22,15 +22,14 @@ then_did value (goes_on v between done next) = record { value = v; between = bet
 abbrev pub IsQuiet : Work → Work → Type 0
 IsQuiet a b = Goes a.folder.told b.folder.told Rests
 
--- what is true where a refusal comes before a run is kept
+-- what is true where it refuses
 pub record IsRefused (refusal : Refusal) (a b : Work) : Type 0 where
   pub least : 3 ≤ refusal_code refusal
   pub most : refusal_code refusal ≤ 5
   pub counts : RisesAt (place_of refusal) a b
   pub fault : refusal_code refusal ≡ 4 → SomeRose a b
-  pub kept : (refusal_code refusal ≡ 4 → ⊥) → IsQuiet a b
 
--- and where it may come after
+-- and where by a fault alone
 pub record IsFault (refusal : Refusal) (a b : Work) : Type 0 where
   pub code : refusal_code refusal ≡ 4
   pub counts : RisesAt (place_of refusal) a b
@@ -58,7 +57,6 @@ is_fault refusal a b fault = record {
   most = omega (arith, fault.code);
   counts = fault.counts;
   fault = λ four. fault.rose;
-  kept = λ other. absurd (other fault.code);
 }
 
 module _ {W : Type 0} (see : W → Work) where
@@ -87,18 +85,17 @@ module _ {W : Type 0} (see : W → Work) where
     then_counts counts rest a b value (stops e is step) = cc
     then_counts counts rest a b value (goes_on v m done next) = counts_then (see a) (see m) (see b) (counts a m v done) (rest v m b value next)
 
-    pub then_refuses : Counts first → Quiet first → Refuses name first → ((v : A) → Refuses (λ r. r) (second v)) → Refuses (λ r. r) (Then name first second)
-    then_refuses counts quiet refuses rest a b r (stops e is step) =
+    pub then_refuses : Counts first → Refuses name first → ((v : A) → Refuses (λ r. r) (second v)) → Refuses (λ r. r) (Then name first second)
+    then_refuses counts refuses rest a b r (stops e is step) =
         let same : name e ≡ r = cc in
         subst (λ (x : Refusal). IsRefused x (see a) (see b)) same (refuses a b e step)
-    then_refuses counts quiet refuses rest a b r (goes_on v m done next) =
+    then_refuses counts refuses rest a b r (goes_on v m done next) =
         let late = rest v m b r next in
         record {
           least = late.least;
           most = late.most;
           counts = counts_after (place_of r) (see a) (see m) (see b) (counts a m v done) late.counts;
           fault = λ four. rose_after (see a) (see m) (see b) (counts a m v done) (late.fault four);
-          kept = λ other. rests_then (see a).folder.told (see m).folder.told (see b).folder.told (quiet a m (Ok v) done) (late.kept other);
         }
 
     -- behind this step a fault alone may come

@@ -8,18 +8,18 @@ use Rattle.testr_cli.specs.Load.{Loads}
 use Rattle.testr_cli.specs.Ask.{Asks}
 use Rattle.testr_cli.specs.declared.command.Question.{Question}
 use Rattle.testr_cli.proofs.ChainLemmas.{Counts, Quiet, Refuses, is_fault, then_quiet, then_counts, then_refuses, then_late, then_last, gives_not}
-use Rattle.testr_cli.proofs.StepLaws.{still_counts, still_quiet, runs_refuse, memory_refuses, make_counts, make_refuses, open_counts, open_quiet, open_refuses, find_counts, find_quiet, find_refuses, begin_counts, begin_quiet, begin_refuses, keep_counts, keep_faults, record_counts, record_quiet, record_refuses, print_counts, print_quiet, print_faults, gives_quiet, gives_counts}
+use Rattle.testr_cli.proofs.StepLaws.{still_counts, still_quiet, runs_refuse, memory_refuses, make_counts, make_refuses, open_counts, open_quiet, open_refuses, find_counts, find_quiet, find_refuses, begin_counts, begin_refuses, keep_counts, keep_faults, record_counts, record_refuses, print_counts, print_quiet, print_faults, gives_quiet, gives_counts}
 
 abbrev all : Work → Work
 all w = w
 
 pub load_refuses : (partial : Bool) (names : List (List ℕ)) → Refuses all (λ r. r) (Loads partial names)
 load_refuses partial names =
-    then_refuses all (λ a b v s. open_counts a b v s.at s.rest) (λ a b r s. open_quiet a b r s.at) (λ a b e s. open_refuses a b e s.at s.rest) (λ found.
-    then_refuses all (λ a b v s. still_counts a b s.same) (λ a b r s. still_quiet a b s.same) (λ a b e s. runs_refuse a b e s.same) (λ _.
-    then_refuses all (λ a b v s. begin_counts a b v s.at s.rest) (λ a b r s. begin_quiet a b r s.at) (λ a b e s. begin_refuses a b e s.at s.rest) (λ _.
-    then_refuses all (λ a b v s. record_counts a b names v s) (λ a b r s. record_quiet a b names r s) (λ a b e s. record_refuses a b names e s) (λ rows.
-    then_refuses all (λ a b v s. still_counts a b s.same) (λ a b r s. still_quiet a b s.same) (λ a b e s. memory_refuses a b e s.same) (λ report.
+    then_refuses all (λ a b v s. open_counts a b v s.at s.rest) (λ a b e s. open_refuses a b e s.at s.rest) (λ found.
+    then_refuses all (λ a b v s. still_counts a b s.same) (λ a b e s. runs_refuse a b e s.same) (λ _.
+    then_refuses all (λ a b v s. begin_counts a b v s.at s.rest) (λ a b e s. begin_refuses a b e s.at s.rest) (λ _.
+    then_refuses all (λ a b v s. record_counts a b names v s) (λ a b e s. record_refuses a b names e s) (λ rows.
+    then_refuses all (λ a b v s. still_counts a b s.same) (λ a b e s. memory_refuses a b e s.same) (λ report.
     then_late all (λ a b v s. keep_counts a b _ _ v s.at s.rest) (λ a b e s. is_fault _ a b (keep_faults a b _ _ e s.at s.rest)) (λ _.
     then_last all (λ a b e s. print_faults a b _ e s.at s.rest) (λ _. gives_not)))))))
 
@@ -40,9 +40,9 @@ module _ (site : Seen Files) (input : Seen (List ℕ)) where
 
   pub ask_refuses : (question : Question) → Refuses of_shown (λ r. r) (Asks question)
   ask_refuses question =
-      then_refuses of_shown (λ a b v s. open_counts (of_shown a) (of_shown b) v s.at (ap of_shown s.rest)) (λ a b r s. open_quiet (of_shown a) (of_shown b) r s.at) (λ a b e s. open_refuses (of_shown a) (of_shown b) e s.at (ap of_shown s.rest)) (λ found.
-      then_refuses of_shown (λ a b v s. still_counts (of_shown a) (of_shown b) (ap of_shown s.same)) (λ a b r s. still_quiet (of_shown a) (of_shown b) (ap of_shown s.same)) (λ a b e s. runs_refuse (of_shown a) (of_shown b) e (ap of_shown s.same)) (λ _.
-      then_refuses of_shown (λ a b v s. find_counts (of_shown a) (of_shown b) question v s.at (ap of_shown s.rest)) (λ a b r s. find_quiet (of_shown a) (of_shown b) question r s.at) (λ a b e s. find_refuses (of_shown a) (of_shown b) question e s.at (ap of_shown s.rest)) (λ told.
+      then_refuses of_shown (λ a b v s. open_counts (of_shown a) (of_shown b) v s.at (ap of_shown s.rest)) (λ a b e s. open_refuses (of_shown a) (of_shown b) e s.at (ap of_shown s.rest)) (λ found.
+      then_refuses of_shown (λ a b v s. still_counts (of_shown a) (of_shown b) (ap of_shown s.same)) (λ a b e s. runs_refuse (of_shown a) (of_shown b) e (ap of_shown s.same)) (λ _.
+      then_refuses of_shown (λ a b v s. find_counts (of_shown a) (of_shown b) question v s.at (ap of_shown s.rest)) (λ a b e s. find_refuses (of_shown a) (of_shown b) question e s.at (ap of_shown s.rest)) (λ told.
       then_late of_shown (λ a b v s. print_counts (of_shown a) (of_shown b) _ v s.at (ap of_shown s.rest)) (λ a b e s. is_fault _ (of_shown a) (of_shown b) (print_faults (of_shown a) (of_shown b) _ e s.at (ap of_shown s.rest))) (λ _ a b r gives. absurd (gives_not a b r gives)))))
 
   pub ask_counts : (question : Question) → Counts of_shown (Asks question)

@@ -16,6 +16,7 @@ pub mod CommandLaws
 pub mod MomentLaws
 pub mod DoneLaws
 pub mod CauseLaws
+pub mod KeepLemmas
 pub mod PromiseLemmas
 pub mod Performing
 mod ExactLemmas

@@ -1,16 +1,16 @@
 -- An answer keeps all that is promised.
-use Rattle.std.proofs.Common.{◌≡◌, ◌⊎◌, inl, inr, ℕ, ◌≤◌, Bool, Option, None, Some, IfSome, Result, Ok, Err, List, ◌∷◌, refl, sym, ap, subst, ◌∙◌, IsTrue, true, false, arith}
-use Rattle.edge_io.specs.Disk.{Files, Folder, IsImage}
+use Rattle.std.proofs.Common.{◌≡◌, ◌⊎◌, inl, inr, ℕ, ◌≤◌, Bool, Option, None, Some, Result, Ok, Err, List, ◌∷◌, refl, sym, ap, subst, ◌∙◌, IsTrue, true, false, arith}
+use Rattle.edge_io.specs.Disk.{Folder, IsImage}
 use Rattle.edge_io.specs.Steps.{Goes, Stays}
 use Rattle.edge_io.proofs.Going.{goes_weaker}
 use Rattle.edge_io.proofs.Passing.{passes_weaker}
 use Rattle.run_shelf.specs.Images.{MakesRepository, PassesOld, PassesFormat, HasFormatBeside}
-use Rattle.run_shelf.specs.Repository.{Run, Shows}
 use Rattle.testr_cli.specs.Outside.{Outside, Work, work_of, shown, SomeRose, SameCounts, RisesAt}
 use Rattle.testr_cli.specs.Tasks.{Task, init, load, ask}
 use Rattle.testr_cli.specs.Words.{testr_word, asked_by}
 use Rattle.testr_cli.specs.Verdicts.{verdict_code}
-use Rattle.testr_cli.specs.Answer.{refusal_code, code_of, place_in}
+use Rattle.testr_cli.specs.Runs.{KeepsFiles}
+use Rattle.testr_cli.specs.Answer.{refusal_code, code_of, place_in, may_have_kept}
 use Rattle.testr_cli.specs.Stops.{PassesCommand}
 use Rattle.testr_cli.specs.Program.{Performs, GivesUp, Answers, Promises, KeepsRuns, LoadsAll, AnswersQuestion, CanPerform, IsPerformed}
 use Rattle.testr_cli.specs.declared.words.UsageFault.{UsageFault}
@@ -26,13 +26,11 @@ use Rattle.testr_cli.proofs.CommandLaws.{load_refuses, load_counts, ask_refuses,
 use Rattle.testr_cli.proofs.MomentLaws.{quiet_moves, init_moves, load_moves}
 use Rattle.testr_cli.proofs.DoneLaws.{init_made, init_passed, load_did, ask_did}
 use Rattle.testr_cli.proofs.CauseLaws.{init_never, load_never, ask_never}
+use Rattle.testr_cli.proofs.KeepLemmas.{files_keep, keeps_runs, init_keeps, load_keeps}
 
 verdicts : (v : Verdict) → verdict_code v ≤ 1
 verdicts Passed = omega arith
 verdicts Failed = omega arith
-
-keeps_runs : (s t : Folder) → Rests s t → KeepsRuns s t
-keeps_runs s t rests runs shows = subst (λ (files : Files). Shows files runs) (sym rests.files) shows
 
 stays : (x y : Option Folder) → y ≡ x → Goes x y Stays
 stays None None same = tt
@@ -62,6 +60,13 @@ module _ (fault : UsageFault) (a b : Work) where
   moments_of (Some (load partial names)) outcome done = load_moves partial names a b outcome done
   moments_of (Some (ask question)) outcome done = goes_weaker a.folder.told b.folder.told Rests PassesOld (ask_quiet a.site a.input question (shown a.folder a.out) (shown b.folder b.out) outcome done.at) (λ s t rests. rests.old)
 
+  kept_of : (command : Option Task) (outcome : Result Verdict Refusal) → Performs fault command a b outcome → may_have_kept command outcome ≡ false → Goes a.folder.told b.folder.told KeepsRuns
+  kept_of None outcome done not = goes_weaker a.folder.told b.folder.told Rests KeepsRuns (rests_same a.folder.told b.folder.told (λ i. (done.same i).folder.told)) keeps_runs
+  kept_of (Some init) outcome done not = init_keeps a.folder b.folder outcome done.at
+  kept_of (Some (load partial names)) (Ok v) done not = cc
+  kept_of (Some (load partial names)) (Err r) done not = goes_weaker a.folder.told b.folder.told KeepsFiles KeepsRuns (load_keeps partial names a b r done not) files_keep
+  kept_of (Some (ask question)) outcome done not = goes_weaker a.folder.told b.folder.told Rests KeepsRuns (ask_quiet a.site a.input question (shown a.folder a.out) (shown b.folder b.out) outcome done.at) keeps_runs
+
   module _ (answer : ℕ) where
     usage_of : (command : Option Task) (outcome : Result Verdict Refusal) → Performs fault command a b outcome → answer ≡ code_of outcome → (answer ≡ 2 → command ≡ None) × (command ≡ None → answer ≡ 2)
     usage_of None outcome done code = (λ two. refl, λ none. code ∙ ap code_of done.usage)
@@ -74,11 +79,6 @@ module _ (fault : UsageFault) (a b : Work) where
         absurd (omega (arith, two, four))
     fault_of (Some command) (Ok v) done code four = absurd (omega (arith, verdicts v, code, four))
     fault_of (Some command) (Err r) done code four = (refused command r done).fault (sym code ∙ four)
-
-    kept_of : (command : Option Task) (outcome : Result Verdict Refusal) → Performs fault command a b outcome → answer ≡ code_of outcome → 2 ≤ answer → (answer ≡ 4 → ⊥) → Goes a.folder.told b.folder.told Rests
-    kept_of None outcome done code more other = rests_same a.folder.told b.folder.told (λ i. (done.same i).folder.told)
-    kept_of (Some command) (Ok v) done code more other = absurd (omega (arith, verdicts v, code, more))
-    kept_of (Some command) (Err r) done code more other = (refused command r done).kept (λ four. other (code ∙ four))
 
     made_of : (outcome : Result Verdict Refusal) → Performs fault (Some init) a b outcome → answer ≡ code_of outcome → answer ≡ 0 → Goes a.folder.told b.folder.told MakesRepository
     made_of (Ok v) done code zero = init_made a.folder b.folder v done.at
@@ -144,7 +144,7 @@ module _ (reading : Bool) (wrong : UsageFault) (asked : Option Task) (before aft
         usage = (usage_of wrong a b answer asked outcome done code).0;
         no_command = λ none. inl ((usage_of wrong a b answer asked outcome done code).1 none);
         fault = fault_of wrong a b answer asked outcome done code;
-        kept = λ more other. goes_weaker a.folder.told b.folder.told Rests KeepsRuns (kept_of wrong a b answer asked outcome done code more other) keeps_runs;
+        kept = kept_of wrong a b asked outcome done;
         any_moment = moments_of wrong a b asked outcome done;
         made = λ is. made_of wrong a b answer outcome (as_named outcome is done) code;
         loaded = λ partial names is. loaded_of wrong a b answer partial names outcome (as_named outcome is done) code;
@@ -161,7 +161,7 @@ module _ (reading : Bool) (wrong : UsageFault) (asked : Option Task) (before aft
         usage = λ two. absurd (omega (arith, five, two));
         no_command = λ none. inr (reads, five);
         fault = λ four. absurd (omega (arith, five, four));
-        kept = λ more other. goes_weaker a.folder.told b.folder.told Rests KeepsRuns (gave_up_quiet a b answers.outcome gives) keeps_runs;
+        kept = λ not. goes_weaker a.folder.told b.folder.told Rests KeepsRuns (gave_up_quiet a b answers.outcome gives) keeps_runs;
         any_moment = gave_up_moments a b answers.outcome gives asked;
         made = λ is zero. absurd (omega (arith, five, zero));
         loaded = λ partial names is less. absurd (omega (arith, five, less));

@@ -1,5 +1,5 @@
 -- What stays of a folder, and what a stop of it leaves, one step after another.
-use Rattle.std.proofs.Common.{◌≡◌, ◌⊎◌, ◌∷◌, ◌++◌, [], inl, inr, Option, None, Some, IfSome, IsSome, Bool, ℕ, List, All, Result, Ok, Err, refl, sym, ap, subst, ◌∙◌}
+use Rattle.std.proofs.Common.{◌≡◌, ◌∷◌, ◌++◌, [], Option, None, Some, IfSome, IsSome, Bool, ℕ, List, All, Result, Ok, Err, refl, sym, ap, subst, ◌∙◌}
 use Rattle.std.proofs.lemmas.List.Elements.{All-head, All-tail}
 use Rattle.edge_io.specs.Disk.{Files, Disk, Folder, IsImage}
 use Rattle.edge_io.specs.Moments.{LeavesOnly, Passes}
@@ -14,8 +14,7 @@ use Rattle.run_shelf.specs.declared.faults.OpenFault.TheVariants as open_fault
 use Rattle.run_shelf.specs.declared.found.Found.{Found}
 use Rattle.run_shelf.specs.Drafts.{SameButDraft}
 use Rattle.run_shelf.specs.Holds.{kinds_of, FitsFolder}
-use Rattle.run_shelf.specs.Images.{HasFormatBeside, PassesOld, PassesFormat}
-use Rattle.run_shelf.specs.Repository.{format_name}
+use Rattle.run_shelf.specs.Images.{PassesOld}
 use Rattle.run_shelf.specs.Outcomes.{FailsAt, OpenFails, Surveys}
 use Rattle.testr_cli.specs.Runs.{KeepsFiles}
 use Rattle.run_shelf.proofs.DraftLemmas.{draft_after, fits_beside}
@@ -123,21 +122,6 @@ open_fails_keeps open_fault.NoMemory s t fails = settled_keeps s t fails
 pub open_rests : (a b : Seen Folder) (result : Result Found OpenFault) → Opens a b result → Goes a.told b.told Rests
 open_rests a b (Ok found) opens = goes_both a.told b.told (Surveys (kinds_of found)) PassesOld Rests opens.found opens.any_moment (λ s t survey old. record { files = settled_keeps s t survey.settled; old = old })
 open_rests a b (Err fault) opens = goes_both a.told b.told (OpenFails fault) PassesOld Rests opens.refused opens.any_moment (λ s t fails old. record { files = open_fails_keeps fault s t fails; old = old })
-
-none_or_some : {A : Type 0} (o : Option A) → o ≡ None → IsSome o → ⊥
-none_or_some None none some = cc
-none_or_some (Some a) none some = cc
-
--- where there is a repository nothing is made
-pub exists_rests : (s t : Folder) → IsSome (s.disk.published format_name) × Settled s t → PassesFormat s t → Rests s t
-exists_rests s t there passes = record {
-  files = settled_keeps s t there.1;
-  old = passes_weaker (λ image. IsImage s.disk image ⊎ HasFormatBeside s.disk.published image) (IsImage s.disk) only s t passes;
-}
-  where
-    only : (image : Files) → IsImage s.disk image ⊎ HasFormatBeside s.disk.published image → IsImage s.disk image
-    only image (inl left) = left
-    only image (inr beside) = absurd (none_or_some (s.disk.published format_name) beside.absent there.0)
 
 -- ---- the draft
 

@@ -8,8 +8,6 @@ use Rattle.run_shelf.specs.declared.faults.InitFault.TheVariants as init_fault
 use Rattle.run_shelf.specs.declared.faults.OpenFault.{OpenFault}
 use Rattle.run_shelf.specs.declared.faults.OpenFault.TheVariants as open_fault
 use Rattle.run_shelf.specs.declared.found.Found.{Found}
-use Rattle.run_shelf.specs.Outcomes.{InitFails}
-use Rattle.run_shelf.specs.Images.{PassesFormat}
 use Rattle.testr_cli.specs.Outside.{Work, fed, filed, work_folder, work_fed, work_filed, work_out, Place, in_folder, SameCounts, RisesAt, SomeRose, of_folder, of_site, of_input, of_out}
 use Rattle.testr_cli.specs.Files.{RecordsSources, HasFilesCause, StopsAtFile, NoneFailed as NoFileFailed}
 use Rattle.testr_cli.proofs.FilesLemmas.{counts_then as files_counts}
@@ -31,7 +29,7 @@ use Rattle.testr_cli.specs.declared.told.TellFault.TheVariants as tell_fault
 use Rattle.testr_cli.specs.declared.answer.Verdict.{Verdict}
 use Rattle.testr_cli.specs.declared.answer.Refusal.{Refusal}
 use Rattle.testr_cli.specs.declared.answer.Refusal.TheVariants as refusal
-use Rattle.testr_cli.proofs.Resting.{Rests, rests_same, rests_of_stays, rests_of_same, open_rests, begin_rests, goes_both, exists_rests}
+use Rattle.testr_cli.proofs.Resting.{Rests, rests_same, rests_of_stays, rests_of_same, open_rests, begin_rests}
 use Rattle.testr_cli.proofs.ChainLemmas.{IsQuiet, IsRefused, IsFault, is_fault}
 
 module _ (a b : Work) where
@@ -58,14 +56,14 @@ module _ (a b : Work) where
   still_quiet same = by_folder (λ i. (same i).folder)
 
   -- a refusal that is no fault
-  named : (r : Refusal) → 3 ≤ refusal_code r → refusal_code r ≤ 5 → (refusal_code r ≡ 4 → ⊥) → RisesAt (place_of r) a b → IsQuiet a b → IsRefused r a b
-  named r least most not_four counts quiet = record { least = least; most = most; counts = counts; fault = λ four. absurd (not_four four); kept = λ other. quiet }
+  named : (r : Refusal) → 3 ≤ refusal_code r → refusal_code r ≤ 5 → (refusal_code r ≡ 4 → ⊥) → RisesAt (place_of r) a b → IsRefused r a b
+  named r least most not_four counts = record { least = least; most = most; counts = counts; fault = λ four. absurd (not_four four) }
 
   pub runs_refuse : (fault : RunsFault) → b ≡ a → IsRefused (refusal.Runs fault) a b
-  runs_refuse fault same = named (refusal.Runs fault) (omega arith) (omega arith) (λ four. omega arith) (still_counts same) (still_quiet same)
+  runs_refuse fault same = named (refusal.Runs fault) (omega arith) (omega arith) (λ four. omega arith) (still_counts same)
 
   pub memory_refuses : (fault : NoMemory) → b ≡ a → IsRefused (refusal.Memory fault) a b
-  memory_refuses fault same = named (refusal.Memory fault) (omega arith) (omega arith) (λ four. omega arith) (still_counts same) (still_quiet same)
+  memory_refuses fault same = named (refusal.Memory fault) (omega arith) (omega arith) (λ four. omega arith) (still_counts same)
 
   -- ---- steps of the folder
 
@@ -76,7 +74,7 @@ module _ (a b : Work) where
   make_counts done makes rest = folder_same rest (makes.count.stands refl)
 
   pub make_refuses : (fault : InitFault) → Makes a.folder b.folder (Err fault) → b ≡ work_folder.put a b.folder → IsRefused (refusal.Init fault) a b
-  make_refuses init_fault.Exists makes rest = named (refusal.Init init_fault.Exists) (omega arith) (omega arith) (λ four. omega arith) (folder_same rest (makes.count.stands refl)) (goes_both a.folder.told b.folder.told (InitFails init_fault.Exists) PassesFormat Rests makes.refused makes.any_moment exists_rests)
+  make_refuses init_fault.Exists makes rest = named (refusal.Init init_fault.Exists) (omega arith) (omega arith) (λ four. omega arith) (folder_same rest (makes.count.stands refl))
   make_refuses (init_fault.Shelf call) makes rest = is_fault (refusal.Init (init_fault.Shelf call)) a b (folder_fault (refusal.Init (init_fault.Shelf call)) refl refl rest (makes.count.rose refl))
 
   pub open_counts : (found : Found) → Opens a.folder b.folder (Ok found) → b ≡ work_folder.put a b.folder → SameCounts a b
@@ -86,11 +84,11 @@ module _ (a b : Work) where
   open_quiet result opens = open_rests a.folder b.folder result opens
 
   pub open_refuses : (fault : OpenFault) → Opens a.folder b.folder (Err fault) → b ≡ work_folder.put a b.folder → IsRefused (refusal.Open fault) a b
-  open_refuses open_fault.NoStore opens rest = named (refusal.Open open_fault.NoStore) (omega arith) (omega arith) (λ four. omega arith) (folder_same rest (opens.count.stands refl)) (open_quiet (Err open_fault.NoStore) opens)
-  open_refuses open_fault.UnknownFormat opens rest = named (refusal.Open open_fault.UnknownFormat) (omega arith) (omega arith) (λ four. omega arith) (folder_same rest (opens.count.stands refl)) (open_quiet (Err open_fault.UnknownFormat) opens)
-  open_refuses (open_fault.Gap number) opens rest = named (refusal.Open (open_fault.Gap number)) (omega arith) (omega arith) (λ four. omega arith) (folder_same rest (opens.count.stands refl)) (open_quiet (Err (open_fault.Gap number)) opens)
+  open_refuses open_fault.NoStore opens rest = named (refusal.Open open_fault.NoStore) (omega arith) (omega arith) (λ four. omega arith) (folder_same rest (opens.count.stands refl))
+  open_refuses open_fault.UnknownFormat opens rest = named (refusal.Open open_fault.UnknownFormat) (omega arith) (omega arith) (λ four. omega arith) (folder_same rest (opens.count.stands refl))
+  open_refuses (open_fault.Gap number) opens rest = named (refusal.Open (open_fault.Gap number)) (omega arith) (omega arith) (λ four. omega arith) (folder_same rest (opens.count.stands refl))
   open_refuses (open_fault.Shelf call) opens rest = is_fault (refusal.Open (open_fault.Shelf call)) a b (folder_fault (refusal.Open (open_fault.Shelf call)) refl refl rest (opens.count.rose refl))
-  open_refuses open_fault.NoMemory opens rest = named (refusal.Open open_fault.NoMemory) (omega arith) (omega arith) (λ four. omega arith) (folder_same rest (opens.count.stands refl)) (open_quiet (Err open_fault.NoMemory) opens)
+  open_refuses open_fault.NoMemory opens rest = named (refusal.Open open_fault.NoMemory) (omega arith) (omega arith) (λ four. omega arith) (folder_same rest (opens.count.stands refl))
 
   pub find_counts : (question : Question) (told : Told) → Finds question a.folder b.folder (Ok told) → b ≡ work_folder.put a b.folder → SameCounts a b
   find_counts question told finds rest = folder_same rest (finds.count.stands refl)
@@ -100,7 +98,7 @@ module _ (a b : Work) where
 
   pub find_refuses : (question : Question) (fault : TellFault) → Finds question a.folder b.folder (Err fault) → b ≡ work_folder.put a b.folder → IsRefused (refusal.Tell fault) a b
   find_refuses question tell_fault.Shelf finds rest = is_fault (refusal.Tell tell_fault.Shelf) a b (folder_fault (refusal.Tell tell_fault.Shelf) refl refl rest (finds.count.rose refl))
-  find_refuses question tell_fault.NoMemory finds rest = named (refusal.Tell tell_fault.NoMemory) (omega arith) (omega arith) (λ four. omega arith) (folder_same rest (finds.count.stands refl)) (find_quiet question (Err tell_fault.NoMemory) finds)
+  find_refuses question tell_fault.NoMemory finds rest = named (refusal.Tell tell_fault.NoMemory) (omega arith) (omega arith) (λ four. omega arith) (folder_same rest (finds.count.stands refl))
 
   pub begin_counts : (done : Unit {0}) → Begins a.folder b.folder (Ok done) → b ≡ work_folder.put a b.folder → SameCounts a b
   begin_counts done begins rest = folder_same rest begins.count.done
@@ -144,13 +142,13 @@ module _ (a b : Work) where
     counts = (records.refused.0, records.refused.1, (λ i. (rest i).site.faults), (λ i. (rest i).out.faults));
     rose = of_input records.refused.0;
   })
-  input_refuses record_fault.TooLong records rest = named (refusal.Record record_fault.TooLong) (omega arith) (omega arith) (λ four. omega arith) (fed_same rest records.refused.1) (rests_of_same a.folder.told b.folder.told records.rests)
+  input_refuses record_fault.TooLong records rest = named (refusal.Record record_fault.TooLong) (omega arith) (omega arith) (λ four. omega arith) (fed_same rest records.refused.1)
   input_refuses record_fault.Site records rest = absurd records.refused
   input_refuses (record_fault.NoFile name) records rest = absurd records.refused
   input_refuses (record_fault.FileTooLong name) records rest = absurd records.refused
-  input_refuses record_fault.NoMemory records rest = named (refusal.Record record_fault.NoMemory) (omega arith) (omega arith) (λ four. omega arith) (fed_same rest records.refused.0) (rests_of_same a.folder.told b.folder.told records.rests)
+  input_refuses record_fault.NoMemory records rest = named (refusal.Record record_fault.NoMemory) (omega arith) (omega arith) (λ four. omega arith) (fed_same rest records.refused.0)
 
-  module _ (names : List (List ℕ)) (quiet : IsQuiet a b) (rest : b ≡ work_filed.put a (filed b.folder b.site)) where
+  module _ (names : List (List ℕ)) (rest : b ≡ work_filed.put a (filed b.folder b.site)) where
     file_refuses : (fault : RecordFault) → StopsAtFile names (filed a.folder a.site) (filed b.folder b.site) fault → IsRefused (refusal.Record fault) a b
     file_refuses (record_fault.Shelf call) stop = is_fault (refusal.Record (record_fault.Shelf call)) a b (record {
       code = refl;
@@ -164,17 +162,17 @@ module _ (a b : Work) where
       counts = (subst (λ (n : ℕ). Rose n b.site.faults) stop.recorded.counts.site stop.cause.0, stop.cause.1 ∙ stop.recorded.counts.folder, (λ i. (rest i).input.faults), (λ i. (rest i).out.faults));
       rose = of_site (subst (λ (n : ℕ). Rose n b.site.faults) stop.recorded.counts.site stop.cause.0);
     })
-    file_refuses (record_fault.NoFile name) stop = named (refusal.Record (record_fault.NoFile name)) (omega arith) (omega arith) (λ four. omega arith) (filed_same rest (files_counts _ _ _ stop.recorded.counts stop.cause.2)) quiet
-    file_refuses (record_fault.FileTooLong name) stop = named (refusal.Record (record_fault.FileTooLong name)) (omega arith) (omega arith) (λ four. omega arith) (filed_same rest (files_counts _ _ _ stop.recorded.counts stop.cause.2)) quiet
-    file_refuses record_fault.NoMemory stop = named (refusal.Record record_fault.NoMemory) (omega arith) (omega arith) (λ four. omega arith) (filed_same rest (files_counts _ _ _ stop.recorded.counts stop.cause)) quiet
+    file_refuses (record_fault.NoFile name) stop = named (refusal.Record (record_fault.NoFile name)) (omega arith) (omega arith) (λ four. omega arith) (filed_same rest (files_counts _ _ _ stop.recorded.counts stop.cause.2))
+    file_refuses (record_fault.FileTooLong name) stop = named (refusal.Record (record_fault.FileTooLong name)) (omega arith) (omega arith) (λ four. omega arith) (filed_same rest (files_counts _ _ _ stop.recorded.counts stop.cause.2))
+    file_refuses record_fault.NoMemory stop = named (refusal.Record record_fault.NoMemory) (omega arith) (omega arith) (λ four. omega arith) (filed_same rest (files_counts _ _ _ stop.recorded.counts stop.cause))
 
     files_refuse : (fault : RecordFault) → HasFilesCause names (filed a.folder a.site) (filed b.folder b.site) fault → IsRefused (refusal.Record fault) a b
     files_refuse fault (inl stop) = file_refuses fault stop
-    files_refuse fault (inr (is, none)) = subst (λ (f : RecordFault). IsRefused (refusal.Record f) a b) (sym is) (named (refusal.Record record_fault.NoMemory) (omega arith) (omega arith) (λ four. omega arith) (filed_same rest none) quiet)
+    files_refuse fault (inr (is, none)) = subst (λ (f : RecordFault). IsRefused (refusal.Record f) a b) (sym is) (named (refusal.Record record_fault.NoMemory) (omega arith) (omega arith) (λ four. omega arith) (filed_same rest none))
 
   pub record_refuses : (names : List (List ℕ)) (fault : RecordFault) → RecordsSources names a b (Err fault) → IsRefused (refusal.Record fault) a b
   record_refuses [] fault step = input_refuses fault step.at step.rest
-  record_refuses (name ∷ names) fault step = files_refuse (name ∷ names) (rests_of_same a.folder.told b.folder.told step.at.rests) step.rest fault step.at.refused
+  record_refuses (name ∷ names) fault step = files_refuse (name ∷ names) step.rest fault step.at.refused
 
   -- ---- the step of the output
 

@@ -1,8 +1,11 @@
 -- The refusals, each of one step, with its status and its line, which are that step's (docs/COMMANDS.md, "Refusals").
-use Rattle.std.specs.Prelude.{ℕ, Option, None, Some, List, Result, Ok, Err}
+use Rattle.std.specs.Prelude.{ℕ, Bool, true, false, Option, None, Some, List, Result, Ok, Err}
 use Rattle.run_shelf.specs.declared.faults.InitFault.TheVariants as init_fault
 use Rattle.run_shelf.specs.declared.faults.OpenFault.TheVariants as open_fault
+use Rattle.run_shelf.specs.declared.faults.ShelfCall.{ShelfCall}
+use Rattle.run_shelf.specs.declared.faults.ShelfCall.TheVariants.{Publish, SyncFolder}
 use Rattle.testr_cli.specs.Outside.{Place, in_folder, in_site, in_input, in_out}
+use Rattle.testr_cli.specs.Tasks.{Task, load}
 use Rattle.testr_cli.specs.Words.{usage_text}
 use Rattle.testr_cli.specs.Store.{init_code, init_text, open_code, open_text, runs_text, keep_text}
 use Rattle.testr_cli.specs.Recording.{record_code, record_text}
@@ -56,3 +59,17 @@ code_of (Err refusal) = refusal_code refusal
 abbrev pub place_in : Result Verdict Refusal → Option Place
 place_in (Ok verdict) = None
 place_in (Err refusal) = place_of refusal
+
+-- whether the file that was to get its name may be there, by the call that failed
+abbrev pub may_have_placed : ShelfCall → Bool
+may_have_placed Publish = true
+may_have_placed SyncFolder = true
+may_have_placed call = false
+
+-- Whether a run may be shown that was not before: a load was done, or a call failed that was to give its run the name, or
+-- that came behind. So it is of no other outcome.
+abbrev pub may_have_kept : Option Task → Result Verdict Refusal → Bool
+may_have_kept (Some (load partial names)) (Ok verdict) = true
+may_have_kept (Some (load partial names)) (Err (Keep fault)) = may_have_placed fault.call
+may_have_kept (Some (load partial names)) (Err (Print fault)) = true
+may_have_kept asked outcome = false

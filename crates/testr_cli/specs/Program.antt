@@ -24,7 +24,7 @@ use Rattle.testr_cli.specs.Runs.{run_bytes, HasRuns, KeepsFiles}
 use Rattle.testr_cli.specs.Verdicts.{verdict_code}
 use Rattle.testr_cli.specs.Says.{SaysOfFolder, OfLastRun}
 use Rattle.testr_cli.specs.Recording.{most_bytes}
-use Rattle.testr_cli.specs.Answer.{refusal_text, code_of, place_in}
+use Rattle.testr_cli.specs.Answer.{refusal_text, code_of, place_in, may_have_kept}
 use Rattle.testr_cli.specs.Init.{Inits}
 use Rattle.testr_cli.specs.Load.{Loads}
 use Rattle.testr_cli.specs.Ask.{Asks}
@@ -171,8 +171,8 @@ pub record Promises (reading : Bool) (wrong : UsageFault) (asked : Option Task) 
   pub usage : answer ≡ 2 → asked ≡ None
   pub no_command : asked ≡ None → (answer ≡ 2) ⊎ (IsTrue reading × (answer ≡ 5))
   pub fault : answer ≡ 4 → SomeRose (work_of before) (work_of after)
-  -- what is refused leaves the runs that the folder shows; only a fault may leave one more
-  pub kept : 2 ≤ answer → (answer ≡ 4 → ⊥) → Goes before.folder.told after.folder.told KeepsRuns
+  -- the runs that the folder showed it shows, and no other, unless a load was done or failed from the naming of its run on
+  pub kept : may_have_kept asked answers.outcome ≡ false → Goes before.folder.told after.folder.told KeepsRuns
   -- a stop at each moment leaves what one before the call might have left, or the files as reads gave them before the
   -- call with all that the command adds
   pub any_moment : Goes before.folder.told after.folder.told (PassesCommand asked before.site.told before.input.told)

@@ -1,0 +1,133 @@
+-- The runs that a folder showed are shown still, where no run may have been kept.
+use Rattle.std.proofs.Common.{◌≡◌, inl, inr, ℕ, ◌<◌, Bool, true, false, Some, Result, Ok, Err, List, sym, ap, subst, ◌∙◌, arith}
+use Rattle.edge_io.specs.Disk.{Files, Disk, Folder, put}
+use Rattle.edge_io.specs.Seen.{Seen}
+use Rattle.edge_io.specs.Steps.{Goes, Settled}
+use Rattle.edge_io.proofs.Going.{goes_then, goes_weaker}
+use Rattle.run_shelf.specs.declared.faults.ShelfCall.{ShelfCall}
+use Rattle.run_shelf.specs.declared.faults.ShelfCall.TheVariants.{Names, Length, ReadAt, StartDraft, Append, SyncDraft, Publish, SyncFolder}
+use Rattle.run_shelf.specs.declared.faults.InitFault.{InitFault}
+use Rattle.run_shelf.specs.declared.faults.InitFault.TheVariants as init_fault
+use Rattle.run_shelf.specs.Drafts.{OfDraft, PlaceFails}
+use Rattle.run_shelf.specs.Images.{MakesRepository}
+use Rattle.run_shelf.specs.Outcomes.{InitFails, InitFailsAt}
+use Rattle.run_shelf.specs.Repository.{Run, Shows, run_at, run_of_files, run_name, full_name, partial_name, most_runs, format_name, format_bytes}
+use Rattle.run_shelf.proofs.NameLemmas.{format_differs}
+use Rattle.run_shelf.proofs.RunLemmas.{put_other}
+use Rattle.testr_cli.specs.Steps.{Step, Then, stops, goes_on, Gives, At}
+use Rattle.testr_cli.specs.Outside.{Work, work_folder, work_out}
+use Rattle.testr_cli.specs.Tasks.{load}
+use Rattle.testr_cli.specs.Runs.{KeepsFiles}
+use Rattle.testr_cli.specs.Store.{Makes, Keeps}
+use Rattle.testr_cli.specs.Reporting.{Prints}
+use Rattle.testr_cli.specs.Init.{Inits}
+use Rattle.testr_cli.specs.Load.{Loads}
+use Rattle.testr_cli.specs.Answer.{may_have_placed, may_have_kept}
+use Rattle.testr_cli.specs.Program.{KeepsRuns}
+use Rattle.testr_cli.specs.declared.answer.Verdict.{Verdict}
+use Rattle.testr_cli.specs.declared.answer.Refusal.{Refusal}
+use Rattle.testr_cli.specs.declared.answer.Refusal.TheVariants.{Keep, Print}
+use Rattle.testr_cli.proofs.Resting.{Rests}
+use Rattle.testr_cli.proofs.ChainLemmas.{Quiet, gives_not}
+use Rattle.testr_cli.proofs.StepLaws.{still_quiet, open_quiet, begin_quiet, record_quiet}
+
+pub files_keep : (s t : Folder) → KeepsFiles s t → KeepsRuns s t
+files_keep s t same runs shows = subst (λ (files : Files). Shows files runs) (sym same) shows
+
+pub keeps_runs : (s t : Folder) → Rests s t → KeepsRuns s t
+keeps_runs s t rests = files_keep s t rests.files
+
+-- ---- `init`
+
+abbrev with_format : Files → Files
+with_format files = put files format_name format_bytes
+
+-- `format` is the name of no run
+beside_format : (files : Files) (runs : List Run) → Shows files runs → Shows (with_format files) runs
+beside_format files runs shows = record { few = shows.few; each = λ number few. still number few ∙ shows.each number few }
+  where
+    stays : (number : ℕ) (partial : Bool) → number < most_runs → with_format files (run_name number partial) ≡ files (run_name number partial)
+    stays number partial few = put_other files format_name format_bytes (run_name number partial) (λ same. format_differs number partial (omega (arith, few)) (sym same))
+
+    still : (number : ℕ) → number < most_runs → run_at (with_format files) number ≡ run_at files number
+    still number few =
+        ap (λ found. run_of_files found (with_format files (partial_name number))) (stays number false few)
+        ∙ ap (run_of_files (files (full_name number))) (stays number true few)
+
+format_keeps : (s t : Folder) → t.disk.published ≡ with_format s.disk.published → KeepsRuns s t
+format_keeps s t same runs shows = subst (λ (files : Files). Shows files runs) (sym same) (beside_format s.disk.published runs shows)
+
+settled_keeps : (s t : Folder) → Settled s t → KeepsRuns s t
+settled_keeps s t is = files_keep s t (ap (λ (f : Folder). f.disk.published) is)
+
+init_fails_keep : (call : ShelfCall) (s t : Folder) → InitFailsAt call s t → KeepsRuns s t
+init_fails_keep Names s t fails = absurd fails
+init_fails_keep Length s t fails = settled_keeps s t fails
+init_fails_keep ReadAt s t fails = absurd fails
+init_fails_keep StartDraft s t fails = files_keep s t (ap (λ (d : Disk). d.published) fails.disk)
+init_fails_keep Append s t fails = files_keep s t (ap (λ (d : Disk). d.published) fails.disk)
+init_fails_keep SyncDraft s t fails = files_keep s t (ap (λ (d : Disk). d.published) fails.disk)
+init_fails_keep Publish s t (inl lacks) = files_keep s t (ap (λ (d : Disk). d.published) lacks.disk)
+init_fails_keep Publish s t (inr there) = format_keeps s t there.reads
+init_fails_keep SyncFolder s t (inl stays) = files_keep s t (ap (λ (f : Folder). f.disk.published) stays)
+init_fails_keep SyncFolder s t (inr there) = format_keeps s t there.reads
+
+make_keeps : (a b : Seen Folder) (result : Result (Unit {0}) InitFault) → Makes a b result → Goes a.told b.told KeepsRuns
+make_keeps a b (Ok done) makes = goes_weaker a.told b.told MakesRepository KeepsRuns makes.made (λ s t made. format_keeps s t (ap (λ (d : Disk). d.published) made.disk))
+make_keeps a b (Err init_fault.Exists) makes = goes_weaker a.told b.told (InitFails init_fault.Exists) KeepsRuns makes.refused (λ s t there. settled_keeps s t there.1)
+make_keeps a b (Err (init_fault.Shelf call)) makes = goes_weaker a.told b.told (InitFails (init_fault.Shelf call)) KeepsRuns makes.refused (init_fails_keep call)
+
+pub init_keeps : (a b : Seen Folder) (outcome : Result Verdict Refusal) → Inits a b outcome → Goes a.told b.told KeepsRuns
+init_keeps a b outcome (stops fault is step) = make_keeps a b (Err fault) step
+init_keeps a b outcome (goes_on v m step gives) = subst (λ (f : Seen Folder). Goes a.told f.told KeepsRuns) (sym gives.same) (make_keeps a m (Ok v) step)
+
+-- ---- `load`
+
+place_keeps : (name bytes : List ℕ) (call : ShelfCall) (s t : Folder) → PlaceFails name bytes call s t → may_have_placed call ≡ false → KeepsFiles s t
+place_keeps name bytes Names s t fails not = absurd fails
+place_keeps name bytes Length s t fails not = absurd fails
+place_keeps name bytes ReadAt s t fails not = absurd fails
+place_keeps name bytes StartDraft s t fails not = absurd fails
+place_keeps name bytes Append s t fails not = absurd fails
+place_keeps name bytes SyncDraft s t fails not = ap (λ (d : Disk). d.published) fails
+place_keeps name bytes Publish s t fails not = cc
+place_keeps name bytes SyncFolder s t fails not = cc
+
+abbrev all : Work → Work
+all w = w
+
+module _ (partial : Bool) (names : List (List ℕ)) where
+  abbrev may_have : Refusal → Bool
+  may_have r = may_have_kept (Some (load partial names)) (Err r)
+
+  -- reads of the folder give the same files where it refuses, but for a fault behind the run's name
+  abbrev KeepsUnless : Step Work Verdict Refusal → Type 0
+  KeepsUnless step = (a b : Work) (r : Refusal) → step a b (Err r) → may_have r ≡ false → Goes a.folder.told b.folder.told KeepsFiles
+
+  then_keeps : {A E : Type 0} {name : E → Refusal} {first : Step Work A E} {second : A → Step Work Verdict Refusal} → Quiet all first → ((v : A) → KeepsUnless (second v)) → KeepsUnless (Then name first second)
+  then_keeps quiet rest a b r (stops e is step) not = goes_weaker a.folder.told b.folder.told Rests KeepsFiles (quiet a b (Err e) step) (λ s t rests. rests.files)
+  then_keeps quiet rest a b r (goes_on v m done next) not =
+      goes_then a.folder.told m.folder.told b.folder.told Rests KeepsFiles KeepsFiles (quiet a m (Ok v) done) (rest v m b r next not) (λ s m t rests files. files ∙ rests.files)
+
+  refused_as : (named r : Refusal) → ◌≡◌ {A = Result Verdict Refusal} (Err r) (Err named) → may_have r ≡ false → may_have named ≡ false
+  refused_as named r is not =
+      let same : r ≡ named = cc in
+      sym (ap may_have same) ∙ not
+
+  kept_last : (number : ℕ) (text : List ℕ) (verdict : Verdict) → KeepsUnless (Then Keep (At work_folder (Keeps partial number)) (λ _. Then Print (At work_out (Prints text)) (λ _. Gives verdict)))
+  kept_last number text verdict a b r (stops fault is step) not =
+      let before = refused_as (Keep fault) r is not in
+      goes_weaker a.folder.told b.folder.told (OfDraft (λ bytes. PlaceFails (run_name number partial) bytes fault.call)) KeepsFiles step.at.failed (λ s t of. place_keeps (run_name number partial) of.bytes fault.call s t of.does before)
+  kept_last number text verdict a b r (goes_on _ m step (stops fault is printed)) not =
+      let never : true ≡ false = refused_as (Print fault) r is not in
+      cc
+  kept_last number text verdict a b r (goes_on _ m step (goes_on _ m2 printed gives)) not = absurd (gives_not m2 b r gives)
+
+  pub load_keeps : KeepsUnless (Loads partial names)
+  load_keeps =
+      then_keeps (λ a b r s. open_quiet a b r s.at) (λ found.
+      then_keeps (λ a b r s. still_quiet a b s.same) (λ _.
+      then_keeps (λ a b r s. begin_quiet a b r s.at) (λ _.
+      then_keeps (λ a b r s. record_quiet a b names r s) (λ rows.
+      then_keeps (λ a b r s. still_quiet a b s.same) (λ report.
+      kept_last _ _ _)))))
