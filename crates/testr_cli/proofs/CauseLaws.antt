@@ -91,17 +91,21 @@ input_never a b (record_fault.NoFile name) records short three = records.refused
 input_never a b (record_fault.FileTooLong name) records short three = records.refused
 input_never a b record_fault.NoMemory records short three = omega arith
 
-abbrev IsShort : Files → List ℕ → Type 0
+abbrev pub IsShort : Files → List ℕ → Type 0
 IsShort files name = IsSomeAnd (files name) (λ bytes. length bytes ≤ most_bytes)
 
 -- what is among the names is there, and not too long
-short_at : (files : Files) (done : List (List ℕ)) (name : List ℕ) (rest : List (List ℕ)) → All (IsShort files) (done ++ name ∷ rest) → IsShort files name
+pub short_at : (files : Files) (done : List (List ℕ)) (name : List ℕ) (rest : List (List ℕ)) → All (IsShort files) (done ++ name ∷ rest) → IsShort files name
 short_at files [] name rest all = All-head (IsShort files) name rest all
 short_at files (first ∷ done) name rest all = short_at files done name rest (All-tail (IsShort files) first (done ++ name ∷ rest) all)
 
-not_absent : (file : Option (List ℕ)) → IsSomeAnd file (λ bytes. length bytes ≤ most_bytes) → file ≡ None → ⊥
+pub not_absent : (file : Option (List ℕ)) → IsSomeAnd file (λ bytes. length bytes ≤ most_bytes) → file ≡ None → ⊥
 not_absent None short none = short
 not_absent (Some bytes) short none = cc
+
+pub not_both : (file : Option (List ℕ)) → IsSomeAnd file (λ bytes. length bytes ≤ most_bytes) → IsSomeAnd file (λ bytes. most_bytes < length bytes) → ⊥
+not_both None short long = short
+not_both (Some bytes) short long = omega (arith, short, long)
 
 module _ (names : List (List ℕ)) (told : Option Files) (all : IsSomeAnd told (λ files. All (IsShort files) names)) where
   file_there : (done : List (List ℕ)) (name : List ℕ) (rest : List (List ℕ)) → names ≡ done ++ name ∷ rest → IfSome told (λ files. files name ≡ None) → ⊥
@@ -111,12 +115,12 @@ module _ (names : List (List ℕ)) (told : Option Files) (all : IsSomeAnd told (
       by None all none = all
       by (Some files) all none = not_absent (files name) (short_at files done name rest (subst (All (IsShort files)) is all)) none
 
-  file_short : (done : List (List ℕ)) (name : List ℕ) (rest : List (List ℕ)) → names ≡ done ++ name ∷ rest → IfSome told (λ files. IfSome (files name) (λ bytes. most_bytes < length bytes)) → ⊥
+  file_short : (done : List (List ℕ)) (name : List ℕ) (rest : List (List ℕ)) → names ≡ done ++ name ∷ rest → IfSome told (λ files. IsSomeAnd (files name) (λ bytes. most_bytes < length bytes)) → ⊥
   file_short done name rest is long = by told all long
     where
-      by : (o : Option Files) → IsSomeAnd o (λ files. All (IsShort files) names) → IfSome o (λ files. IfSome (files name) (λ bytes. most_bytes < length bytes)) → ⊥
+      by : (o : Option Files) → IsSomeAnd o (λ files. All (IsShort files) names) → IfSome o (λ files. IsSomeAnd (files name) (λ bytes. most_bytes < length bytes)) → ⊥
       by None all long = all
-      by (Some files) all long = not_long (files name) (short_at files done name rest (subst (All (IsShort files)) is all)) long
+      by (Some files) all long = not_both (files name) (short_at files done name rest (subst (All (IsShort files)) is all)) long
 
 -- the files that are named
 files_never : (names : List (List ℕ)) (a b : Filed) (fault : RecordFault) → HasFilesCause names a b fault → IsSomeAnd a.site.told (λ files. All (IsShort files) names) → record_code fault ≡ 3 → ⊥
@@ -128,7 +132,7 @@ files_never names a b record_fault.Input (inl stop) all three = stop.cause
 files_never names a b record_fault.TooLong (inl stop) all three = stop.cause
 files_never names a b record_fault.Site (inl stop) all three = omega arith
 files_never names a b (record_fault.NoFile name) (inl stop) all three = file_there names a.site.told all stop.done stop.name stop.rest stop.names_are (subst (λ (o : Option Files). IfSome o (λ files. files stop.name ≡ None)) stop.recorded.files stop.cause.1)
-files_never names a b (record_fault.FileTooLong name) (inl stop) all three = file_short names a.site.told all stop.done stop.name stop.rest stop.names_are (subst (λ (o : Option Files). IfSome o (λ files. IfSome (files stop.name) (λ bytes. most_bytes < length bytes))) stop.recorded.files stop.cause.1)
+files_never names a b (record_fault.FileTooLong name) (inl stop) all three = file_short names a.site.told all stop.done stop.name stop.rest stop.names_are (subst (λ (o : Option Files). IfSome o (λ files. IsSomeAnd (files stop.name) (λ bytes. most_bytes < length bytes))) stop.recorded.files stop.cause.1)
 files_never names a b record_fault.NoMemory (inl stop) all three = omega arith
 
 record_never : (names : List (List ℕ)) (a b : Work) (fault : RecordFault) → RecordsSources names a b (Err fault) → HasSources names a → record_code fault ≡ 3 → ⊥

@@ -2,7 +2,7 @@
 use Rattle.std.proofs.Common.{◌≡◌, ◌⊎◌, inl, inr, ℕ, zero, suc, ◌+◌, ◌<◌, ◌≤◌, Option, Some, None, IfSome, List, [], ◌∷◌, ◌++◌, map, All, OnOk, Result, Ok, Err, true, refl, sym, ap, subst, ◌∙◌, append_assoc, append-nil, length, length-append, take, drop, arith}
 use Rattle.std.specs.Prelude.{IsSomeAnd, IfErr, IsErrAnd}
 use Rattle.std.specs.List.{flat_map}
-use Rattle.std.proofs.lemmas.List.{map-append, take-append-drop}
+use Rattle.std.proofs.lemmas.List.{map-append, take-append-drop, length-take-le}
 use Rattle.std.proofs.lemmas.List.Elements.{All-nil, All-cons, All-append}
 use Rattle.std.proofs.lemmas.Grind.{flat_map-append}
 use Rattle.std.proofs.lemmas.Result.{err_from_is_err_and}
@@ -83,14 +83,23 @@ front_all name (Some files) bytes buf some front found = by (files name) front f
         let none : rest ≡ [] = none_left rest (omega (arith, ends, ap length is, length-append bytes rest)) in
         ap (λ (l : List ℕ). Some l) (is ∙ ap (λ (l : List ℕ). bytes ++ l) none ∙ append-nil bytes)
 
--- more was read than a file may have
-pub file_longer : (name : List ℕ) (told : Option Files) (bytes : List ℕ) → most_bytes < length bytes → AreFrontOf name told bytes → IfSome told (λ files. IfSome (files name) (λ all. most_bytes < length all))
-file_longer name None bytes more front = tt
-file_longer name (Some files) bytes more front = by (files name) front
+-- with this read more was read than a file may have
+pub file_longer : (name : List ℕ) (told now : Option Files) (bytes buf : List ℕ) (place count : ℕ) (found : Found) → now ≡ told → length bytes ≡ place → found ≡ Read count → FitsIn buf found → most_bytes < place + count → AreFrontOf name told bytes → IfSome now (λ files. Finds (files name) place buf found) → IfSome told (λ files. IsSomeAnd (files name) (λ all. most_bytes < length all))
+file_longer name told now bytes buf place count found same size is fits more front given =
+    let next : AreFrontOf name told (bytes ++ take count buf) = front_next name told now bytes buf place count found same size is front given in
+    let many : most_bytes < length (bytes ++ take count buf) = omega (arith, more, size, length-take-le count buf (fits_count buf found count is fits), length-append bytes (take count buf)) in
+    at told next
+    (subst (λ (o : Option Files). IfSome o (λ files. Finds (files name) place buf (Read count))) same
+    (subst (λ (f : Found). IfSome now (λ files. Finds (files name) place buf f)) is given))
+    many
   where
-    by : (file : Option (List ℕ)) → IfSome file (λ all. (rest : List ℕ) × (all ≡ bytes ++ rest)) → IfSome file (λ all. most_bytes < length all)
-    by None front = tt
-    by (Some all) (rest, is) = omega (arith, more, ap length is, length-append bytes rest)
+    by : (file : Option (List ℕ)) (all_read : List ℕ) → IfSome file (λ all. (rest : List ℕ) × (all ≡ all_read ++ rest)) → IsSomeAnd file (λ all. GivesPart all place buf count) → most_bytes < length all_read → IsSomeAnd file (λ all. most_bytes < length all)
+    by None all_read front found many = absurd found
+    by (Some all) all_read (rest, is) part many = omega (arith, many, ap length is, length-append all_read rest)
+
+    at : (told : Option Files) → AreFrontOf name told (bytes ++ take count buf) → IfSome told (λ files. Finds (files name) place buf (Read count)) → most_bytes < length (bytes ++ take count buf) → IfSome told (λ files. IsSomeAnd (files name) (λ all. most_bytes < length all))
+    at None front found many = tt
+    at (Some files) front found many = by (files name) (bytes ++ take count buf) front found many
 
 pub front_as : (name : List ℕ) (told new : Option Files) (bytes : List ℕ) → new ≡ told → AreFrontOf name told bytes → AreFrontOf name new bytes
 front_as name told new bytes same front = subst (λ (o : Option Files). AreFrontOf name o bytes) (sym same) front

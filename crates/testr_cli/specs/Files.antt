@@ -1,6 +1,6 @@
 -- The step that records files, one after another (docs/FORMATS.md, "What is recorded of a stream"): the first under lane 0,
 -- the next under lane 1, and so on.
-use Rattle.std.specs.Prelude.{◌≡◌, ◌⊎◌, ℕ, ◌+◌, ◌<◌, ◌≤◌, Option, Some, None, IfSome, IfOk, IfErr, List, [], ◌∷◌, ◌++◌, length, map, All, Result}
+use Rattle.std.specs.Prelude.{◌≡◌, ◌⊎◌, ℕ, ◌+◌, ◌<◌, ◌≤◌, Option, Some, None, IfSome, IsSomeAnd, IfOk, IfErr, List, [], ◌∷◌, ◌++◌, length, map, All, Result}
 use Rattle.std.specs.Io.KnownBytes.{Consumes, IsAtEnd}
 use Rattle.edge_io.specs.Causes.{Rose}
 use Rattle.edge_io.specs.Disk.{Files, Folder}
@@ -90,7 +90,7 @@ HasFileCause name before after Input = ⊥
 HasFileCause name before after TooLong = ⊥
 HasFileCause name before after Site = Rose before.site.faults after.site.faults × (after.folder.faults ≡ before.folder.faults)
 HasFileCause name before after (NoFile given) = (given.now ≡ name) × IfSome before.site.told (λ files. files name ≡ None) × NoneFailed before after
-HasFileCause name before after (FileTooLong given) = (given.now ≡ name) × IfSome before.site.told (λ files. IfSome (files name) (λ bytes. most_bytes < length bytes)) × NoneFailed before after
+HasFileCause name before after (FileTooLong given) = (given.now ≡ name) × IfSome before.site.told (λ files. IsSomeAnd (files name) (λ bytes. most_bytes < length bytes)) × NoneFailed before after
 HasFileCause name before after NoMemory = NoneFailed before after
 
 -- ---- all files
