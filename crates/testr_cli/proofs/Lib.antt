@@ -20,3 +20,4 @@ pub mod KeepLemmas
 pub mod PromiseLemmas
 pub mod Performing
 mod ExactLemmas
+mod ExactFiles

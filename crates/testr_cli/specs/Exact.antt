@@ -1,5 +1,5 @@
 -- Where a named refusal has its cause, it comes, but for a call that failed or want of memory.
-use Rattle.std.specs.Prelude.{⊤, Result, Ok, Err}
+use Rattle.std.specs.Prelude.{◌≡◌, ⊤, ℕ, List, Result, Ok, Err}
 use Rattle.run_shelf.specs.declared.faults.InitFault.{InitFault}
 use Rattle.run_shelf.specs.declared.faults.InitFault.TheVariants as init_fault
 use Rattle.run_shelf.specs.declared.faults.OpenFault.{OpenFault}
@@ -32,3 +32,25 @@ RecordEnds (Err record_fault.Site) = ⊤
 RecordEnds (Err (record_fault.NoFile name)) = ⊥
 RecordEnds (Err (record_fault.FileTooLong name)) = ⊥
 RecordEnds (Err record_fault.NoMemory) = ⊤
+
+-- this file was refused as one that is missing
+abbrev pub IsNoFile : {T : Type 0} → List ℕ → Result T RecordFault → Type 0
+IsNoFile name (Ok value) = ⊥
+IsNoFile name (Err (record_fault.Shelf call)) = ⊥
+IsNoFile name (Err record_fault.Input) = ⊥
+IsNoFile name (Err record_fault.TooLong) = ⊥
+IsNoFile name (Err record_fault.Site) = ⊥
+IsNoFile name (Err (record_fault.NoFile given)) = given.now ≡ name
+IsNoFile name (Err (record_fault.FileTooLong given)) = ⊥
+IsNoFile name (Err record_fault.NoMemory) = ⊥
+
+-- this file was refused as one that is too long
+abbrev pub IsFileTooLong : {T : Type 0} → List ℕ → Result T RecordFault → Type 0
+IsFileTooLong name (Ok value) = ⊥
+IsFileTooLong name (Err (record_fault.Shelf call)) = ⊥
+IsFileTooLong name (Err record_fault.Input) = ⊥
+IsFileTooLong name (Err record_fault.TooLong) = ⊥
+IsFileTooLong name (Err record_fault.Site) = ⊥
+IsFileTooLong name (Err (record_fault.NoFile given)) = ⊥
+IsFileTooLong name (Err (record_fault.FileTooLong given)) = given.now ≡ name
+IsFileTooLong name (Err record_fault.NoMemory) = ⊥

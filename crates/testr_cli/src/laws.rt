@@ -1,6 +1,6 @@
 //! Laws of the refusals.
 
-ghost use Rattle.std.specs.Prelude.{◌≡◌, ◌⊎◌, ◌<◌, ℕ, List, Result, Ok, Err, IsSome, IsSomeAnd, length};
+ghost use Rattle.std.specs.Prelude.{◌≡◌, ◌⊎◌, ◌<◌, ◌≤◌, ℕ, List, ◌∷◌, ◌++◌, Result, Ok, Err, None, IsSome, IsSomeAnd, All, length};
 ghost use Rattle.edge_io.specs.Disk.{Folder};
 ghost use Rattle.edge_io.specs.Seen.{Seen};
 ghost use Rattle.outcome_fold.specs.declared.row.Row.{Row as ARow};
@@ -15,8 +15,9 @@ ghost use Rattle.testr_cli.specs.declared.recording.RecordFault.{RecordFault as 
 ghost use Rattle.testr_cli.specs.declared.recording.RecordFault.TheVariants.{TooLong};
 ghost use Rattle.testr_cli.specs.declared.store.RunsFault.{RunsFault as ARunsFault};
 ghost use Rattle.testr_cli.specs.declared.store.RunsFault.TheVariants.{Full, NoRuns};
-ghost use Rattle.testr_cli.specs.Exact.{InitEnds, OpenEnds, RecordEnds};
-ghost use Rattle.testr_cli.specs.Outside.{Fed};
+ghost use Rattle.testr_cli.specs.Exact.{InitEnds, OpenEnds, RecordEnds, IsNoFile, IsFileTooLong};
+ghost use Rattle.testr_cli.specs.Files.{RecordsFiles};
+ghost use Rattle.testr_cli.specs.Outside.{Fed, Filed};
 ghost use Rattle.testr_cli.specs.Recording.{Records, most_bytes};
 ghost use Rattle.testr_cli.specs.Says.{OfLastRun};
 ghost use Rattle.testr_cli.specs.Store.{Makes, Opens, TakesRun, HasRunFor};
@@ -36,4 +37,8 @@ pub fn refusals_are_exact()
     ensures no_runs { (question : AQuestion) (result : Result (Unit {0}) ARunsFault) → HasRunFor question 0 result → OfLastRun question → result ≡ Err NoRuns }
     ensures too_long { (before after : Fed) (result : Result (List ARow) ARecordFault) → Records before after result
         → IsSomeAnd before.input.told (λ bytes. most_bytes < length bytes) → (result ≡ Err TooLong) ⊎ RecordEnds result }
+    ensures no_file { (front back : List (List ℕ)) (name : List ℕ) (before after : Filed) (result : Result (List ARow) ARecordFault) → RecordsFiles (front ++ name ∷ back) before after result
+        → IsSomeAnd before.site.told (λ files. All (λ n. IsSomeAnd (files n) (λ bytes. length bytes ≤ most_bytes)) front × (files name ≡ None)) → IsNoFile name result ⊎ RecordEnds result }
+    ensures file_too_long { (front back : List (List ℕ)) (name : List ℕ) (before after : Filed) (result : Result (List ARow) ARecordFault) → RecordsFiles (front ++ name ∷ back) before after result
+        → IsSomeAnd before.site.told (λ files. All (λ n. IsSomeAnd (files n) (λ bytes. length bytes ≤ most_bytes)) front × IsSomeAnd (files name) (λ bytes. most_bytes < length bytes)) → IsFileTooLong name result ⊎ RecordEnds result }
 {}

@@ -1,3 +1,4 @@
+use Rattle.testr_cli.proofs.ExactFiles as exact_files
 use Rattle.testr_cli.proofs.ExactLemmas as exact
 use Rattle.testr_cli.proofs.laws.refusals_are_exact.Goals as goal
 
@@ -21,3 +22,9 @@ returns-clause-no_runs c = exact.no_runs
 
 pub returns-clause-too_long : goal.returns-clause-too_long
 returns-clause-too_long c = exact.too_long
+
+pub returns-clause-no_file : goal.returns-clause-no_file
+returns-clause-no_file c = exact_files.no_file
+
+pub returns-clause-file_too_long : goal.returns-clause-file_too_long
+returns-clause-file_too_long c = exact_files.file_too_long
