@@ -25,6 +25,8 @@ mod pen;
 mod rule;
 mod run;
 #[cfg(test)]
+mod run_tests;
+#[cfg(test)]
 mod tests;
 mod work;
 

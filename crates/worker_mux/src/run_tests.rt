@@ -1,0 +1,276 @@
+//! Runs of several lanes over children and folders in memory: what is recorded, and what no clause says of threads.
+
+ghost use Rattle.std.specs.Prelude.{◌≡◌, ◌≤◌, ◌<◌, ◌+◌, map, length, IfSome, OnOk};
+ghost use Rattle.std.specs.List.{range_with_len};
+ghost use Rattle.worker_lane.specs.Lanes.{lane_number};
+
+use crate::run_lanes;
+use edge_io::{Child, Failed, Finish, MemShelf, PlanChild, Shelf};
+use run_shelf::Store;
+use std::alloc::Global;
+use std::sync::atomic::{AtomicU32, Ordering};
+use std::sync::{Arc, Wait};
+use std::test::Fail;
+use std::thread;
+use std::thread::Threads;
+use sub_number::Bytes;
+use worker_lane::Lane;
+
+// Two packets without a route, and each of them under lanes 0 to 3.
+const FOO_BAR: &[u8] =
+    b"\xb3\x29\x03\x0c\x03\x66\x6f\x6f\x45\x9d\xfe\x10\xb3\x29\x03\x0c\x03\x62\x61\x72\xbf\x11\x17\x9b";
+
+const UNDER: [[&[u8]; 2]; 4] = [
+    [
+        b"\xb3\x2d\x03\x0e\x03\x66\x6f\x6f\x01\x30\xa4\xaf\xdb\xe0",
+        b"\xb3\x2d\x03\x0e\x03\x62\x61\x72\x01\x30\xa5\x0e\x3a\x30",
+    ],
+    [
+        b"\xb3\x2d\x03\x0e\x03\x66\x6f\x6f\x01\x31\xd3\xa8\xeb\x76",
+        b"\xb3\x2d\x03\x0e\x03\x62\x61\x72\x01\x31\xd2\x09\x0a\xa6",
+    ],
+    [
+        b"\xb3\x2d\x03\x0e\x03\x66\x6f\x6f\x01\x32\x4a\xa1\xba\xcc",
+        b"\xb3\x2d\x03\x0e\x03\x62\x61\x72\x01\x32\x4b\x00\x5b\x1c",
+    ],
+    [
+        b"\xb3\x2d\x03\x0e\x03\x66\x6f\x6f\x01\x33\x3d\xa6\x8a\x5a",
+        b"\xb3\x2d\x03\x0e\x03\x62\x61\x72\x01\x33\x3c\x07\x6b\x8a",
+    ],
+];
+
+const FAULT_UNDER_0: &[u8] =
+    b"\xb3\x2df\x40\x4b\x12process\x2dreturncode\x17text/plain;charset=utf\x38\x09traceback\x0aread\x20fault\x01\x30g\xa6\xc6j";
+
+// One lane more.
+#[tactic(auto, using(crate::proofs::Lists::numbers_push))]
+fn add_lane<C: Child + Drop>(alloc: Global, lanes: &mut Vec<Lane<C>>, child: C) -> Option<()>
+    requires few { length lanes.old.items < 64 }
+    requires numbers { map lane_number lanes.old.items ≡ range_with_len 0 (length lanes.old.items) }
+    ensures numbers { IfSome result (λ done. map lane_number lanes.new.items ≡ range_with_len 0 (length lanes.new.items)) }
+    ensures one_more { IfSome result (λ done. length lanes.new.items ≡ length lanes.old.items + 1) }
+{
+    let number = lanes.len() as u32;
+    let lane = Lane::new(alloc, number, child).ok()?;
+    lanes.push(lane).ok()?;
+    Some(())
+}
+
+// Records a run of the lanes, and answers how many of its bytes fit into the buffer.
+fn record<R: Threads + Wait + Sync, C: Child + Send + Drop, H: Shelf>(
+    rt: &R,
+    alloc: Global,
+    shelf: &mut H,
+    lanes: Vec<Lane<C>>,
+    buf: &mut [u8],
+) -> Option<usize>
+    requires numbers { map lane_number lanes.items ≡ range_with_len 0 (length lanes.items) }
+    requires few { length lanes.items ≤ 64 }
+{
+    let Ok(()) = Store::init(shelf) else {
+        return None;
+    };
+    let Ok(store) = Store::open(alloc, shelf) else {
+        return None;
+    };
+    let Ok(recorder) = store.start_run(alloc, false) else {
+        return None;
+    };
+    let mut recorder = recorder;
+    let Ok(()) = run_lanes(rt, alloc, lanes, &mut recorder) else {
+        return None;
+    };
+    let (mut store, answer) = recorder.commit();
+    let Ok(number) = answer else {
+        return None;
+    };
+    if number >= store.runs() {
+        return None;
+    }
+    store.read_run(number, 0, buf).ok()
+}
+
+// The next packet of one of the lanes stands first: how many bytes it has.
+fn next_size(run: &[u8], next: &mut [usize]) -> Option<usize> {
+    for lane in 0..next.len().min(4) {
+        let at = next[lane];
+        if at < 2 && run.starts_with(UNDER[lane][at]) {
+            next[lane] = at + 1;
+            return Some(UNDER[lane][at].len());
+        }
+    }
+    None
+}
+
+// Whether the run is both packets of each of so many lanes, in order, and nothing else.
+fn is_merge(run: &[u8], lanes: usize) -> bool {
+    let mut next = [0usize; 4];
+    let mut rest = run;
+    for _ in 0..8 {
+        let Some(size) = next_size(rest, &mut next) else {
+            break;
+        };
+        let Some(behind) = rest.get(size..) else {
+            break;
+        };
+        rest = behind;
+    }
+    let mut all = rest.is_empty();
+    for lane in 0..4 {
+        all = all && next[lane] == if lane < lanes { 2 } else { 0 };
+    }
+    all
+}
+
+// Lanes whose children each give both packets, in pieces.
+fn plain_lanes(alloc: Global, count: usize) -> Option<Vec<Lane<PlanChild>>>
+    requires { count ≤ 4 }
+    ensures numbers { IfSome result (λ lanes. map lane_number lanes.items ≡ range_with_len 0 (length lanes.items)) }
+    ensures few { IfSome result (λ lanes. length lanes.items ≤ 4) }
+{
+    let mut lanes = Vec::new(alloc);
+    while lanes.len() < count {
+        let output = Bytes::new(alloc, FOO_BAR).ok()?;
+        let child = PlanChild::new(output, 5, Finish::Exit(0));
+        add_lane(alloc, &mut lanes, child)?;
+    }
+    Some(lanes)
+}
+
+#[test]
+fn each_lane_is_recorded_whole_and_in_order(rt: HostRuntime) -> Result<(), Fail> {
+    let alloc = rt.alloc();
+    for count in [0usize, 2, 4] {
+        let lanes = plain_lanes(alloc, count).ok_or("no memory")?;
+        let mut shelf = MemShelf::new(alloc, Vec::new(alloc));
+        let mut buf = [0u8; 200];
+        let size = record(&rt, alloc, &mut shelf, lanes, &mut buf).ok_or("no run")?;
+        assert!(rt; is_merge(buf.get(..size).ok_or("size")?, count));
+    }
+    Ok(())
+}
+
+#[test]
+fn a_lane_whose_reads_fail_ends_with_a_packet_that_tells_of_it(
+    rt: HostRuntime,
+) -> Result<(), Fail> {
+    let alloc = rt.alloc();
+    let child = PlanChild::new(Bytes::new(alloc, FOO_BAR)?, 5, Finish::ReadFault);
+    let mut lanes = Vec::new(alloc);
+    add_lane(alloc, &mut lanes, child).ok_or("no memory")?;
+    let mut shelf = MemShelf::new(alloc, Vec::new(alloc));
+    let mut buf = [0u8; 200];
+    let size = record(&rt, alloc, &mut shelf, lanes, &mut buf).ok_or("no run")?;
+    let run = buf.get(..size).ok_or("size")?;
+    assert!(rt; run.ends_with(FAULT_UNDER_0));
+    assert!(rt; is_merge(run.get(..28).ok_or("size")?, 1));
+    Ok(())
+}
+
+// A child that gives some packets, and counts itself when it is read to its end. Of two that are to meet, each one waits
+// at its first read until the other was read, too.
+#[derive(Drop)]
+struct Counted {
+    packets: u32,
+    meets: bool,
+    begun: Arc<AtomicU32>,
+    ended: Arc<AtomicU32>,
+    faults: u64,
+}
+
+impl Counted {
+    // Whether both have been read within so many rounds.
+    fn has_met(&self) -> bool {
+        self.begun.fetch_add(1, Ordering::SeqCst);
+        for _ in 0..1_000_000 {
+            if self.begun.load(Ordering::SeqCst) >= 2 {
+                return true;
+            }
+            thread::yield_now();
+        }
+        false
+    }
+}
+
+impl Child for Counted {
+    ghost use Rattle.std.specs.Prelude.{None};
+
+    ghost seen = { λ s. record { told = None; faults = s.faults } };
+
+    fn read(&mut self, buf: &mut [u8]) -> Result<usize, Failed> {
+        if self.meets {
+            self.meets = false;
+            if !self.has_met() {
+                self.faults = self.faults.saturating_add(1);
+                return Err(Failed);
+            }
+        }
+        if self.packets == 0 || buf.len() < FOO_BAR.len() {
+            self.ended.fetch_add(1, Ordering::SeqCst);
+            return Ok(0);
+        }
+        self.packets -= 1;
+        buf[..FOO_BAR.len()].copy_from_slice(FOO_BAR);
+        Ok(FOO_BAR.len())
+    }
+
+    fn wait(&mut self) -> Result<i32, Failed> {
+        Ok(0)
+    }
+
+    fn stop(&mut self) {}
+
+    ghost are_bytes = { λ s. tt };
+}
+
+// Two such children.
+fn counted_lanes(
+    alloc: Global,
+    packets: u32,
+    meets: bool,
+    ended: &Arc<AtomicU32>,
+) -> Option<Vec<Lane<Counted>>>
+    ensures numbers { IfSome result (λ lanes. map lane_number lanes.items ≡ range_with_len 0 (length lanes.items)) }
+    ensures few { IfSome result (λ lanes. length lanes.items ≤ 2) }
+{
+    let begun = Arc::new(alloc, AtomicU32::new(0)).ok()?;
+    let mut lanes = Vec::new(alloc);
+    while lanes.len() < 2 {
+        let child = Counted {
+            packets,
+            meets,
+            begun: Arc::try_clone(&begun).ok()?,
+            ended: Arc::try_clone(ended).ok()?,
+            faults: 0,
+        };
+        add_lane(alloc, &mut lanes, child)?;
+    }
+    Some(lanes)
+}
+
+#[test]
+fn all_children_are_read_at_once(rt: HostRuntime) -> Result<(), Fail> {
+    let alloc = rt.alloc();
+    let ended = Arc::new(alloc, AtomicU32::new(0))?;
+    let lanes = counted_lanes(alloc, 1, true, &ended).ok_or("no memory")?;
+    let mut shelf = MemShelf::new(alloc, Vec::new(alloc));
+    let mut buf = [0u8; 200];
+    let size = record(&rt, alloc, &mut shelf, lanes, &mut buf).ok_or("no run")?;
+    assert!(rt; is_merge(buf.get(..size).ok_or("size")?, 2));
+    assert_eq!(rt; ended.load(Ordering::SeqCst), 2);
+    Ok(())
+}
+
+// The call that fails is the second that adds to the run: seven make the repository, four look at it, and one begins the
+// run.
+#[test]
+fn children_are_read_to_their_ends_where_the_folder_fails(rt: HostRuntime) -> Result<(), Fail> {
+    let alloc = rt.alloc();
+    let ended = Arc::new(alloc, AtomicU32::new(0))?;
+    let lanes = counted_lanes(alloc, 50, false, &ended).ok_or("no memory")?;
+    let mut shelf = MemShelf::new(alloc, vec![in alloc; 13u64]?);
+    let mut buf = [0u8; 200];
+    assert!(rt; record(&rt, alloc, &mut shelf, lanes, &mut buf).is_none());
+    assert_eq!(rt; ended.load(Ordering::SeqCst), 2);
+    Ok(())
+}
