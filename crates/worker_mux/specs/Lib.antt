@@ -1,4 +1,5 @@
 pub mod Callers
+pub mod Outputs
 pub mod Passes
 pub mod Rule
 pub mod Runs

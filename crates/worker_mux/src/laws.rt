@@ -1,9 +1,16 @@
-//! What the rule of the belt says of each step.
+//! What the rule of the belt says of each step, and what is recorded of children that tell their output.
 
-ghost use Rattle.std.specs.Prelude.{◌≡◌, ◌<◌, ◌≤◌, ◌++◌, ◌⊎◌, ℕ, List, [], Contains};
+ghost use Rattle.std.specs.Prelude.{◌≡◌, ◌<◌, ◌≤◌, ◌+◌, ◌∷◌, ◌++◌, ◌⊎◌, ℕ, Option, Some, IfSome, List, [], Contains, length, map};
+ghost use Rattle.std.specs.List.{AllByRecursion};
+ghost use Rattle.std.specs.Option.{option_map};
 ghost use mathlib.Core.Option.{some};
 ghost use lib.ListN.{get_elem?};
+ghost use Rattle.edge_io.specs.Children.{Output};
+ghost use Rattle.edge_io.specs.Disk.{Folder};
+ghost use Rattle.worker_lane.specs.Rest.{lots_for};
 ghost use Rattle.worker_lane.specs.declared.lot.Lot.{Lot};
+ghost use Rattle.worker_mux.specs.Outputs.{IsOutput, lots_from, AddsTold, AddsOutputs};
+ghost use Rattle.worker_mux.specs.Runs.{AddsMerge};
 ghost use Rattle.worker_mux.specs.declared.knowledge.Knowledge.{Knowledge};
 ghost use Rattle.worker_mux.specs.declared.knowledge.Knowledge.TheVariants.{Lane, Taker};
 ghost use Rattle.worker_mux.specs.declared.knowledge.Parcel.{Parcel};
@@ -24,4 +31,16 @@ pub fn lanes_stay_whole()
     ensures one_pass { (items : List Parcel) (views : List Knowledge) → Kept items views → (pass other n : ℕ) (list more : List Lot) → get_elem? views pass ≡ some (Lane n list) → get_elem? views other ≡ some (Lane n more) → pass ≡ other }
     ensures one_holder { (items : List Parcel) (views : List Knowledge) → Kept items views → (pass reader n count : ℕ) (list more : List Lot) (taken : List Parcel) (settled : List Settled) → get_elem? views pass ≡ some (Lane n list) → get_elem? views reader ≡ some (Taker count taken settled) → Contains settled (record { lane = n; list = more }) → ⊥ }
     ensures one_taker { (items : List Parcel) (views : List Knowledge) → Kept items views → (pass other c d : ℕ) (taken more : List Parcel) (settled others : List Settled) → get_elem? views pass ≡ some (Taker c taken settled) → get_elem? views other ≡ some (Taker d more others) → pass ≡ other }
+{}
+
+/// Laws of what `run_lanes` adds over children of which some or all tell their output: bytes, and a status of 32 bits. What
+/// the lanes have to give, as `Lane::new` says it of each, is `lots_from 0`, where the first lane is number 0, the next one
+/// number 1, and so on.
+pub fn outputs_are_merged()
+    // The run has grown by the packets of events, and of each lane whose child tells they are those of its output.
+    ensures told { (rests : List (Option (List Lot))) (told : List (Option Output)) (old new : Option Folder) → length told ≤ 64 → AllByRecursion (λ t. IfSome t IsOutput) told → rests ≡ lots_from 0 told → AddsMerge rests old new → AddsTold told old new }
+    // Where all children tell, the events are a merge of those of their outputs, and no others.
+    ensures all_told { (rests : List (Option (List Lot))) (outputs : List Output) (old new : Option Folder) → length outputs ≤ 64 → AllByRecursion IsOutput outputs → rests ≡ lots_from 0 (map Some outputs) → AddsMerge rests old new → AddsOutputs outputs old new }
+    // One lane more, of the next number.
+    ensures one_more { (lane : ℕ) (told : List (Option Output)) (t : Option Output) → lots_from lane (told ++ t ∷ []) ≡ lots_from lane told ++ option_map (lots_for (lane + length told)) t ∷ [] }
 {}

@@ -8,7 +8,7 @@
 //! - `pass`: who puts and who takes
 //! - `knowledge`: what clauses see of both; no value of it is made
 //! - `rule`: the steps of the belt, which keep its rule
-//! - `laws`: what the rule says of each step
+//! - `laws`: what the rule says of each step, and what is recorded of children that tell their output
 //! - `run`: all lanes, each read on a thread of its own, and recorded by the one that called
 //! - `work`: the work of a lane; `caller`, `pen`: the part of the one that records; `levels`: a thread for each lane
 //! - `gate`: waiting for a move of the belt
@@ -32,6 +32,6 @@ mod work;
 
 pub use belt::Belt;
 pub use knowledge::{Carried, Knowledge, Parcel, Settled};
-pub use laws::lanes_stay_whole;
+pub use laws::{lanes_stay_whole, outputs_are_merged};
 pub use pass::{LanePass, Taker};
 pub use run::run_lanes;

@@ -1,0 +1,163 @@
+-- The lots of an output are the packets of its events, and so what a run of all lanes adds is a merge of these.
+use Rattle.std.proofs.Common.{◌≡◌, ℕ, zero, suc, ◌+◌, ◌<◌, ◌≤◌, List, [], ◌∷◌, ◌++◌, map, length, slice_index_or, Bool, true, false, ◌&&◌, nat_lt, refl, sym, ◌∙◌, ap, subst, arith}
+use Rattle.std.specs.Prelude.{Option, None, Some, IfSome, FitsSigned, ℤ, pos, negsuc, codes}
+use Rattle.std.specs.Fmt.{signed_decimal}
+use Rattle.std.specs.Option.{option_map}
+use Rattle.std.specs.List.{AllByRecursion}
+use mir.Syntax.{w32}
+use Rattle.std.proofs.lemmas.Bool.Decides.{nat_tests}
+use Rattle.std.proofs.lemmas.Fmt.{length_signed_le, IsAscii-signed}
+use Rattle.std.proofs.lemmas.List.{length-append, length-map}
+use Rattle.std.proofs.lemmas.List.Elements.{All-nil, All-cons, All-append, All-from_get_or}
+use Rattle.edge_io.specs.Children.{Output}
+use Rattle.edge_io.specs.Disk.{Folder}
+use Rattle.edge_io.specs.declared.child.Finish.{Finish}
+use Rattle.edge_io.specs.declared.child.Finish.TheVariants.{Exit, ReadFault, WaitFault}
+use Rattle.packet_codec.specs.declared.event.Event.{Event}
+use Rattle.packet_codec.specs.Canonical.{canonical, IsEvent, Fits}
+use Rattle.packet_codec.specs.Grammar.{AreBytes}
+use Rattle.packet_codec.specs.Lanes.{IsMergeOfTold}
+use Rattle.packet_codec.proofs.MergeLemmas.{merge_of_told}
+use Rattle.worker_lane.specs.Endings.{ending_of, ending_events, returncode_under, returncode_text, fault_text}
+use Rattle.worker_lane.specs.Recorded.{recorded_events}
+use Rattle.worker_lane.specs.Rest.{notes_of_stream, notes_are, lots_for}
+use Rattle.worker_lane.specs.declared.lot.Ending.{Ending}
+use Rattle.worker_lane.specs.declared.lot.Lot.{Lot}
+use Rattle.worker_lane.specs.declared.lot.Lot.TheVariants.{Packet, End}
+use Rattle.worker_lane.proofs.EndingLemmas.{ending_is_event, ending_fits}
+use Rattle.worker_lane.proofs.NoteLemmas.{HavePackets}
+use Rattle.worker_lane.proofs.RecordedLaneLemmas.{have_packets}
+use Rattle.worker_mux.specs.Outputs.{IsFinish, IsOutput, events_for, lots_from, events_from, lists_from, AddsTold, AddsOutputs}
+use Rattle.worker_mux.specs.Runs.{packets_of, ArePacketsOf, AreEventsOf, HaveEvents, AddsMerge}
+
+-- ---- the event that tells of an end
+
+one_event : (lane : ℕ) (text : List ℕ) → lane < 64 → AreBytes text → length text ≤ 60 → HavePackets (returncode_under lane text ∷ [])
+one_event lane text small are short = record {
+  are_events = All-cons IsEvent (returncode_under lane text) [] (ending_is_event (returncode_under lane text) lane text refl small are short) (All-nil IsEvent);
+  fit = All-cons Fits (returncode_under lane text) [] (ending_fits (returncode_under lane text) lane text refl small short) (All-nil Fits);
+}
+
+no_event : HavePackets []
+no_event = record { are_events = All-nil IsEvent; fit = All-nil Fits }
+
+are_small : List ℕ → Bool
+are_small [] = true
+are_small (byte ∷ bytes) = nat_lt byte 256 && are_small bytes
+
+both : (a b : Bool) → (a && b) ≡ true → (a ≡ true) × (b ≡ true)
+both true b h = (refl, h)
+both false b h = absurd (grind (arith, h))
+
+by_test : (bytes : List ℕ) → are_small bytes ≡ true → AreBytes bytes
+unfolding are_small
+by_test [] h = All-nil (λ byte. byte < 256)
+by_test (byte ∷ bytes) h =
+    let test = both (nat_lt byte 256) (are_small bytes) h in
+    All-cons (λ byte. byte < 256) byte bytes (grind (arith, nat_tests, test.0)) (by_test bytes test.1)
+
+fault_are_bytes : AreBytes fault_text
+unfolding are_small
+fault_are_bytes = by_test fault_text refl
+
+word_are_bytes : AreBytes (codes "returncode ")
+unfolding are_small
+word_are_bytes = by_test (codes "returncode ") refl
+
+status_are_bytes : (status : ℤ) → FitsSigned w32 status → AreBytes (returncode_text status)
+status_are_bytes status fits =
+    All-append (λ byte. byte < 256) (codes "returncode ") (signed_decimal status) word_are_bytes
+    (All-from_get_or (λ byte. byte < 256) (signed_decimal status) 0 (λ i below. omega (arith, IsAscii-signed status (omega (arith, fits)) i)))
+
+status_is_short : (status : ℤ) → FitsSigned w32 status → length (returncode_text status) ≤ 60
+status_is_short status fits = omega (arith, length-append (codes "returncode ") (signed_decimal status), length_signed_le 11 status (omega (arith, fits)) (omega (arith, fits)))
+
+exit_has_packet : (lane : ℕ) (status : ℤ) → lane < 64 → FitsSigned w32 status → HavePackets (ending_events lane (ending_of (Exit status)))
+exit_has_packet lane (pos zero) small fits = no_event
+exit_has_packet lane (pos (suc n)) small fits = one_event lane (returncode_text (pos (suc n))) small (status_are_bytes (pos (suc n)) fits) (status_is_short (pos (suc n)) fits)
+exit_has_packet lane (negsuc n) small fits = one_event lane (returncode_text (negsuc n)) small (status_are_bytes (negsuc n) fits) (status_is_short (negsuc n) fits)
+
+end_has_packet : (lane : ℕ) (finish : Finish) → lane < 64 → IsFinish finish → HavePackets (ending_events lane (ending_of finish))
+end_has_packet lane (Exit status) small is = exit_has_packet lane status small is
+end_has_packet lane ReadFault small is = one_event lane fault_text small fault_are_bytes (omega arith)
+end_has_packet lane WaitFault small is = one_event lane fault_text small fault_are_bytes (omega arith)
+
+-- ---- the lots of an output
+
+packets_of_packets : (packets : List (List ℕ)) (how : Ending) → packets_of (map Packet packets ++ End how ∷ []) ≡ packets
+packets_of_packets [] how = refl
+packets_of_packets (packet ∷ packets) how = ap (λ l. packet ∷ l) (packets_of_packets packets how)
+
+are_packets : (lane : ℕ) (output : Output) → lane < 64 → IsOutput output → ArePacketsOf (lots_for lane output) (events_for lane output)
+are_packets lane output small is =
+    let notes : List Event = recorded_events lane (notes_of_stream output.bytes) in
+    let ending : List Event = ending_events lane (ending_of output.finish) in
+    let first : HavePackets notes = have_packets lane output.bytes notes small is.bytes (record { notes = notes_of_stream output.bytes; are_notes = notes_are output.bytes; made = refl }) in
+    let last : HavePackets ending = end_has_packet lane output.finish small is.finish in
+    record {
+      packets = packets_of_packets (map canonical (notes ++ ending)) (ending_of output.finish);
+      are_events = All-append IsEvent notes ending first.are_events last.are_events;
+      fit = All-append Fits notes ending first.fit last.fit;
+    }
+
+told_are_events : (lane : ℕ) (told : Option Output) → lane < 64 → IfSome told IsOutput → AreEventsOf (option_map (lots_for lane) told) (option_map (events_for lane) told)
+told_are_events lane None small is = tt
+told_are_events lane (Some output) small is = are_packets lane output small is
+
+-- ---- of all lanes
+
+abbrev AreOutputs : List (Option Output) → Type 0
+AreOutputs told = AllByRecursion (λ t. IfSome t IsOutput) told
+
+length_lots : (lane : ℕ) (told : List (Option Output)) → length (lots_from lane told) ≡ length told
+length_lots lane [] = refl
+length_lots lane (t ∷ told) = ap suc (length_lots (suc lane) told)
+
+length_events : (lane : ℕ) (told : List (Option Output)) → length (events_from lane told) ≡ length told
+length_events lane [] = refl
+length_events lane (t ∷ told) = ap suc (length_events (suc lane) told)
+
+each_has_events : (lane : ℕ) (told : List (Option Output)) → lane + length told ≤ 64 → AreOutputs told → (i : ℕ) → i < length told → AreEventsOf (slice_index_or (lots_from lane told) i None) (slice_index_or (events_from lane told) i None)
+each_has_events lane [] few are i below = absurd (omega (arith, below))
+each_has_events lane (t ∷ told) few are zero below = told_are_events lane t (omega (arith, few)) are.0
+each_has_events lane (t ∷ told) few are (suc i) below = each_has_events (suc lane) told (omega (arith, few)) are.1 i (omega (arith, below))
+
+have_events : (told : List (Option Output)) → length told ≤ 64 → AreOutputs told → HaveEvents (lots_from 0 told) (events_from 0 told)
+have_events told few are = record {
+  count = length_events 0 told ∙ sym (length_lots 0 told);
+  each = λ lane below. each_has_events 0 told (omega (arith, few)) are lane (omega (arith, below, length_lots 0 told));
+}
+
+pub adds_told : (rests : List (Option (List Lot))) (told : List (Option Output)) (old new : Option Folder) → length told ≤ 64 → AreOutputs told → rests ≡ lots_from 0 told → AddsMerge rests old new → AddsTold told old new
+adds_told rests told old new few are same adds =
+    let all : AddsMerge (lots_from 0 told) old new = subst (λ (l : List (Option (List Lot))). AddsMerge l old new) same adds in
+    record { events = all.events; added = all.added; are_events = all.are_events; fit = all.fit; merge = all.merged (events_from 0 told) (have_events told few are) }
+
+-- ---- where all are told
+
+lists_told : (lane : ℕ) (outputs : List Output) → events_from lane (map Some outputs) ≡ map Some (lists_from lane outputs)
+lists_told lane [] = refl
+lists_told lane (output ∷ outputs) = ap (λ l. Some (events_for lane output) ∷ l) (lists_told (suc lane) outputs)
+
+are_told : (outputs : List Output) → AllByRecursion IsOutput outputs → AreOutputs (map Some outputs)
+are_told [] are = tt
+are_told (output ∷ outputs) are = (are.0, are_told outputs are.1)
+
+pub adds_outputs : (rests : List (Option (List Lot))) (outputs : List Output) (old new : Option Folder) → length outputs ≤ 64 → AllByRecursion IsOutput outputs → rests ≡ lots_from 0 (map Some outputs) → AddsMerge rests old new → AddsOutputs outputs old new
+adds_outputs rests outputs old new few are same adds =
+    let told : AddsTold (map Some outputs) old new = adds_told rests (map Some outputs) old new (omega (arith, few, length-map outputs Some)) (are_told outputs are) same adds in
+    record {
+      events = told.events;
+      added = told.added;
+      are_events = told.are_events;
+      fit = told.fit;
+      merge = merge_of_told told.events (lists_from 0 outputs) (subst (IsMergeOfTold told.events) (lists_told 0 outputs) told.merge);
+    }
+
+-- ---- one lane more
+
+pub one_lane_more : (lane : ℕ) (told : List (Option Output)) (t : Option Output) → lots_from lane (told ++ t ∷ []) ≡ lots_from lane told ++ option_map (lots_for (lane + length told)) t ∷ []
+one_lane_more lane [] t = ap (λ (n : ℕ). option_map (lots_for n) t ∷ []) (omega arith)
+one_lane_more lane (first ∷ told) t =
+    let same : suc lane + length told ≡ lane + suc (length told) = omega arith in
+    ap (λ l. option_map (lots_for lane) first ∷ l) (one_lane_more (suc lane) told t ∙ ap (λ (n : ℕ). lots_from (suc lane) told ++ option_map (lots_for n) t ∷ []) same)
