@@ -33,15 +33,16 @@ use worker_lane::Lane;
 // How many lots the belt has room for.
 const ROOM: usize = 16;
 
-/// Reads all lanes to their ends, each on a thread of its own, and adds their packets to the run as they come. It may wait
-/// for the children. Lane 0 stands first, then lane 1, and so on; there are at most 64.
+/// Reads all lanes to their ends, each on a thread of its own, or on the caller's where none can be started, and adds their
+/// packets to the run as they come. It may wait for the children. Lane 0 stands first, then lane 1, and so on; there are at
+/// most 64.
 ///
 /// At `Ok`, where no call of the folder has failed, the run has grown by the packets of events, each under one of the
 /// lanes; of each lane whose child tells they are all its events, once and in order. Where a call of the folder failed,
-/// the recorder is closed, and the lanes were still read to their ends.
+/// the recorder is closed, and the lanes were still read to their ends (no clause says so).
 ///
-/// `NoMemory` comes only for want of memory. All children were then stopped and waited for, and what was added is not
-/// known.
+/// `NoMemory` comes only for want of memory. All children were then stopped and waited for (no clause says so), and what was
+/// added is not known.
 pub fn run_lanes<R: Threads + Wait + Sync, C: Child + Send + Drop, H: Shelf>(
     rt: &R,
     alloc: Global,

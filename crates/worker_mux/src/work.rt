@@ -107,6 +107,8 @@ pub(crate) fn drive<C: Child + Drop, R: Wait>(
     ensures drives { Drives C.seen work result }
 {
     for _ in rt.forever() {
+        // The count is read before the flag, so that a stop between the two is not slept through.
+        let seen = shared.gate.now(rt);
         if shared.stop.load(Ordering::SeqCst) {
             let Work {
                 lane,
@@ -116,7 +118,6 @@ pub(crate) fn drive<C: Child + Drop, R: Wait>(
             lane.give_up();
             return Outcome::GivenUp(pass);
         }
-        let seen = shared.gate.now(rt);
         let Some(lot) = work.next() else {
             return Outcome::Put(work.pass);
         };
