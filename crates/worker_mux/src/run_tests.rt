@@ -1,19 +1,19 @@
 //! Runs of several lanes over children and folders in memory: what is recorded, and what no clause says of threads.
 
-ghost use Rattle.std.specs.Prelude.{◌≡◌, ◌≤◌, ◌<◌, ◌+◌, map, length, IfSome, OnOk};
+ghost use Rattle.std.specs.Prelude.{◌≡◌, ◌≤◌, ◌<◌, ◌+◌, map, length, IfSome};
 ghost use Rattle.std.specs.List.{range_with_len};
 ghost use Rattle.worker_lane.specs.Lanes.{lane_number};
 
 use crate::run_lanes;
-use edge_io::{Child, Failed, Finish, MemShelf, PlanChild, Shelf};
+use edge_io::{Child, Failed, Finish, MemShelf, NamesFault, PlanChild, Shelf};
 use run_shelf::Store;
 use std::alloc::Global;
-use std::sync::atomic::{AtomicU32, Ordering};
+use std::sync::atomic::{AtomicBool, AtomicU32, Ordering};
 use std::sync::{Arc, Wait};
 use std::test::Fail;
 use std::thread;
 use std::thread::Threads;
-use sub_number::Bytes;
+use sub_number::{Bytes, Text};
 use worker_lane::Lane;
 
 // Two packets without a route, and each of them under lanes 0 to 3.
@@ -272,5 +272,122 @@ fn children_are_read_to_their_ends_where_the_folder_fails(rt: HostRuntime) -> Re
     let mut buf = [0u8; 200];
     assert!(rt; record(&rt, alloc, &mut shelf, lanes, &mut buf).is_none());
     assert_eq!(rt; ended.load(Ordering::SeqCst), 2);
+    Ok(())
+}
+
+// A folder that notes when a packet is added to it.
+#[derive(Drop)]
+struct Noting<H> {
+    inner: H,
+    recorded: Arc<AtomicBool>,
+}
+
+impl<H: Shelf> Shelf for Noting<H> {
+    ghost seen = { λ s. H.seen s.inner };
+
+    ghost clock = { λ s. H.clock s.inner };
+
+    fn names(&mut self, alloc: Global) -> Result<Vec<Text>, NamesFault> {
+        self.inner.names(alloc)
+    }
+
+    fn length(&mut self, name: &str) -> Result<Option<u64>, Failed> {
+        self.inner.length(name)
+    }
+
+    fn read_at(&mut self, name: &str, place: u64, buf: &mut [u8]) -> Result<usize, Failed> {
+        self.inner.read_at(name, place, buf)
+    }
+
+    fn start_draft(&mut self) -> Result<(), Failed> {
+        self.inner.start_draft()
+    }
+
+    fn append(&mut self, piece: &[u8]) -> Result<(), Failed> {
+        if piece.starts_with(UNDER[0][0]) {
+            self.recorded.store(true, Ordering::SeqCst);
+        }
+        self.inner.append(piece)
+    }
+
+    fn sync_draft(&mut self) -> Result<(), Failed> {
+        self.inner.sync_draft()
+    }
+
+    fn publish(&mut self, name: &str) -> Result<(), Failed> {
+        self.inner.publish(name)
+    }
+
+    fn sync_folder(&mut self) -> Result<(), Failed> {
+        self.inner.sync_folder()
+    }
+
+    ghost published_counts = { λ s. H.published_counts s.inner };
+}
+
+// A child that gives both packets, and ends once the first of them has been recorded.
+#[derive(Drop)]
+struct Patient {
+    given: bool,
+    recorded: Arc<AtomicBool>,
+    faults: u64,
+}
+
+impl Patient {
+    // Whether it has been recorded within so many rounds.
+    fn is_recorded(&self) -> bool {
+        for _ in 0..1_000_000 {
+            if self.recorded.load(Ordering::SeqCst) {
+                return true;
+            }
+            thread::yield_now();
+        }
+        false
+    }
+}
+
+impl Child for Patient {
+    ghost use Rattle.std.specs.Prelude.{None};
+
+    ghost seen = { λ s. record { told = None; faults = s.faults } };
+
+    fn read(&mut self, buf: &mut [u8]) -> Result<usize, Failed> {
+        if self.given || buf.len() < FOO_BAR.len() {
+            if self.is_recorded() {
+                return Ok(0);
+            }
+            self.faults = self.faults.saturating_add(1);
+            return Err(Failed);
+        }
+        self.given = true;
+        buf[..FOO_BAR.len()].copy_from_slice(FOO_BAR);
+        Ok(FOO_BAR.len())
+    }
+
+    fn wait(&mut self) -> Result<i32, Failed> {
+        Ok(0)
+    }
+
+    fn stop(&mut self) {}
+
+    ghost are_bytes = { λ s. tt };
+}
+
+#[test]
+fn packets_are_recorded_before_their_child_ends(rt: HostRuntime) -> Result<(), Fail> {
+    let alloc = rt.alloc();
+    let recorded = Arc::new(alloc, AtomicBool::new(false))?;
+    let child = Patient {
+        given: false,
+        recorded: Arc::try_clone(&recorded)?,
+        faults: 0,
+    };
+    let mut lanes = Vec::new(alloc);
+    add_lane(alloc, &mut lanes, child).ok_or("no memory")?;
+    let inner = MemShelf::new(alloc, Vec::new(alloc));
+    let mut shelf = Noting { inner, recorded };
+    let mut buf = [0u8; 200];
+    let size = record(&rt, alloc, &mut shelf, lanes, &mut buf).ok_or("no run")?;
+    assert!(rt; is_merge(buf.get(..size).ok_or("size")?, 1));
     Ok(())
 }
