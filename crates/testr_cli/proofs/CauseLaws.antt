@@ -1,8 +1,7 @@
 -- A command that has no cause to refuse does not: its refusals of status 3 are contradicted one by one.
-use Rattle.std.proofs.Common.{◌≡◌, ◌⊎◌, inl, inr, ℕ, ◌<◌, ◌≤◌, Bool, Option, None, Some, IfSome, IsSomeAnd, IsSome, All, Result, Ok, Err, List, [], ◌∷◌, ◌++◌, length, refl, sym, ap, subst, ◌∙◌, arith}
-use Rattle.edge_io.specs.Disk.{Files, Disk, Folder}
+use Rattle.std.proofs.Common.{◌≡◌, inl, inr, ℕ, ◌<◌, ◌≤◌, Bool, Option, None, Some, IfSome, IsSomeAnd, IsSome, All, Result, Ok, Err, List, [], ◌∷◌, ◌++◌, length, refl, sym, ap, subst, ◌∙◌, arith}
+use Rattle.edge_io.specs.Disk.{Files, Folder}
 use Rattle.edge_io.specs.Seen.{Seen}
-use Rattle.edge_io.specs.Steps.{Goes, Settled}
 use Rattle.run_shelf.specs.declared.faults.InitFault.TheVariants as init_fault
 use Rattle.run_shelf.specs.declared.faults.OpenFault.{OpenFault}
 use Rattle.run_shelf.specs.declared.faults.OpenFault.TheVariants as open_fault
@@ -12,7 +11,7 @@ use Rattle.run_shelf.specs.Holds.{kinds_of}
 use Rattle.run_shelf.specs.Outcomes.{InitFails, OpenFails, Surveys}
 use Rattle.testr_cli.specs.Steps.{stops, goes_on}
 use Rattle.std.proofs.lemmas.List.Elements.{All-head, All-tail}
-use Rattle.testr_cli.specs.Outside.{Work, Filed, Shown, fed, filed, SameCounts, SomeRose}
+use Rattle.testr_cli.specs.Outside.{Work, Filed, Shown, fed, filed}
 use Rattle.testr_cli.specs.Files.{RecordsSources, HasFilesCause}
 use Rattle.testr_cli.specs.Runs.{HasRuns}
 use Rattle.testr_cli.specs.Answer.{refusal_code}

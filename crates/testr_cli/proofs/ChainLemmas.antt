@@ -1,12 +1,12 @@
 -- What holds of a chain because it holds of its steps.
-use Rattle.std.proofs.Common.{◌≡◌, ℕ, ◌≤◌, Option, None, Some, Result, Ok, Err, refl, sym, subst, ◌∙◌, arith}
+use Rattle.std.proofs.Common.{◌≡◌, ℕ, ◌≤◌, Option, None, Some, Result, Ok, Err, subst, ◌∙◌, arith}
 use Rattle.edge_io.specs.Causes.{Rose}
 use Rattle.edge_io.specs.Steps.{Goes}
 use Rattle.testr_cli.specs.Steps.{Step, Then, stops, goes_on, Gives}
 use Rattle.testr_cli.specs.Outside.{Work, Place, in_folder, in_site, in_input, in_out, SameCounts, RisesAt, SomeRose, of_folder, of_site, of_input, of_out}
 use Rattle.testr_cli.specs.Answer.{refusal_code, place_of}
 use Rattle.testr_cli.specs.declared.answer.Refusal.{Refusal}
-use Rattle.testr_cli.proofs.Resting.{Rests, rests_same, rests_then}
+use Rattle.testr_cli.proofs.Resting.{Rests, rests_then}
 
 -- a chain that was done is its first step done, and then the rest
 pub record Did {W A B E R : Type 0} (first : Step W A E) (second : A → Step W B R) (before after : W) (result : Result B R) : Type 0 where

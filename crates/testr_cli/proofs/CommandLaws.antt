@@ -1,5 +1,5 @@
 -- What is true where a command refuses, and at each of its exits, from its chain: one line a step, in the chain's order.
-use Rattle.std.proofs.Common.{◌≡◌, ℕ, Bool, Result, List, ap}
+use Rattle.std.proofs.Common.{ℕ, Bool, List, ap}
 use Rattle.edge_io.specs.Disk.{Files, Folder}
 use Rattle.edge_io.specs.Seen.{Seen}
 use Rattle.testr_cli.specs.Outside.{Work, Shown, work}

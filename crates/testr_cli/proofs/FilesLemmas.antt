@@ -1,17 +1,15 @@
 -- What is recorded of files, one after another.
-use Rattle.std.proofs.Common.{◌≡◌, ◌⊎◌, inl, inr, ℕ, zero, suc, ◌+◌, ◌<◌, ◌≤◌, Option, Some, None, IfSome, List, [], ◌∷◌, ◌++◌, map, All, OnOk, Result, Ok, Err, true, refl, sym, ap, subst, ◌∙◌, append_assoc, append-nil, length, length-append, take, drop, arith}
+use Rattle.std.proofs.Common.{◌≡◌, ℕ, ◌+◌, ◌<◌, ◌≤◌, Option, Some, None, IfSome, List, [], ◌∷◌, ◌++◌, map, OnOk, Result, Ok, Err, true, refl, sym, ap, subst, ◌∙◌, append_assoc, append-nil, length, length-append, take, drop, arith}
 use Rattle.std.specs.Prelude.{IsSomeAnd, IfErr, IsErrAnd}
-use Rattle.std.specs.List.{flat_map}
 use Rattle.std.proofs.lemmas.List.{map-append, take-append-drop, length-take-le}
 use Rattle.std.proofs.lemmas.List.Elements.{All-nil, All-cons, All-append}
 use Rattle.std.proofs.lemmas.Grind.{flat_map-append}
-use Rattle.std.proofs.lemmas.Result.{err_from_is_err_and}
 use Rattle.edge_io.specs.Causes.{Rose}
 use Rattle.edge_io.specs.Disk.{Files, Folder}
 use Rattle.edge_io.specs.Seen.{Seen}
 use Rattle.edge_io.specs.Sites.{Finds, FitsIn, GivesPart}
 use Rattle.edge_io.specs.declared.site.Found.{Found}
-use Rattle.edge_io.specs.declared.site.Found.TheVariants.{Absent, Read}
+use Rattle.edge_io.specs.declared.site.Found.TheVariants.{Read}
 use Rattle.edge_io.specs.Steps.{Goes, Grown}
 use Rattle.packet_codec.specs.Grammar.{AreBytes}
 use Rattle.packet_codec.specs.Canonical.{canonical}
@@ -24,10 +22,9 @@ use Rattle.outcome_fold.specs.declared.row.Row.{Row}
 use Rattle.worker_lane.specs.Recorded.{HasRecorded, IsRecorded}
 use Rattle.worker_lane.specs.Scribing.{Scribing, holding, Recording, HasNone}
 use Rattle.worker_lane.proofs.RecordingLemmas.{recording_ended, recording_whole}
-use Rattle.testr_cli.specs.Files.{AreFiles, HasRecordedInTurn, AreFrontOf, IsFile, NoneFailed, RecordsFilePieces, RecordsFile, RecordsFiles, RecordsInTurn, RecordsSources, HasFileCause, HasFilesCause, StopsAtFile}
+use Rattle.testr_cli.specs.Files.{AreFiles, HasRecordedInTurn, AreFrontOf, IsFile, NoneFailed, RecordsFilePieces, RecordsFile, RecordsFiles, RecordsInTurn, RecordsSources, HasFileCause, HasFilesCause}
 use Rattle.testr_cli.specs.Outside.{Filed, filed, fed, work}
 use Rattle.testr_cli.specs.Recording.{most_bytes, HasWriteCause, WritesPackets, Records}
-use Rattle.testr_cli.specs.Runs.{run_bytes}
 use Rattle.testr_cli.specs.declared.recording.RecordFault.{RecordFault}
 use Rattle.testr_cli.specs.declared.recording.RecordFault.TheVariants.{Shelf, Input, TooLong, Site, NoFile, FileTooLong, NoMemory}
 

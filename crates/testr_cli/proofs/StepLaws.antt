@@ -8,7 +8,7 @@ use Rattle.run_shelf.specs.declared.faults.InitFault.TheVariants as init_fault
 use Rattle.run_shelf.specs.declared.faults.OpenFault.{OpenFault}
 use Rattle.run_shelf.specs.declared.faults.OpenFault.TheVariants as open_fault
 use Rattle.run_shelf.specs.declared.found.Found.{Found}
-use Rattle.testr_cli.specs.Outside.{Work, fed, filed, work_folder, work_fed, work_filed, work_out, Place, in_folder, SameCounts, RisesAt, SomeRose, of_folder, of_site, of_input, of_out}
+use Rattle.testr_cli.specs.Outside.{Work, fed, filed, work_folder, work_fed, work_filed, work_out, Place, in_folder, SameCounts, RisesAt, of_folder, of_site, of_input, of_out}
 use Rattle.testr_cli.specs.Files.{RecordsSources, HasFilesCause, StopsAtFile, NoneFailed as NoFileFailed}
 use Rattle.testr_cli.proofs.FilesLemmas.{counts_then as files_counts}
 use Rattle.testr_cli.specs.Answer.{refusal_code, place_of}
@@ -29,7 +29,7 @@ use Rattle.testr_cli.specs.declared.told.TellFault.TheVariants as tell_fault
 use Rattle.testr_cli.specs.declared.answer.Verdict.{Verdict}
 use Rattle.testr_cli.specs.declared.answer.Refusal.{Refusal}
 use Rattle.testr_cli.specs.declared.answer.Refusal.TheVariants as refusal
-use Rattle.testr_cli.proofs.Resting.{Rests, rests_same, rests_of_stays, rests_of_same, open_rests, begin_rests}
+use Rattle.testr_cli.proofs.Resting.{rests_same, rests_of_stays, rests_of_same, open_rests, begin_rests}
 use Rattle.testr_cli.proofs.ChainLemmas.{IsQuiet, IsRefused, IsFault, is_fault}
 
 module _ (a b : Work) where
