@@ -1,5 +1,6 @@
 pub mod Bytes
 pub mod Causes
+pub mod Chains
 pub mod Plans
 pub mod Lists
 pub mod Disk

@@ -1,16 +1,10 @@
 -- When a count of faults may rise, by what a call answered (docs/DISK.md, faults).
-use Rattle.std.specs.Prelude.{◌≡◌, ℕ, ◌≤◌, Bool, true, false, Result, Ok, Err}
-use Rattle.edge_io.specs.Causes.{Rose}
+use Rattle.std.specs.Prelude.{Bool, true, false, Result, Ok, Err}
+pub use Rattle.edge_io.specs.Causes.{RisesExactlyIf}
 use Rattle.run_shelf.specs.declared.faults.InitFault.{InitFault}
 use Rattle.run_shelf.specs.declared.faults.InitFault.TheVariants.{Exists, Shelf}
 use Rattle.run_shelf.specs.declared.faults.OpenFault.{OpenFault}
 use Rattle.run_shelf.specs.declared.faults.OpenFault.TheVariants as open_fault
-
--- the count of faults rises where a call of the shelf failed, and else it stands
-pub record RisesExactlyIf (before now : ℕ) (failed : Bool) : Type 0 where
-  pub later : before ≤ now
-  pub rose : failed ≡ true → Rose before now
-  pub stands : failed ≡ false → now ≡ before
 
 abbrev pub init_failed : {T : Type 0} → Result T InitFault → Bool
 init_failed (Ok done) = false

@@ -3,7 +3,7 @@
 ghost use Rattle.std.specs.Prelude.{◌≡◌, ◌≤◌, ◌<◌, ◌++◌, ◌∷◌, [], length, IfOk, OnOk, Some};
 ghost use Rattle.std.specs.Prelude.{slice_get};
 
-use std::alloc::AllocError;
+use std::alloc::{AllocError, Global};
 use sub_number::NoMemory;
 
 /// How many runs a repository has room for.
@@ -32,6 +32,16 @@ impl Found {
         ensures { slice_get (kinds_of self.now) number ≡ Some result }
     {
         self.kinds[number as usize]
+    }
+
+    /// The same runs, for a second look at them.
+    ///
+    /// `NoMemory` comes only for want of memory.
+    pub fn copy(&self, alloc: Global) -> Result<Found, NoMemory>
+        ensures { IfOk result (λ found. kinds_of found ≡ kinds_of self.now) }
+    {
+        let kinds = Vec::from_slice(alloc, &self.kinds)?;
+        Ok(Found { kinds })
     }
 
     // These runs, with room for one more.

@@ -16,7 +16,7 @@ use Rattle.edge_io.specs.declared.child.Finish.TheVariants.{Exit, ReadFault, Wai
 use Rattle.packet_codec.specs.declared.event.Event.{Event}
 use Rattle.packet_codec.specs.Canonical.{canonical, IsEvent, Fits}
 use Rattle.packet_codec.specs.Grammar.{AreBytes}
-use Rattle.packet_codec.specs.Lanes.{IsMergeOfTold}
+use Rattle.packet_codec.specs.Lanes.{IsMerge, IsMergeOfTold}
 use Rattle.packet_codec.proofs.MergeLemmas.{merge_of_told}
 use Rattle.worker_lane.specs.Endings.{ending_of, ending_events, returncode_under, returncode_text, fault_text}
 use Rattle.worker_lane.specs.Recorded.{recorded_events}
@@ -153,6 +153,14 @@ adds_outputs rests outputs old new few are same adds =
       fit = told.fit;
       merge = merge_of_told told.events (lists_from 0 outputs) (subst (IsMergeOfTold told.events) (lists_told 0 outputs) told.merge);
     }
+
+-- the events that were added are themselves a merge of those of the outputs
+pub merge_of_outputs : (rests : List (Option (List Lot))) (outputs : List Output) (old new : Option Folder) → length outputs ≤ 64 → rests ≡ lots_from 0 (map Some outputs) → (adds : AddsMerge rests old new) → AllByRecursion IsOutput outputs → IsMerge adds.events (lists_from 0 outputs)
+merge_of_outputs rests outputs old new few same adds are =
+    let told : List (Option Output) = map Some outputs in
+    let have : HaveEvents (lots_from 0 told) (events_from 0 told) = have_events told (omega (arith, few, length-map outputs Some)) (are_told outputs are) in
+    let merged : IsMergeOfTold adds.events (events_from 0 told) = adds.merged (events_from 0 told) (subst (λ (l : List (Option (List Lot))). HaveEvents l (events_from 0 told)) (sym same) have) in
+    merge_of_told adds.events (lists_from 0 outputs) (subst (IsMergeOfTold adds.events) (lists_told 0 outputs) merged)
 
 -- ---- one lane more
 
