@@ -27,9 +27,12 @@ has_tag row tag = list_any (λ own. pointwise nat_eq own tag) row.tags
 abbrev pub keeps_tags : Rules → Row → Bool
 keeps_tags rules row = list_all (has_tag row) rules.with_tags && not (has_one_of rules.without_tags row)
 
--- some of the patterns that are asked for is found in the id, where there are any
+-- some of the patterns is found in the id, where there are any
+abbrev pub has_wanted : List (List ℕ) → List ℕ → Bool
+has_wanted patterns id = (length patterns == 0) || is_found patterns id
+
 abbrev pub has_wanted_id : Rules → List ℕ → Bool
-has_wanted_id rules id = (length rules.with_ids == 0) || is_found rules.with_ids id
+has_wanted_id rules id = has_wanted rules.with_ids id
 
 abbrev pub keeps : Rules → Row → Bool
 keeps rules row = allows rules row.ended && (keeps_tags rules row && (has_wanted_id rules row.id && not (is_found rules.without_ids row.id)))

@@ -1,16 +1,14 @@
 -- What a sift has taken so far (docs/FORMATS.md, "subunit-filter").
-use Rattle.std.specs.Prelude.{◌≡◌, Bool, List, Result, IfOk}
-use denote.Ref.{Bor}
+use Rattle.std.specs.Prelude.{◌≡◌, List}
 use Rattle.std.specs.FinMap as fin
 use Rattle.std.specs.FinMap.{FinMap}
 use Rattle.packet_codec.specs.declared.event.Event.{Event}
-use Rattle.outcome_fold.specs.declared.row.Row.{Row}
 use Rattle.outcome_fold.specs.Order.{test_cmp, table}
 use Rattle.outcome_fold.specs.Rows.{open_tests}
 use Rattle.event_sift.specs.declared.rules.Rules.{Rules}
+use Rattle.event_sift.specs.declared.rules.ByRules.{ByRules}
 use Rattle.event_sift.specs.declared.held.Held.{Held}
 use Rattle.event_sift.specs.declared.sift.Sift.{Sift}
-use Rattle.event_sift.specs.Keeping.{keeps}
 use Rattle.event_sift.specs.Released.{part_at}
 
 -- the events that are held, by test
@@ -37,6 +35,6 @@ rules_of sift = sift.rules.now
 abbrev pub predicate_of : {P : Type 0} → Sift P → P
 predicate_of sift = sift.predicate
 
--- where the predicate answers at all, it answers what the rules say of the row
-abbrev pub IsFaithful : {E : Type 0} → (Bor Row → Result Bool E → Type 0) → Rules → Type 0
-IsFaithful answers rules = (row : Bor Row) (answer : Result Bool _) → answers row answer → IfOk answer (λ kept. kept ≡ keeps rules row.now)
+-- the rules that a predicate by rules goes by
+abbrev pub asked_by : ByRules → Rules
+asked_by predicate = predicate.rules.now

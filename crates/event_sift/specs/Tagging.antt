@@ -26,5 +26,9 @@ where_fits changed e = if nat_le (canonical_size changed) largest_packet then ch
 abbrev pub tagged_with : (add remove : List (List ℕ)) → Event → Event
 tagged_with add remove e = where_fits (with_tags e (if_any (tags_with add remove e.tags))) e
 
+-- the tags that an event gets which has none
+abbrev pub plain_tags : Tagger → Option (List (List ℕ))
+plain_tags tagger = if_any (tags_with tagger.add tagger.remove None)
+
 abbrev pub tagged : Tagger → Event → Event
 tagged tagger e = tagged_with tagger.add tagger.remove e

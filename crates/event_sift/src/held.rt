@@ -34,8 +34,7 @@ impl Held {
     fn start(&mut self, key: TestKey, event: Event) -> Result<(), NoMemory>
         ensures { OnOk result (parts_in self.new ≡ map.insert (parts_in self.old) key (event ∷ [])) }
     {
-        let mut part = Part::new(self.alloc);
-        part.push(event)?;
+        let part = Part::begun(self.alloc, event)?;
         self.parts.insert(key, part)?;
         Ok(())
     }

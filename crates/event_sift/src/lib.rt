@@ -4,7 +4,7 @@
 //! events, and of whole lists of events. Events are held from the first one of a test until one completes it, and are
 //! moved on as they are.
 //!
-//! - `rules`: which rows are kept
+//! - `rules`, `predicate`: which rows are kept, and what says so of one after another
 //! - `part`, `held`: the events of the open tests
 //! - `part_row`: the row of some events of a test
 //! - `sift`: what is released as events come, and at the end
@@ -15,12 +15,14 @@
 mod held;
 mod part;
 mod part_row;
+mod predicate;
 mod rules;
 mod sift;
 mod tagger;
 mod whole;
 
-pub use rules::{Rules, keep};
+pub use predicate::Predicate;
+pub use rules::{ByRules, Rules, keep};
 pub use sift::Sift;
 pub use tagger::Tagger;
 pub use whole::filtered_events;

@@ -1,6 +1,6 @@
 //! The events of a part of a test.
 
-ghost use Rattle.std.specs.Prelude.{◌≡◌, [], ◌∷◌, ◌++◌, OnOk};
+ghost use Rattle.std.specs.Prelude.{◌≡◌, [], ◌∷◌, ◌++◌, IfOk, OnOk};
 
 use packet_codec::Event;
 use std::alloc::Global;
@@ -30,6 +30,17 @@ impl Part {
         Part {
             events: Vec::new(alloc),
         }
+    }
+
+    /// This event alone, with room for one more, since most tests have two.
+    ///
+    /// `NoMemory` comes only for want of memory, and the event is lost then.
+    pub fn begun(alloc: Global, event: Event) -> Result<Self, NoMemory>
+        ensures { IfOk result (λ part. part ≡ event ∷ []) }
+    {
+        let mut events = Vec::with_capacity(alloc, 2)?;
+        events.push(event)?;
+        Ok(Part { events })
     }
 
     /// Takes one event more.

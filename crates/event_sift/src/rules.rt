@@ -5,10 +5,12 @@ ghost use Rattle.std.specs.List.{list_all};
 ghost use Rattle.outcome_fold.specs.Answers.{has_one_of};
 ghost use Rattle.partition_times.specs.Patterns.{is_found};
 ghost use Rattle.event_sift.specs.Keeping as keeping;
+ghost use Rattle.event_sift.specs.Keeping.{has_wanted};
 
+use crate::predicate::Predicate;
 use outcome_fold::{Ended, Row};
 use packet_codec::Tags;
-use partition_times::Filters;
+use partition_times::{Filters, Finder};
 use std::alloc::Global;
 use sub_number::{NoMemory, Text};
 
@@ -68,36 +70,68 @@ fn keeps_tags(rules: &Rules, row: &Row) -> bool
 }
 
 // Whether one of the patterns that are asked for is found in the id, where there are any.
-fn has_wanted_id(alloc: Global, rules: &Rules, id: &Text) -> Result<bool, NoMemory>
-    ensures { IfOk result (λ wanted. wanted ≡ keeping.has_wanted_id rules.now id.now) }
+fn has_wanted_id(with_ids: &mut Finder<'_>, id: &Text) -> bool
+    ensures wanted { result ≡ has_wanted with_ids.old id.now }
+    ensures same { with_ids.new ≡ with_ids.old }
 {
-    if rules.with_ids.is_empty() {
-        Ok(true)
-    } else {
-        rules.with_ids.found(alloc, id)
+    with_ids.is_empty() || with_ids.found(id)
+}
+
+/// Rules as a predicate: what looks for their patterns is made once, for all rows.
+#[derive(Drop)]
+pub struct ByRules<'r> {
+    rules: &'r Rules,
+    with_ids: Finder<'r>,
+    without_ids: Finder<'r>,
+    ghost wanted: { with_ids ≡ rules.now.with_ids },
+    ghost unwanted: { without_ids ≡ rules.now.without_ids },
+}
+
+impl<'r> ByRules<'r> {
+    ghost use Rattle.event_sift.specs.Sifted.{asked_by};
+
+    /// The predicate that these rules are.
+    ///
+    /// `NoMemory` comes only for want of memory.
+    pub fn new(alloc: Global, rules: &'r Rules) -> Result<Self, NoMemory>
+        ensures { IfOk result (λ predicate. asked_by predicate ≡ rules.now) }
+    {
+        let with_ids = rules.with_ids.finder(alloc)?;
+        let without_ids = rules.without_ids.finder(alloc)?;
+        Ok(ByRules {
+            rules,
+            with_ids,
+            without_ids,
+        })
+    }
+
+    // Whether the id is as it must be.
+    fn keeps_id(&mut self, id: &Text) -> bool
+        ensures kept { result ≡ (keeping.has_wanted_id (asked_by self.old) id.now && not (is_found (asked_by self.old).without_ids id.now)) }
+        ensures rules { asked_by self.new ≡ asked_by self.old }
+    {
+        has_wanted_id(&mut self.with_ids, id) && !self.without_ids.found(id)
     }
 }
 
-// Whether the id is as it must be.
-fn keeps_id(alloc: Global, rules: &Rules, id: &Text) -> Result<bool, NoMemory>
-    ensures { IfOk result (λ keeps. keeps ≡ (keeping.has_wanted_id rules.now id.now && not (is_found rules.now.without_ids id.now))) }
-{
-    if !has_wanted_id(alloc, rules, id)? {
-        return Ok(false);
+impl<'r> Predicate for ByRules<'r> {
+    ghost use Rattle.event_sift.specs.Sifted.{asked_by};
+
+    ghost rules = { asked_by };
+
+    fn is_kept(&mut self, row: &Row) -> Result<bool, NoMemory> {
+        Ok(allows(self.rules, row.ended) && keeps_tags(self.rules, row) && self.keeps_id(&row.id))
     }
-    Ok(!rules.without_ids.found(alloc, id)?)
 }
 
 /// Whether the rules keep the row: how the test ended is allowed, the row has every tag that is asked for and none that
 /// is not wanted, and in its id one of the patterns that are asked for is found, where there are any, and none of the
-/// others.
+/// others. For many rows `ByRules` is quicker.
 ///
 /// `NoMemory` comes only for want of memory.
 pub fn keep(alloc: Global, rules: &Rules, row: &Row) -> Result<bool, NoMemory>
     ensures { IfOk result (λ kept. kept ≡ keeping.keeps rules.now row.now) }
 {
-    if !allows(rules, row.ended) || !keeps_tags(rules, row) {
-        return Ok(false);
-    }
-    keeps_id(alloc, rules, &row.id)
+    let mut predicate = ByRules::new(alloc, rules)?;
+    predicate.is_kept(row)
 }

@@ -1,43 +1,43 @@
 //! Events that are held until their test completes.
 
-ghost use Rattle.std.specs.Prelude.{◌≡◌, List, Result, Bool, [], ◌∷◌, ◌++◌, IfOk, OnOk};
+ghost use Rattle.std.specs.Prelude.{◌≡◌, List, [], ◌∷◌, ◌++◌, IfOk, OnOk};
 ghost use Rattle.packet_codec.specs.declared.event.Event.{Event as AnEvent};
 ghost use Rattle.event_sift.specs.Keeping.{keeps};
 ghost use Rattle.std.specs.FinMap as map;
 ghost use Rattle.outcome_fold.specs.Parts as parts;
 ghost use Rattle.outcome_fold.specs.Rows.{part_with, row_of};
 ghost use Rattle.event_sift.specs.Released.{completed_part_row, if_kept, released, released_at_end};
-ghost use Rattle.event_sift.specs.Sifted.{HasSifted, Holds, IsFaithful, parts_in, predicate_of, rules_of};
+ghost use Rattle.event_sift.specs.Sifted.{HasSifted, Holds, parts_in, predicate_of, rules_of};
 
 use crate::held::Held;
 use crate::part::Part;
 use crate::part_row::{part_row, start_of};
+use crate::predicate::Predicate;
 use crate::rules::Rules;
 use outcome_fold::{Ended, Row, TestKey, elapsed, ended_by, instant_of, key_of};
 use packet_codec::Event;
 use std::alloc::Global;
 use sub_number::NoMemory;
 
-/// The tests that are open, with their events, and a predicate that says which tests are kept. The predicate answers
-/// what the rules say of a row.
+/// The tests that are open, with their events, and a predicate that says which tests are kept. The predicate goes by the
+/// rules.
 ///
 /// An event is held from the first one of its test until one completes it, and is moved on as it is. After want of
 /// memory a sift is given up.
 ///
 /// A sift is not dropped, since what drops a predicate beside other things can't be stated. It ends by `close` or by
 /// `let_go`.
-pub struct Sift<'a, P: Fn(&Row) -> Result<bool, NoMemory> + Drop> {
+pub struct Sift<'a, P: Predicate + Drop> {
     alloc: Global,
     rules: &'a Rules,
     predicate: P,
     held: Held,
 }
 
-impl<'a, P: Fn(&Row) -> Result<bool, NoMemory> + Drop> Sift<'a, P> {
-    /// A sift that has taken no event. The predicate may borrow the same rules. It takes no memory yet.
+impl<'a, P: Predicate + Drop> Sift<'a, P> {
+    /// A sift that has taken no event. The predicate goes by the same rules, which it may borrow. It takes no memory yet.
     pub fn new(alloc: Global, rules: &'a Rules, predicate: P) -> Self
-        requires callable { P.IsAlwaysCallable predicate }
-        requires faithful { IsFaithful (P.post predicate) rules.now }
+        requires faithful { P.rules predicate ≡ rules.now }
         ensures rules { rules_of result ≡ rules.now }
         ensures predicate { predicate_of result ≡ predicate }
         ensures taken { HasSifted result [] }
@@ -51,25 +51,29 @@ impl<'a, P: Fn(&Row) -> Result<bool, NoMemory> + Drop> Sift<'a, P> {
     }
 
     // Whether the part's row is kept, by the predicate.
-    fn is_kept(&self, row: &Row) -> Result<bool, NoMemory>
-        requires callable { P.IsAlwaysCallable (predicate_of self.now) }
-        requires faithful { IsFaithful (P.post (predicate_of self.now)) (rules_of self.now) }
-        ensures { IfOk result (λ kept. kept ≡ keeps (rules_of self.now) row.now) }
+    fn is_kept(&mut self, row: &Row) -> Result<bool, NoMemory>
+        requires faithful { P.rules (predicate_of self.old) ≡ rules_of self.old }
+        ensures kept { IfOk result (λ kept. kept ≡ keeps (rules_of self.old) row.now) }
+        ensures held { self.new.held ≡ self.old.held }
+        ensures rules { rules_of self.new ≡ rules_of self.old }
+        ensures predicate { P.rules (predicate_of self.new) ≡ P.rules (predicate_of self.old) }
     {
-        (self.predicate)(row)
+        self.predicate.is_kept(row)
     }
 
     // The events of the part of the test that ended so at this instant, where its row is kept, else none.
     fn if_kept(
-        &self,
+        &mut self,
         key: TestKey,
         ended: Ended,
         end: Option<u64>,
         part: Part,
     ) -> Result<Vec<Event>, NoMemory>
-        requires callable { P.IsAlwaysCallable (predicate_of self.now) }
-        requires faithful { IsFaithful (P.post (predicate_of self.now)) (rules_of self.now) }
-        ensures { IfOk result (λ events. events.items ≡ if_kept (keeps (rules_of self.now)) (row_of key ended (parts.elapsed (parts.start_of part) end) part) part) }
+        requires faithful { P.rules (predicate_of self.old) ≡ rules_of self.old }
+        ensures kept { IfOk result (λ events. events.items ≡ if_kept (keeps (rules_of self.old)) (row_of key ended (parts.elapsed (parts.start_of part) end) part) part) }
+        ensures held { self.new.held ≡ self.old.held }
+        ensures rules { rules_of self.new ≡ rules_of self.old }
+        ensures predicate { P.rules (predicate_of self.new) ≡ P.rules (predicate_of self.old) }
     {
         let nanos = elapsed(start_of(part.events()), end);
         let row = part_row(self.alloc, key, ended, nanos, part.events())?;
@@ -82,12 +86,11 @@ impl<'a, P: Fn(&Row) -> Result<bool, NoMemory> + Drop> Sift<'a, P> {
 
     // Takes the event, which completes its test.
     fn complete(&mut self, key: TestKey, ended: Ended, event: Event) -> Result<Vec<Event>, NoMemory>
-        requires callable { P.IsAlwaysCallable (predicate_of self.old) }
-        requires faithful { IsFaithful (P.post (predicate_of self.old)) (rules_of self.old) }
+        requires faithful { P.rules (predicate_of self.old) ≡ rules_of self.old }
         ensures released { (seen : List AnEvent) → HasSifted self.old seen → IfOk result (λ events. events.items ≡ if_kept (keeps (rules_of self.old)) (completed_part_row key ended seen event) (part_with key seen event)) }
         ensures taken { OnOk result (parts_in self.new.held ≡ map.remove (parts_in self.old.held) key) }
         ensures rules { rules_of self.new ≡ rules_of self.old }
-        ensures predicate { predicate_of self.new ≡ predicate_of self.old }
+        ensures predicate { P.rules (predicate_of self.new) ≡ P.rules (predicate_of self.old) }
     {
         let end = instant_of(&event);
         let part = self.held.finish(&key, event)?;
@@ -97,15 +100,14 @@ impl<'a, P: Fn(&Row) -> Result<bool, NoMemory> + Drop> Sift<'a, P> {
     /// Takes the event, and gives the events that are released now: an event without an id at once, all events of a
     /// test, in order, where this one completes it and it is kept, and else none.
     ///
-    /// `NoMemory` comes only for want of memory. The sift is given up then: its rules and its predicate are as before,
-    /// and of the events that it held nothing is known.
+    /// `NoMemory` comes only for want of memory. The sift is given up then: its rules are as before, its predicate goes by
+    /// them, and of the events that it held nothing is known.
     pub fn add(&mut self, event: Event) -> Result<Vec<Event>, NoMemory>
-        requires callable { P.IsAlwaysCallable (predicate_of self.old) }
-        requires faithful { IsFaithful (P.post (predicate_of self.old)) (rules_of self.old) }
+        requires faithful { P.rules (predicate_of self.old) ≡ rules_of self.old }
         ensures released { (seen : List AnEvent) → HasSifted self.old seen → IfOk result (λ events. events.items ≡ released (keeps (rules_of self.old)) seen event) }
         ensures taken { (seen : List AnEvent) → HasSifted self.old seen → OnOk result (HasSifted self.new (seen ++ event ∷ [])) }
         ensures rules { rules_of self.new ≡ rules_of self.old }
-        ensures predicate { predicate_of self.new ≡ predicate_of self.old }
+        ensures predicate { P.rules (predicate_of self.new) ≡ P.rules (predicate_of self.old) }
     {
         let Some(key) = key_of(&event)? else {
             return only(self.alloc, event);
@@ -120,10 +122,9 @@ impl<'a, P: Fn(&Row) -> Result<bool, NoMemory> + Drop> Sift<'a, P> {
     }
 
     // The events of the open tests that are kept.
-    fn release(&self, held: Held) -> Result<Vec<Event>, NoMemory>
-        requires callable { P.IsAlwaysCallable (predicate_of self.now) }
-        requires faithful { IsFaithful (P.post (predicate_of self.now)) (rules_of self.now) }
-        ensures { (seen : List AnEvent) → Holds held seen → IfOk result (λ events. events.items ≡ released_at_end (keeps (rules_of self.now)) seen) }
+    fn release(&mut self, held: Held) -> Result<Vec<Event>, NoMemory>
+        requires faithful { P.rules (predicate_of self.old) ≡ rules_of self.old }
+        ensures { (seen : List AnEvent) → Holds held seen → IfOk result (λ events. events.items ≡ released_at_end (keeps (rules_of self.old)) seen) }
     {
         let mut events = Vec::new(self.alloc);
         for (key, part) in held.into_parts() {
@@ -137,8 +138,7 @@ impl<'a, P: Fn(&Row) -> Result<bool, NoMemory> + Drop> Sift<'a, P> {
     ///
     /// `NoMemory` comes only for want of memory. The sift is given up then too.
     pub fn close(self) -> Result<Vec<Event>, NoMemory>
-        requires callable { P.IsAlwaysCallable (predicate_of self) }
-        requires faithful { IsFaithful (P.post (predicate_of self)) (rules_of self) }
+        requires faithful { P.rules (predicate_of self) ≡ rules_of self }
         ensures { (seen : List AnEvent) → HasSifted self.entry seen → IfOk result (λ events. events.items ≡ released_at_end (keeps (rules_of self.entry)) seen) }
     {
         let Sift {
@@ -148,7 +148,7 @@ impl<'a, P: Fn(&Row) -> Result<bool, NoMemory> + Drop> Sift<'a, P> {
             held,
         } = self;
         // The held events are moved out, so that the rest can be given up whatever comes of them.
-        let rest = Sift {
+        let mut rest = Sift {
             alloc,
             rules,
             predicate,
@@ -174,7 +174,7 @@ impl<'a, P: Fn(&Row) -> Result<bool, NoMemory> + Drop> Sift<'a, P> {
 fn only(alloc: Global, event: Event) -> Result<Vec<Event>, NoMemory>
     ensures { IfOk result (λ events. events.items ≡ event ∷ []) }
 {
-    let mut events = Vec::new(alloc);
+    let mut events = Vec::with_capacity(alloc, 1)?;
     events.push(event)?;
     Ok(events)
 }

@@ -3,7 +3,7 @@
 ghost use Rattle.std.specs.Prelude.{◌≡◌, ◌++◌, [], IfOk, OnOk, OnErr};
 ghost use Rattle.std.specs.Option.{unwrap_or};
 ghost use Rattle.outcome_fold.specs.Order.{in_byte_order};
-ghost use Rattle.event_sift.specs.Tagging.{if_any, tags_with, tagged};
+ghost use Rattle.event_sift.specs.Tagging.{if_any, plain_tags, tags_with, tagged};
 
 use outcome_fold::TextSet;
 use packet_codec::{Event, Tags, fits};
@@ -44,6 +44,15 @@ impl Tagger {
         let mut texts = self.gathered(own)?;
         texts.remove_all(self.remove.list());
         Ok(if_any(texts.into_tags(self.alloc)?))
+    }
+
+    /// The tags that an event gets which has none, where it has room for them.
+    ///
+    /// `NoMemory` comes only for want of memory.
+    pub fn plain_tags(&self) -> Result<Option<Tags>, NoMemory>
+        ensures { IfOk result (λ tags. tags ≡ plain_tags self.now) }
+    {
+        self.tags(&None)
     }
 
     /// Gives the event its tags and the added ones without the removed ones, in the order of their bytes, each once, and

@@ -1,12 +1,12 @@
 //! Rows that are kept, events that are released, and tags that are given.
 
-use crate::{Rules, Sift, Tagger, filtered_events, keep};
+use crate::{ByRules, Rules, Sift, Tagger, filtered_events, keep};
 use outcome_fold::{Ended, Row};
 use packet_codec::{Event, Status, Tags, encode, fits};
 use partition_times::Filters;
 use std::alloc::Global;
 use std::test::Fail;
-use sub_number::{Bytes, NoMemory, Text};
+use sub_number::{Bytes, Text};
 
 fn text(alloc: Global, bytes: &[u8]) -> Option<Text> {
     Text::new(alloc, bytes).ok()
@@ -239,9 +239,7 @@ fn an_event_is_tagged_where_it_fits(rt: HostRuntime) -> Result<(), Fail> {
 // What a sift releases step by step, over a predicate of the caller's own.
 fn step_by_step(alloc: Global) -> Option<bool> {
     let rules = default_rules(alloc)?;
-    let mut sift = Sift::new(alloc, &rules, |row: &Row| -> Result<bool, NoMemory> {
-        keep(alloc, &rules, row)
-    });
+    let mut sift = Sift::new(alloc, &rules, ByRules::new(alloc, &rules).ok()?);
     let begun = sift.add(says(alloc, b'-', b"f", Status::InProgress));
     let ended = sift.add(says(alloc, b'-', b"f", Status::Fail));
     let again = sift.add(says(alloc, b'-', b"f", Status::InProgress));

@@ -1,30 +1,29 @@
 //! What is released of a whole list of events.
 
-ghost use Rattle.std.specs.Prelude.{◌≡◌, List, Result, Bool, ◌∷◌, ◌++◌, [], IfOk, OnOk};
+ghost use Rattle.std.specs.Prelude.{◌≡◌, List, ◌∷◌, ◌++◌, [], IfOk, OnOk};
 ghost use Rattle.packet_codec.specs.declared.event.Event.{Event as AnEvent};
 ghost use Rattle.event_sift.specs.Keeping.{keeps};
 ghost use Rattle.event_sift.specs.Released.{filtered, released_by};
-ghost use Rattle.event_sift.specs.Sifted.{HasSifted, IsFaithful, predicate_of, rules_of};
+ghost use Rattle.event_sift.specs.Sifted.{HasSifted, predicate_of, rules_of};
 
-use crate::rules::{Rules, keep};
+use crate::predicate::Predicate;
+use crate::rules::{ByRules, Rules};
 use crate::sift::Sift;
-use outcome_fold::Row;
 use packet_codec::Event;
 use std::alloc::Global;
 use sub_number::NoMemory;
 
 // Takes the event, and puts what is released now behind what was released before.
-fn take<P: Fn(&Row) -> Result<bool, NoMemory> + Drop>(
+fn take<P: Predicate + Drop>(
     sift: &mut Sift<'_, P>,
     event: Event,
     released: &mut Vec<Event>,
 ) -> Result<(), NoMemory>
-    requires callable { P.IsAlwaysCallable (predicate_of sift.old) }
-    requires faithful { IsFaithful (P.post (predicate_of sift.old)) (rules_of sift.old) }
+    requires faithful { P.rules (predicate_of sift.old) ≡ rules_of sift.old }
     ensures released { (seen : List AnEvent) → HasSifted sift.old seen → released.old.items ≡ released_by (keeps (rules_of sift.old)) seen → OnOk result (released.new.items ≡ released_by (keeps (rules_of sift.old)) (seen ++ event ∷ [])) }
     ensures taken { (seen : List AnEvent) → HasSifted sift.old seen → OnOk result (HasSifted sift.new (seen ++ event ∷ [])) }
     ensures rules { rules_of sift.new ≡ rules_of sift.old }
-    ensures predicate { predicate_of sift.new ≡ predicate_of sift.old }
+    ensures predicate { P.rules (predicate_of sift.new) ≡ P.rules (predicate_of sift.old) }
 {
     let mut events = sift.add(event)?;
     released.append(&mut events)?;
@@ -32,19 +31,18 @@ fn take<P: Fn(&Row) -> Result<bool, NoMemory> + Drop>(
 }
 
 // Takes the events one after another. Nothing was released before.
-fn take_all<P: Fn(&Row) -> Result<bool, NoMemory> + Drop>(
+fn take_all<P: Predicate + Drop>(
     sift: &mut Sift<'_, P>,
     events: Vec<Event>,
     released: &mut Vec<Event>,
 ) -> Result<(), NoMemory>
-    requires callable { P.IsAlwaysCallable (predicate_of sift.old) }
-    requires faithful { IsFaithful (P.post (predicate_of sift.old)) (rules_of sift.old) }
+    requires faithful { P.rules (predicate_of sift.old) ≡ rules_of sift.old }
     requires new { HasSifted sift.old [] }
     requires none { released.old.items ≡ [] }
     ensures released { OnOk result (released.new.items ≡ released_by (keeps (rules_of sift.old)) events.items) }
     ensures taken { OnOk result (HasSifted sift.new events.items) }
     ensures rules { rules_of sift.new ≡ rules_of sift.old }
-    ensures predicate { predicate_of sift.new ≡ predicate_of sift.old }
+    ensures predicate { P.rules (predicate_of sift.new) ≡ P.rules (predicate_of sift.old) }
 {
     for event in events {
         take(sift, event, released)?;
@@ -62,13 +60,7 @@ pub fn filtered_events(
 ) -> Result<Vec<Event>, NoMemory>
     ensures { IfOk result (λ released. released.items ≡ filtered (keeps rules.now) events.items) }
 {
-    let mut sift = Sift::new(
-        alloc,
-        rules,
-        |row: &Row| -> Result<bool, NoMemory>
-            ensures { IfOk result (λ kept. kept ≡ keeps rules.entry.now row.now) }
-        { keep(alloc, rules, row) },
-    );
+    let mut sift = Sift::new(alloc, rules, ByRules::new(alloc, rules)?);
     let mut released = Vec::new(alloc);
     if take_all(&mut sift, events, &mut released).is_err() {
         sift.let_go();

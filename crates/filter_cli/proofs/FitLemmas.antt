@@ -1,5 +1,5 @@
 -- The events that are written have packets.
-use Rattle.std.proofs.Common.{◌≡◌, ℕ, ◌+◌, ◌≤◌, Bool, true, false, cond, List, [], ◌∷◌, Option, None, Some, length, All, sym, subst, ◌∙◌, append-nil, arith, codes}
+use Rattle.std.proofs.Common.{◌≡◌, ℕ, ◌+◌, ◌≤◌, Bool, true, false, cond, List, [], ◌∷◌, Option, None, Some, take, length, All, sym, subst, ◌∙◌, append-nil, arith, codes}
 use Rattle.std.specs.List.{flat_map, list_any}
 use Rattle.std.specs.FinMap as fin
 use Rattle.std.specs.FinMap.{put, entries-insert, len-entries, len-empty}
@@ -8,7 +8,7 @@ use Rattle.std.specs.declared.cmp.Ordering.{Ordering}
 use Rattle.std.specs.declared.cmp.Ordering.TheVariants.{Less, Equal, Greater}
 use Rattle.std.specs.Cmp.{IsTotalOrder}
 use Rattle.std.proofs.lemmas.Bool.Decides.{nat_tests}
-use Rattle.std.proofs.lemmas.List.{length-append}
+use Rattle.std.proofs.lemmas.List.{length-append, length-take-le}
 use Rattle.std.proofs.lemmas.List.Elements.{All-nil, All-cons, All-append, All-head, All-tail, All-filter, All-map}
 use Rattle.packet_codec.specs.declared.event.Event.{Event}
 use Rattle.packet_codec.specs.Canonical.{canonical_text, canonical_fields, packet_size, Fits}
@@ -19,6 +19,9 @@ use Rattle.packet_codec.specs.Grammar.{AreBytes}
 use Rattle.sub_number.specs.Numbers.{shortest_number}
 use Rattle.stream_reader.specs.declared.note.Note.{Note}
 use Rattle.stream_reader.specs.declared.note.Note.TheVariants as note
+use Rattle.stream_reader.specs.declared.first.First.{First}
+use Rattle.stream_reader.specs.declared.first.First.TheVariants.{Foreign}
+use Rattle.stream_reader.specs.First.{FirstIs}
 use Rattle.stream_reader.specs.Notes.{HasNotes, AreFullRuns, event_of, stdout_event}
 use Rattle.stream_reader.specs.Stream.{Held, Gives, GivesNote}
 use Rattle.stream_reader.proofs.ExistLemmas.{some_notes}
@@ -50,6 +53,12 @@ stdout_fits bytes short = record {
     length_counted bytes,
   );
 }
+
+-- foreign bytes that stand at the front
+pub run_fits : (ended : Bool) (bytes run : List ℕ) (first : First) (size : ℕ) (behind : Option ℕ) → FirstIs ended bytes first → first ≡ Foreign size behind → run ≡ take size bytes → Fits (stdout_event run)
+run_fits ended bytes run first size behind is form same =
+    let found : FirstIs ended bytes (Foreign size behind) = subst (FirstIs ended bytes) form is in
+    subst (λ (l : List ℕ). Fits (stdout_event l)) (sym same) (stdout_fits (take size bytes) (omega (arith, found.1.short, length-take-le size bytes found.1.in_range)))
 
 full_of : (bytes : List ℕ) (notes : List Note) → HasNotes bytes notes → AreFullRuns notes
 full_of bytes notes h = subst AreFullRuns (sym h.made) (are_full h.pieces [] (omega arith))

@@ -13,6 +13,7 @@ pub mod StatusLemmas
 pub mod Ways
 pub mod WritingLaws
 pub mod PromiseLemmas
+pub mod TallyLemmas
 pub mod TapLemmas
 pub mod NewlineLemmas
 pub mod TapPrefix

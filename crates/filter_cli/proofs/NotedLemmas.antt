@@ -1,7 +1,13 @@
 -- A filter of notes at work.
-use Rattle.std.proofs.Common.{◌≡◌, ℕ, Bool, true, false, List, [], ◌∷◌, ◌++◌, refl, sym, ap, subst, ◌∙◌, append_assoc, append-nil, arith}
+use Rattle.std.proofs.Common.{◌≡◌, ℕ, Option, ◌<◌, length, length-append, Bool, true, false, List, [], ◌∷◌, ◌++◌, take, refl, sym, ap, subst, ◌∙◌, append_assoc, append-nil, arith}
 use Rattle.packet_codec.specs.Grammar.{AreBytes}
+use Rattle.packet_codec.specs.declared.event.Event.{Event}
+use Rattle.packet_codec.specs.Packet.{SpellsEvent}
 use Rattle.stream_reader.specs.declared.note.Note.{Note}
+use Rattle.stream_reader.specs.declared.note.Note.TheVariants as note
+use Rattle.stream_reader.specs.declared.first.First.{First}
+use Rattle.stream_reader.specs.declared.first.First.TheVariants as found
+use Rattle.stream_reader.specs.First.{FirstIs, IsMadeBy}
 use Rattle.stream_reader.specs.Stream.{Held, GivesNote, IsSpent}
 use Rattle.stream_reader.proofs.TurnLemmas.{notes_none, notes_more, begin_more, whole_at_end, gives_none}
 use Rattle.stream_reader.proofs.GivingLemmas.{spent_empty}
@@ -82,3 +88,17 @@ filtered_all takes later plan now rest fed shown held after old mid new status s
         status = answers t.all t.taken ∙ ap (λ (p : Plan). p.status t.all) same;
       };
     }
+
+-- ---- what is first
+
+pub packet_made : (bytes packet : List ℕ) (first : First) (size : ℕ) (e : Event) → first ≡ found.Packet size → packet ≡ take size bytes → SpellsEvent packet e → IsMadeBy bytes first (note.Event e)
+packet_made bytes packet first size e form same spells = subst (λ (f : First). IsMadeBy bytes f (note.Event e)) (sym form) (subst (λ (l : List ℕ). SpellsEvent l e) same spells)
+
+pub run_made : (bytes run : List ℕ) (first : First) (size : ℕ) (behind : Option ℕ) → first ≡ found.Foreign size behind → run ≡ take size bytes → IsMadeBy bytes first (note.Foreign run)
+run_made bytes run first size behind form same = subst (λ (f : First). IsMadeBy bytes f (note.Foreign run)) (sym form) same
+
+pub spent_at : (before now : Held) (first : First) → FirstIs before.ended before.bytes first → now ≡ before → first ≡ found.Nothing → IsSpent now.ended now.bytes
+spent_at before now first is same none = subst (λ (h : Held). IsSpent h.ended h.bytes) (sym same) (subst (FirstIs before.ended before.bytes) none is)
+
+pub given_shorter : (before after : Held) (given : Note) → GivesNote before given after → length after.bytes < length before.bytes
+given_shorter before after given g = omega (arith, g.some, ap length g.parts, length-append g.front after.bytes)

@@ -13,6 +13,7 @@ pub mod Ls
 pub mod Stats
 pub mod Filtering
 pub mod Tagging
+pub mod Tally
 -- The words.
 pub mod Tools
 pub mod Selecting

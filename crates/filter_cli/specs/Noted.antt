@@ -1,7 +1,9 @@
 -- A filter of notes at work. `takes` says which notes it has taken.
-use Rattle.std.specs.Prelude.{◌≡◌, ℕ, List, [], ◌++◌}
+use Rattle.std.specs.Prelude.{◌≡◌, ℕ, List, [], ◌∷◌, ◌++◌}
 use Rattle.stream_reader.specs.declared.note.Note.{Note}
+use Rattle.stream_reader.specs.declared.first.First.{First}
 use Rattle.stream_reader.specs.Notes.{HasDecided}
+use Rattle.stream_reader.specs.First.{IsMadeBy}
 use Rattle.stream_reader.specs.Stream.{Held, BeginsWithNotes, GivesNotes}
 use Rattle.filter_cli.specs.Plan.{Plan}
 use Rattle.filter_cli.specs.Script.{given_by}
@@ -13,6 +15,13 @@ pub record HasFiltered (takes : List Note → Type 0) (plan : Plan) (held fed sh
   pub begins : BeginsWithNotes fed notes held
   pub spent : HasDecided held []
   pub made : shown ≡ given_by plan notes
+
+-- a note was taken that is made of what is first, and what it gives was appended
+pub record TakesFirst (takes later : List Note → Type 0) (plan : Plan) (bytes : List ℕ) (first : First) (old new : List ℕ) : Type 0 where
+  pub note : Note
+  pub made : IsMadeBy bytes first note
+  pub taken : (notes : List Note) → takes notes → later (notes ++ note ∷ [])
+  pub grown : (notes : List Note) → takes notes → new ≡ old ++ plan.gives notes note
 
 -- the next notes were given and taken, and what they give was appended
 pub record TakesNotes (takes : List Note → Type 0) (plan : Plan) (notes : List Note) (before after : Held) (old new : List ℕ) : Type 0 where

@@ -5,7 +5,7 @@
 //! - `refusal`, `telling`: why a filter was not done, and the lines that tell of it
 //! - `filter`, `pass`: what a filter is, and the one loop that serves them all
 //! - `notes`, `of_notes`, `taking`, `through`: filters that go by the notes of a stream
-//! - `ls`, `sifting`, `stats`, `subunit_to_tap`, `tagging`: those filters
+//! - `ls`, `sifting`, `stats`, `subunit_to_tap`, `tagging`: those filters; `tally`: what is counted
 //! - `of_tap`, `open_line`, `packets`, `pass_tap`: lines of the Test Anything Protocol as packets
 //! - `event_laws`, `laws`: what filters write of all streams
 #![tactic(auto)]
@@ -31,6 +31,7 @@ mod stats;
 mod subunit_to_tap;
 mod tagging;
 mod taking;
+mod tally;
 mod telling;
 mod through;
 mod tool;
@@ -40,7 +41,7 @@ pub use asked::{Asked, read_asked};
 pub use event_laws::packets_of_streams;
 pub use filter::Filter;
 pub use laws::{filtered_streams, lines_of_streams};
-pub use ls::{Listing, Ls};
+pub use ls::Listing;
 pub use notes::NoteFilter;
 pub use of_notes::OfNotes;
 pub use pass::{PumpFault, pump};
@@ -49,10 +50,8 @@ pub use patterns::{Patterns, PatternsFault};
 pub use refusal::{Refusal, UsageFault};
 pub use retagging::Retagging;
 pub use selection::Selection;
-pub use sifting::{Sifting, filter_stream};
-pub use stats::Stats;
-pub use subunit_to_tap::SubunitToTap;
-pub use tagging::{Tagging, tag_stream};
+pub use sifting::filter_stream;
+pub use tagging::tag_stream;
 pub use through::pass_notes;
 pub use tool::{Tool, tool_of};
 pub use top::filters;

@@ -9,9 +9,9 @@ ghost use Rattle.filter_cli.specs.Ls.{shown_line};
 
 use crate::notes::NoteFilter;
 use outcome_fold::{Ended, Fold, Row};
+use packet_codec::Event;
 use std::alloc::Global;
-use stream_reader::Note;
-use sub_number::{Bytes, NoMemory};
+use sub_number::NoMemory;
 use sub_text::ls_line;
 
 /// What is listed.
@@ -27,7 +27,7 @@ pub struct Listing {
 
 /// Lists each test where it completes, and at the end those that are left open.
 #[derive(Drop)]
-pub struct Ls {
+pub(crate) struct Ls {
     listing: Listing,
     fold: Fold,
     // A test that is complete failed.
@@ -39,7 +39,7 @@ impl Ls {
     ghost use Rattle.outcome_fold.specs.Folded.{HasSeen};
 
     /// A list of nothing yet.
-    pub fn new(alloc: Global, listing: Listing) -> Self
+    pub(crate) fn new(alloc: Global, listing: Listing) -> Self
         ensures listing { result.listing ≡ listing }
         ensures fold { HasSeen result.fold [] }
         ensures failed { result.failed ≡ false }
@@ -62,17 +62,15 @@ impl NoteFilter for Ls {
 
     ghost has = { λ f notes. HasSeen f.fold (events_in notes) × (f.failed ≡ list_any row_fails (completed_rows (events_in notes))) };
 
-    fn take(&mut self, note: Note, text: &mut Vec<u8>) -> Result<(), NoMemory> {
-        let event = match note {
-            Note::Foreign(bytes) => {
-                put_foreign(self.listing.hidden, &bytes, text)?;
-                return Ok(());
-            }
-            Note::Event(event) => event,
-        };
-        let row = self.fold.add(&event)?;
+    fn take(&mut self, event: Event, text: &mut Vec<u8>) -> Result<(), NoMemory> {
+        let row = self.fold.take(event)?;
         put_row(self.listing, &row, text)?;
         self.failed = failed_after(self.failed, &row);
+        Ok(())
+    }
+
+    fn take_foreign(&mut self, bytes: &[u8], text: &mut Vec<u8>) -> Result<(), NoMemory> {
+        put_foreign(self.listing.hidden, bytes, text)?;
         Ok(())
     }
 
@@ -87,11 +85,11 @@ impl NoteFilter for Ls {
 }
 
 // Foreign bytes, unless they are hidden.
-pub(crate) fn put_foreign(hidden: bool, bytes: &Bytes, text: &mut Vec<u8>) -> Result<(), NoMemory>
+pub(crate) fn put_foreign(hidden: bool, bytes: &[u8], text: &mut Vec<u8>) -> Result<(), NoMemory>
     ensures { OnOk result (text.new.items ≡ text.old.items ++ passed_on hidden bytes.now) }
 {
     if !hidden {
-        text.extend_from_slice(bytes.bytes())?;
+        text.extend_from_slice(bytes)?;
     }
     Ok(())
 }

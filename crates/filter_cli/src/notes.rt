@@ -2,10 +2,11 @@
 ghost use Rattle.std.specs.Prelude.{◌≡◌, [], ◌∷◌, ◌++◌, List, IfOk, OnOk};
 ghost use Rattle.packet_codec.specs.Canonical.{Fits};
 ghost use Rattle.stream_reader.specs.declared.note.Note.{Note as ANote};
-ghost use Rattle.stream_reader.specs.Notes.{event_of};
+ghost use Rattle.stream_reader.specs.declared.note.Note.TheVariants as note;
+ghost use Rattle.stream_reader.specs.Notes.{stdout_event as event_of_bytes};
 ghost use Rattle.filter_cli.specs.Plan.{Plan};
 
-use stream_reader::Note;
+use packet_codec::Event;
 use sub_number::NoMemory;
 
 /// A filter that goes by the notes of a stream, one after another.
@@ -19,13 +20,24 @@ pub trait NoteFilter {
     /// What it was made over may be called.
     ghost ready: { Self → Type 0 } = { λ _. Unit {0} };
 
-    /// Takes the next note, and appends what it gives. Its event has a packet, as that of each note of a stream has.
-    fn take(&mut self, note: Note, text: &mut Vec<u8>) -> Result<(), NoMemory>
+    /// Takes the next note, which is this event, and appends what it gives. The event has a packet, as each event of a
+    /// stream has.
+    fn take(&mut self, event: Event, text: &mut Vec<u8>) -> Result<(), NoMemory>
         requires ready { ready self.old }
-        requires packet { Fits (event_of note) }
+        requires packet { Fits event }
         ensures ready { OnOk result (ready self.new) }
-        ensures ok { (notes : List ANote) → has self.old notes → OnOk result (has self.new (notes ++ note ∷ [])) }
-        ensures text { (notes : List ANote) → has self.old notes → OnOk result (text.new.items ≡ text.old.items ++ (plan self.old).gives notes note) }
+        ensures ok { (notes : List ANote) → has self.old notes → OnOk result (has self.new (notes ++ note.Event event ∷ [])) }
+        ensures text { (notes : List ANote) → has self.old notes → OnOk result (text.new.items ≡ text.old.items ++ (plan self.old).gives notes (note.Event event)) }
+        ensures plan { OnOk result (plan self.new ≡ plan self.old) };
+
+    /// Takes the next note, which is these foreign bytes, and appends what it gives. The bytes stand where they were
+    /// read, and as an event they have a packet.
+    fn take_foreign(&mut self, bytes: &[u8], text: &mut Vec<u8>) -> Result<(), NoMemory>
+        requires ready { ready self.old }
+        requires packet { Fits (event_of_bytes bytes.now) }
+        ensures ready { OnOk result (ready self.new) }
+        ensures ok { (notes : List ANote) → has self.old notes → OnOk result (has self.new (notes ++ note.Foreign bytes.now ∷ [])) }
+        ensures text { (notes : List ANote) → has self.old notes → OnOk result (text.new.items ≡ text.old.items ++ (plan self.old).gives notes (note.Foreign bytes.now)) }
         ensures plan { OnOk result (plan self.new ≡ plan self.old) };
 
     /// There are no further notes: appends what the end gives, and gives the status.

@@ -1,55 +1,89 @@
 //! The counts of a stream.
 
-use crate::ls::{any_failed, put_foreign};
-use crate::notes::NoteFilter;
-use outcome_fold::Outcomes;
-use std::alloc::Global;
-use stream_reader::Note;
-use sub_number::NoMemory;
-use sub_text::stats_text;
+ghost use Rattle.std.specs.Prelude.{◌≡◌, List, ◌++◌, OnOk};
+ghost use Rattle.std.specs.Option.{option_to_list};
+ghost use Rattle.outcome_fold.specs.declared.row.Row.{Row as ARow};
+ghost use Rattle.filter_cli.specs.Tally.{HasTallied};
 
-/// Counts the tests of a stream, and names the tags that were seen, at its end.
+use crate::ls::put_foreign;
+use crate::notes::NoteFilter;
+use crate::tally::Tally;
+use outcome_fold::{Fold, Row};
+use packet_codec::Event;
+use std::alloc::Global;
+use sub_number::NoMemory;
+use sub_text::counts_text;
+
+/// Counts the tests of a stream, and names the tags that were seen, at its end. Of a test that is complete one byte is
+/// kept.
 #[derive(Drop)]
-pub struct Stats {
-    outcomes: Outcomes,
+pub(crate) struct Stats {
+    alloc: Global,
+    fold: Fold,
+    tally: Tally,
 }
 
 impl Stats {
     ghost use Rattle.std.specs.Prelude.{[]};
-    ghost use Rattle.outcome_fold.specs.Outcome.{HasFolded};
+    ghost use Rattle.outcome_fold.specs.Folded.{HasSeen};
 
     /// The counts of nothing yet.
-    pub fn new(alloc: Global) -> Self
-        ensures { HasFolded result.outcomes [] }
+    pub(crate) fn new(alloc: Global) -> Self
+        ensures fold { HasSeen result.fold [] }
+        ensures tally { HasTallied result.tally [] }
     {
         Stats {
-            outcomes: Outcomes::new(alloc),
+            alloc,
+            fold: Fold::new(alloc),
+            tally: Tally::new(alloc),
         }
     }
 }
 
 impl NoteFilter for Stats {
-    ghost use Rattle.outcome_fold.specs.Outcome.{HasFolded};
+    ghost use Rattle.outcome_fold.specs.Folded.{HasSeen};
+    ghost use Rattle.outcome_fold.specs.Rows.{completed_rows};
     ghost use Rattle.filter_cli.specs.Events.{events_in};
     ghost use Rattle.filter_cli.specs.Stats.{stats_plan};
 
     ghost plan = { λ f. stats_plan };
 
-    ghost has = { λ f notes. HasFolded f.outcomes (events_in notes) };
+    ghost has = { λ f notes. HasSeen f.fold (events_in notes) × HasTallied f.tally (completed_rows (events_in notes)) };
 
-    fn take(&mut self, note: Note, text: &mut Vec<u8>) -> Result<(), NoMemory> {
-        match note {
-            Note::Foreign(bytes) => put_foreign(false, &bytes, text)?,
-            Note::Event(event) => self.outcomes.add(&event)?,
-        }
+    fn take(&mut self, event: Event, _text: &mut Vec<u8>) -> Result<(), NoMemory> {
+        let row = self.fold.take(event)?;
+        count_row(&mut self.tally, &row)?;
+        Ok(())
+    }
+
+    fn take_foreign(&mut self, bytes: &[u8], text: &mut Vec<u8>) -> Result<(), NoMemory> {
+        put_foreign(false, bytes, text)?;
         Ok(())
     }
 
     fn close(self, text: &mut Vec<u8>) -> Result<u8, NoMemory> {
-        let rows = self.outcomes.close()?;
-        stats_text(&rows, text)?;
-        Ok(u8::from(any_failed(rows.list())))
+        let Stats {
+            alloc,
+            fold,
+            mut tally,
+        } = self;
+        let rows = fold.close()?;
+        tally.add_all(&rows)?;
+        let counts = tally.counts();
+        let tags = tally.tags.into_tags(alloc)?;
+        counts_text(counts, &tags, text)?;
+        Ok(u8::from(counts.failed > 0))
     }
 
     fn let_go(self) {}
+}
+
+// Counts the row, where there is one.
+fn count_row(tally: &mut Tally, row: &Option<Row>) -> Result<(), NoMemory>
+    ensures { (rows : List ARow) → HasTallied tally.old rows → OnOk result (HasTallied tally.new (rows ++ option_to_list row.now)) }
+{
+    if let Some(row) = row {
+        tally.add(row)?;
+    }
+    Ok(())
 }

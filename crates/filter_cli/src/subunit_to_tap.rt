@@ -9,15 +9,15 @@ ghost use Rattle.tap_bridge.specs.Texts.{HasWritten, text_at, text_behind};
 use crate::ls::{any_failed, failed_after};
 use crate::notes::NoteFilter;
 use outcome_fold::{Fold, Row};
+use packet_codec::Event;
 use std::alloc::Global;
-use stream_reader::Note;
 use sub_number::NoMemory;
 use tap_bridge::TapWriter;
 
 /// Writes a line for each test where it completes, at the end those of the tests that are left open, and then the plan.
 /// Foreign bytes are dropped.
 #[derive(Drop)]
-pub struct SubunitToTap {
+pub(crate) struct SubunitToTap {
     fold: Fold,
     writer: TapWriter,
     // A test that is complete failed.
@@ -29,7 +29,7 @@ impl SubunitToTap {
     ghost use Rattle.outcome_fold.specs.Folded.{HasSeen};
 
     /// The lines of nothing yet.
-    pub fn new(alloc: Global) -> Self
+    pub(crate) fn new(alloc: Global) -> Self
         ensures fold { HasSeen result.fold [] }
         ensures writer { HasWritten result.writer [] }
         ensures failed { result.failed ≡ false }
@@ -54,14 +54,14 @@ impl NoteFilter for SubunitToTap {
 
     ghost has = { λ f notes. HasSeen f.fold (events_in notes) × HasWritten f.writer (completed_rows (events_in notes)) × (f.failed ≡ list_any row_fails (completed_rows (events_in notes))) };
 
-    fn take(&mut self, note: Note, text: &mut Vec<u8>) -> Result<(), NoMemory> {
-        let event = match note {
-            Note::Foreign(_) => return Ok(()),
-            Note::Event(event) => event,
-        };
-        let row = self.fold.add(&event)?;
+    fn take(&mut self, event: Event, text: &mut Vec<u8>) -> Result<(), NoMemory> {
+        let row = self.fold.take(event)?;
         put_row(&mut self.writer, &row, text)?;
         self.failed = failed_after(self.failed, &row);
+        Ok(())
+    }
+
+    fn take_foreign(&mut self, _bytes: &[u8], _text: &mut Vec<u8>) -> Result<(), NoMemory> {
         Ok(())
     }
 

@@ -1,6 +1,8 @@
 //! The events of a stream with other tags.
 
-ghost use Rattle.std.specs.Prelude.{◌≡◌, IfSome};
+ghost use Rattle.std.specs.Prelude.{◌≡◌, ◌++◌, None, IfSome, OnOk};
+ghost use Rattle.packet_codec.specs.Canonical.{canonical, Fits};
+ghost use Rattle.event_sift.specs.Tagging.{plain_tags, tagged, where_fits, with_tags};
 ghost use Rattle.filter_cli.specs.Pipe.{pipe};
 ghost use Rattle.filter_cli.specs.Plan.{IsSeen, IsFiltered};
 ghost use Rattle.filter_cli.specs.Pumping.{Pumps, WritesFirst};
@@ -11,25 +13,37 @@ use crate::pass::PumpFault;
 use crate::through::pass_notes;
 use edge_io::{Sink, Source};
 use event_sift::Tagger;
-use packet_codec::encode;
+use packet_codec::{Event, Tags, encode, fits};
 use std::alloc::Global;
-use stream_reader::Note;
-use sub_number::NoMemory;
+use stream_reader::stdout_event;
+use sub_number::{Bytes, NoMemory};
 
 /// Gives each event of a stream its tags and added ones without removed ones. Foreign bytes are events here, pieces of
 /// the file `stdout`.
 #[derive(Drop)]
-pub struct Tagging {
+pub(crate) struct Tagging {
     alloc: Global,
     tagger: Tagger,
+    // The tags that an event gets which has none. Such events borrow them in turn.
+    plain: Option<Tags>,
 }
 
 impl Tagging {
-    /// Nothing was taken yet. It takes no memory yet.
-    pub fn new(alloc: Global, tagger: Tagger) -> Self
-        ensures { result.tagger ≡ tagger }
+    ghost use Rattle.std.specs.Prelude.{IfOk};
+
+    /// Nothing was taken yet.
+    ///
+    /// `NoMemory` comes only for want of memory.
+    pub(crate) fn new(alloc: Global, tagger: Tagger) -> Result<Self, NoMemory>
+        ensures tagger { IfOk result (λ tagging. tagging.tagger ≡ tagger) }
+        ensures plain { IfOk result (λ tagging. tagging.plain ≡ plain_tags tagging.tagger) }
     {
-        Tagging { alloc, tagger }
+        let plain = tagger.plain_tags()?;
+        Ok(Tagging {
+            alloc,
+            tagger,
+            plain,
+        })
     }
 }
 
@@ -37,12 +51,16 @@ impl NoteFilter for Tagging {
     ghost plan = { λ f. tags_plan f.tagger };
 
     // Nothing is kept of what was taken.
-    ghost has = { λ f notes. Unit {0} };
+    ghost has = { λ f notes. f.plain ≡ plain_tags f.tagger };
 
-    fn take(&mut self, note: Note, text: &mut Vec<u8>) -> Result<(), NoMemory> {
-        let mut event = note.into_event(self.alloc)?;
-        self.tagger.apply(&mut event)?;
-        encode(&event, text)?;
+    fn take(&mut self, event: Event, text: &mut Vec<u8>) -> Result<(), NoMemory> {
+        put_tagged(&self.tagger, &mut self.plain, event, text)?;
+        Ok(())
+    }
+
+    fn take_foreign(&mut self, bytes: &[u8], text: &mut Vec<u8>) -> Result<(), NoMemory> {
+        let event = stdout_event(self.alloc, Bytes::new(self.alloc, bytes)?)?;
+        put_tagged(&self.tagger, &mut self.plain, event, text)?;
         Ok(())
     }
 
@@ -51,6 +69,43 @@ impl NoteFilter for Tagging {
     }
 
     fn let_go(self) {}
+}
+
+// Appends the packet of the event with its tags, where these are the tags of one that has none.
+fn put_tagged(
+    tagger: &Tagger,
+    plain: &mut Option<Tags>,
+    mut event: Event,
+    text: &mut Vec<u8>,
+) -> Result<(), NoMemory>
+    requires { Fits event }
+    ensures text { plain.old ≡ plain_tags tagger.now → OnOk result (text.new.items ≡ text.old.items ++ canonical (tagged tagger.now event)) }
+    ensures plain { OnOk result (plain.new ≡ plain.old) }
+{
+    if event.tags.is_none() {
+        return put_plain(plain, event, text);
+    }
+    tagger.apply(&mut event)?;
+    encode(&event, text)?;
+    Ok(())
+}
+
+// Appends the packet of an event without tags, with these where it has room for them. They are lent, and not copied.
+fn put_plain(tags: &mut Option<Tags>, mut event: Event, text: &mut Vec<u8>) -> Result<(), NoMemory>
+    requires fits { Fits event }
+    requires plain { event.tags ≡ None }
+    ensures text { OnOk result (text.new.items ≡ text.old.items ++ canonical (where_fits (with_tags event tags.old) event)) }
+    ensures tags { OnOk result (tags.new ≡ tags.old) }
+{
+    event.tags = tags.take();
+    if fits(&event) {
+        encode(&event, text)?;
+        *tags = event.tags.take();
+        return Ok(());
+    }
+    *tags = event.tags.take();
+    encode(&event, text)?;
+    Ok(())
 }
 
 /// Gives the events of the input other tags, to its end, and writes each as its shortest packet where it comes. Foreign
@@ -66,5 +121,6 @@ pub fn tag_stream<I: Source, O: Sink>(
     ensures pumps { Pumps (IsSeen (tags_plan tagger)) (IsFiltered (tags_plan tagger)) (pipe (I.seen input.old) (O.seen out.old)) (pipe (I.seen input.new) (O.seen out.new)) result }
     ensures prefix { IfSome (I.seen input.old).told (WritesFirst (IsFiltered (tags_plan tagger)) (O.seen out.old).told (O.seen out.new).told) }
 {
-    pass_notes(alloc, Tagging::new(alloc, tagger), input, out)
+    let tagging = Tagging::new(alloc, tagger)?;
+    pass_notes(alloc, tagging, input, out)
 }

@@ -1,13 +1,46 @@
 // The notes that a reader can tell, and a filter that takes them.
-ghost use Rattle.std.specs.Prelude.{◌≡◌, ◌≤◌, false, length, List, OnOk};
+ghost use Rattle.std.specs.Prelude.{◌≡◌, ◌≤◌, true, false, length, List, IfOk, OnOk};
 ghost use Rattle.stream_reader.specs.Room.{most_held};
 ghost use Rattle.stream_reader.specs.declared.note.Note.{Note as ANote};
+ghost use Rattle.stream_reader.specs.declared.first.First.TheVariants.{Nothing};
+ghost use Rattle.stream_reader.specs.First.{FirstIs};
 ghost use Rattle.stream_reader.specs.Stream.{IsSpent};
-ghost use Rattle.filter_cli.specs.Noted.{TakesNotes};
+ghost use Rattle.filter_cli.specs.Noted.{TakesFirst, TakesNotes};
 
 use crate::notes::NoteFilter;
-use stream_reader::Reader;
+use packet_codec::decode;
+use stream_reader::{First, Reader};
 use sub_number::NoMemory;
+
+// Takes the note that is made of this. Foreign bytes are taken where they stand. False comes exactly where there is none.
+fn take_first<F: NoteFilter>(
+    reader: &Reader,
+    first: First,
+    filter: &mut F,
+    text: &mut Vec<u8>,
+) -> Result<bool, NoMemory>
+    requires ready { F.ready filter.old }
+    requires first { FirstIs reader.now.ended reader.now.bytes first }
+    ensures ready { OnOk result (F.ready filter.new) }
+    ensures some { IfOk result (λ some. some ≡ true → TakesFirst (F.has filter.old) (F.has filter.new) (F.plan filter.old) reader.now.bytes first text.old.items text.new.items) }
+    ensures none { IfOk result (λ some. some ≡ false → (first ≡ Nothing) × (filter.new ≡ filter.old) × (text.new.items ≡ text.old.items)) }
+    ensures plan { OnOk result (F.plan filter.new ≡ F.plan filter.old) }
+{
+    match first {
+        First::Packet(size) => {
+            let packet = reader.front(size);
+            let event = decode(*text.allocator(), packet)?;
+            filter.take(event, text)?;
+            Ok(true)
+        }
+        First::Foreign(size, _) => {
+            let run = reader.front(size);
+            filter.take_foreign(run, text)?;
+            Ok(true)
+        }
+        First::Nothing => Ok(false),
+    }
+}
 
 /// Takes all notes that can be told of the bytes held, in order.
 pub(crate) fn take_notes<F: NoteFilter>(
@@ -23,8 +56,12 @@ pub(crate) fn take_notes<F: NoteFilter>(
     ensures ended { reader.new.ended ≡ reader.old.ended }
     ensures plan { OnOk result (F.plan filter.new ≡ F.plan filter.old) }
 {
-    while let Some(note) = reader.next()? {
-        filter.take(note, text)?;
+    loop {
+        let first = reader.first();
+        let more = take_first(reader, first, filter, text)?;
+        if !more {
+            return Ok(());
+        }
+        reader.pass(first);
     }
-    Ok(())
 }

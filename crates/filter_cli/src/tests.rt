@@ -1,6 +1,8 @@
 //! Filters over streams in memory.
 
-use crate::{Listing, Ls, PumpFault, Stats, pass_notes};
+use crate::ls::{Listing, Ls};
+use crate::stats::Stats;
+use crate::{PumpFault, pass_notes};
 use edge_io::{ListSink, ListSource};
 use std::alloc::Global;
 use std::test::Fail;

@@ -2,7 +2,8 @@
 
 ghost use Rattle.std.specs.Prelude.{◌≤◌};
 
-use crate::{SubunitToTap, pass_notes, tap_to_subunit};
+use crate::subunit_to_tap::SubunitToTap;
+use crate::{pass_notes, tap_to_subunit};
 use edge_io::{ListSink, ListSource};
 use std::alloc::Global;
 use std::test::Fail;

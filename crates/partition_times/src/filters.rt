@@ -119,6 +119,59 @@ fn is_picked(matchers: &mut [Matcher<'_>], id: &Text) -> bool
     matchers.is_empty() || is_match(matchers, id)
 }
 
+/// What looks for patterns in ids. It is made once for many ids, since that takes longer than to look. Contracts see it as
+/// the list of the patterns' texts.
+#[derive(Drop)]
+pub struct Finder<'f> {
+    filters: &'f Filters,
+    matchers: Vec<Matcher<'f>>,
+}
+
+impl<'f> Model for Finder<'f> {
+    ghost use Rattle.std.specs.Prelude.{List, ℕ, map};
+    ghost use Rattle.regex.specs.Strings.{matcher_pattern};
+    ghost use Rattle.partition_times.specs.Compiled.{AreSearchers};
+
+    ghost Value = { List (List ℕ) };
+
+    ghost view = { λ f. f.filters.now };
+
+    ghost invariant = { λ f. AreSearchers f.filters.now (map matcher_pattern f.matchers.items) };
+}
+
+impl Filters {
+    /// What looks for the patterns.
+    ///
+    /// `NoMemory` comes only for want of memory.
+    pub fn finder(&self, alloc: Global) -> Result<Finder<'_>, NoMemory>
+        ensures { IfOk result (λ finder. finder ≡ self.now) }
+    {
+        let matchers = self.matchers(alloc)?;
+        Ok(Finder {
+            filters: self,
+            matchers,
+        })
+    }
+}
+
+impl<'f> Finder<'f> {
+    /// Whether some pattern is found in the id. They are looked for one by one, up to the first that is found. It takes
+    /// no memory of its own.
+    pub fn found(&mut self, id: &Text) -> bool
+        ensures found { result ≡ is_found self.old id.now }
+        ensures same { self.new ≡ self.old }
+    {
+        is_match(&mut self.matchers, id)
+    }
+
+    /// Whether there is no pattern.
+    pub fn is_empty(&self) -> bool
+        ensures { result ≡ (length self.now == 0) }
+    {
+        self.filters.is_empty()
+    }
+}
+
 /// The ids in which some pattern is found, in their order, and all of them where there is no pattern.
 ///
 /// `NoMemory` comes only for want of memory.

@@ -4,7 +4,7 @@
 //! stand in docs/FORMATS.md, "Patterns", "Groups" and "Shares". The crate `regex` does all matching.
 //!
 //! - `pattern`: one pattern, compiled
-//! - `filters`: patterns, and the ids in which some pattern is found
+//! - `filters`: patterns, what looks for them, and the ids in which some pattern is found
 //! - `groups`: ids that stay together
 //! - `rank`: the order in which groups are given away
 //! - `shares`: groups of ids, given to workers
@@ -16,7 +16,7 @@ mod pattern;
 mod rank;
 mod shares;
 
-pub use filters::{Filters, pick};
+pub use filters::{Filters, Finder, pick};
 pub use groups::Groups;
 pub use pattern::PatternFault;
 pub use shares::partition;

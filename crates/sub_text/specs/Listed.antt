@@ -40,5 +40,8 @@ tags_joined (tag ∷ tags) = tag ++ flat_map tag_behind tags
 unfoldable pub tags_line : List (List ℕ) → List ℕ
 tags_line tags = codes "Seen tags: " ++ tags_joined tags ++ newline
 
+abbrev pub stats_lines : Counts → List (List ℕ) → List ℕ
+stats_lines counts tags = counts_lines counts ++ tags_line tags
+
 abbrev pub stats_of : List Row → List ℕ
-stats_of rows = counts_lines (counts_of [] rows) ++ tags_line (seen_tags_of rows)
+stats_of rows = stats_lines (counts_of [] rows) (seen_tags_of rows)

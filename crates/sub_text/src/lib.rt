@@ -19,7 +19,7 @@ pub use listing::ls_line;
 pub use report::report_text;
 pub use seconds::seconds_text;
 pub use slowest::slowest_text;
-pub use stats::stats_text;
+pub use stats::{counts_text, stats_text};
 pub use summary::summary_text;
 
 #[cfg(test)]

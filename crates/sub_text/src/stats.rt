@@ -2,7 +2,7 @@
 
 ghost use Rattle.std.specs.Prelude.{◌≡◌, ◌++◌, OnOk, OnErr};
 ghost use Rattle.std.specs.List.{flat_map};
-ghost use Rattle.sub_text.specs.Listed.{in_five_places, count_line, tag_behind, tags_joined, tags_line, counts_lines, stats_of};
+ghost use Rattle.sub_text.specs.Listed.{in_five_places, count_line, tag_behind, tags_joined, tags_line, counts_lines, stats_lines, stats_of};
 
 use itoa::Buffer;
 use outcome_fold::{Counts, Rows};
@@ -74,6 +74,20 @@ fn write_tags(tags: &[Text], text: &mut Vec<u8>) -> Result<(), NoMemory>
     Ok(())
 }
 
+/// Appends these counts and these tags as `stats_text` does.
+///
+/// `NoMemory` comes only for want of memory, and then nothing is appended.
+pub fn counts_text(counts: Counts, tags: &Tags, out: &mut Vec<u8>) -> Result<(), NoMemory>
+    ensures ok { OnOk result (out.new.items ≡ out.old.items ++ stats_lines counts tags.now) }
+    ensures err { OnErr result (out.new.items ≡ out.old.items) }
+{
+    let mut text = Vec::new(*out.allocator());
+    write_counts(counts, &mut text)?;
+    write_tags(tags.list(), &mut text)?;
+    out.extend_from_slice(&text)?;
+    Ok(())
+}
+
 /// Appends how many tests there are, how many of them passed, failed and were skipped, and the tags that were seen, in
 /// the order of their bytes. Tests that are only known to exist are left out.
 ///
@@ -83,9 +97,7 @@ pub fn stats_text(rows: &Rows, out: &mut Vec<u8>) -> Result<(), NoMemory>
     ensures err { OnErr result (out.new.items ≡ out.old.items) }
 {
     let alloc = *out.allocator();
-    let mut text = Vec::new(alloc);
-    write_counts(rows.counts(&Tags::new(alloc)), &mut text)?;
-    write_tags(rows.seen_tags(alloc)?.list(), &mut text)?;
-    out.extend_from_slice(&text)?;
-    Ok(())
+    let counts = rows.counts(&Tags::new(alloc));
+    let tags = rows.seen_tags(alloc)?;
+    counts_text(counts, &tags, out)
 }

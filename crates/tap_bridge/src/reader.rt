@@ -50,7 +50,8 @@ impl TapReader {
         ensures fits { IfOk result (λ events. All Fits events.items) }
         ensures rest { OnOk result (self.new ≡ record self.old { waiting = None }) }
     {
-        let mut events = Vec::new(self.alloc);
+        // Most lines give one event, for which an empty list would take room for several.
+        let mut events = Vec::with_capacity(self.alloc, 1)?;
         if let Some(waiting) = self.waiting.take() {
             events.push(waiting.into_event(self.alloc)?)?;
         }
@@ -173,7 +174,7 @@ fn output(alloc: Global, line: &[u8]) -> Result<Vec<Event>, NoMemory>
     ensures events { IfOk result (λ events. events.items ≡ stdout_event (spec.with_newline line.now) ∷ []) }
     ensures fits { IfOk result (λ events. All Fits events.items) }
 {
-    let mut events = Vec::new(alloc);
+    let mut events = Vec::with_capacity(alloc, 1)?;
     events.push(output_event(alloc, line)?)?;
     Ok(events)
 }

@@ -6,7 +6,7 @@ use Rattle.event_sift.proofs.whole.take_all.Given as goal
 
 abbrev pub invariant-loop-event : goal.invariant-loop-event
 invariant-loop-event g l = record {
-  predicate : l.sift.predicate ≡ l.fn.sift.predicate;
+  predicate : g.P.Predicate.rules l.sift.predicate ≡ l.fn.sift.rules.now;
   rules : l.sift.rules.now ≡ l.fn.sift.rules.now;
   held : Holds l.sift.held l.yielded;
   released : l.released.items ≡ released_by (keeps l.fn.sift.rules.now) l.yielded;

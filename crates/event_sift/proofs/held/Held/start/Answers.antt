@@ -1,4 +1,4 @@
-use Rattle.std.proofs.Common.{◌∙◌, ap, [], ◌∷◌, ◌++◌}
+use Rattle.std.proofs.Common.{◌∙◌, ap}
 use Rattle.std.specs.FinMap as map
 use Rattle.outcome_fold.proofs.TableLemmas.{inserted}
 use Rattle.outcome_fold.proofs.OrderLemmas.{tests_total, exact_tests}
@@ -8,4 +8,4 @@ use Rattle.event_sift.proofs.held.Held.start.Goals as goal
 pub returns : goal.returns
 returns c =
     inserted tests_total exact_tests _ _ _ _ c.in_ok-insert.ensures.updates.0
-    ∙ ap (map.insert (parts_in c.args.self.now) c.args.key) (c.in_ok-push.ensures ∙ ap (λ events. events ++ c.args.event ∷ []) c.new-part.ensures)
+    ∙ ap (map.insert (parts_in c.args.self.now) c.args.key) c.in_ok-part.ensures

@@ -14,6 +14,6 @@ pub returns : goal.returns
 returns g c seen has =
     let kept = keeps c.args.self.now.rules.now in
     let none : c.loop-key.key-iterator ≡ [] = rest_all (λ x. x) _ _ _ c.in-None.is c.next.ensures.steps in
-    let all : c.loop-key.events.items ≡ flat_map (kept_entry kept) c.into_iter-key-iterator.result = sym (append-nil c.loop-key.events.items) ∙ ap (λ rest. c.loop-key.events.items ++ flat_map (kept_entry kept) rest) (sym none) ∙ c.loop-key.invariant in
+    let all : c.loop-key.events.items ≡ flat_map (kept_entry kept) c.into_iter-key-iterator.result = sym (append-nil c.loop-key.events.items) ∙ ap (λ rest. c.loop-key.events.items ++ flat_map (kept_entry kept) rest) (sym none) ∙ c.loop-key.invariant.gives in
     let gives = c.into_iter-key-iterator.ensures.into_iter_gives in
     all ∙ ap (flat_map (kept_entry kept)) gives.0 ∙ at_end kept seen _ gives.5 (ap (λ (es : List (TestKey × List Event)). fin.from_entries {R = test_cmp} es) c.into_parts-key-items.ensures ∙ has)

@@ -5,4 +5,8 @@ use Rattle.event_sift.proofs.SiftLemmas.{kept_entry}
 use Rattle.event_sift.proofs.sift.Sift.release.Given as goal
 
 abbrev pub invariant-loop-key : goal.invariant-loop-key
-invariant-loop-key g l = l.events.items ++ flat_map (kept_entry (keeps l.fn.self.rules.now)) l.key-iterator ≡ flat_map (kept_entry (keeps l.fn.self.rules.now)) l.initial.key-iterator
+invariant-loop-key g l = record {
+  gives : l.events.items ++ flat_map (kept_entry (keeps l.fn.self.rules.now)) l.key-iterator ≡ flat_map (kept_entry (keeps l.fn.self.rules.now)) l.initial.key-iterator;
+  rules : l.self.rules.now ≡ l.fn.self.rules.now;
+  predicate : g.P.Predicate.rules l.self.predicate ≡ l.fn.self.rules.now;
+}

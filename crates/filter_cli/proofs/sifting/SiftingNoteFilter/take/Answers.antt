@@ -5,7 +5,7 @@ use Rattle.event_sift.specs.Sifted.{rules_of}
 use Rattle.filter_cli.proofs.FitLemmas.{released_all}
 use Rattle.filter_cli.proofs.sifting.SiftingNoteFilter.take.Goals as goal
 
-pub put_packets-requires : goal.put_packets-requires
-put_packets-requires g c =
-    let (seen, has, all) = c.requires.ready.2 in
-    subst (All Fits) (sym (c.deref.ensures.value ∙ c.in_ok-events.ensures.released seen has)) (released_all Fits (keeps (rules_of c.args.self.now.sift)) seen c.in-Event.event all (rw (c.in-Event.is) at c.requires.packet))
+pub put_events-requires : goal.put_events-requires
+put_events-requires g c =
+    let (seen, has, all) = c.requires.ready.1 in
+    subst (All Fits) (sym (c.deref.ensures.value ∙ c.in_ok-events.ensures.released seen has)) (released_all Fits (keeps (rules_of c.args.self.now.sift)) seen c.args.event all c.requires.packet)

@@ -10,9 +10,9 @@ use Rattle.filter_cli.proofs.subunit_to_tap.SubunitToTapNoteFilter.take.Goals as
 pub returns-clause-ok : goal.returns-clause-ok
 returns-clause-ok c notes has =
     let seen = events_in notes in
-    let event = c.in-Event.event in
+    let event = c.args.event in
     let row = c.in_ok-row.ensures.row seen has.0 in
-    rw (c.in-Event.is, event_more notes event) (
+    rw (event_more notes event) (
       c.in_ok-row.ensures.ok seen has.0,
       c.in_ok-put_row.ensures.written (completed_rows seen) has.1 ∙ ap (λ r. lines_in (completed_rows seen ++ option_to_list r)) row ∙ ap lines_in (sym (completed_push seen event)),
       c.failed_after-self.ensures ∙ failed_more seen event c.in_ok-row.row c.args.self.now.failed has.2 row,

@@ -1,0 +1,18 @@
+use Rattle.std.proofs.Common.{◌++◌, subst, sym, ap, ◌∙◌}
+use Rattle.std.specs.Option.{option_to_list}
+use Rattle.outcome_fold.specs.Rows.{completed_rows}
+use Rattle.outcome_fold.proofs.OutcomeLemmas.{completed_push}
+use Rattle.filter_cli.specs.Events.{events_in}
+use Rattle.filter_cli.specs.Tally.{HasTallied}
+use Rattle.filter_cli.proofs.EventLemmas.{event_more}
+use Rattle.filter_cli.proofs.stats.StatsNoteFilter.take.Goals as goal
+
+pub returns-clause-ok : goal.returns-clause-ok
+returns-clause-ok c notes has =
+    let seen = events_in notes in
+    let event = c.args.event in
+    let row = c.in_ok-row.ensures.row seen has.0 in
+    rw (event_more notes event) (
+      c.in_ok-row.ensures.ok seen has.0,
+      subst (HasTallied _) (ap (λ r. completed_rows seen ++ option_to_list r) row ∙ sym (completed_push seen event)) (c.in_ok-count_row.ensures (completed_rows seen) has.1),
+    )

@@ -1,0 +1,115 @@
+//! What is counted of tests as they end.
+
+ghost use Rattle.std.specs.Prelude.{◌≡◌, List, [], ◌∷◌, ◌++◌, count_by, OnOk};
+ghost use Rattle.outcome_fold.specs.declared.row.Row.{Row as ARow};
+ghost use Rattle.outcome_fold.specs.Answers.{is_run, seen_tags_of};
+ghost use Rattle.filter_cli.specs.Tally as spec;
+ghost use Rattle.filter_cli.specs.Tally.{HasTallied, AreCounts};
+
+use outcome_fold::{Counts, Ended, Row, TextSet};
+use std::alloc::Global;
+use sub_number::NoMemory;
+
+/// How the tests of some rows ended, and the tags of those that ran. Nothing else is kept of them, and of each test one
+/// byte.
+#[derive(Drop)]
+pub(crate) struct Tally {
+    pub(crate) ended: Vec<Ended>,
+    pub(crate) tags: TextSet,
+}
+
+// What a test is counted as.
+#[derive(Clone, Copy)]
+pub(crate) enum Kind {
+    // It ran.
+    Run,
+    // It neither failed nor was skipped.
+    Passed,
+    Failed,
+    Skipped,
+}
+
+// Whether a test that ended so is one of these.
+fn is_of(kind: Kind, ended: Ended) -> bool
+    ensures { result ≡ spec.is_of kind ended }
+{
+    match kind {
+        Kind::Run => ended != Ended::Exists,
+        Kind::Passed => matches!(ended, Ended::Success | Ended::XFail),
+        Kind::Failed => ended.fails(),
+        Kind::Skipped => ended == Ended::Skip,
+    }
+}
+
+// How many tests that ended so are of this kind.
+fn number_of(kind: Kind, ended: &[Ended]) -> u64
+    ensures { result ≡ count_by (spec.is_of kind) ended.now }
+{
+    ended.iter().filter(|ended| is_of(kind, **ended)).count() as u64
+}
+
+// Whether the test of the row ran.
+fn has_run(row: &Row) -> bool
+    ensures { result ≡ is_run row.now }
+{
+    row.ended != Ended::Exists
+}
+
+// Adds the tags of the row's test, where it ran.
+fn add_tags(tags: &mut TextSet, row: &Row) -> Result<(), NoMemory>
+    ensures { (rows : List ARow) → tags.old ≡ seen_tags_of rows → OnOk result (tags.new ≡ seen_tags_of (rows ++ row.now ∷ [])) }
+{
+    if !has_run(row) {
+        return Ok(());
+    }
+    tags.insert_all(row.tags.list())?;
+    Ok(())
+}
+
+impl Tally {
+    /// Of no row. It takes no memory yet.
+    pub(crate) fn new(alloc: Global) -> Self
+        ensures { HasTallied result [] }
+    {
+        Tally {
+            ended: Vec::new(alloc),
+            tags: TextSet::new(alloc),
+        }
+    }
+
+    /// Counts one row more.
+    ///
+    /// `NoMemory` comes only for want of memory. Nothing is known then of what was counted.
+    pub(crate) fn add(&mut self, row: &Row) -> Result<(), NoMemory>
+        ensures { (rows : List ARow) → HasTallied self.old rows → OnOk result (HasTallied self.new (rows ++ row.now ∷ [])) }
+    {
+        self.ended.push(row.ended)?;
+        add_tags(&mut self.tags, row)?;
+        Ok(())
+    }
+
+    /// Counts these rows too.
+    ///
+    /// `NoMemory` comes only for want of memory. Nothing is known then of what was counted.
+    pub(crate) fn add_all(&mut self, rows: &[Row]) -> Result<(), NoMemory>
+        ensures { (before : List ARow) → HasTallied self.old before → OnOk result (HasTallied self.new (before ++ rows.now)) }
+    {
+        for row in rows {
+            self.add(row)?;
+        }
+        Ok(())
+    }
+
+    /// How many tests there are of each kind. No times are counted.
+    pub(crate) fn counts(&self) -> Counts
+        ensures { AreCounts result self.now.ended.items }
+    {
+        Counts {
+            total: number_of(Kind::Run, &self.ended),
+            passed: number_of(Kind::Passed, &self.ended),
+            failed: number_of(Kind::Failed, &self.ended),
+            skipped: number_of(Kind::Skipped, &self.ended),
+            nanos: None,
+        }
+    }
+}
