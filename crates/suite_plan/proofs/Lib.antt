@@ -1,0 +1,10 @@
+pub mod TextLemmas
+pub mod ConfLemmas
+pub mod TableLemmas
+pub mod FirstLemmas
+pub mod GatherLemmas
+pub mod CountLemmas
+pub mod CallLemmas
+pub mod ChoosingLemmas
+pub mod JobLemmas
+pub mod ShareLemmas

@@ -1,0 +1,84 @@
+-- The number that a project's count job tells (docs/FORMATS.md, "What a count job tells").
+use Rattle.std.specs.Prelude.{◌≡◌, ◌⊎◌, ⊤, ℕ, ℤ, ◌-◌, ◌&&◌, Bool, true, false, pos, Option, Some, None, IsSome, Result, Ok, Err, IfOk, IfErr, List, length, take, drop, nat_le, if◌then◌else◌}
+use Rattle.std.specs.Char.{is_ascii_digit}
+use Rattle.std.specs.List.{list_all, prefix_len, suffix_len}
+use Rattle.std.specs.Str.Parse.{digits_value}
+use Rattle.edge_io.specs.Causes.{RisesExactlyIf}
+use Rattle.edge_io.specs.Children.{Output}
+use Rattle.edge_io.specs.Seen.{Seen}
+use Rattle.edge_io.specs.Spawners.{Spawning}
+use Rattle.edge_io.specs.Steps.{Goes, Stays}
+use Rattle.edge_io.specs.declared.child.Finish.TheVariants.{Exit}
+use Rattle.edge_io.specs.declared.job.Job.{Job}
+use Rattle.testr_conf.specs.Jobs.{count_job_of}
+use Rattle.testr_conf.specs.Settings.{Settings}
+use Rattle.testr_conf.specs.White.{is_gap}
+use Rattle.suite_plan.specs.Children.{StartsFor, IsBroken}
+use Rattle.suite_plan.specs.declared.calling.CallRefusal.{CallRefusal}
+use Rattle.suite_plan.specs.declared.calling.CallRefusal.TheVariants.{Spawn, Child, NoNumber, NoMemory}
+
+-- without the white space and the newlines at the front
+abbrev pub from_text : List ℕ → List ℕ
+from_text bytes = drop (prefix_len is_gap bytes) bytes
+
+-- the same at the end
+abbrev pub to_text : List ℕ → List ℕ
+to_text bytes = take (length bytes - suffix_len is_gap bytes) bytes
+
+-- 1 to 9 decimal digits
+abbrev pub is_count : List ℕ → Bool
+is_count digits = list_all is_ascii_digit digits && (nat_le 1 (length digits) && nat_le (length digits) 9)
+
+abbrev pub count_of : List ℕ → Option ℕ
+count_of digits = if is_count digits then Some (digits_value 10 digits) else None
+
+-- the number that a whole output tells: it has 64 bytes at most
+abbrev pub called : List ℕ → Option ℕ
+called bytes = if nat_le (length bytes) 64 then count_of (to_text (from_text bytes)) else None
+
+-- the count job was started, and its child has an output that meets this
+pub record StartsCounting (settings : Settings) (Meets : Output → Type 0) (s t : Spawning) : Type 0 where
+  pub job : Job
+  pub job_is : count_job_of settings ≡ Some job
+  pub output : Output
+  pub started : StartsFor job output s t
+  pub meets : Meets output
+
+-- the child ended with 0, and its output tells the number
+pub record TellsNumber (number : ℕ) (output : Output) : Type 0 where
+  pub ended : output.finish ≡ Exit (pos 0)
+  pub number_is : called output.bytes ≡ Some number
+
+-- the child ended with another status than 0, or its output tells no number
+pub record TellsNone (output : Output) : Type 0 where
+  pub status : ℤ
+  pub ended : output.finish ≡ Exit status
+  pub none : (status ≡ pos 0 → ⊥) ⊎ (called output.bytes ≡ None)
+
+-- where there is no count job nothing is started
+abbrev pub CallsSo : Settings → Option ℕ → Spawning → Spawning → Type 0
+CallsSo settings None s t = Stays s t
+CallsSo settings (Some number) s t = StartsCounting settings (TellsNumber number) s t
+
+-- why no number is told, and what was done by then
+abbrev pub HasCallCause : Settings → CallRefusal → Spawning → Spawning → Type 0
+HasCallCause settings Spawn s t = IsSome (count_job_of settings) × Stays s t
+HasCallCause settings Child s t = StartsCounting settings (λ output. IsBroken output.finish) s t
+HasCallCause settings NoNumber s t = StartsCounting settings TellsNone s t
+HasCallCause settings NoMemory s t = Stays s t ⊎ StartsCounting settings (λ output. ⊤) s t
+
+-- a start failed
+abbrev pub call_failed : Result (Option ℕ) CallRefusal → Bool
+call_failed (Ok number) = false
+call_failed (Err Spawn) = true
+call_failed (Err Child) = false
+call_failed (Err NoNumber) = false
+call_failed (Err NoMemory) = false
+
+-- The step of a call for the number. None is told exactly where there is no count job, and but for want of memory.
+pub record CallsOut (settings : Settings) (before after : Seen Spawning) (result : Result (Option ℕ) CallRefusal) : Type 0 where
+  pub told : IfOk result (λ number. Goes before.told after.told (CallsSo settings number))
+  pub refused : IfErr result (λ refusal. Goes before.told after.told (HasCallCause settings refusal))
+  pub jobless : result ≡ Ok None → count_job_of settings ≡ None
+  pub exactly : count_job_of settings ≡ None → (result ≡ Ok None) ⊎ (result ≡ Err NoMemory)
+  pub count : RisesExactlyIf before.faults after.faults (call_failed result)

@@ -1,0 +1,62 @@
+-- The ids that an output lists, while it is read piece by piece.
+use Rattle.std.specs.Prelude.{◌≡◌, ◌≤◌, ⊤, ℕ, pos, List, length, Result, Ok, Err}
+use Rattle.std.specs.List.{filter_map}
+use Rattle.packet_codec.specs.declared.event.Event.{Event}
+use Rattle.edge_io.specs.Children.{Output}
+use Rattle.edge_io.specs.declared.child.Finish.TheVariants.{Exit}
+use Rattle.stream_reader.specs.declared.note.Note.{Note}
+use Rattle.stream_reader.specs.Notes.{events_of}
+use Rattle.stream_reader.specs.Room.{most_held}
+use Rattle.stream_reader.specs.Stream.{Held, BeginsWithNotes, GivesNotes}
+use Rattle.testr_conf.specs.declared.fault.JobFault.{JobFault}
+use Rattle.testr_conf.specs.declared.fault.JobFault.TheVariants as job
+use Rattle.suite_plan.specs.Children.{IsBroken}
+use Rattle.suite_plan.specs.FirstIds.{HasFirsts}
+use Rattle.suite_plan.specs.Listing.{listed_id, Lists, HasFailed}
+use Rattle.suite_plan.specs.declared.first_ids.FirstIds.{FirstIds}
+use Rattle.suite_plan.specs.declared.gathered.Gathered.{Gathered}
+use Rattle.suite_plan.specs.declared.listing.ListingRefusal.{ListingRefusal}
+use Rattle.suite_plan.specs.declared.listing.ListingRefusal.TheVariants.{NoListOption, Spawn, Child, Failed, NoMemory}
+
+-- the ids of these events were gathered
+abbrev pub HasIdsOf : FirstIds → List Event → Type 0
+HasIdsOf found events = HasFirsts found (filter_map listed_id events)
+
+-- the next notes were given, and their ids gathered behind those before
+pub record GathersNotes (notes : List Note) (before after : Held) (found : FirstIds) : Type 0 where
+  pub all : List Note
+  pub given : GivesNotes before notes after all
+  pub gathered : HasIdsOf found (events_of all)
+
+-- the ids of the notes that the bytes so far decide were gathered, and the rest of the bytes is held
+pub record HasGathered (gathered : Gathered) (bytes : List ℕ) : Type 0 where
+  pub notes : List Note
+  pub begins : BeginsWithNotes bytes notes gathered.reader.bytes
+  pub found : HasIdsOf gathered.found (events_of notes)
+
+-- few enough bytes are held that a piece can be fed
+abbrev pub HasRoom : Gathered → Type 0
+HasRoom gathered = length gathered.reader.bytes ≤ most_held
+
+-- why there is no list job
+abbrev pub refusal_of : JobFault → ListingRefusal
+refusal_of (job.NoOption key) = NoListOption
+refusal_of job.NoMemory = NoMemory
+
+-- what is answered of a child that was started and has this output
+abbrev pub TellsIds : Result (List (List ℕ)) ListingRefusal → Output → Type 0
+TellsIds (Ok ids) output = (output.finish ≡ Exit (pos 0)) × Lists ids output.bytes
+TellsIds (Err NoListOption) output = ⊥
+TellsIds (Err Spawn) output = ⊥
+TellsIds (Err Child) output = IsBroken output.finish
+TellsIds (Err (Failed status)) output = HasFailed status output
+TellsIds (Err NoMemory) output = ⊤
+
+-- it is answered of a child that was started
+abbrev pub IsOfChild : Result (List (List ℕ)) ListingRefusal → Type 0
+IsOfChild (Ok ids) = ⊤
+IsOfChild (Err NoListOption) = ⊥
+IsOfChild (Err Spawn) = ⊥
+IsOfChild (Err Child) = ⊤
+IsOfChild (Err (Failed status)) = ⊤
+IsOfChild (Err NoMemory) = ⊤

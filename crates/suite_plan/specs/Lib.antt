@@ -1,0 +1,16 @@
+pub mod Texts
+pub mod Children
+pub mod ConfFile
+pub mod LoadList
+pub mod Processors
+pub mod Firsts
+pub mod Listing
+pub mod Calling
+pub mod FirstIds
+pub mod Outputs
+pub mod Gathering
+pub mod Counting
+pub mod Patterns
+pub mod Choosing
+pub mod Sharing
+pub mod LaneJobs

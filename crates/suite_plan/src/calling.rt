@@ -1,0 +1,84 @@
+//! The number of workers that a project's own command tells.
+
+ghost use Rattle.std.specs.Prelude.{◌≡◌, [], length, IfSome};
+ghost use Rattle.suite_plan.specs.Calling.{CallsOut};
+ghost use Rattle.suite_plan.specs.Counting.{HasHead, TellsCount, IsOfCounter};
+
+use crate::count::called;
+use crate::head::Head;
+use crate::output::{OutputFault, read_buffer, read_to_end};
+use edge_io::{Child, Failed, Spawner};
+use std::alloc::Global;
+use sub_number::NoMemory;
+use testr_conf::Conf;
+
+/// Why no number was told.
+#[derive(Clone, Copy, Debug, PartialEq, Eq)]
+pub enum CallRefusal {
+    /// The child was not started.
+    Spawn,
+    /// The output of the child was not read to its end, or the child not waited for.
+    Child,
+    /// The child ended with another status than 0, or its output is no number.
+    NoNumber,
+    /// There is not enough memory.
+    NoMemory,
+}
+
+impl From<NoMemory> for CallRefusal {
+    ghost use Rattle.std.specs.Prelude.{◌≡◌};
+    ghost use Rattle.suite_plan.specs.declared.calling.CallRefusal.TheVariants.{NoMemory};
+
+    ghost from_gives = { λ _ refusal. refusal ≡ NoMemory };
+
+    fn from(_: NoMemory) -> Self {
+        CallRefusal::NoMemory
+    }
+}
+
+/// Runs the count job of the configuration, and gives the number, 999,999,999 at most, that its output tells
+/// (docs/FORMATS.md, "What a count job tells"). `None` comes exactly where `test_run_concurrency` is not set; then nothing
+/// is started.
+///
+/// `Spawn` comes exactly where the start fails, and raises the spawner's count of faults; `Child` exactly where the reads
+/// of the child or the wait for it fail; `NoNumber` exactly where the child ended with another status than 0, its output
+/// has more than 64 bytes, or is not 1 to 9 digits between white space and newlines; and `NoMemory` only for want of
+/// memory. In each case the child was waited for, and before that stopped where it was not read to its end.
+pub fn call_out<S: Spawner>(
+    alloc: Global,
+    conf: &Conf,
+    spawner: &mut S,
+) -> Result<Option<u32>, CallRefusal>
+    ensures step { CallsOut conf.now (S.seen spawner.old) (S.seen spawner.new) result }
+{
+    let Some(job) = conf.count_job(alloc)? else {
+        return Ok(None);
+    };
+    let mut buffer = read_buffer(alloc)?;
+    match spawner.start(&job) {
+        Ok(mut child) => Ok(Some(count_child(alloc, &mut child, &mut buffer)?)),
+        Err(Failed) => Err(CallRefusal::Spawn),
+    }
+}
+
+// The number that the output of the child tells.
+fn count_child<C: Child>(
+    alloc: Global,
+    child: &mut C,
+    buffer: &mut [u8],
+) -> Result<u32, CallRefusal>
+    requires room { length buffer.old ≡ 65536 }
+    ensures of_child { IsOfCounter result }
+    ensures told { IfSome (C.seen child.old).told (TellsCount result) }
+{
+    let mut head = Head::new(alloc);
+    match read_to_end(child, buffer, &mut head) {
+        Ok(0) => match called(head.bytes()) {
+            Some(number) => Ok(number),
+            None => Err(CallRefusal::NoNumber),
+        },
+        Ok(_) => Err(CallRefusal::NoNumber),
+        Err(OutputFault::Child) => Err(CallRefusal::Child),
+        Err(OutputFault::NoMemory) => Err(CallRefusal::NoMemory),
+    }
+}

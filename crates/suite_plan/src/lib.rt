@@ -1,0 +1,50 @@
+//! What a run of a project's own test suite is made of: its configuration, which tests run, in how many workers, and what
+//! each worker is started with.
+//!
+//! This room knows the files and the programs that these are read from, by the traits of the outside; it knows nothing of
+//! the runs that are kept, nor of what workers give. The rules stand in docs/FORMATS.md, "The configuration", "Lists of
+//! ids", "Jobs", "Patterns" and "Shares", and in docs/COMMANDS.md.
+//!
+//! - `texts`: files that are read whole, and must not be too long
+//! - `conf_file`, `load_list`, `processors`: the configuration, a list of ids, and the table of processors
+//! - `output`, `head`, `gathering`, `gathered`: what a child gives, read to its end
+//! - `listing`, `calling`, `count`: the tests that the project's listing tells of, and the number of workers that it calls out
+//! - `first_ids`: ids of which each stands once
+//! - `patterns`, `choosing`: which of the tests run
+//! - `sharing`, `lane_jobs`: which worker runs which of them, and the job of each worker
+#![tactic(auto)]
+
+mod calling;
+mod choosing;
+mod conf_file;
+mod count;
+mod first_ids;
+mod gathered;
+mod gathering;
+mod head;
+mod lane_jobs;
+mod listing;
+mod load_list;
+mod output;
+mod patterns;
+mod processors;
+mod sharing;
+mod texts;
+
+pub use calling::{CallRefusal, call_out};
+pub use choosing::{choose, choose_base, chosen, in_both};
+pub use conf_file::{ConfRefusal, read_conf};
+pub use first_ids::firsts;
+pub use lane_jobs::jobs_of_lanes;
+pub use listing::{ListingRefusal, list_tests};
+pub use load_list::{ListRefusal, read_load_list};
+pub use patterns::{Compiled, PatternRefusal, compile};
+pub use processors::{TableRefusal, count_processors};
+pub use sharing::share_out;
+
+#[cfg(test)]
+mod tests_children;
+#[cfg(test)]
+mod tests_choice;
+#[cfg(test)]
+mod tests_files;

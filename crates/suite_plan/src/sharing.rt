@@ -1,0 +1,85 @@
+//! What each worker of a run is given.
+
+ghost use Rattle.std.specs.Prelude.{◌≡◌, ◌≤◌, [], ◌∷◌, length, IfOk};
+ghost use Rattle.std.specs.List.{filter};
+ghost use Rattle.std.specs.FinMap as fin;
+ghost use Rattle.suite_plan.specs.Sharing.{has_ids, dealt_among, shares_for};
+
+use partition_times::{Groups, partition};
+use std::alloc::Global;
+use sub_number::{IdList, NoMemory, TimeMap};
+
+/// The shares of the ids for which a worker is started, in the order of the workers' lanes.
+///
+/// One worker gets all ids in their order. Among several they are shared out by their groups and known times, as
+/// docs/FORMATS.md says under "Shares". No share is empty, so that there may be fewer than workers; where there is no id
+/// there is no share.
+///
+/// `NoMemory` comes only for want of memory.
+pub fn share_out(
+    alloc: Global,
+    ids: &IdList,
+    times: &TimeMap,
+    groups: &Groups,
+    workers: u32,
+) -> Result<Vec<IdList>, NoMemory>
+    requires some { 1 ≤ workers }
+    requires most { workers ≤ 64 }
+    ensures shares { IfOk result (λ shares. shares.items ≡ shares_for (fin.get times.now) groups.now ids.now workers) }
+    ensures few { IfOk result (λ shares. length shares.items ≤ workers) }
+{
+    let shares = deal(alloc, ids, times, groups, workers)?;
+    without_empty(alloc, shares)
+}
+
+// A share for each of the workers, which may be empty.
+fn deal(
+    alloc: Global,
+    ids: &IdList,
+    times: &TimeMap,
+    groups: &Groups,
+    workers: u32,
+) -> Result<Vec<IdList>, NoMemory>
+    requires { 1 ≤ workers }
+    ensures shares { IfOk result (λ shares. shares.items ≡ dealt_among (fin.get times.now) groups.now ids.now workers) }
+    ensures count { IfOk result (λ shares. length shares.items ≡ workers) }
+{
+    if workers == 1 {
+        one_share(alloc, ids)
+    } else {
+        partition(alloc, ids, times, groups, workers)
+    }
+}
+
+// All ids as one share.
+fn one_share(alloc: Global, ids: &IdList) -> Result<Vec<IdList>, NoMemory>
+    ensures { IfOk result (λ shares. shares.items ≡ ids.now ∷ []) }
+{
+    let mut shares = Vec::new(alloc);
+    shares.push(copied(alloc, ids)?)?;
+    Ok(shares)
+}
+
+// Another list of the same ids.
+fn copied(alloc: Global, ids: &IdList) -> Result<IdList, NoMemory>
+    ensures { IfOk result (λ copy. copy ≡ ids.now) }
+{
+    let mut copy = IdList::new(alloc);
+    for id in ids.list() {
+        copy.push(id.copy()?).map_err(|_| NoMemory)?;
+    }
+    Ok(copy)
+}
+
+// The shares that are not empty. They are moved.
+fn without_empty(alloc: Global, shares: Vec<IdList>) -> Result<Vec<IdList>, NoMemory>
+    ensures { IfOk result (λ kept. kept.items ≡ filter has_ids shares.items) }
+{
+    let mut kept = Vec::new(alloc);
+    for share in shares {
+        if !share.list().is_empty() {
+            kept.push(share)?;
+        }
+    }
+    Ok(kept)
+}
