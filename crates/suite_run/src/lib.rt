@@ -1,0 +1,19 @@
+//! The workers of a run: children that are started, read side by side, and recorded.
+//!
+//! This room knows jobs, children and the run that is written; it knows nothing of what a job is for, nor of what is printed.
+//! The rules stand in docs/FORMATS.md, "What a lane gives", and docs/DISK.md.
+//!
+//! - `starting`: a child for each job, as the lane of its place
+//! - `recording`: the lanes, read to their ends and added to the run
+//! - `laws`: what is added where the children tell their output
+#![tactic(auto)]
+
+mod laws;
+mod recording;
+mod starting;
+#[cfg(test)]
+mod tests;
+
+pub use laws::outputs_are_recorded;
+pub use recording::{LanesRefusal, record_lanes};
+pub use starting::{StartRefusal, start_lanes};
