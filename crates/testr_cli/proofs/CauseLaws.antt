@@ -2,6 +2,7 @@
 use Rattle.std.proofs.Common.{◌≡◌, inl, inr, ℕ, ◌<◌, ◌≤◌, Bool, Option, None, Some, IfSome, IsSomeAnd, IsSome, All, Result, Ok, Err, List, [], ◌∷◌, ◌++◌, length, refl, sym, ap, subst, ◌∙◌, arith}
 use Rattle.edge_io.specs.Disk.{Files, Folder}
 use Rattle.edge_io.specs.Seen.{Seen}
+use Rattle.edge_io.specs.Spawners.{Spawning}
 use Rattle.run_shelf.specs.declared.faults.InitFault.TheVariants as init_fault
 use Rattle.run_shelf.specs.declared.faults.OpenFault.{OpenFault}
 use Rattle.run_shelf.specs.declared.faults.OpenFault.TheVariants as open_fault
@@ -19,9 +20,10 @@ use Rattle.testr_cli.specs.Store.{Opens, open_code}
 use Rattle.testr_cli.specs.Recording.{Records, most_bytes, record_code}
 use Rattle.testr_cli.specs.Init.{Inits}
 use Rattle.testr_cli.specs.Load.{Loads}
-use Rattle.testr_cli.specs.Ask.{Asks}
+use Rattle.testr_cli.specs.Ask.{CopiesLast, PrintsAnswer, AnswersOf, Asks}
 use Rattle.testr_cli.specs.Program.{CanLoad, HasSources, CanAsk}
 use Rattle.testr_cli.specs.declared.command.Question.{Question}
+use Rattle.testr_cli.specs.declared.copying.CopyFault.TheVariants as copy_fault
 use Rattle.testr_cli.specs.declared.recording.RecordFault.{RecordFault}
 use Rattle.testr_cli.specs.declared.recording.RecordFault.TheVariants as record_fault
 use Rattle.testr_cli.specs.declared.told.TellFault.TheVariants as tell_fault
@@ -31,6 +33,7 @@ use Rattle.testr_cli.specs.declared.answer.Refusal.TheVariants as refusal
 use Rattle.testr_cli.proofs.FolderLemmas.{none_or_some, takes_in_repository, not_no_store, not_other_format, not_gap, not_full, not_empty}
 use Rattle.testr_cli.proofs.Resting.{goes_before}
 use Rattle.testr_cli.proofs.ChainLemmas.{gives_not}
+use Rattle.testr_cli.proofs.AskLemmas.{either}
 use Rattle.testr_cli.proofs.CommandLaws.{of_shown}
 
 -- a refusal of another status
@@ -42,7 +45,7 @@ other named r is not three =
 -- ---- the steps of the folder
 
 module _ (a b : Seen Folder) where
-  open_never : (fault : OpenFault) → IsSomeAnd a.told (λ s. IsRepository s.disk.published) → Opens a b (Err fault) → open_code fault ≡ 3 → ⊥
+  pub open_never : (fault : OpenFault) → IsSomeAnd a.told (λ s. IsRepository s.disk.published) → Opens a b (Err fault) → open_code fault ≡ 3 → ⊥
   open_never open_fault.NoStore repository opens three = not_no_store a.told repository (goes_before a.told b.told (OpenFails open_fault.NoStore) (λ s. s.disk.published format_name ≡ None) opens.refused (λ s t fails. fails.0))
   open_never open_fault.UnknownFormat repository opens three = not_other_format a.told repository (goes_before a.told b.told (OpenFails open_fault.UnknownFormat) (λ s. HasOtherFormat s.disk.published) opens.refused (λ s t fails. fails.0))
   open_never (open_fault.Gap number) repository opens three = not_gap a.told repository number (goes_before a.told b.told (OpenFails (open_fault.Gap number)) (λ s. HasFormat s.disk.published × IsGap s.disk.published number) opens.refused (λ s t fails. fails.0))
@@ -59,7 +62,7 @@ module _ (a b : Seen Folder) where
         count = refl;
       })
 
-  runs_are : (found : Found) (number : ℕ) → Opens a b (Ok found) → length (kinds_of found) ≡ number → IfSome a.told (HasRuns number)
+  pub runs_are : (found : Found) (number : ℕ) → Opens a b (Ok found) → length (kinds_of found) ≡ number → IfSome a.told (HasRuns number)
   runs_are found number opens is = subst (λ (n : ℕ). IfSome a.told (HasRuns n)) is (has_runs found opens)
 
   not_there : (folder : Option Folder) → IsSomeAnd folder (λ s. s.disk.published format_name ≡ None) → IfSome folder (λ s. IsSome (s.disk.published format_name)) → ⊥
@@ -160,12 +163,29 @@ load_never partial names a b r (goes_on found m opened (goes_on _ m2 took (goes_
 
 -- ---- questions
 
-pub ask_never : (question : Question) (site : Seen Files) (input : Seen (List ℕ)) (a b : Shown) (r : Refusal) → Asks question a b (Err r) → CanAsk question (of_shown site input a) → refusal_code r ≡ 3 → ⊥
-ask_never question site input a b r (stops fault is step) can three =
+-- a text that is found and printed is refused by no name
+print_never : (question : Question) (a b : Shown) (r : Refusal) → PrintsAnswer question a b (Err r) → refusal_code r ≡ 3 → ⊥
+print_never question a b r (stops tell_fault.Shelf is step) three = other (refusal.Tell tell_fault.Shelf) r is (λ s. omega arith) three
+print_never question a b r (stops tell_fault.NoMemory is step) three = other (refusal.Tell tell_fault.NoMemory) r is (λ s. omega arith) three
+print_never question a b r (goes_on told m found_it (stops fault is step)) three = other (refusal.Print fault) r is (λ s. omega arith) three
+print_never question a b r (goes_on told m found_it (goes_on _ m2 printed gives)) three = gives_not m2 b r gives
+
+-- nor is a copy
+copy_never : (found : Found) (a b : Shown) (r : Refusal) → CopiesLast found a b (Err r) → refusal_code r ≡ 3 → ⊥
+copy_never found a b r (stops (copy_fault.Read tell_fault.Shelf) is step) three = other (refusal.Tell tell_fault.Shelf) r is (λ s. omega arith) three
+copy_never found a b r (stops (copy_fault.Read tell_fault.NoMemory) is step) three = other (refusal.Tell tell_fault.NoMemory) r is (λ s. omega arith) three
+copy_never found a b r (stops (copy_fault.Write fault) is step) three = other (refusal.Print fault) r is (λ s. omega arith) three
+copy_never found a b r (goes_on _ m copied gives) three = gives_not m b r gives
+
+answer_never : (found : Found) (question : Question) (a b : Shown) (r : Refusal) → AnswersOf found question a b (Err r) → refusal_code r ≡ 3 → ⊥
+answer_never found question a b r answers three = elim (either found a b (Err r) question answers) [
+  | inl (is, copies) ↦ copy_never found a b r copies three
+  | inr prints ↦ print_never question a b r prints three
+]
+
+pub ask_never : (question : Question) (site : Seen Files) (spawner : Seen Spawning) (input : Seen (List ℕ)) (a b : Shown) (r : Refusal) → Asks question a b (Err r) → CanAsk question (of_shown site spawner input a) → refusal_code r ≡ 3 → ⊥
+ask_never question site spawner input a b r (stops fault is step) can three =
     let same : r ≡ refusal.Open fault = cc in
     open_never a.folder b.folder fault can.repository step.at (sym (ap refusal_code same) ∙ three)
-ask_never question site input a b r (goes_on found m opened (stops fault is step)) can three = not_empty a.folder.told (can.some step.says.none.1) (runs_are a.folder m.folder found 0 opened.at step.says.none.2)
-ask_never question site input a b r (goes_on found m opened (goes_on _ m2 had (stops tell_fault.Shelf is step))) can three = other (refusal.Tell tell_fault.Shelf) r is (λ s. omega arith) three
-ask_never question site input a b r (goes_on found m opened (goes_on _ m2 had (stops tell_fault.NoMemory is step))) can three = other (refusal.Tell tell_fault.NoMemory) r is (λ s. omega arith) three
-ask_never question site input a b r (goes_on found m opened (goes_on _ m2 had (goes_on told m3 found_it (stops fault is step)))) can three = other (refusal.Print fault) r is (λ s. omega arith) three
-ask_never question site input a b r (goes_on found m opened (goes_on _ m2 had (goes_on told m3 found_it (goes_on _ m4 printed gives)))) can three = gives_not m4 b r gives
+ask_never question site spawner input a b r (goes_on found m opened (stops fault is step)) can three = not_empty a.folder.told (can.some step.says.none.1) (runs_are a.folder m.folder found 0 opened.at step.says.none.2)
+ask_never question site spawner input a b r (goes_on found m opened (goes_on _ m2 had answers)) can three = answer_never found question m2 b r answers three

@@ -3,7 +3,7 @@ use Rattle.std.proofs.Common.{◌≡◌, ℕ, ◌≤◌, Option, None, Some, Res
 use Rattle.edge_io.specs.Causes.{Rose}
 use Rattle.edge_io.specs.Steps.{Goes}
 use Rattle.testr_cli.specs.Steps.{Step, Then, stops, goes_on, Gives}
-use Rattle.testr_cli.specs.Outside.{Work, Place, in_folder, in_site, in_input, in_out, SameCounts, RisesAt, SomeRose, of_folder, of_site, of_input, of_out}
+use Rattle.testr_cli.specs.Outside.{Work, Place, in_folder, in_site, in_spawner, in_input, in_out, SameCounts, RisesAt, SomeRose, of_folder, of_site, of_spawner, of_input, of_out}
 use Rattle.testr_cli.specs.Answer.{refusal_code, place_of}
 use Rattle.testr_cli.specs.declared.answer.Refusal.{Refusal}
 use Rattle.testr_cli.proofs.Resting.{Rests, rests_then}
@@ -35,16 +35,18 @@ pub record IsFault (refusal : Refusal) (a b : Work) : Type 0 where
   pub counts : RisesAt (place_of refusal) a b
   pub rose : SomeRose a b
 
-counts_after : (place : Option Place) (a m b : Work) → SameCounts a m → RisesAt place m b → RisesAt place a b
-counts_after None a m b same rises = record { folder = rises.folder ∙ same.folder; site = rises.site ∙ same.site; input = rises.input ∙ same.input; out = rises.out ∙ same.out }
-counts_after (Some in_folder) a m b same rises = (subst (λ (n : ℕ). Rose n b.folder.faults) same.folder rises.0, rises.1 ∙ same.site, rises.2 ∙ same.input, rises.3 ∙ same.out)
-counts_after (Some in_site) a m b same rises = (subst (λ (n : ℕ). Rose n b.site.faults) same.site rises.0, rises.1 ∙ same.folder, rises.2 ∙ same.input, rises.3 ∙ same.out)
-counts_after (Some in_input) a m b same rises = (subst (λ (n : ℕ). Rose n b.input.faults) same.input rises.0, rises.1 ∙ same.folder, rises.2 ∙ same.site, rises.3 ∙ same.out)
-counts_after (Some in_out) a m b same rises = (subst (λ (n : ℕ). Rose n b.out.faults) same.out rises.0, rises.1 ∙ same.folder, rises.2 ∙ same.site, rises.3 ∙ same.input)
+pub counts_after : (place : Option Place) (a m b : Work) → SameCounts a m → RisesAt place m b → RisesAt place a b
+counts_after None a m b same rises = record { folder = rises.folder ∙ same.folder; site = rises.site ∙ same.site; spawner = rises.spawner ∙ same.spawner; input = rises.input ∙ same.input; out = rises.out ∙ same.out }
+counts_after (Some in_folder) a m b same rises = (subst (λ (n : ℕ). Rose n b.folder.faults) same.folder rises.0, rises.1 ∙ same.site, rises.2 ∙ same.spawner, rises.3 ∙ same.input, rises.4 ∙ same.out)
+counts_after (Some in_site) a m b same rises = (subst (λ (n : ℕ). Rose n b.site.faults) same.site rises.0, rises.1 ∙ same.folder, rises.2 ∙ same.spawner, rises.3 ∙ same.input, rises.4 ∙ same.out)
+counts_after (Some in_spawner) a m b same rises = (subst (λ (n : ℕ). Rose n b.spawner.faults) same.spawner rises.0, rises.1 ∙ same.folder, rises.2 ∙ same.site, rises.3 ∙ same.input, rises.4 ∙ same.out)
+counts_after (Some in_input) a m b same rises = (subst (λ (n : ℕ). Rose n b.input.faults) same.input rises.0, rises.1 ∙ same.folder, rises.2 ∙ same.site, rises.3 ∙ same.spawner, rises.4 ∙ same.out)
+counts_after (Some in_out) a m b same rises = (subst (λ (n : ℕ). Rose n b.out.faults) same.out rises.0, rises.1 ∙ same.folder, rises.2 ∙ same.site, rises.3 ∙ same.spawner, rises.4 ∙ same.input)
 
-rose_after : (a m b : Work) → SameCounts a m → SomeRose m b → SomeRose a b
+pub rose_after : (a m b : Work) → SameCounts a m → SomeRose m b → SomeRose a b
 rose_after a m b same (of_folder rose) = of_folder (subst (λ (n : ℕ). Rose n b.folder.faults) same.folder rose)
 rose_after a m b same (of_site rose) = of_site (subst (λ (n : ℕ). Rose n b.site.faults) same.site rose)
+rose_after a m b same (of_spawner rose) = of_spawner (subst (λ (n : ℕ). Rose n b.spawner.faults) same.spawner rose)
 rose_after a m b same (of_input rose) = of_input (subst (λ (n : ℕ). Rose n b.input.faults) same.input rose)
 rose_after a m b same (of_out rose) = of_out (subst (λ (n : ℕ). Rose n b.out.faults) same.out rose)
 

@@ -1,12 +1,17 @@
 -- What is true where a command refuses, and at each of its exits, from its chain: one line a step, in the chain's order.
-use Rattle.std.proofs.Common.{ℕ, Bool, List, ap}
+use Rattle.std.proofs.Common.{inl, inr, ℕ, ◌-◌, Bool, List, length, Ok, Err, ap}
 use Rattle.edge_io.specs.Disk.{Files, Folder}
 use Rattle.edge_io.specs.Seen.{Seen}
+use Rattle.edge_io.specs.Spawners.{Spawning}
+use Rattle.run_shelf.specs.declared.found.Found.{Found}
+use Rattle.run_shelf.specs.Holds.{kinds_of}
 use Rattle.testr_cli.specs.Outside.{Work, Shown, work}
 use Rattle.testr_cli.specs.Init.{Inits}
 use Rattle.testr_cli.specs.Load.{Loads}
-use Rattle.testr_cli.specs.Ask.{Asks}
+use Rattle.testr_cli.specs.Ask.{CopiesLast, PrintsAnswer, AnswersOf, Asks}
 use Rattle.testr_cli.specs.declared.command.Question.{Question}
+use Rattle.testr_cli.proofs.AskLemmas.{either}
+use Rattle.testr_cli.proofs.CopyLaws.{copy_counts, copy_quiet, copy_refuses}
 use Rattle.testr_cli.proofs.ChainLemmas.{Counts, Quiet, Refuses, is_fault, then_quiet, then_counts, then_refuses, then_late, then_last, gives_not}
 use Rattle.testr_cli.proofs.StepLaws.{still_counts, still_quiet, runs_refuse, memory_refuses, make_counts, make_refuses, open_counts, open_quiet, open_refuses, find_counts, find_quiet, find_refuses, begin_counts, begin_refuses, keep_counts, keep_faults, record_counts, record_refuses, print_counts, print_quiet, print_faults, gives_quiet, gives_counts}
 
@@ -34,36 +39,84 @@ load_counts partial names =
     then_counts all (λ a b v s. print_counts a b _ v s.at s.rest) (λ _.
     gives_counts all)))))))
 
-module _ (site : Seen Files) (input : Seen (List ℕ)) where
+module _ (site : Seen Files) (spawner : Seen Spawning) (input : Seen (List ℕ)) where
   abbrev pub of_shown : Shown → Work
-  of_shown w = work w.folder site input w.out
+  of_shown w = work w.folder site spawner input w.out
+
+  find_and_print_refuses : (question : Question) → Refuses of_shown (λ r. r) (PrintsAnswer question)
+  find_and_print_refuses question =
+      then_refuses of_shown (λ a b v s. find_counts (of_shown a) (of_shown b) question v s.at (ap of_shown s.rest)) (λ a b e s. find_refuses (of_shown a) (of_shown b) question e s.at (ap of_shown s.rest)) (λ told.
+      then_late of_shown (λ a b v s. print_counts (of_shown a) (of_shown b) _ v s.at (ap of_shown s.rest)) (λ a b e s. is_fault _ (of_shown a) (of_shown b) (print_faults (of_shown a) (of_shown b) _ e s.at (ap of_shown s.rest))) (λ _ a b r gives. absurd (gives_not a b r gives)))
+
+  find_and_print_counts : (question : Question) → Counts of_shown (PrintsAnswer question)
+  find_and_print_counts question =
+      then_counts of_shown (λ a b v s. find_counts (of_shown a) (of_shown b) question v s.at (ap of_shown s.rest)) (λ told.
+      then_counts of_shown (λ a b v s. print_counts (of_shown a) (of_shown b) _ v s.at (ap of_shown s.rest)) (λ _.
+      gives_counts of_shown))
+
+  find_and_print_quiet : (question : Question) → Quiet of_shown (PrintsAnswer question)
+  find_and_print_quiet question =
+      then_quiet of_shown (λ a b r s. find_quiet (of_shown a) (of_shown b) question r s.at) (λ told.
+      then_quiet of_shown (λ a b r s. print_quiet (of_shown a) (of_shown b) (ap of_shown s.rest)) (λ _.
+      gives_quiet of_shown))
+
+  module _ (found : Found) where
+    abbrev last : ℕ
+    last = length (kinds_of found) - 1
+
+    copy_last_refuses : Refuses of_shown (λ r. r) (CopiesLast found)
+    copy_last_refuses =
+        then_late of_shown (λ a b v s. copy_counts site spawner input last a b v s) (λ a b e s. copy_refuses site spawner input last a b e s) (λ _ a b r gives. absurd (gives_not a b r gives))
+
+    copy_last_counts : Counts of_shown (CopiesLast found)
+    copy_last_counts =
+        then_counts of_shown (λ a b v s. copy_counts site spawner input last a b v s) (λ _.
+        gives_counts of_shown)
+
+    copy_last_quiet : Quiet of_shown (CopiesLast found)
+    copy_last_quiet =
+        then_quiet of_shown (λ a b r s. copy_quiet site spawner input last a b r s) (λ _.
+        gives_quiet of_shown)
+
+    answer_refuses : (question : Question) → Refuses of_shown (λ r. r) (AnswersOf found question)
+    answer_refuses question a b e answers = elim (either found a b (Err e) question answers) [
+      | inl (is, copies) ↦ copy_last_refuses a b e copies
+      | inr prints ↦ find_and_print_refuses question a b e prints
+    ]
+
+    answer_counts : (question : Question) → Counts of_shown (AnswersOf found question)
+    answer_counts question a b v answers = elim (either found a b (Ok v) question answers) [
+      | inl (is, copies) ↦ copy_last_counts a b v copies
+      | inr prints ↦ find_and_print_counts question a b v prints
+    ]
+
+    answer_quiet : (question : Question) → Quiet of_shown (AnswersOf found question)
+    answer_quiet question a b r answers = elim (either found a b r question answers) [
+      | inl (is, copies) ↦ copy_last_quiet a b r copies
+      | inr prints ↦ find_and_print_quiet question a b r prints
+    ]
 
   pub ask_refuses : (question : Question) → Refuses of_shown (λ r. r) (Asks question)
   ask_refuses question =
       then_refuses of_shown (λ a b v s. open_counts (of_shown a) (of_shown b) v s.at (ap of_shown s.rest)) (λ a b e s. open_refuses (of_shown a) (of_shown b) e s.at (ap of_shown s.rest)) (λ found.
       then_refuses of_shown (λ a b v s. still_counts (of_shown a) (of_shown b) (ap of_shown s.same)) (λ a b e s. runs_refuse (of_shown a) (of_shown b) e (ap of_shown s.same)) (λ _.
-      then_refuses of_shown (λ a b v s. find_counts (of_shown a) (of_shown b) question v s.at (ap of_shown s.rest)) (λ a b e s. find_refuses (of_shown a) (of_shown b) question e s.at (ap of_shown s.rest)) (λ told.
-      then_late of_shown (λ a b v s. print_counts (of_shown a) (of_shown b) _ v s.at (ap of_shown s.rest)) (λ a b e s. is_fault _ (of_shown a) (of_shown b) (print_faults (of_shown a) (of_shown b) _ e s.at (ap of_shown s.rest))) (λ _ a b r gives. absurd (gives_not a b r gives)))))
+      answer_refuses found question))
 
   pub ask_counts : (question : Question) → Counts of_shown (Asks question)
   ask_counts question =
       then_counts of_shown (λ a b v s. open_counts (of_shown a) (of_shown b) v s.at (ap of_shown s.rest)) (λ found.
       then_counts of_shown (λ a b v s. still_counts (of_shown a) (of_shown b) (ap of_shown s.same)) (λ _.
-      then_counts of_shown (λ a b v s. find_counts (of_shown a) (of_shown b) question v s.at (ap of_shown s.rest)) (λ told.
-      then_counts of_shown (λ a b v s. print_counts (of_shown a) (of_shown b) _ v s.at (ap of_shown s.rest)) (λ _.
-      gives_counts of_shown))))
+      answer_counts found question))
 
   pub ask_quiet : (question : Question) → Quiet of_shown (Asks question)
   ask_quiet question =
       then_quiet of_shown (λ a b r s. open_quiet (of_shown a) (of_shown b) r s.at) (λ found.
       then_quiet of_shown (λ a b r s. still_quiet (of_shown a) (of_shown b) (ap of_shown s.same)) (λ _.
-      then_quiet of_shown (λ a b r s. find_quiet (of_shown a) (of_shown b) question r s.at) (λ told.
-      then_quiet of_shown (λ a b r s. print_quiet (of_shown a) (of_shown b) (ap of_shown s.rest)) (λ _.
-      gives_quiet of_shown))))
+      answer_quiet found question))
 
   module _ (out : Seen (List ℕ)) where
     abbrev pub of_folder : Seen Folder → Work
-    of_folder folder = work folder site input out
+    of_folder folder = work folder site spawner input out
 
     pub init_refuses : Refuses of_folder (λ r. r) Inits
     init_refuses =

@@ -1,9 +1,10 @@
 -- What a command has done, from its chain.
-use Rattle.std.proofs.Common.{◌≡◌, inl, ℕ, Bool, true, false, Option, None, Some, IfSome, Result, Ok, List, [], ◌∷◌, length, refl, sym, ap, subst, ◌∙◌, if◌then◌else◌}
+use Rattle.std.proofs.Common.{◌≡◌, inl, inr, ℕ, ◌<◌, Bool, true, false, Option, None, Some, IfSome, Result, Ok, List, [], ◌∷◌, length, refl, sym, ap, subst, ◌∙◌, if◌then◌else◌}
 use Rattle.std.specs.Io.KnownBytes.{Appends, IsAtEnd}
 use Rattle.std.specs.List.{list_any}
 use Rattle.edge_io.specs.Disk.{Files, Disk, Folder, IsImage, at_rest, put}
 use Rattle.edge_io.specs.Seen.{Seen}
+use Rattle.edge_io.specs.Spawners.{Spawning}
 use Rattle.edge_io.specs.Steps.{Goes, Opened, Grown}
 use Rattle.edge_io.proofs.Going.{goes_then, goes_weaker}
 use Rattle.packet_codec.specs.declared.event.Event.{Event}
@@ -11,7 +12,8 @@ use Rattle.outcome_fold.specs.declared.row.Row.{Row}
 use Rattle.outcome_fold.specs.Rows.{rows_of}
 use Rattle.outcome_fold.specs.Answers.{row_fails, status_of}
 use Rattle.run_shelf.specs.Repository.{Run, run_of, run_name, Shows}
-use Rattle.run_shelf.specs.Holds.{kinds_of}
+use Rattle.run_shelf.specs.declared.found.Found.{Found}
+use Rattle.run_shelf.specs.Holds.{kinds_of, FitsFolder}
 use Rattle.run_shelf.specs.Images.{KeepsRun, HasRunBeside, MakesRepository}
 use Rattle.run_shelf.proofs.DraftLemmas.{goes_writes, run_kept}
 use Rattle.run_shelf.proofs.Joining.{stays_some}
@@ -19,29 +21,32 @@ use Rattle.sub_text.specs.Texts.{report_of}
 use Rattle.testr_cli.specs.Outside.{Work, Shown}
 use Rattle.testr_cli.specs.Runs.{run_bytes, KeepsFiles}
 use Rattle.testr_cli.specs.Verdicts.{verdict_of, verdict_code}
-use Rattle.testr_cli.specs.Says.{SaysOfFolder}
+use Rattle.testr_cli.specs.Says.{SaysOfFolder, OfLastRun}
 use Rattle.testr_cli.specs.Files.{RecordsSources}
 use Rattle.testr_cli.specs.declared.recording.RecordFault.{RecordFault}
 use Rattle.testr_cli.specs.Reporting.{IsReport}
 use Rattle.testr_cli.specs.Init.{Inits}
 use Rattle.testr_cli.specs.Load.{Loads}
-use Rattle.testr_cli.specs.Ask.{Asks}
+use Rattle.testr_cli.specs.Ask.{CopiesLast, PrintsAnswer, AnswersOf, Asks}
 use Rattle.testr_cli.specs.Program.{LoadsAll, ReadsInputFor, AddsRun, AnswersQuestion}
 use Rattle.testr_cli.specs.declared.command.Question.{Question}
+use Rattle.testr_cli.specs.declared.command.Question.TheVariants.{Last}
 use Rattle.testr_cli.specs.declared.answer.Verdict.{Verdict}
 use Rattle.testr_cli.specs.declared.answer.Verdict.TheVariants.{Passed, Failed}
 use Rattle.testr_cli.specs.declared.answer.Refusal.{Refusal}
 use Rattle.testr_cli.proofs.SourcesLemmas.{IsRunOf, writes_run}
 use Rattle.testr_cli.proofs.RowsLemmas.{have_in_turn, rows_of_written}
-use Rattle.testr_cli.proofs.Resting.{Rests}
+use Rattle.testr_cli.proofs.AskLemmas.{either}
+use Rattle.testr_cli.proofs.CopyLemmas.{bytes_said}
+use Rattle.testr_cli.proofs.Resting.{Rests, surveyed_fits}
 use Rattle.testr_cli.proofs.ChainLemmas.{then_did}
 use Rattle.testr_cli.proofs.StepLaws.{open_quiet}
 use Rattle.testr_cli.proofs.CommandLaws.{of_shown, ask_quiet}
 
-appended : {x y z w : Option (List ℕ)} {text other : List ℕ} → x ≡ y → z ≡ w → text ≡ other → Appends x z text → Appends y w other
+pub appended : {x y z w : Option (List ℕ)} {text other : List ℕ} → x ≡ y → z ≡ w → text ≡ other → Appends x z text → Appends y w other
 appended {y = y} {z = z} {w = w} {text = text} p q r appends = subst (λ k. Appends y w k) r (subst (λ k. Appends y k text) q (subst (λ k. Appends k z text) p appends))
 
-same_verdict : {v w : Verdict} → ◌≡◌ {A = Result Verdict Refusal} (Ok v) (Ok w) → v ≡ w
+pub same_verdict : {v w : Verdict} → ◌≡◌ {A = Result Verdict Refusal} (Ok v) (Ok w) → v ≡ w
 same_verdict is = cc
 
 -- ---- `init`
@@ -58,7 +63,7 @@ init_passed a b v inits =
 
 -- ---- `load`
 
-status_is : (rows : List Row) → verdict_code (verdict_of rows) ≡ status_of rows
+pub status_is : (rows : List Row) → verdict_code (verdict_of rows) ≡ status_of rows
 status_is rows = by (list_any row_fails rows)
   where
     by : (b : Bool) → verdict_code (if b then Failed else Passed) ≡ (if b then 1 else 0)
@@ -66,19 +71,19 @@ status_is rows = by (list_any row_fails rows)
     by false = refl
 
 -- a run that is kept behind a quiet part is kept beside the files of before
-kept_through : (number : ℕ) (run : Run) (a b c : Option Folder) → Goes a b Rests → Goes b c (KeepsRun number run) → Goes a c (KeepsRun number run)
+pub kept_through : (number : ℕ) (run : Run) (a b c : Option Folder) → Goes a b Rests → Goes b c (KeepsRun number run) → Goes a c (KeepsRun number run)
 kept_through number run a b c quiet kept = goes_then a b c Rests (KeepsRun number run) (KeepsRun number run) quiet kept (λ s m t rests keeps. record {
   disk = subst (λ (files : Files). t.disk ≡ at_rest (put files (run_name number run.partial) run.bytes)) rests.files keeps.disk;
   lasts = subst (λ (files : Files). (image : Files) → IsImage t.disk image → HasRunBeside files number run image) rests.files keeps.lasts;
 })
 
-kept_beside : (number : ℕ) (run : Run) (s t : Folder) → KeepsRun number run s t → HasRunBeside s.disk.published number run t.disk.published
+pub kept_beside : (number : ℕ) (run : Run) (s t : Folder) → KeepsRun number run s t → HasRunBeside s.disk.published number run t.disk.published
 kept_beside number run s t kept =
     let published : t.disk.published ≡ _ = ap (λ (d : Disk). d.published) kept.disk in
     let stable : t.disk.stable ≡ _ = ap (λ (d : Disk). d.stable) kept.disk in
     kept.lasts t.disk.published (inl (published ∙ sym stable))
 
-adds_run : (partial : Bool) (number : ℕ) (events : List Event) (s t : Folder) → KeepsRun number (run_of partial (run_bytes events)) s t → AddsRun partial events s t
+pub adds_run : (partial : Bool) (number : ℕ) (events : List Event) (s t : Folder) → KeepsRun number (run_of partial (run_bytes events)) s t → AddsRun partial events s t
 adds_run partial number events s t kept runs shows = ((kept_beside number (run_of partial (run_bytes events)) s t kept).shows runs shows, λ image left. (kept.lasts image left).shows runs shows)
 
 reports : (partial : Bool) (folder folder' : Option Folder) (printed new : Option (List ℕ)) (number : ℕ) (events : List Event) → Goes folder folder' (KeepsRun number (run_of partial (run_bytes events))) → Appends printed new (report_of (rows_of events) number [])
@@ -136,24 +141,67 @@ load_did partial names a b v loads =
 
 -- ---- questions
 
-pub ask_did : (question : Question) (site : Seen Files) (input : Seen (List ℕ)) (a b : Shown) (v : Verdict) → Asks question a b (Ok v) → AnswersQuestion question (of_shown site input a) (of_shown site input b) (verdict_code v)
-ask_did question site input a b v asks =
-    let opened = then_did v asks in
-    let had = then_did v opened.next in
-    let told = then_did v had.next in
+-- this text was printed, and of the folder it is the answer
+record DidAnswer (question : Question) (before after : Shown) (v : Verdict) : Type 0 where
+  pub text : List ℕ
+  pub verdict : Verdict
+  pub says : IfSome after.folder.told (SaysOfFolder question text verdict)
+  pub printed : Appends before.out.told after.out.told text
+  pub status : verdict_code v ≡ verdict_code verdict
+
+print_did : (question : Question) (m b : Shown) (v : Verdict) → PrintsAnswer question m b (Ok v) → DidAnswer question m b v
+print_did question m b v prints =
+    let told = then_did v prints in
     let printed = then_did v told.next in
     let gives = printed.next in
     let folder_left : b.folder.told ≡ told.between.folder.told = (λ i. (gives.same i).folder.told) ∙ (λ i. (printed.done.rest i).folder.told) in
-    let out : told.between.out.told ≡ a.out.told = (λ i. (told.done.rest i).out.told) ∙ (λ i. (had.done.same i).out.told) ∙ (λ i. (opened.done.rest i).out.told) in
     let text = told.value.text.items in
-    let says : IfSome told.between.folder.told (SaysOfFolder question text told.value.verdict) = stays_some had.between.folder.told told.between.folder.told (SaysOfFolder question text told.value.verdict) told.done.at.answers told.done.at.same in
+    let says : IfSome told.between.folder.told (SaysOfFolder question text told.value.verdict) = stays_some m.folder.told told.between.folder.told (SaysOfFolder question text told.value.verdict) told.done.at.answers told.done.at.same in
     record {
       text = text;
       verdict = told.value.verdict;
       says = subst (λ (o : Option Folder). IfSome o (SaysOfFolder question text told.value.verdict)) (sym folder_left) says;
-      kept = goes_weaker a.folder.told b.folder.told Rests KeepsFiles (ask_quiet site input question a b (Ok v) asks) (λ s t rests. rests.files);
-      site = refl;
-      input = refl;
-      printed = appended {z = printed.between.out.told} out (λ i. (sym gives.same i).out.told) refl printed.done.at.whole;
+      printed = appended {z = printed.between.out.told} (λ i. (told.done.rest i).out.told) (λ i. (sym gives.same i).out.told) refl printed.done.at.whole;
       status = ap verdict_code (same_verdict gives.answer);
+    }
+
+module _ (found : Found) where
+  copy_did : (m b : Shown) (v : Verdict) → 0 < length (kinds_of found) → IfSome m.folder.told (FitsFolder (kinds_of found)) → CopiesLast found m b (Ok v) → DidAnswer (Last true) m b v
+  copy_did m b v some fits copies =
+      let copied = then_did v copies in
+      let gives = copied.next in
+      let bytes = copied.done.bytes in
+      let says : IfSome copied.between.folder.told (SaysOfFolder (Last true) bytes Passed) = stays_some m.folder.told copied.between.folder.told (SaysOfFolder (Last true) bytes Passed) (bytes_said (kinds_of found) bytes m.folder.told some fits copied.done.whole) copied.done.counts.same in
+      record {
+        text = bytes;
+        verdict = Passed;
+        says = subst (λ (w : Shown). IfSome w.folder.told (SaysOfFolder (Last true) bytes Passed)) (sym gives.same) says;
+        printed = subst (λ (w : Shown). Appends m.out.told w.out.told bytes) (sym gives.same) copied.done.taken;
+        status = ap verdict_code (same_verdict gives.answer);
+      }
+
+  answer_did : (question : Question) (m b : Shown) (v : Verdict) → (OfLastRun question → 0 < length (kinds_of found)) → IfSome m.folder.told (FitsFolder (kinds_of found)) → AnswersOf found question m b (Ok v) → DidAnswer question m b v
+  answer_did question m b v some fits answers = elim (either found m b (Ok v) question answers) [
+    | inl (is, copies) ↦ subst (λ (q : Question). DidAnswer q m b v) (sym is) (copy_did m b v (some (subst OfLastRun (sym is) tt)) fits copies)
+    | inr prints ↦ print_did question m b v prints
+  ]
+
+pub ask_did : (question : Question) (site : Seen Files) (spawner : Seen Spawning) (input : Seen (List ℕ)) (a b : Shown) (v : Verdict) → Asks question a b (Ok v) → AnswersQuestion question (of_shown site spawner input a) (of_shown site spawner input b) (verdict_code v)
+ask_did question site spawner input a b v asks =
+    let opened = then_did v asks in
+    let had = then_did v opened.next in
+    let kinds = kinds_of opened.value in
+    let fits : IfSome had.between.folder.told (FitsFolder kinds) = subst (λ (w : Shown). IfSome w.folder.told (FitsFolder kinds)) (sym had.done.same) (surveyed_fits kinds a.folder.told opened.between.folder.told opened.done.at.found) in
+    let out : had.between.out.told ≡ a.out.told = (λ i. (had.done.same i).out.told) ∙ (λ i. (opened.done.rest i).out.told) in
+    let did = answer_did opened.value question had.between b v had.done.says.some fits had.next in
+    record {
+      text = did.text;
+      verdict = did.verdict;
+      says = did.says;
+      kept = goes_weaker a.folder.told b.folder.told Rests KeepsFiles (ask_quiet site spawner input question a b (Ok v) asks) (λ s t rests. rests.files);
+      site = refl;
+      spawner = refl;
+      input = refl;
+      printed = appended {z = b.out.told} out refl refl did.printed;
+      status = did.status;
     }

@@ -7,6 +7,7 @@ use Rattle.std.proofs.lemmas.Grind.{flat_map-append}
 use Rattle.edge_io.specs.Causes.{Rose}
 use Rattle.edge_io.specs.Disk.{Files, Folder}
 use Rattle.edge_io.specs.Seen.{Seen}
+use Rattle.edge_io.specs.Spawners.{Spawning}
 use Rattle.edge_io.specs.Sites.{Finds, FitsIn, GivesPart}
 use Rattle.edge_io.specs.declared.site.Found.{Found}
 use Rattle.edge_io.specs.declared.site.Found.TheVariants.{Read}
@@ -154,13 +155,13 @@ module _ (lane : ℕ) (name : List ℕ) (before : Filed) (between after : Seen F
 
 -- ---- the choice of the source
 
-pub sources_input : (names : List (List ℕ)) (folder folder' : Seen Folder) (site : Seen Files) (input input' : Seen (List ℕ)) (result : Result (List Row) RecordFault) → length names ≤ 0 → Records (fed folder input) (fed folder' input') result → (out : Seen (List ℕ)) → RecordsSources names (work folder site input out) (work folder' site input' out) result
-sources_input [] folder folder' site input input' result none records out = record { at = records; rest = refl }
-sources_input (name ∷ names) folder folder' site input input' result none records out = absurd (omega (arith, none))
+pub sources_input : (names : List (List ℕ)) (folder folder' : Seen Folder) (site : Seen Files) (input input' : Seen (List ℕ)) (result : Result (List Row) RecordFault) → length names ≤ 0 → Records (fed folder input) (fed folder' input') result → (spawner : Seen Spawning) (out : Seen (List ℕ)) → RecordsSources names (work folder site spawner input out) (work folder' site spawner input' out) result
+sources_input [] folder folder' site input input' result none records spawner out = record { at = records; rest = refl }
+sources_input (name ∷ names) folder folder' site input input' result none records spawner out = absurd (omega (arith, none))
 
-pub sources_files : (names given : List (List ℕ)) (folder folder' : Seen Folder) (site site' : Seen Files) (input : Seen (List ℕ)) (result : Result (List Row) RecordFault) → given ≡ names → 0 < length names → RecordsFiles given (filed folder site) (filed folder' site') result → (out : Seen (List ℕ)) → RecordsSources names (work folder site input out) (work folder' site' input out) result
-sources_files [] given folder folder' site site' input result is some records out = absurd (omega (arith, some))
-sources_files (name ∷ names) given folder folder' site site' input result is some records out = record { at = subst (λ (l : List (List ℕ)). RecordsFiles l (filed folder site) (filed folder' site') result) is records; rest = refl }
+pub sources_files : (names given : List (List ℕ)) (folder folder' : Seen Folder) (site site' : Seen Files) (input : Seen (List ℕ)) (result : Result (List Row) RecordFault) → given ≡ names → 0 < length names → RecordsFiles given (filed folder site) (filed folder' site') result → (spawner : Seen Spawning) (out : Seen (List ℕ)) → RecordsSources names (work folder site spawner input out) (work folder' site' spawner input out) result
+sources_files [] given folder folder' site site' input result is some records spawner out = absurd (omega (arith, some))
+sources_files (name ∷ names) given folder folder' site site' input result is some records spawner out = record { at = subst (λ (l : List (List ℕ)). RecordsFiles l (filed folder site) (filed folder' site') result) is records; rest = refl }
 
 -- ---- one behind others
 

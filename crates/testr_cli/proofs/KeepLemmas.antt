@@ -83,7 +83,7 @@ init_keeps a b outcome (goes_on v m step gives) = subst (λ (f : Seen Folder). G
 
 -- ---- `load`
 
-place_keeps : (name bytes : List ℕ) (call : ShelfCall) (s t : Folder) → PlaceFails name bytes call s t → may_have_placed call ≡ false → KeepsFiles s t
+pub place_keeps : (name bytes : List ℕ) (call : ShelfCall) (s t : Folder) → PlaceFails name bytes call s t → may_have_placed call ≡ false → KeepsFiles s t
 place_keeps name bytes Names s t fails not = absurd fails
 place_keeps name bytes Length s t fails not = absurd fails
 place_keeps name bytes ReadAt s t fails not = absurd fails

@@ -8,16 +8,35 @@ pub mod RecordLemmas
 pub mod FilesLemmas
 pub mod SourcesLemmas
 pub mod TellLemmas
+pub mod CopyLemmas
+pub mod AskLemmas
 pub mod FolderLemmas
 pub mod Resting
 pub mod ChainLemmas
 pub mod StepLaws
+pub mod CopyLaws
 pub mod CommandLaws
 pub mod MomentLaws
+pub mod SuiteJobs
 pub mod DoneLaws
+pub mod PacketBytes
+pub mod MergeLaws
+pub mod SuiteDone
 pub mod CauseLaws
+pub mod SuiteCauses
+pub mod SuiteNever
 pub mod KeepLemmas
+pub mod SuiteQuiet
+pub mod SuiteKeeps
+pub mod SuiteAsks
+pub mod SuiteMoves
+pub mod SuiteLaws
 pub mod PromiseLemmas
 pub mod Performing
+pub mod SuitePromises
+pub mod SelectLemmas
+pub mod PlanLemmas
+pub mod RunLemmas
+pub mod ValueLemmas
 mod ExactLemmas
 mod ExactFiles

@@ -28,11 +28,11 @@ use Rattle.testr_cli.proofs.DoneLaws.{init_made, init_passed, load_did, ask_did}
 use Rattle.testr_cli.proofs.CauseLaws.{init_never, load_never, ask_never}
 use Rattle.testr_cli.proofs.KeepLemmas.{files_keep, keeps_runs, init_keeps, load_keeps}
 
-verdicts : (v : Verdict) → verdict_code v ≤ 1
+pub verdicts : (v : Verdict) → verdict_code v ≤ 1
 verdicts Passed = omega arith
 verdicts Failed = omega arith
 
-stays : (x y : Option Folder) → y ≡ x → Goes x y Stays
+pub stays : (x y : Option Folder) → y ≡ x → Goes x y Stays
 stays None None same = tt
 stays None (Some t) same = cc
 stays (Some s) None same = cc
@@ -40,14 +40,14 @@ stays (Some s) (Some t) same = cc
 
 module _ (fault : UsageFault) (a b : Work) where
   refused : (command : Task) (r : Refusal) → Performs fault (Some command) a b (Err r) → IsRefused r a b
-  refused init r done = subst (IsRefused r a) (sym done.rest) (init_refuses a.site a.input a.out a.folder b.folder r done.at)
+  refused init r done = subst (IsRefused r a) (sym done.rest) (init_refuses a.site a.spawner a.input a.out a.folder b.folder r done.at)
   refused (load partial names) r done = load_refuses partial names a b r done
-  refused (ask question) r done = subst (IsRefused r a) (sym done.rest) (ask_refuses a.site a.input question (shown a.folder a.out) (shown b.folder b.out) r done.at)
+  refused (ask question) r done = subst (IsRefused r a) (sym done.rest) (ask_refuses a.site a.spawner a.input question (shown a.folder a.out) (shown b.folder b.out) r done.at)
 
   counted : (command : Task) (v : Verdict) → Performs fault (Some command) a b (Ok v) → SameCounts a b
-  counted init v done = subst (SameCounts a) (sym done.rest) (init_counts a.site a.input a.out a.folder b.folder v done.at)
+  counted init v done = subst (SameCounts a) (sym done.rest) (init_counts a.site a.spawner a.input a.out a.folder b.folder v done.at)
   counted (load partial names) v done = load_counts partial names a b v done
-  counted (ask question) v done = subst (SameCounts a) (sym done.rest) (ask_counts a.site a.input question (shown a.folder a.out) (shown b.folder b.out) v done.at)
+  counted (ask question) v done = subst (SameCounts a) (sym done.rest) (ask_counts a.site a.spawner a.input question (shown a.folder a.out) (shown b.folder b.out) v done.at)
 
   counts_of : (command : Option Task) (outcome : Result Verdict Refusal) → Performs fault command a b outcome → RisesAt (place_in outcome) a b
   counts_of None outcome done = subst (λ (r : Result Verdict Refusal). RisesAt (place_in r) a b) (sym done.usage) (still_counts a b done.same)
@@ -58,14 +58,14 @@ module _ (fault : UsageFault) (a b : Work) where
   moments_of None outcome done = stays a.folder.told b.folder.told (λ i. (done.same i).folder.told)
   moments_of (Some init) outcome done = init_moves a.folder b.folder outcome done.at
   moments_of (Some (load partial names)) outcome done = load_moves partial names a b outcome done
-  moments_of (Some (ask question)) outcome done = goes_weaker a.folder.told b.folder.told Rests PassesOld (ask_quiet a.site a.input question (shown a.folder a.out) (shown b.folder b.out) outcome done.at) (λ s t rests. rests.old)
+  moments_of (Some (ask question)) outcome done = goes_weaker a.folder.told b.folder.told Rests PassesOld (ask_quiet a.site a.spawner a.input question (shown a.folder a.out) (shown b.folder b.out) outcome done.at) (λ s t rests. rests.old)
 
   kept_of : (command : Option Task) (outcome : Result Verdict Refusal) → Performs fault command a b outcome → may_have_kept command outcome ≡ false → Goes a.folder.told b.folder.told KeepsRuns
   kept_of None outcome done not = goes_weaker a.folder.told b.folder.told Rests KeepsRuns (rests_same a.folder.told b.folder.told (λ i. (done.same i).folder.told)) keeps_runs
   kept_of (Some init) outcome done not = init_keeps a.folder b.folder outcome done.at
   kept_of (Some (load partial names)) (Ok v) done not = cc
   kept_of (Some (load partial names)) (Err r) done not = goes_weaker a.folder.told b.folder.told KeepsFiles KeepsRuns (load_keeps partial names a b r done not) files_keep
-  kept_of (Some (ask question)) outcome done not = goes_weaker a.folder.told b.folder.told Rests KeepsRuns (ask_quiet a.site a.input question (shown a.folder a.out) (shown b.folder b.out) outcome done.at) keeps_runs
+  kept_of (Some (ask question)) outcome done not = goes_weaker a.folder.told b.folder.told Rests KeepsRuns (ask_quiet a.site a.spawner a.input question (shown a.folder a.out) (shown b.folder b.out) outcome done.at) keeps_runs
 
   module _ (answer : ℕ) where
     usage_of : (command : Option Task) (outcome : Result Verdict Refusal) → Performs fault command a b outcome → answer ≡ code_of outcome → (answer ≡ 2 → command ≡ None) × (command ≡ None → answer ≡ 2)
@@ -89,7 +89,7 @@ module _ (fault : UsageFault) (a b : Work) where
     loaded_of partial names (Err r) done code less = absurd (omega (arith, code, less, (refused (load partial names) r done).least))
 
     asked_of : (question : Question) (outcome : Result Verdict Refusal) → Performs fault (Some (ask question)) a b outcome → answer ≡ code_of outcome → answer ≤ 1 → AnswersQuestion question a b answer
-    asked_of question (Ok v) done code less = subst (λ (n : ℕ). AnswersQuestion question a b n) (sym code) (subst (λ (w : Work). AnswersQuestion question a w (verdict_code v)) (sym done.rest) (ask_did question a.site a.input (shown a.folder a.out) (shown b.folder b.out) v done.at))
+    asked_of question (Ok v) done code less = subst (λ (n : ℕ). AnswersQuestion question a b n) (sym code) (subst (λ (w : Work). AnswersQuestion question a w (verdict_code v)) (sym done.rest) (ask_did question a.site a.spawner a.input (shown a.folder a.out) (shown b.folder b.out) v done.at))
     asked_of question (Err r) done code less = absurd (omega (arith, code, less, (refused (ask question) r done).least))
 
     five : (command : Task) (r : Refusal) → Performs fault (Some command) a b (Err r) → answer ≡ refusal_code r → (refusal_code r ≡ 3 → ⊥) → (SomeRose a b → ⊥) → answer ≡ 5
@@ -108,14 +108,14 @@ module _ (fault : UsageFault) (a b : Work) where
     complete_of (Some (load partial names)) (Ok v) done code can none = inl (omega (arith, verdicts v, code))
     complete_of (Some (load partial names)) (Err r) done code can none = inr (five (load partial names) r done code (load_never partial names a b r done can) none)
     complete_of (Some (ask question)) (Ok v) done code can none = inl (omega (arith, verdicts v, code))
-    complete_of (Some (ask question)) (Err r) done code can none = inr (five (ask question) r done code (ask_never question a.site a.input (shown a.folder a.out) (shown b.folder b.out) r done.at can) none)
+    complete_of (Some (ask question)) (Err r) done code can none = inr (five (ask question) r done code (ask_never question a.site a.spawner a.input (shown a.folder a.out) (shown b.folder b.out) r done.at can) none)
 
 -- where memory was wanting for the words
 module _ (a b : Work) (outcome : Result Verdict Refusal) (gives : GivesUp a b outcome) where
-  gave_up_quiet : Goes a.folder.told b.folder.told Rests
+  pub gave_up_quiet : Goes a.folder.told b.folder.told Rests
   gave_up_quiet = rests_same a.folder.told b.folder.told (λ i. (gives.same i).folder.told)
 
-  gave_up_counts : RisesAt (place_in outcome) a b
+  pub gave_up_counts : RisesAt (place_in outcome) a b
   gave_up_counts = subst (λ (r : Result Verdict Refusal). RisesAt (place_in r) a b) (sym gives.memory) (still_counts a b gives.same)
 
   gave_up_moments : (asked : Option Task) → Goes a.folder.told b.folder.told (PassesCommand asked a.site.told a.input.told)

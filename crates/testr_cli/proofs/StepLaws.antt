@@ -36,13 +36,13 @@ module _ (a b : Work) where
   -- ---- where one part alone is touched
 
   folder_same : b ≡ work_folder.put a b.folder → b.folder.faults ≡ a.folder.faults → SameCounts a b
-  folder_same rest count = record { folder = count; site = λ i. (rest i).site.faults; input = λ i. (rest i).input.faults; out = λ i. (rest i).out.faults }
+  folder_same rest count = record { folder = count; site = λ i. (rest i).site.faults; spawner = λ i. (rest i).spawner.faults; input = λ i. (rest i).input.faults; out = λ i. (rest i).out.faults }
 
   folder_rises : b ≡ work_folder.put a b.folder → Rose a.folder.faults b.folder.faults → RisesAt (Some in_folder) a b
-  folder_rises rest rose = (rose, (λ i. (rest i).site.faults), (λ i. (rest i).input.faults), (λ i. (rest i).out.faults))
+  folder_rises rest rose = (rose, (λ i. (rest i).site.faults), (λ i. (rest i).spawner.faults), (λ i. (rest i).input.faults), (λ i. (rest i).out.faults))
 
   out_same : b ≡ work_out.put a b.out → b.out.faults ≡ a.out.faults → SameCounts a b
-  out_same rest count = record { folder = λ i. (rest i).folder.faults; site = λ i. (rest i).site.faults; input = λ i. (rest i).input.faults; out = count }
+  out_same rest count = record { folder = λ i. (rest i).folder.faults; site = λ i. (rest i).site.faults; spawner = λ i. (rest i).spawner.faults; input = λ i. (rest i).input.faults; out = count }
 
   by_folder : b.folder ≡ a.folder → IsQuiet a b
   by_folder same = rests_same a.folder.told b.folder.told (λ i. (same i).told)
@@ -50,7 +50,7 @@ module _ (a b : Work) where
   -- ---- steps that touch nothing
 
   pub still_counts : b ≡ a → SameCounts a b
-  still_counts same = record { folder = λ i. (same i).folder.faults; site = λ i. (same i).site.faults; input = λ i. (same i).input.faults; out = λ i. (same i).out.faults }
+  still_counts same = record { folder = λ i. (same i).folder.faults; site = λ i. (same i).site.faults; spawner = λ i. (same i).spawner.faults; input = λ i. (same i).input.faults; out = λ i. (same i).out.faults }
 
   pub still_quiet : b ≡ a → IsQuiet a b
   still_quiet same = by_folder (λ i. (same i).folder)
@@ -118,10 +118,10 @@ module _ (a b : Work) where
   -- ---- the step of the sources and the draft
 
   fed_same : b ≡ work_fed.put a (fed b.folder b.input) → NoneFailed (fed a.folder a.input) (fed b.folder b.input) → SameCounts a b
-  fed_same rest none = record { folder = none.folder; site = λ i. (rest i).site.faults; input = none.input; out = λ i. (rest i).out.faults }
+  fed_same rest none = record { folder = none.folder; site = λ i. (rest i).site.faults; spawner = λ i. (rest i).spawner.faults; input = none.input; out = λ i. (rest i).out.faults }
 
   filed_same : b ≡ work_filed.put a (filed b.folder b.site) → NoFileFailed (filed a.folder a.site) (filed b.folder b.site) → SameCounts a b
-  filed_same rest none = record { folder = none.folder; site = none.site; input = λ i. (rest i).input.faults; out = λ i. (rest i).out.faults }
+  filed_same rest none = record { folder = none.folder; site = none.site; spawner = λ i. (rest i).spawner.faults; input = λ i. (rest i).input.faults; out = λ i. (rest i).out.faults }
 
   pub record_counts : (names : List (List ℕ)) (rows : List Row) → RecordsSources names a b (Ok rows) → SameCounts a b
   record_counts [] rows step = fed_same step.rest step.at.recorded.counts
@@ -134,12 +134,12 @@ module _ (a b : Work) where
   input_refuses : (fault : RecordFault) → Records (fed a.folder a.input) (fed b.folder b.input) (Err fault) → b ≡ work_fed.put a (fed b.folder b.input) → IsRefused (refusal.Record fault) a b
   input_refuses (record_fault.Shelf call) records rest = is_fault (refusal.Record (record_fault.Shelf call)) a b (record {
     code = refl;
-    counts = (records.refused.0, (λ i. (rest i).site.faults), records.refused.1, (λ i. (rest i).out.faults));
+    counts = (records.refused.0, (λ i. (rest i).site.faults), (λ i. (rest i).spawner.faults), records.refused.1, (λ i. (rest i).out.faults));
     rose = of_folder records.refused.0;
   })
   input_refuses record_fault.Input records rest = is_fault (refusal.Record record_fault.Input) a b (record {
     code = refl;
-    counts = (records.refused.0, records.refused.1, (λ i. (rest i).site.faults), (λ i. (rest i).out.faults));
+    counts = (records.refused.0, records.refused.1, (λ i. (rest i).site.faults), (λ i. (rest i).spawner.faults), (λ i. (rest i).out.faults));
     rose = of_input records.refused.0;
   })
   input_refuses record_fault.TooLong records rest = named (refusal.Record record_fault.TooLong) (omega arith) (omega arith) (λ four. omega arith) (fed_same rest records.refused.1)
@@ -152,14 +152,14 @@ module _ (a b : Work) where
     file_refuses : (fault : RecordFault) → StopsAtFile names (filed a.folder a.site) (filed b.folder b.site) fault → IsRefused (refusal.Record fault) a b
     file_refuses (record_fault.Shelf call) stop = is_fault (refusal.Record (record_fault.Shelf call)) a b (record {
       code = refl;
-      counts = (subst (λ (n : ℕ). Rose n b.folder.faults) stop.recorded.counts.folder stop.cause.0, stop.cause.1 ∙ stop.recorded.counts.site, (λ i. (rest i).input.faults), (λ i. (rest i).out.faults));
+      counts = (subst (λ (n : ℕ). Rose n b.folder.faults) stop.recorded.counts.folder stop.cause.0, stop.cause.1 ∙ stop.recorded.counts.site, (λ i. (rest i).spawner.faults), (λ i. (rest i).input.faults), (λ i. (rest i).out.faults));
       rose = of_folder (subst (λ (n : ℕ). Rose n b.folder.faults) stop.recorded.counts.folder stop.cause.0);
     })
     file_refuses record_fault.Input stop = absurd stop.cause
     file_refuses record_fault.TooLong stop = absurd stop.cause
     file_refuses record_fault.Site stop = is_fault (refusal.Record record_fault.Site) a b (record {
       code = refl;
-      counts = (subst (λ (n : ℕ). Rose n b.site.faults) stop.recorded.counts.site stop.cause.0, stop.cause.1 ∙ stop.recorded.counts.folder, (λ i. (rest i).input.faults), (λ i. (rest i).out.faults));
+      counts = (subst (λ (n : ℕ). Rose n b.site.faults) stop.recorded.counts.site stop.cause.0, stop.cause.1 ∙ stop.recorded.counts.folder, (λ i. (rest i).spawner.faults), (λ i. (rest i).input.faults), (λ i. (rest i).out.faults));
       rose = of_site (subst (λ (n : ℕ). Rose n b.site.faults) stop.recorded.counts.site stop.cause.0);
     })
     file_refuses (record_fault.NoFile name) stop = named (refusal.Record (record_fault.NoFile name)) (omega arith) (omega arith) (λ four. omega arith) (filed_same rest (files_counts _ _ _ stop.recorded.counts stop.cause.2))
@@ -185,7 +185,7 @@ module _ (a b : Work) where
   pub print_faults : (text : List ℕ) (fault : PrintFault) → Prints text a.out b.out (Err fault) → b ≡ work_out.put a b.out → IsFault (refusal.Print fault) a b
   print_faults text fault prints rest = record {
     code = refl;
-    counts = (prints.count.failed, (λ i. (rest i).folder.faults), (λ i. (rest i).site.faults), (λ i. (rest i).input.faults));
+    counts = (prints.count.failed, (λ i. (rest i).folder.faults), (λ i. (rest i).site.faults), (λ i. (rest i).spawner.faults), (λ i. (rest i).input.faults));
     rose = of_out prints.count.failed;
   }
 

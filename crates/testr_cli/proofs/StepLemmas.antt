@@ -31,6 +31,18 @@ module _ {W A B E R : Type 0} {name : E → R} {second : A → Step W B R} {befo
       let same = sym (part.of_put before left) in
       goes_on value (part.put before left) (record { at = subst (λ p. step (part.of before) p (Ok value)) same done; rest = ap (part.put before) same }) next
 
+-- an exit by `?` whose answer is told otherwise
+module _ {W A B E R X : Type 0} {name : E → R} {second : A → Step W B R} {before after : W} (turn : Result X R → Result B R) (keeps : (e : R) → turn (Err e) ≡ Err e) (mid : Result X R) where
+  pub part_fails : {P : Type 0} {part : Part W P} {step : Step P A E} (fault : E) → IsErrAnd mid (λ refusal. refusal ≡ name fault) → step (part.of before) (part.of after) (Err fault) → after ≡ part.put before (part.of after) → Then name (At part step) second before after (turn mid)
+  part_fails fault refused step same =
+      let p = err_from_is_err_and mid refused in
+      stops fault (ap turn (p.1 ∙ ap Err p.2) ∙ keeps (name fault)) (record { at = step; rest = same })
+
+  pub still_fails : {Says : Result A E → Type 0} (fault : E) → IsErrAnd mid (λ refusal. refusal ≡ name fault) → Says (Err fault) → after ≡ before → Then name (Still Says) second before after (turn mid)
+  still_fails fault refused says same =
+      let p = err_from_is_err_and mid refused in
+      stops fault (ap turn (p.1 ∙ ap Err p.2) ∙ keeps (name fault)) (record { says = says; same = same })
+
 pub gives : {W A R : Type 0} {value : A} {after : W} → Gives {R = R} value after after (Ok value)
 gives = record { answer = refl; same = refl }
 

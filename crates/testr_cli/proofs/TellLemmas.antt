@@ -1,5 +1,5 @@
 -- What is told of a store, and why nothing is.
-use Rattle.std.proofs.Common.{◌≡◌, ℕ, ◌<◌, ◌-◌, true, Bool, Option, None, Some, IfSome, IsSomeAnd, List, [], length, Result, Ok, Err, IfOk, refl, sym, ap, subst, ◌∙◌, arith}
+use Rattle.std.proofs.Common.{◌≡◌, ℕ, ◌<◌, ◌-◌, true, false, Bool, Option, None, Some, IfSome, IsSomeAnd, List, [], length, Result, Ok, Err, IfOk, refl, sym, ap, subst, ◌∙◌, arith}
 use Rattle.edge_io.specs.Disk.{Folder}
 use Rattle.run_shelf.specs.declared.faults.ShelfCall.{ShelfCall}
 use Rattle.run_shelf.specs.declared.faults.StoreFault.{StoreFault}
@@ -16,9 +16,10 @@ use Rattle.run_ledger.specs.Reading.{AreRowsOf}
 use Rattle.run_ledger.specs.Ledger.{HasRowsAt}
 use Rattle.sub_text.specs.Texts.{report_of}
 use Rattle.testr_cli.specs.Verdicts.{verdict_of}
-use Rattle.testr_cli.specs.Says.{Says, SaysReport}
+use Rattle.testr_cli.specs.Says.{Says, SaysReport, OfBytes}
 use Rattle.testr_cli.specs.Told.{TellsSo, IsAnswer, fault_fails, fault_of_ledger}
 use Rattle.testr_cli.specs.declared.command.Question.{Question}
+use Rattle.testr_cli.specs.declared.command.Question.TheVariants.{Last}
 use Rattle.testr_cli.specs.declared.told.Told.{Told}
 use Rattle.testr_cli.specs.declared.told.TellFault.{TellFault}
 
@@ -57,6 +58,11 @@ pub answers_so : {E : Type 0} (question asked : Question) (kinds : List Bool) (s
 answers_so question asked kinds state r is fits says =
     subst (λ (q : Question). IfOk r (λ told. IfSome state (IsAnswer q told))) (sym is)
     (if_ok_then (λ told. IfSome state (TellsSo (Says question) told)) (λ told. IfSome state (IsAnswer question told)) r says (λ told. some_both kinds question told state fits))
+
+-- where the last run's bytes are not asked for, its report is
+pub is_report : (question : Question) (subunit : Bool) → question ≡ Last subunit → (OfBytes question → ⊥) → question ≡ Last false
+is_report question true is not = absurd (not (subst OfBytes (sym is) tt))
+is_report question false is not = is
 
 -- the report of the rows of the last run
 pub report_said : (kinds : List Bool) (given : ℕ) (rows : List Row) (told : Told) (state : Option Folder) → 0 < length kinds → given ≡ length kinds - 1 → IfSome state (FitsFolder kinds) → IfSome state (HasRowsAt (length kinds - 1) rows) → told.text.items ≡ report_of rows given [] → told.verdict ≡ verdict_of rows → IfSome state (TellsSo SaysReport told)

@@ -4,19 +4,27 @@ use Rattle.run_shelf.specs.declared.faults.InitFault.TheVariants as init_fault
 use Rattle.run_shelf.specs.declared.faults.OpenFault.TheVariants as open_fault
 use Rattle.run_shelf.specs.declared.faults.ShelfCall.{ShelfCall}
 use Rattle.run_shelf.specs.declared.faults.ShelfCall.TheVariants.{Publish, SyncFolder}
-use Rattle.testr_cli.specs.Outside.{Place, in_folder, in_site, in_input, in_out}
+use Rattle.testr_cli.specs.Outside.{Place, in_folder, in_site, in_spawner, in_input, in_out}
 use Rattle.testr_cli.specs.Tasks.{Task, load}
 use Rattle.testr_cli.specs.Words.{usage_text}
 use Rattle.testr_cli.specs.Store.{init_code, init_text, open_code, open_text, runs_text, keep_text}
 use Rattle.testr_cli.specs.Recording.{record_code, record_text}
 use Rattle.testr_cli.specs.Reporting.{memory_text, print_text}
 use Rattle.testr_cli.specs.Told.{tell_code, tell_text}
+use Rattle.testr_cli.specs.SuiteTexts.{conf_code, conf_text, pattern_code, pattern_text, list_code, list_text, call_code, call_text, table_code, table_text, listing_code, listing_text, job_code, job_text, start_code, start_text, lanes_code, lanes_text}
 use Rattle.testr_cli.specs.Verdicts.{verdict_code}
+use Rattle.suite_plan.specs.declared.calling.CallRefusal.TheVariants as call
+use Rattle.suite_plan.specs.declared.conf_file.ConfRefusal.TheVariants as conf
+use Rattle.suite_plan.specs.declared.listing.ListingRefusal.TheVariants as listing
+use Rattle.suite_plan.specs.declared.load_list.ListRefusal.TheVariants as load_list
+use Rattle.suite_plan.specs.declared.processors.TableRefusal.TheVariants as table
+use Rattle.suite_run.specs.declared.recording.LanesRefusal.TheVariants as lanes
+use Rattle.suite_run.specs.declared.starting.StartRefusal.TheVariants as start
 use Rattle.testr_cli.specs.declared.recording.RecordFault.TheVariants as record_fault
 use Rattle.testr_cli.specs.declared.told.TellFault.TheVariants as tell_fault
 use Rattle.testr_cli.specs.declared.answer.Verdict.{Verdict}
 use Rattle.testr_cli.specs.declared.answer.Refusal.{Refusal}
-use Rattle.testr_cli.specs.declared.answer.Refusal.TheVariants.{Usage, Init, Open, Runs, Record, Memory, Keep, Tell, Print}
+use Rattle.testr_cli.specs.declared.answer.Refusal.TheVariants.{Usage, Init, Open, Runs, Record, Memory, Keep, Tell, Print, Conf, Pattern, LoadList, Call, Table, Listing, Job, Start, Lanes, Reread}
 
 abbrev pub refusal_code : Refusal → ℕ
 refusal_code (Usage fault) = 2
@@ -28,6 +36,16 @@ refusal_code (Memory fault) = 5
 refusal_code (Keep fault) = 4
 refusal_code (Tell fault) = tell_code fault
 refusal_code (Print fault) = 4
+refusal_code (Conf fault) = conf_code fault
+refusal_code (Pattern fault) = pattern_code fault
+refusal_code (LoadList fault) = list_code fault
+refusal_code (Call fault) = call_code fault
+refusal_code (Table fault) = table_code fault
+refusal_code (Listing fault) = listing_code fault
+refusal_code (Job fault) = job_code fault
+refusal_code (Start fault) = start_code fault
+refusal_code (Lanes fault) = lanes_code fault
+refusal_code (Reread fault) = tell_code fault
 
 abbrev pub refusal_text : Refusal → List ℕ
 refusal_text (Usage fault) = usage_text fault
@@ -39,6 +57,16 @@ refusal_text (Memory fault) = memory_text
 refusal_text (Keep fault) = keep_text
 refusal_text (Tell fault) = tell_text fault
 refusal_text (Print fault) = print_text
+refusal_text (Conf fault) = conf_text fault
+refusal_text (Pattern fault) = pattern_text fault
+refusal_text (LoadList fault) = list_text fault
+refusal_text (Call fault) = call_text fault
+refusal_text (Table fault) = table_text fault
+refusal_text (Listing fault) = listing_text fault
+refusal_text (Job fault) = job_text fault
+refusal_text (Start fault) = start_text fault
+refusal_text (Lanes fault) = lanes_text fault
+refusal_text (Reread fault) = tell_text fault
 
 -- the part whose call failed, where the refusal is a fault
 abbrev pub place_of : Refusal → Option Place
@@ -50,6 +78,14 @@ place_of (Record record_fault.Site) = Some in_site
 place_of (Keep fault) = Some in_folder
 place_of (Tell tell_fault.Shelf) = Some in_folder
 place_of (Print fault) = Some in_out
+place_of (Conf conf.Site) = Some in_site
+place_of (LoadList load_list.Site) = Some in_site
+place_of (Call call.Spawn) = Some in_spawner
+place_of (Table table.Site) = Some in_site
+place_of (Listing listing.Spawn) = Some in_spawner
+place_of (Start start.Spawn) = Some in_spawner
+place_of (Lanes (lanes.Shelf which)) = Some in_folder
+place_of (Reread tell_fault.Shelf) = Some in_folder
 place_of refusal = None
 
 abbrev pub code_of : Result Verdict Refusal → ℕ

@@ -1,20 +1,39 @@
 -- The commands that tell of a repository, as the chain of their steps.
-use Rattle.std.specs.Prelude.{length}
+use Rattle.std.specs.Prelude.{◌-◌, true, length}
+use Rattle.run_shelf.specs.declared.found.Found.{Found}
 use Rattle.run_shelf.specs.Holds.{kinds_of}
 use Rattle.testr_cli.specs.Steps.{Step, Then, Still, Gives, At}
 use Rattle.testr_cli.specs.Outside.{Shown, shown_folder, shown_out}
 use Rattle.testr_cli.specs.Store.{Opens, HasRunFor}
 use Rattle.testr_cli.specs.Told.{Finds}
+use Rattle.testr_cli.specs.Copying.{Copies, copy_refusal}
 use Rattle.testr_cli.specs.Reporting.{Prints}
 use Rattle.testr_cli.specs.declared.command.Question.{Question}
+use Rattle.testr_cli.specs.declared.command.Question.TheVariants.{Last}
 use Rattle.testr_cli.specs.declared.answer.Verdict.{Verdict}
+use Rattle.testr_cli.specs.declared.answer.Verdict.TheVariants.{Passed}
 use Rattle.testr_cli.specs.declared.answer.Refusal.{Refusal}
 use Rattle.testr_cli.specs.declared.answer.Refusal.TheVariants.{Open, Runs, Tell, Print}
+
+-- the last run is copied as it is
+abbrev pub CopiesLast : Found → Step Shown Verdict Refusal
+CopiesLast found =
+    Then copy_refusal (Copies (length (kinds_of found) - 1)) (λ _.
+    Gives Passed)
+
+-- the text of the answer is made, and then printed
+abbrev pub PrintsAnswer : Question → Step Shown Verdict Refusal
+PrintsAnswer question =
+    Then Tell (At shown_folder (Finds question)) (λ told.
+    Then Print (At shown_out (Prints told.text.items)) (λ _.
+    Gives told.verdict))
+
+abbrev pub AnswersOf : Found → Question → Step Shown Verdict Refusal
+AnswersOf found (Last true) = CopiesLast found
+AnswersOf found question = PrintsAnswer question
 
 abbrev pub Asks : Question → Step Shown Verdict Refusal
 Asks question =
     Then Open (At shown_folder Opens) (λ found.
     Then Runs (Still (HasRunFor question (length (kinds_of found)))) (λ _.
-    Then Tell (At shown_folder (Finds question)) (λ told.
-    Then Print (At shown_out (Prints told.text.items)) (λ _.
-    Gives told.verdict))))
+    AnswersOf found question))

@@ -115,7 +115,7 @@ pub record RecordsAllFiles (names : List (List ℕ)) (rows : List Row) (before a
   pub recorded : RecordsInTurn names before after run
   pub rows_are : AreRowsOf run rows
 
--- The first file that refuses decides, behind others that were recorded. Want of memory comes at none.
+-- The first file that refuses decides, behind others that were recorded. Want of memory may come at it too, as at no file.
 pub record StopsAtFile (names : List (List ℕ)) (before after : Filed) (fault : RecordFault) : Type 0 where
   pub done : List (List ℕ)
   pub name : List ℕ

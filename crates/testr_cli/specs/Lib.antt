@@ -1,6 +1,7 @@
 pub mod Steps
 pub mod Outside
 pub mod Tasks
+pub mod Suites
 pub mod Words
 pub mod Runs
 pub mod Verdicts
@@ -10,11 +11,19 @@ pub mod Recording
 pub mod Files
 pub mod Reporting
 pub mod Told
+pub mod Copying
+pub mod Perhaps
+pub mod Asking
 pub mod Telling
+pub mod SuiteTexts
 pub mod Answer
+pub mod Selecting
+pub mod RunSuite
 pub mod Init
 pub mod Load
 pub mod Ask
 pub mod Stops
 pub mod Program
+pub mod SuiteStops
+pub mod SuiteProgram
 pub mod Exact

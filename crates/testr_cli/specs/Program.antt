@@ -120,6 +120,7 @@ pub record AnswersQuestion (question : Question) (before after : Work) (answer :
   pub says : IfSome after.folder.told (SaysOfFolder question text verdict)
   pub kept : Goes before.folder.told after.folder.told KeepsFiles
   pub site : after.site ≡ before.site
+  pub spawner : after.spawner ≡ before.spawner
   pub input : after.input ≡ before.input
   pub printed : Appends before.out.told after.out.told text
   pub status : answer ≡ verdict_code verdict
@@ -182,14 +183,9 @@ pub record Promises (reading : Bool) (wrong : UsageFault) (asked : Option Task) 
   -- it does not give up without a cause
   pub completeness : CanPerform asked (work_of before) → (SomeRose (work_of before) (work_of after) → ⊥) → IsPerformed asked answer ⊎ (IsTrue reading × (answer ≡ 5))
 
--- what the filters do for the words, from the input to the output; the folder and the files stay
+-- what the filters do for the words, from the input to the output; the folder, the files and the spawner stay
 pub record PromisesOfFilters (words : List (List ℕ)) (before after : Outside) (answer : ℕ) : Type 0 where
   pub filtered : FilterPromises words (piped before.input before.out before.errors) (piped after.input after.out after.errors) answer
   pub folder : after.folder ≡ before.folder
   pub site : after.site ≡ before.site
-
--- What each call of the program promises for all its words: what `testr` does for those behind its name, and for others
--- what the filters do, which also say where words are neither.
-pub record ProgramPromises (words : List (List ℕ)) (before after : Outside) (answer : ℕ) : Type 0 where
-  pub testr : (behind : List (List ℕ)) → words ≡ testr_word ∷ behind → Promises true Words (asked_by behind) before after answer
-  pub filters : ((behind : List (List ℕ)) → words ≡ testr_word ∷ behind → ⊥) → PromisesOfFilters words before after answer
+  pub spawner : after.spawner ≡ before.spawner

@@ -81,6 +81,11 @@ pub record SaysOfFolder (question : Question) (text : List ℕ) (v : Verdict) (s
   pub repository : IsRepository s.disk.published
   pub says : Says question s text v
 
+-- whether it is of the last run's bytes
+abbrev pub OfBytes : Question → Type 0
+OfBytes (Last true) = Unit {0}
+OfBytes question = ⊥
+
 -- whether the question is of the last run
 abbrev pub OfLastRun : Question → Type 0
 OfLastRun (Last subunit) = Unit {0}

@@ -1,14 +1,20 @@
 -- A line in parts.
-use Rattle.std.specs.Prelude.{ℕ, Option, None, Some, List, [], ◌++◌}
-use Rattle.std.specs.Fmt.{decimal}
+use Rattle.std.specs.Prelude.{ℕ, List, [], ◌++◌, codes}
+use Rattle.std.specs.Fmt.{decimal, signed_decimal}
 use Rattle.testr_cli.specs.declared.telling.Part.{Part}
-use Rattle.testr_cli.specs.declared.telling.Part.TheVariants.{Nothing, Number, Name}
+use Rattle.testr_cli.specs.declared.telling.Part.TheVariants.{Nothing, Number, Status, Name, Place}
 use Rattle.testr_cli.specs.declared.telling.Line.{Line}
+
+-- a line of a file, by its number
+abbrev pub place_text : (name : List ℕ) → (number : ℕ) → List ℕ
+place_text name number = name ++ codes " line " ++ decimal number
 
 abbrev pub part_text : Part → List ℕ
 part_text Nothing = []
 part_text (Number number) = decimal number
+part_text (Status status) = signed_decimal status
 part_text (Name name) = name.now
+part_text (Place name number) = place_text name.now number
 
 abbrev pub line_text : Line → List ℕ
 line_text line = line.front.now ++ part_text line.part ++ line.rest.now

@@ -1,10 +1,9 @@
 -- The step that finds the answer of a question.
-use Rattle.std.specs.Prelude.{◌≡◌, ℕ, Bool, true, false, IfSome, IfOk, IsSomeAnd, List, codes, Result, Ok, Err}
+use Rattle.std.specs.Prelude.{◌≡◌, ℕ, Bool, true, false, IfSome, IfOk, List, codes, Result, Ok, Err}
 use Rattle.edge_io.specs.Disk.{Folder}
 use Rattle.edge_io.specs.Seen.{Seen}
 use Rattle.edge_io.specs.Steps.{Goes, Stays}
 use Rattle.run_shelf.specs.Faults.{RisesExactlyIf}
-use Rattle.run_shelf.specs.Repository.{run_at}
 use Rattle.run_ledger.specs.declared.fault.LedgerFault.{LedgerFault}
 use Rattle.run_ledger.specs.declared.fault.LedgerFault.TheVariants as ledger_fault
 use Rattle.testr_cli.specs.Says.{SaysOfFolder}
@@ -41,10 +40,6 @@ pub record Finds (question : Question) (before after : Seen Folder) (result : Re
   pub answers : IfOk result (λ told. IfSome before.told (IsAnswer question told))
   pub same : Goes before.told after.told Stays
   pub count : RisesExactlyIf before.faults after.faults (tell_failed result)
-
--- the bytes of the run of this number, which there is
-abbrev pub HasBytesAt : ℕ → List ℕ → Folder → Type 0
-HasBytesAt number bytes s = IsSomeAnd (run_at s.disk.published number) (λ run. bytes ≡ run.bytes)
 
 abbrev pub tell_code : TellFault → ℕ
 tell_code Shelf = 4

@@ -1,9 +1,12 @@
 -- Which words are a command (docs/COMMANDS.md, "Words").
-use Rattle.std.specs.Prelude.{Bool, false, nat_le, Option, Some, None, List, [], ◌∷◌, ℕ, length, codes, if◌then◌else◌}
-use Rattle.std.specs.List.{list_any, list_all, flat_map}
+use Rattle.std.specs.Prelude.{Bool, true, false, ◌&&◌, ◌||◌, nat_le, Option, Some, None, List, [], ◌∷◌, ℕ, length, codes, if◌then◌else◌}
+use Rattle.std.specs.Fmt.{decimal}
+use Rattle.std.specs.List.{list_any, list_all, flat_map, fold}
+use Rattle.std.specs.Option.{option_to_list}
 use Rattle.std.specs.Str.{bytes_eq}
+use Rattle.std.specs.Str.Parse.{digits_value}
 use Rattle.command_words.specs.declared.table.Kind.{Kind}
-use Rattle.command_words.specs.declared.table.Kind.TheVariants.{Flag}
+use Rattle.command_words.specs.declared.table.Kind.TheVariants.{Flag, Valued}
 use Rattle.command_words.specs.Items.{Item, flag, valued, name, is_text, items_of}
 use Rattle.testr_cli.specs.declared.words.UsageFault.{UsageFault}
 use Rattle.testr_cli.specs.declared.words.UsageFault.TheVariants.{Words}
@@ -30,42 +33,65 @@ and_then (Some value) next = next value
 
 -- ---- the options and names of each verb
 
+abbrev pub concurrency_word : List ℕ
+concurrency_word = codes "--concurrency"
+
+abbrev pub load_list_word : List ℕ
+load_list_word = codes "--load-list"
+
 abbrev pub verb_of : List ℕ → Option Verb
 verb_of word =
     if bytes_eq word (codes "init") then Some Init
     else (if bytes_eq word (codes "load") then Some Load
+    else (if bytes_eq word (codes "run") then Some Run
     else (if bytes_eq word (codes "last") then Some Last
     else (if bytes_eq word (codes "failing") then Some Failing
     else (if bytes_eq word (codes "slowest") then Some Slowest
     else (if bytes_eq word (codes "stats") then Some Stats
-    else None)))))
+    else (if bytes_eq word (codes "list-tests") then Some ListTests
+    else None)))))))
 
 -- this option is a flag, and there is no other
 abbrev pub only_flag : List ℕ → List ℕ → Option Kind
 only_flag key word = if bytes_eq word key then Some Flag else None
 
+-- the flags of `run`
+abbrev pub is_run_flag : List ℕ → Bool
+is_run_flag word = bytes_eq word (codes "--partial") || (bytes_eq word (codes "--failing") || bytes_eq word (codes "--parallel"))
+
+-- the options of `run`
+abbrev pub run_kind : List ℕ → Option Kind
+run_kind word =
+    if is_run_flag word then Some Flag
+    else (if bytes_eq word concurrency_word || bytes_eq word load_list_word then Some Valued
+    else None)
+
 abbrev pub kinds_of : Verb → List ℕ → Option Kind
 kinds_of Load word = only_flag (codes "--partial") word
+kinds_of Run word = run_kind word
 kinds_of Last word = only_flag (codes "--subunit") word
 kinds_of Failing word = only_flag (codes "--list") word
 kinds_of Slowest word = only_flag (codes "--all") word
 kinds_of Init word = None
-kinds_of Run word = None
 kinds_of Stats word = None
 kinds_of ListTests word = None
 kinds_of SelfTest word = None
 
--- how many names there may be
-abbrev pub most_names : Verb → ℕ
-most_names Load = 64
-most_names Init = 0
-most_names Run = 0
-most_names Last = 0
-most_names Failing = 0
-most_names Slowest = 0
-most_names Stats = 0
-most_names ListTests = 0
-most_names SelfTest = 0
+-- how many names there may be; none where there is no end to them
+abbrev pub most_names : Verb → Option ℕ
+most_names Load = Some 64
+most_names Run = None
+most_names ListTests = None
+most_names Init = Some 0
+most_names Last = Some 0
+most_names Failing = Some 0
+most_names Slowest = Some 0
+most_names Stats = Some 0
+most_names SelfTest = Some 0
+
+abbrev pub may_have : Option ℕ → ℕ → Bool
+may_have None names = true
+may_have (Some most) names = nat_le names most
 
 -- ---- what the items say
 
@@ -93,15 +119,62 @@ names_in items = flat_map names_of items
 abbrev pub if_texts : List (List ℕ) → Option (List (List ℕ))
 if_texts names = if list_all is_text names then Some names else None
 
--- the command of these options and names, where the names are no more than the verb has
-abbrev pub command_with : Verb → List Item → List (List ℕ) → Option Command
-command_with verb items names = if nat_le (length names) (most_names verb) then Some (record {
+-- ---- what the options with a value say
+
+-- the value that the item gives to this option
+abbrev pub value_of : List ℕ → Item → Option (List ℕ)
+value_of key (flag word) = None
+value_of key (valued word value) = if bytes_eq word key then Some value else None
+value_of key (name word) = None
+
+-- the values of this option, in their order
+abbrev pub values_in : List ℕ → List Item → List (List ℕ)
+values_in key items = flat_map (λ item. option_to_list (value_of key item)) items
+
+-- the last of the values, or what stood before them
+abbrev pub last_behind : Option (List ℕ) → List (List ℕ) → Option (List ℕ)
+last_behind before values = fold (λ stood value. Some value) before values
+
+abbrev pub last_of : List (List ℕ) → Option (List ℕ)
+last_of values = last_behind None values
+
+-- The value is the decimal of a number up to 64.
+abbrev pub is_worker_count : List ℕ → Bool
+is_worker_count value = bytes_eq value (decimal (digits_value 10 value)) && nat_le (digits_value 10 value) 64
+
+-- that number
+abbrev pub worker_count : List ℕ → Option ℕ
+worker_count value = if is_worker_count value then Some (digits_value 10 value) else None
+
+-- the number that the last value tells, or 0 where there is none
+abbrev pub count_or_zero : Option (List ℕ) → Option ℕ
+count_or_zero None = Some 0
+count_or_zero (Some value) = worker_count value
+
+-- how many workers are asked for, where each value that tells it is a number
+abbrev pub workers_in : List Item → Option ℕ
+workers_in items = if list_all is_worker_count (values_in concurrency_word items) then count_or_zero (last_of (values_in concurrency_word items)) else None
+
+-- a name that may be missing, where it is a text
+abbrev pub if_text : Option (List ℕ) → Option (Option (List ℕ))
+if_text None = Some None
+if_text (Some word) = if is_text word then Some (Some word) else None
+
+-- the file of the ids that are wanted; of several the last one stands
+abbrev pub load_list_in : List Item → Option (Option (List ℕ))
+load_list_in items = if_text (last_of (values_in load_list_word items))
+
+-- ---- the command of options and names
+
+-- the command of these items, names, workers and load list, where the names are no more than the verb has
+abbrev pub command_with : Verb → List Item → List (List ℕ) → ℕ → Option (List ℕ) → Option Command
+command_with verb items names workers load_list = if may_have (most_names verb) (length names) then Some (record {
   verb = verb;
   partial = has_flag (codes "--partial") items;
-  failing = false;
-  parallel = false;
-  concurrency = 0;
-  load_list = None;
+  failing = has_flag (codes "--failing") items;
+  parallel = has_flag (codes "--parallel") items;
+  concurrency = workers;
+  load_list = load_list;
   list = has_flag (codes "--list") items;
   all = has_flag (codes "--all") items;
   subunit = has_flag (codes "--subunit") items;
@@ -112,7 +185,11 @@ command_with verb items names = if nat_le (length names) (most_names verb) then 
 }) else None
 
 abbrev pub command_of_items : Verb → List Item → Option Command
-command_of_items verb items = and_then (if_texts (names_in items)) (command_with verb items)
+command_of_items verb items =
+    and_then (if_texts (names_in items)) (λ names.
+    and_then (workers_in items) (λ workers.
+    and_then (load_list_in items) (λ load_list.
+    command_with verb items names workers load_list)))
 
 -- ---- which command words are
 

@@ -3,14 +3,25 @@
 ghost use Rattle.std.specs.Prelude.{◌≡◌};
 ghost use Rattle.testr_cli.specs.Telling.{line_text};
 
+use crate::copying::CopyFault;
 use crate::recording::RecordFault;
 use crate::reporting::PrintFault;
 use crate::store::{KeepFault, RunsFault, init_line, init_status, open_line, open_status};
+use crate::suite_refusals::{
+    call_line, call_status, conf_line, conf_status, job_line, job_status, lanes_line, lanes_status,
+    list_line, list_status, listing_line, listing_status, pattern_line, pattern_status, start_line,
+    start_status, table_line, table_status,
+};
 use crate::telling::Line;
 use crate::told::TellFault;
 use crate::words::UsageFault;
 use run_shelf::{InitFault, OpenFault};
 use sub_number::NoMemory;
+use suite_plan::{
+    CallRefusal, ConfRefusal, ListRefusal, ListingRefusal, PatternRefusal, TableRefusal,
+};
+use suite_run::{LanesRefusal, StartRefusal};
+use testr_conf::JobFault;
 
 /// Whether the tests of a run passed. A command that tells of no tests answers `Passed`.
 #[derive(Clone, Copy, Debug, PartialEq, Eq)]
@@ -48,7 +59,7 @@ pub enum Refusal<'a> {
     Runs(RunsFault),
     /// A source was not recorded whole.
     Record(RecordFault<'a>),
-    /// There is not enough memory for the report.
+    /// There is not enough memory.
     Memory(NoMemory),
     /// The run was not begun, or not kept, or not surely.
     Keep(KeepFault),
@@ -56,6 +67,26 @@ pub enum Refusal<'a> {
     Tell(TellFault),
     /// A text was not printed whole.
     Print(PrintFault),
+    /// The configuration was not read.
+    Conf(ConfRefusal),
+    /// A pattern was not taken.
+    Pattern(PatternRefusal<'a>),
+    /// The list of ids was not read.
+    LoadList(ListRefusal<'a>),
+    /// The number of workers was not called out.
+    Call(CallRefusal),
+    /// The table of processors was not read.
+    Table(TableRefusal),
+    /// The tests were not listed.
+    Listing(ListingRefusal),
+    /// The workers' jobs were not made.
+    Job(JobFault),
+    /// The workers were not started.
+    Start(StartRefusal),
+    /// The workers were not recorded whole.
+    Lanes(LanesRefusal),
+    /// The run that was kept was not read again, or there is not enough memory for its report.
+    Reread(TellFault),
 }
 
 impl<'a> From<InitFault> for Refusal<'a> {
@@ -128,6 +159,19 @@ impl<'a> From<TellFault> for Refusal<'a> {
     }
 }
 
+impl<'a> From<CopyFault> for Refusal<'a> {
+    ghost use Rattle.testr_cli.specs.Copying.{copy_refusal};
+
+    ghost from_gives = { λ fault refusal. refusal ≡ copy_refusal fault };
+
+    fn from(fault: CopyFault) -> Self {
+        match fault {
+            CopyFault::Read(fault) => Refusal::Tell(fault),
+            CopyFault::Write(fault) => Refusal::Print(fault),
+        }
+    }
+}
+
 impl<'a> From<PrintFault> for Refusal<'a> {
     ghost use Rattle.testr_cli.specs.declared.answer.Refusal.TheVariants.{Print};
 
@@ -135,6 +179,96 @@ impl<'a> From<PrintFault> for Refusal<'a> {
 
     fn from(fault: PrintFault) -> Self {
         Refusal::Print(fault)
+    }
+}
+
+impl<'a> From<ConfRefusal> for Refusal<'a> {
+    ghost use Rattle.testr_cli.specs.declared.answer.Refusal.TheVariants.{Conf};
+
+    ghost from_gives = { λ fault refusal. refusal ≡ Conf fault };
+
+    fn from(fault: ConfRefusal) -> Self {
+        Refusal::Conf(fault)
+    }
+}
+
+impl<'a> From<PatternRefusal<'a>> for Refusal<'a> {
+    ghost use Rattle.testr_cli.specs.declared.answer.Refusal.TheVariants.{Pattern};
+
+    ghost from_gives = { λ fault refusal. refusal ≡ Pattern fault };
+
+    fn from(fault: PatternRefusal<'a>) -> Self {
+        Refusal::Pattern(fault)
+    }
+}
+
+impl<'a> From<ListRefusal<'a>> for Refusal<'a> {
+    ghost use Rattle.testr_cli.specs.declared.answer.Refusal.TheVariants.{LoadList};
+
+    ghost from_gives = { λ fault refusal. refusal ≡ LoadList fault };
+
+    fn from(fault: ListRefusal<'a>) -> Self {
+        Refusal::LoadList(fault)
+    }
+}
+
+impl<'a> From<CallRefusal> for Refusal<'a> {
+    ghost use Rattle.testr_cli.specs.declared.answer.Refusal.TheVariants.{Call};
+
+    ghost from_gives = { λ fault refusal. refusal ≡ Call fault };
+
+    fn from(fault: CallRefusal) -> Self {
+        Refusal::Call(fault)
+    }
+}
+
+impl<'a> From<TableRefusal> for Refusal<'a> {
+    ghost use Rattle.testr_cli.specs.declared.answer.Refusal.TheVariants.{Table};
+
+    ghost from_gives = { λ fault refusal. refusal ≡ Table fault };
+
+    fn from(fault: TableRefusal) -> Self {
+        Refusal::Table(fault)
+    }
+}
+
+impl<'a> From<ListingRefusal> for Refusal<'a> {
+    ghost use Rattle.testr_cli.specs.declared.answer.Refusal.TheVariants.{Listing};
+
+    ghost from_gives = { λ fault refusal. refusal ≡ Listing fault };
+
+    fn from(fault: ListingRefusal) -> Self {
+        Refusal::Listing(fault)
+    }
+}
+
+impl<'a> From<JobFault> for Refusal<'a> {
+    ghost use Rattle.testr_cli.specs.declared.answer.Refusal.TheVariants.{Job};
+
+    ghost from_gives = { λ fault refusal. refusal ≡ Job fault };
+
+    fn from(fault: JobFault) -> Self {
+        Refusal::Job(fault)
+    }
+}
+
+impl<'a> From<StartRefusal> for Refusal<'a> {
+    ghost use Rattle.testr_cli.specs.declared.answer.Refusal.TheVariants.{Start};
+
+    ghost from_gives = { λ fault refusal. refusal ≡ Start fault };
+
+    fn from(fault: StartRefusal) -> Self {
+        Refusal::Start(fault)
+    }
+}
+
+impl<'a> From<LanesRefusal> for Refusal<'a> {
+    ghost use Rattle.testr_cli.specs.declared.answer.Refusal.TheVariants.{Lanes};
+
+    ghost from_gives = { λ fault refusal. refusal ≡ Lanes fault };
+
+    fn from(fault: LanesRefusal) -> Self {
+        Refusal::Lanes(fault)
     }
 }
 
@@ -151,9 +285,18 @@ impl<'a> Refusal<'a> {
             Refusal::Open(fault) => open_status(fault),
             Refusal::Runs(_) => 3,
             Refusal::Record(fault) => fault.code(),
-            Refusal::Tell(fault) => fault.code(),
+            Refusal::Tell(fault) | Refusal::Reread(fault) => fault.code(),
             Refusal::Keep(_) | Refusal::Print(_) => 4,
             Refusal::Memory(_) => 5,
+            Refusal::Conf(refusal) => conf_status(refusal),
+            Refusal::Pattern(refusal) => pattern_status(refusal),
+            Refusal::LoadList(refusal) => list_status(refusal),
+            Refusal::Call(refusal) => call_status(refusal),
+            Refusal::Table(refusal) => table_status(refusal),
+            Refusal::Listing(refusal) => listing_status(refusal),
+            Refusal::Job(fault) => job_status(fault),
+            Refusal::Start(refusal) => start_status(refusal),
+            Refusal::Lanes(refusal) => lanes_status(refusal),
         }
     }
 
@@ -169,8 +312,17 @@ impl<'a> Refusal<'a> {
             Refusal::Record(fault) => fault.line(),
             Refusal::Memory(_) => Line::of("testr: out of memory\n"),
             Refusal::Keep(fault) => fault.line(),
-            Refusal::Tell(fault) => fault.line(),
+            Refusal::Tell(fault) | Refusal::Reread(fault) => fault.line(),
             Refusal::Print(fault) => fault.line(),
+            Refusal::Conf(refusal) => conf_line(refusal),
+            Refusal::Pattern(refusal) => pattern_line(refusal),
+            Refusal::LoadList(refusal) => list_line(refusal),
+            Refusal::Call(refusal) => call_line(refusal),
+            Refusal::Table(refusal) => table_line(refusal),
+            Refusal::Listing(refusal) => listing_line(refusal),
+            Refusal::Job(fault) => job_line(fault),
+            Refusal::Start(refusal) => start_line(refusal),
+            Refusal::Lanes(refusal) => lanes_line(refusal),
         }
     }
 }

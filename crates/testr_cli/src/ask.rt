@@ -1,9 +1,12 @@
 //! The commands that tell of a repository, and change nothing.
 
+ghost use Rattle.std.specs.Prelude.{◌↔◌, IsTrue};
 ghost use Rattle.testr_cli.specs.Ask.{Asks};
 ghost use Rattle.testr_cli.specs.Outside.{shown};
+ghost use Rattle.testr_cli.specs.Says.{OfBytes};
 
 use crate::command::Question;
+use crate::copying::copy_last;
 use crate::reporting::print;
 use crate::store::{have_run, open};
 use crate::told::find;
@@ -25,7 +28,18 @@ pub fn ask<H: Shelf, O: Sink>(
 {
     let found = open(alloc, shelf)?;
     have_run(question, &found)?;
+    if is_of_bytes(question) {
+        copy_last(shelf, &found, out)?;
+        return Ok(Verdict::Passed);
+    }
     let told = find(alloc, question, shelf, found)?;
     print(out, &told.text)?;
     Ok(told.verdict)
+}
+
+// Whether the last run's bytes are asked for.
+fn is_of_bytes(question: Question) -> bool
+    ensures { IsTrue result ↔ OfBytes question }
+{
+    matches!(question, Question::Last { subunit: true })
 }

@@ -36,7 +36,7 @@ pub struct Command {
     pub failing: bool,
     /// The tests run side by side.
     pub parallel: bool,
-    /// How many of them; 0 where the words do not say it.
+    /// How many workers run them; 0 where the words do not say it.
     pub concurrency: u32,
     /// The file of the ids that are wanted.
     pub load_list: Option<Text>,

@@ -2,6 +2,7 @@
 
 ghost use Rattle.std.specs.Prelude.{◌≡◌, ℕ, ◌<◌, ◌≤◌, List, [], ◌++◌, false, length, take, IfOk, IfErr, OnOk};
 ghost use Rattle.edge_io.specs.Seen.{Seen};
+ghost use Rattle.edge_io.specs.Spawners.{Spawning};
 ghost use Rattle.edge_io.specs.Steps.{Goes, HasDraft};
 ghost use Rattle.run_ledger.specs.Writing.{HasWritten};
 ghost use Rattle.run_shelf.specs.Drafts.{SameButDraft};
@@ -30,9 +31,9 @@ pub fn record_sources<'a, H: Shelf, F: Site, I: Source>(
 ) -> Result<Rows, RecordFault<'a>>
     requires few { length names.now ≤ 64 }
     requires draft { HasDraft (H.seen shelf.old).told }
-    ensures step { (out : Seen (List ℕ)) → RecordsSources names.now
-        (work (H.seen shelf.old) (F.seen site.old) (I.seen input.old) out)
-        (work (H.seen shelf.new) (F.seen site.new) (I.seen input.new) out)
+    ensures step { (spawner : Seen Spawning) (out : Seen (List ℕ)) → RecordsSources names.now
+        (work (H.seen shelf.old) (F.seen site.old) spawner (I.seen input.old) out)
+        (work (H.seen shelf.new) (F.seen site.new) spawner (I.seen input.new) out)
         result }
     ensures draft { OnOk result (HasDraft (H.seen shelf.new).told) }
     ensures rests { Goes (H.seen shelf.old).told (H.seen shelf.new).told SameButDraft }
@@ -95,7 +96,7 @@ fn record_each<'a, H: Shelf, F: Site>(
 }
 
 // The text as words.
-fn name_of(name: &Text) -> &str
+pub(crate) fn name_of(name: &Text) -> &str
     ensures { result.now ≡ name.now }
 {
     match str::from_utf8(name.bytes()) {

@@ -1,34 +1,45 @@
 //! The top call: words become an answer.
 //!
 //! `program` is what the real program's `main` calls, over traits that stand for the outside: a folder of runs, files by
-//! name, an input and two sinks. Its contract is the theorem of each command. It knows the words, the order of the steps
-//! and the refusals, and never a real file.
+//! name, a spawner of programs, an input and two sinks. Its contract is the theorem of each command. It knows the words,
+//! the order of the steps and the refusals, and never a real file or process.
 //!
-//! - `command`, `words`: which words are a command
-//! - `store`, `recording`, `files`, `reporting`, `told`: the steps, each with why it refuses
-//! - `answer`, `telling`: statuses and refusals by step, and the lines that tell of them
-//! - `init`, `load`, `ask`: the commands, each a chain of steps
+//! - `command`, `words`, `values`: which words are a command
+//! - `store`, `recording`, `files`, `reporting`, `told`, `copying`, `asking`: the steps, each with why it refuses
+//! - `selecting`, `planning`, `working`: which tests run, what each worker is started with, and the workers themselves
+//! - `answer`, `suite_refusals`, `telling`: statuses and refusals by step, and the lines that tell of them
+//! - `init`, `load`, `ask`, `run`, `list`: the commands, each a chain of steps
 //! - `top`: `program`, `testr` and `quiet`
 //! - `laws`: each named refusal comes exactly where its cause is
 #![tactic(auto)]
 
 mod answer;
 mod ask;
+mod asking;
 mod command;
+mod copying;
 mod files;
 mod init;
 mod laws;
+mod list;
 mod load;
+mod planning;
 mod recording;
 mod reporting;
+mod run;
+mod selecting;
 mod store;
+mod suite_refusals;
 mod telling;
 mod told;
 mod top;
+mod values;
 mod words;
+mod working;
 
 pub use answer::{Refusal, Verdict};
 pub use command::{Command, Question, Verb};
+pub use copying::CopyFault;
 pub use laws::refusals_are_exact;
 pub use recording::RecordFault;
 pub use reporting::PrintFault;
@@ -42,8 +53,16 @@ mod tests;
 #[cfg(test)]
 mod tests_ask;
 #[cfg(test)]
+mod tests_copying;
+#[cfg(test)]
 mod tests_files;
+#[cfg(test)]
+mod tests_list;
 #[cfg(test)]
 mod tests_load;
 #[cfg(test)]
+mod tests_run;
+#[cfg(test)]
 mod tests_store;
+#[cfg(test)]
+mod tests_words;

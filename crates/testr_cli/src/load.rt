@@ -3,6 +3,8 @@
 ghost use Rattle.testr_cli.specs.Load.{Loads};
 ghost use Rattle.testr_cli.specs.Outside.{work};
 ghost use Rattle.std.specs.Prelude.{◌≤◌, length};
+ghost use Rattle.edge_io.specs.Seen.{Seen};
+ghost use Rattle.edge_io.specs.Spawners.{Spawning};
 
 use crate::files::record_sources;
 use crate::reporting::{print, report_rows};
@@ -10,6 +12,7 @@ use crate::store::{begin, keep, open, take_run};
 use crate::{Refusal, Verdict};
 use edge_io::{Shelf, Sink, Site, Source};
 use std::alloc::Global;
+use std::mem::forget;
 use sub_number::IdList;
 
 /// Reads the sources to their ends, one after another, keeps what is recorded of them as the next run, and prints the run's
@@ -25,17 +28,19 @@ pub fn load<'a, H: Shelf, F: Site, I: Source, O: Sink>(
     out: &mut O,
 ) -> Result<Verdict, Refusal<'a>>
     requires { length names.now ≤ 64 }
-    ensures { Loads partial names.now
-        (work (H.seen shelf.old) (F.seen site.old) (I.seen input.old) (O.seen out.old))
-        (work (H.seen shelf.new) (F.seen site.new) (I.seen input.new) (O.seen out.new))
+    ensures { (spawner : Seen Spawning) → Loads partial names.now
+        (work (H.seen shelf.old) (F.seen site.old) spawner (I.seen input.old) (O.seen out.old))
+        (work (H.seen shelf.new) (F.seen site.new) spawner (I.seen input.new) (O.seen out.new))
         result }
 {
-    let found = open(alloc, shelf)?;
+    let mut found = open(alloc, shelf)?;
     take_run(&found)?;
     begin(shelf)?;
     let rows = record_sources(alloc, names, shelf, site, input)?;
     let report = report_rows(alloc, found.runs(), &rows)?;
-    keep(shelf, found, partial)?;
+    keep(shelf, &mut found, partial)?;
     print(out, &report.text)?;
+    // The program ends here, and the system takes the memory back in one piece.
+    forget(rows);
     Ok(report.verdict)
 }

@@ -1,6 +1,6 @@
 //! The steps of the folder, and why each refuses.
 
-ghost use Rattle.std.specs.Prelude.{◌≡◌, ◌<◌, length};
+ghost use Rattle.std.specs.Prelude.{◌≡◌, ◌<◌, ◌++◌, ◌∷◌, [], length, OnOk};
 ghost use Rattle.edge_io.specs.Steps.{HasDraft};
 ghost use Rattle.run_shelf.specs.Holds.{kinds_of, HasRoom, FitsWhereTold};
 ghost use Rattle.run_shelf.specs.Repository.{most_runs};
@@ -147,16 +147,17 @@ pub fn begin<H: Shelf>(shelf: &mut H) -> Result<(), KeepFault>
     }
 }
 
-/// Keeps what was added as the run behind all others.
-pub fn keep<H: Shelf>(shelf: &mut H, found: Found, partial: bool) -> Result<(), KeepFault>
-    requires few { length (kinds_of found) < most_runs }
-    requires room { HasRoom found }
-    requires fits { FitsWhereTold (kinds_of found) (H.seen shelf.old).told }
+/// Keeps what was added as the run behind all others, and counts it among what was found.
+pub fn keep<H: Shelf>(shelf: &mut H, found: &mut Found, partial: bool) -> Result<(), KeepFault>
+    requires few { length (kinds_of found.old) < most_runs }
+    requires room { HasRoom found.old }
+    requires fits { FitsWhereTold (kinds_of found.old) (H.seen shelf.old).told }
     requires draft { HasDraft (H.seen shelf.old).told }
-    ensures { Keeps partial (length (kinds_of found)) (H.seen shelf.old) (H.seen shelf.new) result }
+    ensures step { Keeps partial (length (kinds_of found.old)) (H.seen shelf.old) (H.seen shelf.new) result }
+    ensures kinds { OnOk result (kinds_of found.new ≡ kinds_of found.old ++ partial ∷ []) }
+    ensures fits { OnOk result (FitsWhereTold (kinds_of found.new) (H.seen shelf.new).told) }
 {
-    let mut found = found;
-    match finish_run(shelf, &mut found, partial) {
+    match finish_run(shelf, found, partial) {
         Ok(_) => Ok(()),
         Err(call) => Err(KeepFault { call }),
     }

@@ -1,11 +1,11 @@
 //! Tells of a refusal.
 
 ghost use Rattle.std.specs.Prelude.{OnOk};
-ghost use Rattle.std.specs.Fmt.{decimal};
+ghost use Rattle.std.specs.Fmt.{decimal, signed_decimal};
 ghost use Rattle.std.specs.Io.KnownBytes.{Appends};
 ghost use Rattle.edge_io.specs.Bytes.{AppendsPrefix};
 ghost use Rattle.edge_io.specs.Causes.{HasCause};
-ghost use Rattle.testr_cli.specs.Telling.{line_text, part_text};
+ghost use Rattle.testr_cli.specs.Telling.{line_text, part_text, place_text};
 
 use edge_io::{Failed, Sink, write_whole};
 use itoa::Buffer;
@@ -17,8 +17,12 @@ pub enum Part<'a> {
     Nothing,
     /// A number.
     Number(u32),
+    /// How a program ended: its status, or the negative number of the signal that ended it.
+    Status(i32),
     /// A name, as it is.
     Name(&'a str),
+    /// A line of the file of this name, by its number.
+    Place(&'a str, u32),
 }
 
 /// A line in parts, so that a number or a name in it takes no memory.
@@ -67,8 +71,29 @@ fn tell_part<E: Sink>(err: &mut E, part: Part<'_>) -> Result<(), Failed>
     match part {
         Part::Nothing => Ok(()),
         Part::Number(number) => tell_number(err, number),
+        Part::Status(status) => tell_status(err, status),
         Part::Name(name) => write_whole(err, name.as_bytes()),
+        Part::Place(name, number) => tell_place(err, name, number),
     }
+}
+
+fn tell_place<E: Sink>(err: &mut E, name: &str, number: u32) -> Result<(), Failed>
+    ensures whole { OnOk result (Appends (E.seen err.old).told (E.seen err.new).told (place_text name.now number)) }
+    ensures prefix { AppendsPrefix (E.seen err.old).told (E.seen err.new).told (place_text name.now number) }
+    ensures cause { HasCause (E.seen err.old).faults (E.seen err.new).faults result }
+{
+    write_whole(err, name.as_bytes())?;
+    write_whole(err, b" line ")?;
+    tell_number(err, number)
+}
+
+fn tell_status<E: Sink>(err: &mut E, status: i32) -> Result<(), Failed>
+    ensures whole { OnOk result (Appends (E.seen err.old).told (E.seen err.new).told (signed_decimal status)) }
+    ensures prefix { AppendsPrefix (E.seen err.old).told (E.seen err.new).told (signed_decimal status) }
+    ensures cause { HasCause (E.seen err.old).faults (E.seen err.new).faults result }
+{
+    let mut digits = Buffer::new();
+    write_whole(err, digits.format(status).as_bytes())
 }
 
 fn tell_number<E: Sink>(err: &mut E, number: u32) -> Result<(), Failed>

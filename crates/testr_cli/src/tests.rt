@@ -4,9 +4,11 @@ ghost use Rattle.std.specs.Prelude.{◌≡◌, None, IfOk};
 ghost use Rattle.edge_io.specs.MemState.{folder_of};
 
 use crate::{program, testr};
-use edge_io::{ListSink, ListSource, MapSite, MemShelf, Shelf};
+use edge_io::{ListSink, ListSource, MapSite, MemShelf, PlanSpawner, Shelf};
 use std::alloc::Global;
+use std::sync::Wait;
 use std::test::Fail;
+use std::thread::Threads;
 use sub_number::{Bytes, Text};
 
 // `foo` passed: as it comes, and as it is kept.
@@ -64,19 +66,31 @@ pub fn sink(alloc: Global, fails: &[u64]) -> Result<ListSink, Fail> {
 }
 
 // Calls the program over no files, and over sinks that fail at these writes.
-fn call_over<H: Shelf>(
-    alloc: Global,
+pub fn call_over<R: Threads + Wait + Sync + AllocGlobal, H: Shelf>(
+    rt: &R,
     words: &[&str],
     shelf: &mut H,
     input: &mut ListSource,
     out_fails: &[u64],
     err_fails: &[u64],
 ) -> Result<Told, Fail> {
+    let alloc = rt.alloc();
     let words = owned(alloc, words)?;
     let mut out = sink(alloc, out_fails)?;
     let mut err = sink(alloc, err_fails)?;
+    let mut spawner = PlanSpawner::new(alloc, Vec::new(alloc), Vec::new(alloc));
     let mut site = MapSite::new(alloc, Vec::new(alloc));
-    let status = program(alloc, &words, shelf, &mut site, input, &mut out, &mut err);
+    let status = program(
+        rt,
+        alloc,
+        &words,
+        shelf,
+        &mut spawner,
+        &mut site,
+        input,
+        &mut out,
+        &mut err,
+    );
     Ok(Told {
         status,
         out: out.taken().to_vec(alloc)?,
@@ -85,19 +99,23 @@ fn call_over<H: Shelf>(
 }
 
 // Calls the program over sinks that do not fail.
-pub fn call<H: Shelf>(
-    alloc: Global,
+pub fn call<R: Threads + Wait + Sync + AllocGlobal, H: Shelf>(
+    rt: &R,
     words: &[&str],
     shelf: &mut H,
     input: &mut ListSource,
 ) -> Result<Told, Fail> {
-    call_over(alloc, words, shelf, input, &[], &[])
+    call_over(rt, words, shelf, input, &[], &[])
 }
 
 // `testr load` of this input.
-pub fn load<H: Shelf>(alloc: Global, shelf: &mut H, input: &[u8]) -> Result<Told, Fail> {
-    let mut input = source(alloc, input, 65_536, &[])?;
-    call(alloc, &["testr", "load"], shelf, &mut input)
+pub fn load<R: Threads + Wait + Sync + AllocGlobal, H: Shelf>(
+    rt: &R,
+    shelf: &mut H,
+    input: &[u8],
+) -> Result<Told, Fail> {
+    let mut input = source(rt.alloc(), input, 65_536, &[])?;
+    call(rt, &["testr", "load"], shelf, &mut input)
 }
 
 // Publishes a file for good in a folder in which nothing is pending.
@@ -152,7 +170,7 @@ fn other_words_are_no_command(rt: HostRuntime) -> Result<(), Fail> {
     for (row, (words, line)) in table.into_iter().enumerate() {
         let mut shelf = repository(alloc, &[])?;
         let mut input = source(alloc, FOO, 5, &[])?;
-        let told = call(alloc, words, &mut shelf, &mut input)?;
+        let told = call(&rt, words, &mut shelf, &mut input)?;
         assert!(rt; told.is(2, NOTHING, line), "row {row}");
         assert_eq!(rt; input.left().len(), 12);
         assert_eq!(rt; shelf.length("0")?, None);
@@ -168,9 +186,18 @@ fn the_face_alone_takes_the_words_behind_its_name(rt: HostRuntime) -> Result<(),
     let mut input = source(alloc, FOO, 1, &[])?;
     let mut out = sink(alloc, &[])?;
     let mut err = sink(alloc, &[])?;
+    let mut spawner = PlanSpawner::new(alloc, Vec::new(alloc), Vec::new(alloc));
     let mut site = MapSite::new(alloc, Vec::new(alloc));
     let status = testr(
-        alloc, &words, &mut shelf, &mut site, &mut input, &mut out, &mut err,
+        &rt,
+        alloc,
+        &words,
+        &mut shelf,
+        &mut spawner,
+        &mut site,
+        &mut input,
+        &mut out,
+        &mut err,
     );
     assert_eq!(rt; status, 0);
     assert_eq!(rt; out.taken(), PASSED_AS_0);
@@ -178,7 +205,15 @@ fn the_face_alone_takes_the_words_behind_its_name(rt: HostRuntime) -> Result<(),
     assert_eq!(rt; input.left().len(), 0);
     let wrong = owned(alloc, &["testr", "load"])?;
     let status = testr(
-        alloc, &wrong, &mut shelf, &mut site, &mut input, &mut out, &mut err,
+        &rt,
+        alloc,
+        &wrong,
+        &mut shelf,
+        &mut spawner,
+        &mut site,
+        &mut input,
+        &mut out,
+        &mut err,
     );
     assert_eq!(rt; status, 2);
     assert_eq!(rt; out.taken(), PASSED_AS_0);
@@ -191,7 +226,7 @@ fn a_filters_name_leads_to_the_filters(rt: HostRuntime) -> Result<(), Fail> {
     let alloc = rt.alloc();
     let mut shelf = repository(alloc, &[])?;
     let mut input = source(alloc, FOO, 5, &[])?;
-    let told = call(alloc, &["subunit-stats"], &mut shelf, &mut input)?;
+    let told = call(&rt, &["subunit-stats"], &mut shelf, &mut input)?;
     let text =
         b"Total tests:       1\nPassed tests:      1\nFailed tests:      0\nSkipped tests:     0\nSeen tags: \n";
     assert!(rt; told.is(0, text, NOTHING));
@@ -205,11 +240,11 @@ fn a_failed_read_leaves_the_runs(rt: HostRuntime) -> Result<(), Fail> {
     for read in 0..4 {
         let mut shelf = repository(alloc, &[])?;
         let mut input = source(alloc, FOO, 4, &[read])?;
-        let told = call(alloc, &["testr", "load"], &mut shelf, &mut input)?;
+        let told = call(&rt, &["testr", "load"], &mut shelf, &mut input)?;
         let line = b"testr: fault reading standard input\n";
         assert!(rt; told.is(4, NOTHING, line), "read {read}");
         assert!(rt;
-            load(alloc, &mut shelf, FOO)?.is(0, PASSED_AS_0, NOTHING),
+            load(&rt, &mut shelf, FOO)?.is(0, PASSED_AS_0, NOTHING),
             "read {read}"
         );
     }
@@ -222,11 +257,11 @@ fn a_failed_write_of_the_report_leaves_the_new_run(rt: HostRuntime) -> Result<()
     let words = ["testr", "load"].as_slice();
     let mut shelf = repository(alloc, &[])?;
     let mut input = source(alloc, FOO, 12, &[])?;
-    let told = call_over(alloc, words, &mut shelf, &mut input, &[0], &[])?;
+    let told = call_over(&rt, words, &mut shelf, &mut input, &[0], &[])?;
     assert!(rt; told.is(4, NOTHING, b"testr: fault writing output\n"));
     assert!(rt; has_file(&mut shelf, "0", FOO_KEPT)?);
     let mut again = source(alloc, FOO, 12, &[])?;
-    let told = call_over(alloc, words, &mut shelf, &mut again, &[0], &[0])?;
+    let told = call_over(&rt, words, &mut shelf, &mut again, &[0], &[0])?;
     assert!(rt; told.is(4, NOTHING, NOTHING));
     assert!(rt; has_file(&mut shelf, "1", FOO_KEPT)?);
     Ok(())
@@ -242,7 +277,7 @@ fn a_failed_write_of_a_line_changes_no_status(rt: HostRuntime) -> Result<(), Fai
         put(alloc, &mut shelf, b"1", FOO_KEPT)?;
         let mut input = source(alloc, FOO, 12, &[])?;
         let words = ["testr", "load"].as_slice();
-        let told = call_over(alloc, words, &mut shelf, &mut input, &[], &[write])?;
+        let told = call_over(&rt, words, &mut shelf, &mut input, &[], &[write])?;
         assert_eq!(rt; told.status, 3);
         assert!(rt;
             line.starts_with(&told.err) && told.err.len() < line.len(),
@@ -252,7 +287,7 @@ fn a_failed_write_of_a_line_changes_no_status(rt: HostRuntime) -> Result<(), Fai
     let mut shelf = MemShelf::new(alloc, Vec::new(alloc));
     let mut input = source(alloc, FOO, 12, &[])?;
     for words in [["testr"].as_slice(), ["load"].as_slice()] {
-        let told = call_over(alloc, words, &mut shelf, &mut input, &[], &[0])?;
+        let told = call_over(&rt, words, &mut shelf, &mut input, &[], &[0])?;
         assert!(rt; told.is(2, NOTHING, NOTHING));
     }
     Ok(())

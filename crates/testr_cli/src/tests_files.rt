@@ -4,9 +4,11 @@ use crate::tests::{
     FOO, FOO_KEPT, NOTHING, PASSED_AS_0, Told, has_file, owned, repository, sink, source,
 };
 use crate::{Command, Verb, program, reads};
-use edge_io::{MapSite, MemShelf, Shelf};
+use edge_io::{MapSite, MemShelf, PlanSpawner, Shelf};
 use std::alloc::Global;
+use std::sync::Wait;
 use std::test::Fail;
+use std::thread::Threads;
 use sub_number::{Bytes, Text};
 
 // `foo` passed, under lane 1.
@@ -21,17 +23,29 @@ fn site(alloc: Global, a: &[u8], b: &[u8], fails: &[u64]) -> Result<MapSite, Fai
 }
 
 // Calls the program over these files, and an input that is not to be read.
-fn call_at(
-    alloc: Global,
+fn call_at<R: Threads + Wait + Sync + AllocGlobal>(
+    rt: &R,
     words: &[&str],
     shelf: &mut MemShelf,
     site: &mut MapSite,
 ) -> Result<Told, Fail> {
+    let alloc = rt.alloc();
     let words = owned(alloc, words)?;
     let mut input = source(alloc, FOO, 1, &[0])?;
     let mut out = sink(alloc, &[])?;
     let mut err = sink(alloc, &[])?;
-    let status = program(alloc, &words, shelf, site, &mut input, &mut out, &mut err);
+    let mut spawner = PlanSpawner::new(alloc, Vec::new(alloc), Vec::new(alloc));
+    let status = program(
+        rt,
+        alloc,
+        &words,
+        shelf,
+        &mut spawner,
+        site,
+        &mut input,
+        &mut out,
+        &mut err,
+    );
     Ok(Told {
         status,
         out: out.taken().to_vec(alloc)?,
@@ -44,7 +58,7 @@ fn one_file_is_recorded_under_lane_0(rt: HostRuntime) -> Result<(), Fail> {
     let alloc = rt.alloc();
     let mut shelf = repository(alloc, &[])?;
     let mut site = site(alloc, FOO, NOTHING, &[])?;
-    let told = call_at(alloc, &["testr", "load", "a"], &mut shelf, &mut site)?;
+    let told = call_at(&rt, &["testr", "load", "a"], &mut shelf, &mut site)?;
     assert!(rt; told.is(0, PASSED_AS_0, NOTHING));
     assert!(rt; has_file(&mut shelf, "0", FOO_KEPT)?);
     Ok(())
@@ -56,7 +70,7 @@ fn each_file_has_a_lane_of_its_own(rt: HostRuntime) -> Result<(), Fail> {
     let mut shelf = repository(alloc, &[])?;
     let mut site = site(alloc, NOTHING, FOO, &[])?;
     let words = ["testr", "load", "a", "--partial", "b"];
-    let told = call_at(alloc, &words, &mut shelf, &mut site)?;
+    let told = call_at(&rt, &words, &mut shelf, &mut site)?;
     assert!(rt; told.is(0, PASSED_AS_0, NOTHING));
     assert!(rt; has_file(&mut shelf, "0.part", FOO_KEPT_1)?);
     Ok(())
@@ -67,7 +81,7 @@ fn a_missing_file_is_named(rt: HostRuntime) -> Result<(), Fail> {
     let alloc = rt.alloc();
     let mut shelf = repository(alloc, &[])?;
     let mut site = site(alloc, FOO, NOTHING, &[])?;
-    let told = call_at(alloc, &["testr", "load", "a", "c"], &mut shelf, &mut site)?;
+    let told = call_at(&rt, &["testr", "load", "a", "c"], &mut shelf, &mut site)?;
     assert!(rt; told.is(3, NOTHING, b"testr: no file c\n"));
     assert_eq!(rt; shelf.length("0")?, None);
     Ok(())
@@ -80,7 +94,7 @@ fn each_read_of_a_file_may_fail(rt: HostRuntime) -> Result<(), Fail> {
     for read in 0..3 {
         let mut shelf = repository(alloc, &[])?;
         let mut site = site(alloc, FOO, NOTHING, &[read])?;
-        let told = call_at(alloc, &["testr", "load", "a", "b"], &mut shelf, &mut site)?;
+        let told = call_at(&rt, &["testr", "load", "a", "b"], &mut shelf, &mut site)?;
         assert!(rt;
             told.is(4, NOTHING, b"testr: fault reading a file\n"),
             "read {read}"

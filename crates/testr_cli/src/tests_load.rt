@@ -107,7 +107,7 @@ fn each_stream_becomes_its_run_and_its_report(rt: HostRuntime) -> Result<(), Fai
         for piece in [1, 7, 100] {
             let mut shelf = repository(alloc, &[])?;
             let mut input = source(alloc, stream, piece, &[])?;
-            let told = call(alloc, &["testr", "load"], &mut shelf, &mut input)?;
+            let told = call(&rt, &["testr", "load"], &mut shelf, &mut input)?;
             assert!(rt;
                 told.is(status, report, NOTHING),
                 "row {row}, pieces of {piece}"
@@ -127,22 +127,17 @@ fn a_partial_run_has_a_name_of_its_own_and_the_next_number(rt: HostRuntime) -> R
     let alloc = rt.alloc();
     let mut shelf = repository(alloc, &[])?;
     let mut input = source(alloc, FOO, 12, &[])?;
-    let told = call(
-        alloc,
-        &["testr", "load", "--partial"],
-        &mut shelf,
-        &mut input,
-    )?;
+    let told = call(&rt, &["testr", "load", "--partial"], &mut shelf, &mut input)?;
     assert!(rt; told.is(0, PASSED_AS_0, NOTHING));
     assert!(rt; has_file(&mut shelf, "0.part", FOO_KEPT)?);
     assert_eq!(rt; shelf.length("0")?, None);
     let mut again = source(alloc, FOO, 12, &[])?;
     let words = ["testr", "load", "--partial", "--partial"].as_slice();
-    let told = call(alloc, words, &mut shelf, &mut again)?;
+    let told = call(&rt, words, &mut shelf, &mut again)?;
     assert!(rt; told.is(0, PASSED_AS_1, NOTHING));
     assert!(rt; has_file(&mut shelf, "1.part", FOO_KEPT)?);
     assert_eq!(rt; shelf.length("1")?, None);
-    let told = load(alloc, &mut shelf, FOO)?;
+    let told = load(&rt, &mut shelf, FOO)?;
     assert!(rt; told.is(0, b"Ran 1 tests\nPASSED (id=2)\n", NOTHING));
     assert!(rt; has_file(&mut shelf, "2", FOO_KEPT)?);
     Ok(())
@@ -174,7 +169,7 @@ fn the_largest_packet_is_kept_in_64_pieces(rt: HostRuntime) -> Result<(), Fail> 
     let packet = largest_packet(alloc)?;
     assert_eq!(rt; packet.len(), 4_194_303);
     let mut shelf = repository(alloc, &[])?;
-    let told = load(alloc, &mut shelf, &packet)?;
+    let told = load(&rt, &mut shelf, &packet)?;
     assert!(rt; told.is(0, NO_TESTS, NOTHING));
     assert_eq!(rt; shelf.length("0")?, Some(63 * 65_558 + 65_557));
     let whole = b"\xb3\x25\x40\x81\x00\x16\x06stdout\x81\x00\x00";
@@ -195,10 +190,10 @@ fn packets_of_a_piece_or_more_are_added_one_by_one(rt: HostRuntime) -> Result<()
     let packet = largest_packet(alloc)?;
     // Five calls up to the draft, one for each of the 64 pieces, and the sync, the publish and the barrier.
     let mut shelf = repository(alloc, &[71])?;
-    let told = load(alloc, &mut shelf, &packet)?;
+    let told = load(&rt, &mut shelf, &packet)?;
     assert!(rt; told.is(4, NOTHING, SHELF_FAULT));
     let mut shelf = repository(alloc, &[72])?;
-    let told = load(alloc, &mut shelf, &packet)?;
+    let told = load(&rt, &mut shelf, &packet)?;
     assert!(rt; told.is(0, NO_TESTS, NOTHING));
     Ok(())
 }

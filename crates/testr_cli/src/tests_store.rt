@@ -6,31 +6,35 @@ use crate::tests::{
 };
 use edge_io::{Failed, MemShelf, Shelf};
 use itoa::Buffer;
-use std::alloc::Global;
+use std::sync::Wait;
 use std::test::Fail;
+use std::thread::Threads;
 
 const NO_STORE: &[u8] = b"testr: no repository here\n";
 
 const FORMAT: &[u8] = b"subunit-store 1\n";
 
-fn init<H: Shelf>(alloc: Global, shelf: &mut H) -> Result<Told, Fail> {
-    let mut input = source(alloc, FOO, 12, &[])?;
-    call(alloc, &["testr", "init"], shelf, &mut input)
+fn init<R: Threads + Wait + Sync + AllocGlobal, H: Shelf>(
+    rt: &R,
+    shelf: &mut H,
+) -> Result<Told, Fail> {
+    let mut input = source(rt.alloc(), FOO, 12, &[])?;
+    call(rt, &["testr", "init"], shelf, &mut input)
 }
 
 #[test]
 fn a_repository_is_made_once(rt: HostRuntime) -> Result<(), Fail> {
     let alloc = rt.alloc();
     let mut shelf = MemShelf::new(alloc, Vec::new(alloc));
-    assert!(rt; load(alloc, &mut shelf, FOO)?.is(3, NOTHING, NO_STORE));
+    assert!(rt; load(&rt, &mut shelf, FOO)?.is(3, NOTHING, NO_STORE));
     assert_eq!(rt; shelf.names(alloc)?.len(), 0);
-    assert!(rt; init(alloc, &mut shelf)?.is(0, NOTHING, NOTHING));
+    assert!(rt; init(&rt, &mut shelf)?.is(0, NOTHING, NOTHING));
     assert!(rt; has_file(&mut shelf, "format", FORMAT)?);
     let line = b"testr: a repository is already here\n";
-    assert!(rt; init(alloc, &mut shelf)?.is(3, NOTHING, line));
+    assert!(rt; init(&rt, &mut shelf)?.is(3, NOTHING, line));
     assert_eq!(rt; shelf.names(alloc)?.len(), 1);
-    assert!(rt; load(alloc, &mut shelf, FOO)?.is(0, PASSED_AS_0, NOTHING));
-    assert!(rt; load(alloc, &mut shelf, FOO)?.is(0, PASSED_AS_1, NOTHING));
+    assert!(rt; load(&rt, &mut shelf, FOO)?.is(0, PASSED_AS_0, NOTHING));
+    assert!(rt; load(&rt, &mut shelf, FOO)?.is(0, PASSED_AS_1, NOTHING));
     assert!(rt; has_file(&mut shelf, "0", FOO_KEPT)?);
     assert!(rt; has_file(&mut shelf, "1", FOO_KEPT)?);
     assert_eq!(rt; shelf.names(alloc)?.len(), 3);
@@ -50,7 +54,7 @@ fn another_format_is_refused(rt: HostRuntime) -> Result<(), Fail> {
         let mut shelf = MemShelf::new(alloc, Vec::new(alloc));
         put(alloc, &mut shelf, b"format", bytes)?;
         let mut input = source(alloc, FOO, 12, &[])?;
-        let told = call(alloc, &["testr", "load"], &mut shelf, &mut input)?;
+        let told = call(&rt, &["testr", "load"], &mut shelf, &mut input)?;
         assert!(rt; told.is(3, NOTHING, line));
         assert_eq!(rt; input.left().len(), 12);
         assert_eq!(rt; shelf.names(alloc)?.len(), 1);
@@ -65,7 +69,7 @@ fn a_missing_run_is_named(rt: HostRuntime) -> Result<(), Fail> {
     put(alloc, &mut shelf, b"0", FOO_KEPT)?;
     put(alloc, &mut shelf, b"2", FOO_KEPT)?;
     let mut input = source(alloc, FOO, 12, &[])?;
-    let told = call(alloc, &["testr", "load"], &mut shelf, &mut input)?;
+    let told = call(&rt, &["testr", "load"], &mut shelf, &mut input)?;
     assert!(rt; told.is(3, NOTHING, b"testr: run 1 is missing\n"));
     assert_eq!(rt; input.left().len(), 12);
     assert_eq!(rt; shelf.names(alloc)?.len(), 3);
@@ -80,7 +84,7 @@ fn a_number_has_one_run_and_other_names_have_none(rt: HostRuntime) -> Result<(),
     put(alloc, &mut shelf, b"0.part", FOO_KEPT)?;
     put(alloc, &mut shelf, b"01", FOO_KEPT)?;
     put(alloc, &mut shelf, b"lock", FOO_KEPT)?;
-    assert!(rt; load(alloc, &mut shelf, FOO)?.is(0, PASSED_AS_1, NOTHING));
+    assert!(rt; load(&rt, &mut shelf, FOO)?.is(0, PASSED_AS_1, NOTHING));
     assert!(rt; has_file(&mut shelf, "0", NOTHING)?);
     assert!(rt; has_file(&mut shelf, "0.part", FOO_KEPT)?);
     assert!(rt; has_file(&mut shelf, "1", FOO_KEPT)?);
@@ -103,7 +107,7 @@ fn a_full_repository_takes_no_run(rt: HostRuntime) -> Result<(), Fail> {
         publish_empty(&mut shelf, digits.format(number))?;
     }
     let mut input = source(alloc, FOO, 12, &[])?;
-    let told = call(alloc, &["testr", "load"], &mut shelf, &mut input)?;
+    let told = call(&rt, &["testr", "load"], &mut shelf, &mut input)?;
     assert!(rt; told.is(3, NOTHING, b"testr: the repository is full\n"));
     assert_eq!(rt; input.left().len(), 12);
     Ok(())
@@ -117,7 +121,7 @@ fn each_call_of_the_folder_may_fail_at_a_load(rt: HostRuntime) -> Result<(), Fai
     for failing in 0..9 {
         let mut shelf = repository(alloc, &[failing])?;
         assert!(rt;
-            load(alloc, &mut shelf, FOO)?.is(4, NOTHING, SHELF_FAULT),
+            load(&rt, &mut shelf, FOO)?.is(4, NOTHING, SHELF_FAULT),
             "call {failing}"
         );
         // What was published before the last barrier failed is there.
@@ -127,13 +131,13 @@ fn each_call_of_the_folder_may_fail_at_a_load(rt: HostRuntime) -> Result<(), Fai
             PASSED_AS_0
         };
         assert!(rt;
-            load(alloc, &mut shelf, FOO)?.is(0, report, NOTHING),
+            load(&rt, &mut shelf, FOO)?.is(0, report, NOTHING),
             "call {failing}"
         );
         assert!(rt; has_file(&mut shelf, "0", FOO_KEPT)?, "call {failing}");
     }
     let mut shelf = repository(alloc, &[9])?;
-    assert!(rt; load(alloc, &mut shelf, FOO)?.is(0, PASSED_AS_0, NOTHING));
+    assert!(rt; load(&rt, &mut shelf, FOO)?.is(0, PASSED_AS_0, NOTHING));
     Ok(())
 }
 
@@ -144,10 +148,10 @@ fn each_call_of_the_folder_may_fail_at_an_init(rt: HostRuntime) -> Result<(), Fa
     for failing in 0..7 {
         let mut shelf = MemShelf::new(alloc, [failing].to_vec(alloc)?);
         assert!(rt;
-            init(alloc, &mut shelf)?.is(4, NOTHING, SHELF_FAULT),
+            init(&rt, &mut shelf)?.is(4, NOTHING, SHELF_FAULT),
             "call {failing}"
         );
-        let told = load(alloc, &mut shelf, FOO)?;
+        let told = load(&rt, &mut shelf, FOO)?;
         if failing == 6 {
             assert!(rt; told.is(0, PASSED_AS_0, NOTHING), "call {failing}");
         } else {
@@ -155,27 +159,32 @@ fn each_call_of_the_folder_may_fail_at_an_init(rt: HostRuntime) -> Result<(), Fa
         }
     }
     let mut shelf = MemShelf::new(alloc, [7].to_vec(alloc)?);
-    assert!(rt; init(alloc, &mut shelf)?.is(0, NOTHING, NOTHING));
+    assert!(rt; init(&rt, &mut shelf)?.is(0, NOTHING, NOTHING));
     Ok(())
 }
 
 // What a load reports after a stop.
-fn report_after(alloc: Global, shelf: &MemShelf, moment: u64, choice: bool) -> Result<Told, Fail> {
+fn report_after<R: Threads + Wait + Sync + AllocGlobal>(
+    rt: &R,
+    shelf: &MemShelf,
+    moment: u64,
+    choice: bool,
+) -> Result<Told, Fail> {
     let mut image = shelf.image(moment, choice)?;
-    load(alloc, &mut image, FOO)
+    load(rt, &mut image, FOO)
 }
 
 #[test]
 fn a_stop_leaves_the_new_run_wholly_or_not_at_all(rt: HostRuntime) -> Result<(), Fail> {
     let alloc = rt.alloc();
     let mut shelf = repository(alloc, &[])?;
-    assert!(rt; load(alloc, &mut shelf, FOO)?.is(0, PASSED_AS_0, NOTHING));
+    assert!(rt; load(&rt, &mut shelf, FOO)?.is(0, PASSED_AS_0, NOTHING));
     // Eight calls end with the publish, and the ninth is the last barrier.
     for moment in 0..11 {
         for choice in [false, true] {
             let there = moment >= 9 || (moment == 8 && choice);
             let report = if there { PASSED_AS_1 } else { PASSED_AS_0 };
-            let told = report_after(alloc, &shelf, moment, choice)?;
+            let told = report_after(&rt, &shelf, moment, choice)?;
             assert!(rt; told.is(0, report, NOTHING), "moment {moment}, {choice}");
             let mut image = shelf.image(moment, choice)?;
             assert_eq!(rt;

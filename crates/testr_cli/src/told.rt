@@ -6,9 +6,9 @@ ghost use Rattle.run_shelf.specs.Faults.{RisesExactlyIf};
 ghost use Rattle.run_shelf.specs.Holds.{kinds_of, FitsWhereTold};
 ghost use Rattle.run_shelf.specs.Stores.{store_kinds, store_fault, FitsUnlessBroken};
 ghost use Rattle.run_ledger.specs.Ledger.{HasRowsAt};
-ghost use Rattle.testr_cli.specs.Says.{OfLastRun, SaysReport, SaysBytes, SaysSlowest, SaysFailing, SaysStats, stats_of, verdict_of_failing};
+ghost use Rattle.testr_cli.specs.Says.{OfBytes, OfLastRun, SaysReport, SaysSlowest, SaysFailing, SaysStats, stats_of, verdict_of_failing};
 ghost use Rattle.testr_cli.specs.Telling.{line_text};
-ghost use Rattle.testr_cli.specs.Told.{Finds, IsAnswer, TellsSo, HasBytesAt, tell_failed, fault_of_ledger, tell_code, tell_text};
+ghost use Rattle.testr_cli.specs.Told.{Finds, IsAnswer, TellsSo, tell_failed, fault_of_ledger, tell_code, tell_text};
 
 use crate::Verdict;
 use crate::command::Question;
@@ -63,13 +63,15 @@ impl TellFault {
     }
 }
 
-/// Finds the answer of the question, of the runs that were found. Where it is of the last run, there must be one.
+/// Finds the answer of the question, of the runs that were found. Where it is of the last run, there must be one; its bytes
+/// are not asked for here.
 pub fn find<H: Shelf>(
     alloc: Global,
     question: Question,
     shelf: &mut H,
     found: Found,
 ) -> Result<Told, TellFault>
+    requires text { OfBytes question → ⊥ }
     requires some { OfLastRun question → 0 < length (kinds_of found) }
     requires fits { FitsWhereTold (kinds_of found) (H.seen shelf.old).told }
     ensures { Finds question (H.seen shelf.old) (H.seen shelf.new) result }
@@ -81,16 +83,18 @@ pub fn find<H: Shelf>(
 }
 
 // The folder is with its lender again.
-fn hand_back<H: Shelf>(shelf: &mut H)
+pub(crate) fn hand_back<H: Shelf>(shelf: &mut H)
     ensures { shelf.new ≡ shelf.old }
 {}
 
-// The answer of the question, of the runs of the store. Where it is of the last run, there must be one.
+// The answer of the question, of the runs of the store. Where it is of the last run, there must be one, and its report is
+// asked for.
 fn answer_of<H: Shelf>(
     alloc: Global,
     question: Question,
     store: &mut Store<'_, H>,
 ) -> Result<Told, TellFault>
+    requires text { OfBytes question → ⊥ }
     requires some { OfLastRun question → 0 < length (store_kinds store.old) }
     requires open { store_fault store.old ≡ None }
     requires fits { FitsUnlessBroken (store_kinds store.old) (store_fault store.old) (H.seen store.old.shelf.now).told }
@@ -100,53 +104,10 @@ fn answer_of<H: Shelf>(
     ensures same { Goes (H.seen store.old.shelf.now).told (H.seen store.new.shelf.now).told Stays }
 {
     match question {
-        Question::Last { subunit: true } => tell_bytes(alloc, store),
-        Question::Last { subunit: false } => tell_report(alloc, store),
+        Question::Last { .. } => tell_report(alloc, store),
         Question::Failing { list } => tell_failing(alloc, list, store),
         Question::Slowest { all } => tell_slowest(alloc, all, store),
         Question::Stats => tell_stats(alloc, store),
-    }
-}
-
-// The bytes of the last run.
-fn last_bytes<H: Shelf>(alloc: Global, store: &mut Store<'_, H>) -> Result<Vec<u8>, TellFault>
-    requires some { 0 < length (store_kinds store.old) }
-    requires open { store_fault store.old ≡ None }
-    requires fits { FitsUnlessBroken (store_kinds store.old) (store_fault store.old) (H.seen store.old.shelf.now).told }
-    ensures same_reference { store.new.shelf.ghost_name ≡ store.old.shelf.ghost_name }
-    ensures bytes { IfOk result (λ bytes. IfSome (H.seen store.old.shelf.now).told (HasBytesAt (length (store_kinds store.old) - 1) bytes.items)) }
-    ensures count { RisesExactlyIf (H.seen store.old.shelf.now).faults (H.seen store.new.shelf.now).faults (tell_failed result) }
-    ensures same { Goes (H.seen store.old.shelf.now).told (H.seen store.new.shelf.now).told Stays }
-{
-    let number = store.runs() - 1;
-    let Ok(size) = store.run_length(number) else {
-        return Err(TellFault::Shelf);
-    };
-    let Ok(mut bytes) = vec![in alloc; 0u8; size as usize] else {
-        return Err(TellFault::NoMemory);
-    };
-    let Ok(count) = store.read_run(number, 0, &mut bytes) else {
-        return Err(TellFault::Shelf);
-    };
-    bytes.truncate(count);
-    Ok(bytes)
-}
-
-fn tell_bytes<H: Shelf>(alloc: Global, store: &mut Store<'_, H>) -> Result<Told, TellFault>
-    requires some { 0 < length (store_kinds store.old) }
-    requires open { store_fault store.old ≡ None }
-    requires fits { FitsUnlessBroken (store_kinds store.old) (store_fault store.old) (H.seen store.old.shelf.now).told }
-    ensures same_reference { store.new.shelf.ghost_name ≡ store.old.shelf.ghost_name }
-    ensures told { IfOk result (λ told. IfSome (H.seen store.old.shelf.now).told (TellsSo SaysBytes told)) }
-    ensures count { RisesExactlyIf (H.seen store.old.shelf.now).faults (H.seen store.new.shelf.now).faults (tell_failed result) }
-    ensures same { Goes (H.seen store.old.shelf.now).told (H.seen store.new.shelf.now).told Stays }
-{
-    match last_bytes(alloc, store) {
-        Ok(text) => Ok(Told {
-            text,
-            verdict: Verdict::Passed,
-        }),
-        Err(fault) => Err(fault),
     }
 }
 
@@ -287,7 +248,7 @@ fn failing_verdict(ids: &IdList) -> Verdict
 }
 
 // What a store that could not be read answers.
-fn ledger_refusal(fault: LedgerFault) -> TellFault
+pub(crate) fn ledger_refusal(fault: LedgerFault) -> TellFault
     ensures { result ≡ fault_of_ledger fault }
 {
     match fault {

@@ -1,48 +1,79 @@
 //! The top call.
 
-ghost use Rattle.std.specs.Prelude.{true, false, Some};
+ghost use Rattle.std.specs.Prelude.{◌≡◌, ℕ, List, true, false, Some, None};
+ghost use Rattle.edge_io.specs.Disk.{Folder};
+ghost use Rattle.edge_io.specs.Seen.{Seen};
+ghost use Rattle.edge_io.specs.Spawners.{Spawning};
 ghost use Rattle.command_words.specs.Items.{texts};
 ghost use Rattle.testr_cli.specs.Outside.{outside, work};
-ghost use Rattle.testr_cli.specs.Program.{ProgramPromises, Promises, Performs, Tells};
+ghost use Rattle.testr_cli.specs.Program.{Promises, Performs, Tells};
+ghost use Rattle.testr_cli.specs.SuiteProgram.{ProgramPromises, TestrPromises, SuiteAnswers};
+ghost use Rattle.testr_cli.specs.Suites.{Suite, run as run_asked, list as list_asked, run_options, suite_of};
 ghost use Rattle.testr_cli.specs.Tasks.{task_of, task_with};
-ghost use Rattle.testr_cli.specs.Words.{asked_by};
 ghost use Rattle.testr_cli.specs.declared.command.Verb.TheVariants.{Load};
 ghost use Rattle.testr_cli.specs.declared.words.UsageFault.TheVariants.{Words};
 
 use crate::ask::ask;
 use crate::command::{Command, Question, Verb};
 use crate::init::init;
+use crate::list::list;
 use crate::load::load;
+use crate::run::run;
 use crate::telling::tell;
 use crate::words::{MOST_FILES, UsageFault, is_testr, reads};
 use crate::{Refusal, Verdict};
-use edge_io::{Shelf, Sink, Site, Source};
+use edge_io::{Shelf, Sink, Site, Source, Spawner};
 use filter_cli::filters;
 use std::alloc::Global;
+use std::sync::Wait;
+use std::thread::Threads;
+use suite_plan::read_conf;
 
 /// Does what the words say, and answers the exit status.
 ///
 /// Where the first word is `testr`, it is that of [`testr`] for the words behind it. For all other words it is that of
 /// [`filters`]; where the first one is no filter's name either, the usage line of the whole program is written to `err`,
 /// and the status is 2.
-pub fn program<H: Shelf, F: Site, I: Source, O: Sink, E: Sink>(
+///
+/// The workers of `run` are read on threads of `rt`. `run` and `list-tests` may wait for the programs that they start.
+pub fn program<
+    R: Threads + Wait + Sync,
+    H: Shelf,
+    S: Spawner,
+    F: Site,
+    I: Source,
+    O: Sink,
+    E: Sink,
+>(
+    rt: &R,
     alloc: Global,
     words: &[String],
     shelf: &mut H,
+    spawner: &mut S,
     site: &mut F,
     input: &mut I,
     out: &mut O,
     err: &mut E,
 ) -> u8
     ensures promises { ProgramPromises (texts words.now)
-        (outside (H.seen shelf.old) (F.seen site.old) (I.seen input.old) (O.seen out.old) (E.seen err.old))
-        (outside (H.seen shelf.new) (F.seen site.new) (I.seen input.new) (O.seen out.new) (E.seen err.new))
+        (outside (H.seen shelf.old) (F.seen site.old) (S.seen spawner.old) (I.seen input.old) (O.seen out.old) (E.seen err.old))
+        (outside (H.seen shelf.new) (F.seen site.new) (S.seen spawner.new) (I.seen input.new) (O.seen out.new) (E.seen err.new))
         result }
 {
     if !is_testr(words) {
         return filters(alloc, words, input, out, err);
     }
-    testr(alloc, &words[1..], shelf, site, input, out, err)
+    testr(
+        rt,
+        alloc,
+        &words[1..],
+        shelf,
+        spawner,
+        site,
+        input,
+        out,
+        err,
+    )
 }
 
 /// Does what the words behind `testr` say, and answers the exit status: 0 where it was done and no test failed, 1 where a
@@ -52,31 +83,116 @@ pub fn program<H: Shelf, F: Site, I: Source, O: Sink, E: Sink>(
 /// `init` makes a repository. `load` reads the files that are named, or the input where none is, to their ends, one after
 /// another; keeps what is recorded of them as the next run, the first file under lane 0; and prints the run's report.
 /// `last`, `failing`, `slowest` and `stats` tell of the runs and change nothing. A refusal prints one line to `err`. Before
-/// a run is kept a refusal leaves the shown runs as they were; a fault of `out` leaves the new run. A stop at any moment
+/// a run is kept a refusal leaves the shown runs as they were; behind that a refusal leaves the new run. A stop at any moment
 /// leaves the earlier runs, and the new one wholly or not at all.
-pub fn testr<H: Shelf, F: Site, I: Source, O: Sink, E: Sink>(
+///
+/// `run` reads `.testr.conf`, starts the project's tests in worker processes, reads these side by side, keeps what is
+/// recorded of them as the next run, and prints its report; `list-tests` prints the tests that the project lists. The two
+/// may wait for programs that they start. All other commands leave the spawner as it was.
+pub fn testr<R: Threads + Wait + Sync, H: Shelf, S: Spawner, F: Site, I: Source, O: Sink, E: Sink>(
+    rt: &R,
     alloc: Global,
     words: &[String],
     shelf: &mut H,
+    spawner: &mut S,
     site: &mut F,
     input: &mut I,
     out: &mut O,
     err: &mut E,
 ) -> u8
-    ensures promises { Promises true Words (asked_by (texts words.now))
-        (outside (H.seen shelf.old) (F.seen site.old) (I.seen input.old) (O.seen out.old) (E.seen err.old))
-        (outside (H.seen shelf.new) (F.seen site.new) (I.seen input.new) (O.seen out.new) (E.seen err.new))
+    ensures promises { TestrPromises (texts words.now)
+        (outside (H.seen shelf.old) (F.seen site.old) (S.seen spawner.old) (I.seen input.old) (O.seen out.old) (E.seen err.old))
+        (outside (H.seen shelf.new) (F.seen site.new) (S.seen spawner.new) (I.seen input.new) (O.seen out.new) (E.seen err.new))
         result }
 {
     match reads(alloc, words) {
-        Ok(Some(command)) => quiet(alloc, &command, shelf, site, input, out, err),
+        Ok(Some(command)) => obey(rt, alloc, &command, shelf, spawner, site, input, out, err),
         Ok(None) => answer(Err(Refusal::Usage(UsageFault::Words)), err),
         Err(fault) => answer(Err(Refusal::Memory(fault)), err),
     }
 }
 
+// Does what the command says, and answers its status.
+fn obey<R: Threads + Wait + Sync, H: Shelf, S: Spawner, F: Site, I: Source, O: Sink, E: Sink>(
+    rt: &R,
+    alloc: Global,
+    command: &Command,
+    shelf: &mut H,
+    spawner: &mut S,
+    site: &mut F,
+    input: &mut I,
+    out: &mut O,
+    err: &mut E,
+) -> u8
+    ensures suite { (asked : Suite) → suite_of command.now ≡ Some asked → SuiteAnswers asked
+        (outside (H.seen shelf.old) (F.seen site.old) (S.seen spawner.old) (I.seen input.old) (O.seen out.old) (E.seen err.old))
+        (outside (H.seen shelf.new) (F.seen site.new) (S.seen spawner.new) (I.seen input.new) (O.seen out.new) (E.seen err.new))
+        result }
+    ensures others { suite_of command.now ≡ None → Promises false Words (task_of command.now)
+        (outside (H.seen shelf.old) (F.seen site.old) (S.seen spawner.old) (I.seen input.old) (O.seen out.old) (E.seen err.old))
+        (outside (H.seen shelf.new) (F.seen site.new) (S.seen spawner.new) (I.seen input.new) (O.seen out.new) (E.seen err.new))
+        result }
+    ensures spawner { suite_of command.now ≡ None → S.seen spawner.new ≡ S.seen spawner.old }
+{
+    match command.verb {
+        Verb::Run => run_suite(rt, alloc, command, shelf, spawner, site, out, err),
+        Verb::ListTests => list_suite(alloc, command, spawner, site, out, err),
+        _ => quiet(alloc, command, shelf, site, input, out, err),
+    }
+}
+
+// Runs tests of the project, by its configuration.
+fn run_suite<R: Threads + Wait + Sync, H: Shelf, S: Spawner, F: Site, O: Sink, E: Sink>(
+    rt: &R,
+    alloc: Global,
+    command: &Command,
+    shelf: &mut H,
+    spawner: &mut S,
+    site: &mut F,
+    out: &mut O,
+    err: &mut E,
+) -> u8
+    ensures { (input : Seen (List ℕ)) → SuiteAnswers (run_asked (run_options command.now))
+        (outside (H.seen shelf.old) (F.seen site.old) (S.seen spawner.old) input (O.seen out.old) (E.seen err.old))
+        (outside (H.seen shelf.new) (F.seen site.new) (S.seen spawner.new) input (O.seen out.new) (E.seen err.new))
+        result }
+{
+    match read_conf(alloc, site) {
+        Ok(conf) => {
+            let outcome = run(rt, alloc, command, &conf, shelf, spawner, site, out);
+            answer(outcome, err)
+        }
+        Err(refusal) => answer(Err(Refusal::Conf(refusal)), err),
+    }
+}
+
+// Lists tests of the project, by its configuration.
+fn list_suite<S: Spawner, F: Site, O: Sink, E: Sink>(
+    alloc: Global,
+    command: &Command,
+    spawner: &mut S,
+    site: &mut F,
+    out: &mut O,
+    err: &mut E,
+) -> u8
+    ensures { (folder : Seen Folder) → (input : Seen (List ℕ)) → SuiteAnswers (list_asked command.now.names)
+        (outside folder (F.seen site.old) (S.seen spawner.old) input (O.seen out.old) (E.seen err.old))
+        (outside folder (F.seen site.new) (S.seen spawner.new) input (O.seen out.new) (E.seen err.new))
+        result }
+{
+    match read_conf(alloc, site) {
+        Ok(conf) => {
+            let outcome = list(alloc, &command.names, &conf, spawner, out);
+            answer(outcome, err)
+        }
+        Err(refusal) => answer(Err(Refusal::Conf(refusal)), err),
+    }
+}
+
 /// Does what `testr` does on the words of this command, and answers its status. It starts no program and no thread, and
 /// returns. A command that needs them is answered as words that are no command.
+///
+/// It has no spawner; so what it promises it promises of each, as of one that is left as it was.
 pub fn quiet<H: Shelf, F: Site, I: Source, O: Sink, E: Sink>(
     alloc: Global,
     command: &Command,
@@ -86,9 +202,9 @@ pub fn quiet<H: Shelf, F: Site, I: Source, O: Sink, E: Sink>(
     out: &mut O,
     err: &mut E,
 ) -> u8
-    ensures promises { Promises false Words (task_of command.now)
-        (outside (H.seen shelf.old) (F.seen site.old) (I.seen input.old) (O.seen out.old) (E.seen err.old))
-        (outside (H.seen shelf.new) (F.seen site.new) (I.seen input.new) (O.seen out.new) (E.seen err.new))
+    ensures promises { (spawner : Seen Spawning) → Promises false Words (task_of command.now)
+        (outside (H.seen shelf.old) (F.seen site.old) spawner (I.seen input.old) (O.seen out.old) (E.seen err.old))
+        (outside (H.seen shelf.new) (F.seen site.new) spawner (I.seen input.new) (O.seen out.new) (E.seen err.new))
         result }
 {
     let outcome = perform(alloc, command, shelf, site, input, out);
@@ -104,9 +220,9 @@ fn perform<'a, H: Shelf, F: Site, I: Source, O: Sink>(
     input: &mut I,
     out: &mut O,
 ) -> Result<Verdict, Refusal<'a>>
-    ensures { Performs Words (task_of command.now)
-        (work (H.seen shelf.old) (F.seen site.old) (I.seen input.old) (O.seen out.old))
-        (work (H.seen shelf.new) (F.seen site.new) (I.seen input.new) (O.seen out.new))
+    ensures { (spawner : Seen Spawning) → Performs Words (task_of command.now)
+        (work (H.seen shelf.old) (F.seen site.old) spawner (I.seen input.old) (O.seen out.old))
+        (work (H.seen shelf.new) (F.seen site.new) spawner (I.seen input.new) (O.seen out.new))
         result }
 {
     match command.verb {
@@ -136,9 +252,9 @@ fn load_named<'a, H: Shelf, F: Site, I: Source, O: Sink>(
     input: &mut I,
     out: &mut O,
 ) -> Result<Verdict, Refusal<'a>>
-    ensures { Performs Words (task_with Load command.now)
-        (work (H.seen shelf.old) (F.seen site.old) (I.seen input.old) (O.seen out.old))
-        (work (H.seen shelf.new) (F.seen site.new) (I.seen input.new) (O.seen out.new))
+    ensures { (spawner : Seen Spawning) → Performs Words (task_with Load command.now)
+        (work (H.seen shelf.old) (F.seen site.old) spawner (I.seen input.old) (O.seen out.old))
+        (work (H.seen shelf.new) (F.seen site.new) spawner (I.seen input.new) (O.seen out.new))
         result }
 {
     if command.names.list().len() > MOST_FILES {

@@ -5,10 +5,11 @@ ghost use Rattle.command_words.specs.Code.{shown};
 ghost use Rattle.command_words.specs.Items.{texts, is_text};
 ghost use Rattle.std.specs.List.{list_any, list_all};
 ghost use Rattle.testr_cli.specs.Telling.{line_text};
-ghost use Rattle.testr_cli.specs.Words.{usage_text, names_testr, verb_of, kinds_of, only_flag, most_names, has_flag, is_flag as is_this_flag, names_in, names_of, if_texts, command_of_items, command_of_verb, command_of};
+ghost use Rattle.testr_cli.specs.Words.{usage_text, names_testr, verb_of, kinds_of, only_flag, run_kind, is_run_flag as is_flag_of_run, most_names, may_have as may_have_these, has_flag, is_flag as is_this_flag, names_in, names_of, if_texts, command_of_items, command_of_verb, command_of};
 
 use crate::command::{Command, Verb};
 use crate::telling::Line;
+use crate::values::{load_list_in, workers_in};
 use command_words::{Item, Kind, OptionTable, read_items, text_of};
 use std::alloc::Global;
 use sub_number::{IdList, NoMemory};
@@ -65,10 +66,12 @@ fn verb(word: &str) -> Option<Verb>
     match word {
         "init" => Some(Verb::Init),
         "load" => Some(Verb::Load),
+        "run" => Some(Verb::Run),
         "last" => Some(Verb::Last),
         "failing" => Some(Verb::Failing),
         "slowest" => Some(Verb::Slowest),
         "stats" => Some(Verb::Stats),
+        "list-tests" => Some(Verb::ListTests),
         _ => None,
     }
 }
@@ -85,10 +88,11 @@ impl OptionTable for Options {
     fn kind(&self, name: &str) -> Option<Kind> {
         match self.verb {
             Verb::Load => flag(name, "--partial"),
+            Verb::Run => run_option(name),
             Verb::Last => flag(name, "--subunit"),
             Verb::Failing => flag(name, "--list"),
             Verb::Slowest => flag(name, "--all"),
-            Verb::Init | Verb::Run | Verb::Stats | Verb::ListTests | Verb::SelfTest => None,
+            Verb::Init | Verb::Stats | Verb::ListTests | Verb::SelfTest => None,
         }
     }
 }
@@ -98,6 +102,25 @@ fn flag(name: &str, key: &str) -> Option<Kind>
     ensures { result ≡ only_flag key.now name.now }
 {
     if name == key { Some(Kind::Flag) } else { None }
+}
+
+// The option is one of those of a run, or none.
+fn run_option(name: &str) -> Option<Kind>
+    ensures { result ≡ run_kind name.now }
+{
+    if is_run_flag(name) {
+        return Some(Kind::Flag);
+    }
+    if name == "--concurrency" || name == "--load-list" {
+        return Some(Kind::Valued);
+    }
+    None
+}
+
+fn is_run_flag(name: &str) -> bool
+    ensures { result ≡ is_flag_of_run name.now }
+{
+    name == "--partial" || name == "--failing" || name == "--parallel"
 }
 
 // The command of this verb and the words behind it.
@@ -110,20 +133,25 @@ fn reads_behind(alloc: Global, verb: Verb, words: &[String]) -> Result<Option<Co
     }
 }
 
-// How many names the verb has at most.
-fn most(verb: Verb) -> usize
+// How many names the verb has at most. None where there is no such number.
+fn most(verb: Verb) -> Option<usize>
     ensures { result ≡ most_names verb }
 {
     match verb {
-        Verb::Load => MOST_FILES,
-        Verb::Init
-        | Verb::Run
-        | Verb::Last
-        | Verb::Failing
-        | Verb::Slowest
-        | Verb::Stats
-        | Verb::ListTests
-        | Verb::SelfTest => 0,
+        Verb::Load => Some(MOST_FILES),
+        Verb::Run | Verb::ListTests => None,
+        Verb::Init | Verb::Last | Verb::Failing | Verb::Slowest | Verb::Stats | Verb::SelfTest =>
+            Some(0),
+    }
+}
+
+// Whether the verb may have so many names.
+fn may_have(verb: Verb, names: usize) -> bool
+    ensures { result ≡ may_have_these (most_names verb) names }
+{
+    match most(verb) {
+        Some(most) => names <= most,
+        None => true,
     }
 }
 
@@ -134,16 +162,22 @@ fn command(alloc: Global, verb: Verb, items: &[Item<'_>]) -> Result<Option<Comma
     let Some(names) = names(alloc, items)? else {
         return Ok(None);
     };
-    if names.list().len() > most(verb) {
+    let Some(concurrency) = workers_in(items) else {
+        return Ok(None);
+    };
+    let Some(load_list) = load_list_in(alloc, items)? else {
+        return Ok(None);
+    };
+    if !may_have(verb, names.list().len()) {
         return Ok(None);
     }
     Ok(Some(Command {
         verb,
         partial: has(items, "--partial"),
-        failing: false,
-        parallel: false,
-        concurrency: 0,
-        load_list: None,
+        failing: has(items, "--failing"),
+        parallel: has(items, "--parallel"),
+        concurrency,
+        load_list,
         list: has(items, "--list"),
         all: has(items, "--all"),
         subunit: has(items, "--subunit"),

@@ -40,6 +40,8 @@ fn of_command(word: &str) -> Option<&'static str> {
     match word {
         "init" => Some(INIT),
         "load" => Some(LOAD),
+        "run" => Some(RUN),
+        "list-tests" => Some(LIST_TESTS),
         "last" => Some(LAST),
         "failing" => Some(FAILING),
         "slowest" => Some(SLOWEST),
@@ -57,6 +59,10 @@ Keeps test results as numbered runs in the folder .testrepository of the current
   testr init                makes a repository
   testr load [--partial] [FILE ..]
                             reads a Subunit v2 stream from standard input, or these files, and keeps it as the next run
+  testr run [OPTION..] [PATTERN..]
+                            runs the tests of the project, as .testr.conf says, and keeps what they print as the next run
+  testr list-tests [PATTERN..]
+                            prints the ids of the tests of the project
   testr last [--subunit]    prints the report of the last run, or the run itself
   testr failing [--list]    prints the tests that fail by all runs, or their ids alone
   testr slowest [--all]     prints the slowest ten tests of the last run, or all
@@ -80,6 +86,27 @@ failed, 1 where one did.
   FILE ..      reads these files in place of standard input, at most 64, one after another, as one run; what is kept of
                the first is under the route 0, of the next one under 1, and so on
 Example: testr load < stream
+";
+
+const RUN: &str = "\
+usage: testr run [--partial] [--failing] [--parallel] [--concurrency=N] [--load-list=FILE] [PATTERN..]
+Runs the tests of the project, as the file .testr.conf of the current folder says, keeps what they print as the next run,
+and prints its report. Status 0 where no test failed, 1 where one did.
+  --partial         the run is marked as one of a part of the tests; so it is with --failing, --load-list and a PATTERN
+  --failing         only tests that fail by all runs
+  --load-list=FILE  only tests whose ids the file lists, one a line
+  PATTERN..         only tests in whose ids one of these regular expressions is found
+  --parallel        in several workers at once
+  --concurrency=N   in N workers, at most 64; without it, or with 0, as test_run_concurrency says, or as many as processors
+Example: testr run --parallel
+";
+
+const LIST_TESTS: &str = "\
+usage: testr list-tests [PATTERN..]
+Prints the ids of the tests of the project, as the file .testr.conf of the current folder has them listed. Status 0.
+It needs no repository.
+  PATTERN..    only ids in which one of these regular expressions is found
+Example: testr list-tests '^core'
 ";
 
 const LAST: &str = "\

@@ -29,11 +29,14 @@ use folder_shelf::FolderShelf;
 use help::help;
 use lock::Sharing;
 use real_site::RealSite;
+use real_spawner::RealSpawner;
 use std::alloc::Global;
 use std::env;
 use std::env::Env;
 use std::io::{ErrorKind, Stderr, Stdout};
 use std::process::ExitCode;
+use std::sync::Wait;
+use std::thread::Threads;
 use stream_sink::StreamSink;
 use stream_source::StreamSource;
 use testr_cli::program;
@@ -60,9 +63,9 @@ fn main(rt: HostRuntime) -> ExitCode {
             );
             FAULT
         }
-        (Ok(_), Ok(words)) => run(&rt, &words, &mut out, &mut err),
+        (Ok(_), Ok(words)) => run(&rt, &rt, &words, &mut out, &mut err),
         // Words that are not text are no command, as no words are.
-        (Ok(_), Err(NoWords::NotText)) => run(&rt, &[], &mut out, &mut err),
+        (Ok(_), Err(NoWords::NotText)) => run(&rt, &rt, &[], &mut out, &mut err),
         (Ok(_), Err(NoWords::NoMemory)) => {
             let _ = write_whole(&mut err, b"testr: out of memory\n");
             NO_MEMORY
@@ -73,7 +76,8 @@ fn main(rt: HostRuntime) -> ExitCode {
 }
 
 // Tells of the program, where the words ask for that, or does what they say.
-fn run(
+fn run<R: Threads + Wait + Sync>(
+    threads: &R,
     rt: &HostRuntime,
     words: &[String],
     out: &mut StreamSink<Stdout>,
@@ -81,7 +85,7 @@ fn run(
 ) -> u8 {
     match help(words) {
         Some(text) => print_help(rt.alloc(), face_of(words), text, out, err),
-        None => run_program(rt, words, out, err),
+        None => run_program(threads, rt, words, out, err),
     }
 }
 
@@ -114,7 +118,8 @@ fn print_help(
 
 // Calls the program on the real objects. After a fault the line that says which object failed has one more behind it,
 // that says why.
-fn run_program(
+fn run_program<R: Threads + Wait + Sync>(
+    threads: &R,
     rt: &HostRuntime,
     words: &[String],
     out: &mut StreamSink<Stdout>,
@@ -123,12 +128,24 @@ fn run_program(
     let alloc = rt.alloc();
     let mut shelf = FolderShelf::new(alloc, rt, sharing(words));
     let mut input = StreamSource::new(rt.stdin(), "standard input");
+    let mut spawner = RealSpawner::new(alloc, rt);
     let mut site = RealSite::new(alloc, rt);
-    let status = program(alloc, words, &mut shelf, &mut site, &mut input, out, err);
+    let status = program(
+        threads,
+        alloc,
+        words,
+        &mut shelf,
+        &mut spawner,
+        &mut site,
+        &mut input,
+        out,
+        err,
+    );
     shelf.give_up();
     if status == FAULT {
         let face = face_of(words);
         tell(alloc, face, shelf.cause(), err);
+        tell(alloc, face, spawner.cause(), err);
         tell(alloc, face, site.cause(), err);
         tell(alloc, face, input.cause(), err);
         tell(alloc, face, out.cause(), err);

@@ -419,7 +419,16 @@ fn has_help(rt: &HostRuntime, words: &[&str]) -> io::Result<bool> {
 
 #[test]
 fn help_is_for_its_words_alone(rt: HostRuntime) -> Result<(), Fail> {
-    for word in ["init", "load", "last", "failing", "slowest", "stats"] {
+    for word in [
+        "init",
+        "load",
+        "run",
+        "list-tests",
+        "last",
+        "failing",
+        "slowest",
+        "stats",
+    ] {
         assert!(rt; has_help(&rt, &["testr", word, "--help"])?);
         assert!(rt; !has_help(&rt, &["testr", word])?);
         assert!(rt; !has_help(&rt, &["testr", word, "--help", "--help"])?);

@@ -1,13 +1,10 @@
-use Rattle.std.proofs.Common.{◌∙◌, ap, true, false}
+use Rattle.std.proofs.Common.{false}
 use Rattle.testr_cli.specs.declared.command.Question.TheVariants.{Last, Failing, Slowest, Stats}
-use Rattle.testr_cli.proofs.TellLemmas.{answers_so}
+use Rattle.testr_cli.proofs.TellLemmas.{answers_so, is_report}
 use Rattle.testr_cli.proofs.told.answer_of.Goals as goal
 
-pub returns-in-Last-true-clause-told : goal.returns-in-Last-true-clause-told
-returns-in-Last-true-clause-told g c = answers_so (Last true) c.args.question _ _ c.tell_bytes.result (c.in-Last-true.is ∙ ap Last c.in-Last-true.subunit-test) (c.requires.fits c.requires.open) c.tell_bytes.ensures.told
-
-pub returns-in-Last-false-clause-told : goal.returns-in-Last-false-clause-told
-returns-in-Last-false-clause-told g c = answers_so (Last false) c.args.question _ _ c.tell_report.result (c.in-Last-false.is ∙ ap Last c.in-Last-false.subunit-test) (c.requires.fits c.requires.open) c.tell_report.ensures.told
+pub returns-in-Last-clause-told : goal.returns-in-Last-clause-told
+returns-in-Last-clause-told g c = answers_so (Last false) c.args.question _ _ c.tell_report.result (is_report c.args.question c.in-Last.subunit c.in-Last.is c.requires.text) (c.requires.fits c.requires.open) c.tell_report.ensures.told
 
 pub returns-in-Failing-clause-told : goal.returns-in-Failing-clause-told
 returns-in-Failing-clause-told g c = answers_so (Failing c.in-Failing.list) c.args.question _ _ c.tell_failing.result (c.in-Failing.is) (c.requires.fits c.requires.open) c.tell_failing.ensures.told

@@ -2,7 +2,7 @@ use Rattle.std.proofs.Common.{◌≡◌, ◌∷◌, inl, true, false, drop, refl
 use Rattle.std.proofs.lemmas.List.{take_rest}
 use Rattle.command_words.specs.Items.{texts}
 use Rattle.testr_cli.specs.Words.{names_testr, testr_word, asked_by}
-use Rattle.testr_cli.proofs.PromiseLemmas.{promises, behind_name}
+use Rattle.testr_cli.proofs.SuitePromises.{testr_behind}
 use Rattle.testr_cli.proofs.Performing.{refuses}
 use Rattle.testr_cli.proofs.WordsLemmas.{names_first, names_other}
 use Rattle.testr_cli.proofs.top.program.Goals as goal
@@ -13,7 +13,7 @@ returns-then-not-is_testr g c =
     record {
       promises = record {
         testr = λ behind is. absurd (names_other _ unnamed behind is);
-        filters = λ none. record { filtered = c.filters.ensures.promises; folder = refl; site = refl };
+        filters = λ none. record { filtered = c.filters.ensures.promises; folder = refl; site = refl; spawner = refl };
       };
     }
 
@@ -23,7 +23,7 @@ returns g c =
     let first = names_first c.args.words.now named in
     record {
       promises = record {
-        testr = λ behind is. behind_name _ behind (ap (λ l. testr_word ∷ texts l) (take_rest c.args.words.now 1) ∙ sym first ∙ is) _ _ _ c.testr.ensures.promises;
+        testr = λ behind is. testr_behind _ behind (ap (λ l. testr_word ∷ texts l) (take_rest c.args.words.now 1) ∙ sym first ∙ is) _ _ _ c.testr.ensures.promises;
         filters = λ none. absurd (none (texts (drop 1 c.args.words.now)) first);
       };
     }

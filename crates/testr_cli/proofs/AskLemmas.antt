@@ -1,0 +1,50 @@
+-- Which steps answer a question.
+use Rattle.std.proofs.Common.{◌≡◌, ◌⊎◌, inl, inr, Bool, true, false, IsTrue, Result, refl}
+use Rattle.std.specs.Prelude.{◌↔◌}
+use Rattle.run_shelf.specs.declared.found.Found.{Found}
+use Rattle.testr_cli.specs.Ask.{CopiesLast, PrintsAnswer, AnswersOf}
+use Rattle.testr_cli.specs.Outside.{Shown}
+use Rattle.testr_cli.specs.Says.{OfBytes, OfLastRun}
+use Rattle.testr_cli.specs.declared.command.Question.{Question}
+use Rattle.testr_cli.specs.declared.command.Question.TheVariants.{Last, Failing, Slowest, Stats}
+use Rattle.testr_cli.specs.declared.answer.Verdict.{Verdict}
+use Rattle.testr_cli.specs.declared.answer.Refusal.{Refusal}
+
+-- the last run's bytes are of the last run
+pub bytes_of_last : (question : Question) → OfBytes question → OfLastRun question
+bytes_of_last (Last subunit) is = tt
+bytes_of_last (Failing list) is = is
+bytes_of_last (Slowest all) is = tt
+bytes_of_last Stats is = is
+
+module _ (question : Question) (b : Bool) (is : IsTrue b ↔ OfBytes question) where
+  pub of_bytes : b ≡ true → OfBytes question
+  of_bytes holds = is.0 holds
+
+  pub of_text : b ≡ false → OfBytes question → ⊥
+  of_text fails of =
+      let holds : b ≡ true = is.1 of in
+      cc
+
+module _ (found : Found) (a b : Shown) (result : Result Verdict Refusal) where
+  pub by_copy : (question : Question) → OfBytes question → CopiesLast found a b result → AnswersOf found question a b result
+  by_copy (Last true) is copies = copies
+  by_copy (Last false) is copies = absurd is
+  by_copy (Failing list) is copies = absurd is
+  by_copy (Slowest all) is copies = absurd is
+  by_copy Stats is copies = absurd is
+
+  -- so it was one of the two
+  pub either : (question : Question) → AnswersOf found question a b result → ((question ≡ Last true) × CopiesLast found a b result) ⊎ PrintsAnswer question a b result
+  either (Last true) answers = inl (refl, answers)
+  either (Last false) answers = inr answers
+  either (Failing list) answers = inr answers
+  either (Slowest all) answers = inr answers
+  either Stats answers = inr answers
+
+  pub by_text : (question : Question) → (OfBytes question → ⊥) → PrintsAnswer question a b result → AnswersOf found question a b result
+  by_text (Last true) not prints = absurd (not tt)
+  by_text (Last false) not prints = prints
+  by_text (Failing list) not prints = prints
+  by_text (Slowest all) not prints = prints
+  by_text Stats not prints = prints

@@ -1,0 +1,441 @@
+-- `run` and `list-tests` do not give up without a cause.
+use Rattle.std.proofs.Common.{◌≡◌, ◌⊎◌, inl, inr, ℕ, zero, suc, ◌+◌, ◌<◌, ◌≤◌, nat_lt, pos, Bool, true, false, not, ◌&&◌, ◌||◌, Option, None, Some, is_some, option_map, IsSome, IfSome, IsSomeAnd, IsOk, All, Result, Ok, Err, List, [], ◌∷◌, length, refl, sym, ap, subst, ◌∙◌, arith}
+use Rattle.edge_io.specs.Children.{Output}
+use Rattle.edge_io.specs.Disk.{Files, Folder}
+use Rattle.edge_io.specs.Seen.{Seen}
+use Rattle.edge_io.specs.Spawners.{Spawning}
+use Rattle.edge_io.specs.Steps.{Stays}
+use Rattle.edge_io.specs.declared.child.Finish.TheVariants.{Exit}
+use Rattle.edge_io.specs.declared.job.Job.{Job}
+use Rattle.run_shelf.specs.Repository.{most_runs}
+use Rattle.partition_times.specs.Patterns.{IsPattern}
+use Rattle.suite_plan.specs.Calling.{TellsNumber, TellsNone, StartsCounting, HasCallCause, CallsOut, called}
+use Rattle.suite_plan.specs.Children.{IsBroken}
+use Rattle.suite_plan.specs.Choosing.{Ids, base_ids, chosen_ids}
+use Rattle.suite_plan.specs.LaneJobs.{job_before, jobs_from, lane_jobs}
+use Rattle.suite_plan.specs.LoadList.{IsLoadList, HasListCause, ReadsLoadList}
+use Rattle.suite_plan.specs.Processors.{HasTableCause, CountsProcessors, table_name}
+use Rattle.suite_plan.specs.Texts.{most_text}
+use Rattle.suite_plan.specs.declared.calling.CallRefusal.{CallRefusal}
+use Rattle.suite_plan.specs.declared.calling.CallRefusal.TheVariants as call
+use Rattle.suite_plan.specs.declared.load_list.ListRefusal.{ListRefusal}
+use Rattle.suite_plan.specs.declared.load_list.ListRefusal.TheVariants as load_list
+use Rattle.suite_plan.specs.declared.processors.TableRefusal.{TableRefusal}
+use Rattle.suite_plan.specs.declared.processors.TableRefusal.TheVariants as table
+use Rattle.suite_run.specs.declared.recording.LanesRefusal.{LanesRefusal}
+use Rattle.suite_run.specs.declared.recording.LanesRefusal.TheVariants as lanes
+use Rattle.suite_run.specs.declared.starting.StartRefusal.{StartRefusal}
+use Rattle.suite_run.specs.declared.starting.StartRefusal.TheVariants as start
+use Rattle.testr_conf.specs.Jobs.{count_job_of, list_job_of, run_job_of}
+use Rattle.testr_conf.specs.ListedIds.{ids_in}
+use Rattle.testr_conf.specs.Settings.{Settings}
+use Rattle.testr_conf.specs.declared.fault.JobFault.{JobFault}
+use Rattle.testr_conf.specs.declared.fault.JobFault.TheVariants as job_fault
+use Rattle.testr_conf.specs.declared.ids.IdsFault.{IdsFault}
+use Rattle.testr_conf.specs.declared.ids.IdsFault.TheVariants.{NotText}
+use Rattle.testr_cli.specs.Answer.{refusal_code}
+use Rattle.testr_cli.specs.Outside.{Work}
+use Rattle.testr_cli.specs.Perhaps.{when, Perhaps, not_asked, did, refused}
+use Rattle.testr_cli.specs.RunSuite.{Works, TellsRun, RunsBy, RunsSuite}
+use Rattle.testr_cli.specs.Runs.{HasRuns}
+use Rattle.testr_cli.specs.Selecting.{UsesCalled, UsesAsked, CountsWorkers, needs_listing, Selects, MakesJobs, Plans}
+use Rattle.testr_cli.specs.Steps.{Step, stops, goes_on}
+use Rattle.testr_cli.specs.SuiteProgram.{PerformsSuite, IsChildFault, calls_by, calls_of, EndsWell, TellsCount, may_list, may_hand, CanRun, CanPerformSuite}
+use Rattle.testr_cli.specs.SuiteTexts.{list_code, table_code, job_code, start_code, lanes_code}
+use Rattle.testr_cli.specs.Suites.{Suite, list, run, RunOptions}
+use Rattle.testr_cli.specs.Told.{tell_code}
+use Rattle.testr_cli.specs.declared.answer.Refusal.{Refusal}
+use Rattle.testr_cli.specs.declared.answer.Refusal.TheVariants as refusal
+use Rattle.testr_cli.specs.declared.selecting.Selected.{Selected}
+use Rattle.testr_cli.specs.declared.told.TellFault.{TellFault}
+use Rattle.testr_cli.specs.declared.told.TellFault.TheVariants as tell_fault
+use Rattle.testr_cli.proofs.FolderLemmas.{none_or_some, takes_in_repository, not_full}
+use Rattle.testr_cli.proofs.ChainLemmas.{then_did, gives_not}
+use Rattle.testr_cli.proofs.CauseLaws.{open_never, runs_are}
+use Rattle.testr_cli.proofs.SuiteCauses.{NoCause, same_cause, moved, from_both, from_told, not_too_much, same_text, conf_never, same_settings, pattern_never, ends_behind, broken_never, listing_never, list_never}
+
+-- ---- refusals that have no such cause
+
+tell_never : (fault : TellFault) → tell_code fault ≡ 3 → ⊥
+tell_never tell_fault.Shelf three = omega arith
+tell_never tell_fault.NoMemory three = omega arith
+
+start_never : (fault : StartRefusal) → start_code fault ≡ 3 → ⊥
+start_never start.Spawn three = omega arith
+start_never start.NoMemory three = omega arith
+
+lanes_never : (fault : LanesRefusal) → lanes_code fault ≡ 3 → ⊥
+lanes_never (lanes.Shelf which) three = omega arith
+lanes_never lanes.NoMemory three = omega arith
+
+-- ---- a step that is done where it is asked for
+
+module _ {W X A E : Type 0} {asked : Option X} {step : X → Step W A E} (a b : W) where
+  perhaps_asked : (fault : E) → Perhaps asked step a b (Err fault) → (x : X) × (asked ≡ Some x) × step x a b (Err fault)
+  perhaps_asked fault (not_asked none is same) = cc
+  perhaps_asked fault (did x value is_asked is done) = cc
+  perhaps_asked fault (refused x why is_asked is done) =
+      let same : why ≡ fault = cc in
+      (x, is_asked, subst (λ (e : E). step x a b (Err e)) same done)
+
+  perhaps_some : (value : Option A) → Perhaps asked step a b (Ok value) → IsSome value → IsSome asked
+  perhaps_some value (not_asked none is same) some =
+      let no_value : value ≡ None = cc in
+      absurd (none_or_some value no_value some)
+  perhaps_some value (did x given is_asked is done) some = subst IsSome (sym is_asked) refl
+  perhaps_some value (refused x why is_asked is done) some = cc
+
+when_some : (asked : Bool) → IsSome (when asked) → asked ≡ true
+when_some false some = cc
+when_some true some = refl
+
+asked_when : (asked : Bool) (x : Unit {0}) → when asked ≡ Some x → asked ≡ true
+asked_when false x is = cc
+asked_when true x is = refl
+
+-- ---- the list of ids
+
+list_cause : (name : List ℕ) (ids : Ids) (fault : ListRefusal) (files : Files) → IsLoadList name ids files → HasListCause name fault files → list_code fault ≡ 3 → ⊥
+list_cause name ids load_list.Site files listed cause three = omega arith
+list_cause name ids (load_list.TooLong given) files listed cause three = not_too_much (files name) listed.text listed.has.there listed.has.short cause
+list_cause name ids (load_list.Absent given) files listed cause three =
+    let both : Some listed.text ≡ None = sym listed.has.there ∙ cause in
+    cc
+list_cause name ids (load_list.NotId given number) files listed cause three =
+    let same : listed.text ≡ cause.text = same_text (files name) listed.text cause.text listed.has.there cause.has.there in
+    let both : ◌≡◌ {A = Result Ids IdsFault} (Ok ids) (Err (NotText number)) = sym listed.says ∙ ap ids_in same ∙ cause.says in
+    cc
+list_cause name ids load_list.NoMemory files listed cause three = omega arith
+
+abbrev HasList : List ℕ → Files → Type 0
+HasList name files = (ids : Ids) × IsLoadList name ids files
+
+load_list_never : (name : List ℕ) (a b : Seen Files) (fault : ListRefusal) → IsSomeAnd a.told (HasList name) → ReadsLoadList name a b (Err fault) → NoCause (refusal.LoadList fault)
+load_list_never name a b fault there reads = (
+  (λ three. from_told a.told (HasList name) (HasListCause name fault) there reads.refused (λ files listed cause. list_cause name listed.0 fault files listed.1 cause three)),
+  (λ child. child),
+)
+
+asked_list : (asked : Option (List ℕ)) (files : Option Files) (name : List ℕ) → asked ≡ Some name → IfSome asked (λ n. IsSomeAnd files (HasList n)) → IsSomeAnd files (HasList name)
+asked_list None files name is there = cc
+asked_list (Some other) files name is there =
+    let same : other ≡ name = cc in
+    subst (λ (n : List ℕ). IsSomeAnd files (HasList n)) same there
+
+-- the files stay
+list_stays : (asked : Option (List ℕ)) (a b : Seen Files) (listed : Option Ids) → Perhaps asked ReadsLoadList a b (Ok listed) → b.told ≡ a.told
+list_stays asked a b listed (not_asked none is same) = λ i. (same i).told
+list_stays asked a b listed (did name ids is_asked is step) = step.same
+list_stays asked a b listed (refused name fault is_asked is step) = cc
+
+-- ---- the table of processors
+
+short_table : (table : Option (List ℕ)) → IfSome table (λ text. length text ≤ most_text) → IsSomeAnd table (λ text. most_text < length text) → ⊥
+short_table None short long = long
+short_table (Some text) short long = omega (arith, short, long)
+
+abbrev HasShortTable : Files → Type 0
+HasShortTable files = IfSome (files table_name) (λ text. length text ≤ most_text)
+
+table_cause : (fault : TableRefusal) (files : Files) → HasShortTable files → HasTableCause fault files → table_code fault ≡ 3 → ⊥
+table_cause table.Site files short cause three = omega arith
+table_cause table.TooLong files short cause three = short_table (files table_name) short cause
+table_cause table.NoMemory files short cause three = omega arith
+
+table_never : (a b : Seen Files) (fault : TableRefusal) → IsSomeAnd a.told HasShortTable → CountsProcessors a b (Err fault) → NoCause (refusal.Table fault)
+table_never a b fault short counts = (
+  (λ three. from_told a.told HasShortTable (HasTableCause fault) short counts.refused (λ files kept cause. table_cause fault files kept cause three)),
+  (λ child. child),
+)
+
+-- ---- the number that a child tells
+
+no_number : (number : ℕ) (output : Output) → TellsNumber number output → TellsNone output → ⊥
+no_number number output tells none = by none.none
+  where
+    by : (none.status ≡ pos 0 → ⊥) ⊎ (called output.bytes ≡ None) → ⊥
+    by (inl other) =
+        let both : Exit none.status ≡ Exit (pos 0) = sym none.ended ∙ tells.ended in
+        other cc
+    by (inr nothing) =
+        let both : Some number ≡ None = sym tells.number_is ∙ nothing in
+        cc
+
+-- how many children are asked
+abbrev calls_in : Settings → ℕ
+calls_in settings = calls_by true zero (count_job_of settings)
+
+-- the child that is asked tells a number
+counting_tells : (settings : Settings) (Meets : Output → Type 0) (s t : Spawning) → TellsCount (calls_in settings) s → (starts : StartsCounting settings Meets s t) → (number : ℕ) × TellsNumber number starts.output
+counting_tells settings Meets s t tells starts =
+    let one : TellsCount 1 s = subst (λ (j : Option Job). TellsCount (calls_by true zero j) s) starts.job_is tells in
+    one starts.output t.outputs starts.started.first
+
+call_cause : (settings : Settings) (fault : CallRefusal) (s t : Spawning) → TellsCount (calls_in settings) s → HasCallCause settings fault s t → NoCause (refusal.Call fault)
+call_cause settings call.Spawn s t tells cause = ((λ three. omega arith), (λ child. child))
+call_cause settings call.Child s t tells cause =
+    let told = counting_tells settings (λ output. IsBroken output.finish) s t tells cause in
+    ((λ three. omega arith), (λ child. broken_never cause.output told.1.ended cause.meets))
+call_cause settings call.NoNumber s t tells cause =
+    let told = counting_tells settings TellsNone s t tells cause in
+    ((λ three. no_number told.0 cause.output told.1 cause.meets), (λ child. child))
+call_cause settings call.NoMemory s t tells cause = ((λ three. omega arith), (λ child. child))
+
+call_never : (settings : Settings) (a b : Seen Spawning) (fault : CallRefusal) → IsSomeAnd a.told (TellsCount (calls_in settings)) → CallsOut settings a b (Err fault) → NoCause (refusal.Call fault)
+call_never settings a b fault tells calls = from_both a.told b.told (TellsCount (calls_in settings)) (HasCallCause settings fault) tells calls.refused (λ s t told cause. call_cause settings fault s t told cause)
+
+-- the child behind it is the first then
+call_ends : (settings : Settings) (number : Option ℕ) (a b : Seen Spawning) → CallsOut settings a b (Ok number) → IsSomeAnd a.told (EndsWell (calls_in settings)) → IsSomeAnd b.told (EndsWell 0)
+call_ends settings None a b calls ends =
+    let none : IsSomeAnd a.told (EndsWell 0) = subst (λ (j : Option Job). IsSomeAnd a.told (EndsWell (calls_by true zero j))) (calls.jobless refl) ends in
+    moved a.told b.told (EndsWell 0) (EndsWell 0) Stays none calls.told (λ s t well is. subst (EndsWell 0) (sym is) well)
+call_ends settings (Some number) a b calls ends = moved a.told b.told (EndsWell (calls_in settings)) (EndsWell 0) (StartsCounting settings (TellsNumber number)) ends calls.told (λ s t well starts.
+    let one : EndsWell 1 s = subst (λ (j : Option Job). EndsWell (calls_by true zero j) s) starts.job_is well in
+    ends_behind 0 s t starts.job starts.output one starts.started)
+
+-- ---- the number of workers
+
+abbrev Tables : Work → Type 0
+Tables w = IsSomeAnd w.site.told HasShortTable
+
+called_never : (number : Option ℕ) (a b : Work) (r : Refusal) → UsesCalled number a b (Err r) → Tables a → NoCause r
+called_never (Some (suc less)) a b r uses short = absurd (gives_not a b r uses)
+called_never (Some zero) a b r (stops fault is step) short = same_cause (refusal.Table fault) r is (table_never a.site b.site fault short step.at)
+called_never (Some zero) a b r (goes_on number m counted gives) short = absurd (gives_not m b r gives)
+called_never None a b r (stops fault is step) short = same_cause (refusal.Table fault) r is (table_never a.site b.site fault short step.at)
+called_never None a b r (goes_on number m counted gives) short = absurd (gives_not m b r gives)
+
+asked_never : (settings : Settings) (asked : ℕ) (a b : Work) (r : Refusal) → UsesAsked settings asked a b (Err r) → Tables a → IsSomeAnd a.spawner.told (TellsCount (calls_by true asked (count_job_of settings))) → NoCause r
+asked_never settings (suc less) a b r uses short tells = absurd (gives_not a b r uses)
+asked_never settings zero a b r (stops fault is step) short tells = same_cause (refusal.Call fault) r is (call_never settings a.spawner b.spawner fault tells step.at)
+asked_never settings zero a b r (goes_on number m called next) short tells =
+    let site : a.site.told ≡ m.site.told = sym (λ i. (called.rest i).site.told) in
+    called_never number m b r next (subst (λ (o : Option Files). IsSomeAnd o HasShortTable) site short)
+
+workers_never : (settings : Settings) (parallel : Bool) (asked : ℕ) (a b : Work) (r : Refusal) → CountsWorkers settings parallel asked a b (Err r) → Tables a → IsSomeAnd a.spawner.told (TellsCount (calls_by parallel asked (count_job_of settings))) → NoCause r
+workers_never settings false asked a b r counts short tells = absurd (gives_not a b r counts)
+workers_never settings true asked a b r counts short tells = asked_never settings asked a b r counts short tells
+
+abbrev EndsAt : ℕ → Option Spawning → Type 0
+EndsAt count told = IsSomeAnd told (EndsWell count)
+
+called_stays : (number : Option ℕ) (a b : Work) (n : ℕ) → UsesCalled number a b (Ok n) → b.spawner.told ≡ a.spawner.told
+called_stays (Some (suc less)) a b n uses = λ i. (uses.same i).spawner.told
+called_stays (Some zero) a b n uses =
+    let counted = then_did n uses in
+    (λ i. (counted.next.same i).spawner.told) ∙ (λ i. (counted.done.rest i).spawner.told)
+called_stays None a b n uses =
+    let counted = then_did n uses in
+    (λ i. (counted.next.same i).spawner.told) ∙ (λ i. (counted.done.rest i).spawner.told)
+
+asked_ends : (settings : Settings) (asked : ℕ) (a b : Work) (n : ℕ) → UsesAsked settings asked a b (Ok n) → EndsAt (calls_by true asked (count_job_of settings)) a.spawner.told → EndsAt 0 b.spawner.told
+asked_ends settings (suc less) a b n uses ends = subst (EndsAt 0) (sym (λ i. (uses.same i).spawner.told)) ends
+asked_ends settings zero a b n uses ends =
+    let called = then_did n uses in
+    subst (EndsAt 0) (sym (called_stays called.value called.between b n called.next)) (call_ends settings called.value a.spawner called.between.spawner called.done.at ends)
+
+workers_ends : (settings : Settings) (parallel : Bool) (asked : ℕ) (a b : Work) (n : ℕ) → CountsWorkers settings parallel asked a b (Ok n) → EndsAt (calls_by parallel asked (count_job_of settings)) a.spawner.told → EndsAt 0 b.spawner.told
+workers_ends settings false asked a b n counts ends = subst (EndsAt 0) (sym (λ i. (counts.same i).spawner.told)) ends
+workers_ends settings true asked a b n counts ends = asked_ends settings asked a b n counts ends
+
+-- ---- where tests are listed
+
+same_number : (n m : ℕ) → ◌≡◌ {A = Result ℕ Refusal} (Ok n) (Ok m) → n ≡ m
+same_number n m is = cc
+
+-- there are several workers only where the tests run side by side
+several_parallel : (settings : Settings) (parallel : Bool) (asked : ℕ) (a b : Work) (n : ℕ) → CountsWorkers settings parallel asked a b (Ok n) → nat_lt 1 n ≡ true → parallel ≡ true
+several_parallel settings false asked a b n counts several =
+    let one : nat_lt 1 1 ≡ true = subst (λ (k : ℕ). nat_lt 1 k ≡ true) (same_number n 1 counts.answer) several in
+    cc
+several_parallel settings true asked a b n counts several = refl
+
+wider : (failing file pattern parallel several : Bool) → (several ≡ true → parallel ≡ true) → (not failing && not file && (pattern || several)) ≡ true → (not failing && not file && (pattern || parallel)) ≡ true
+wider true file pattern parallel several only needs = cc
+wider false true pattern parallel several only needs = cc
+wider false false true parallel several only needs = refl
+wider false false false parallel several only needs = only needs
+
+may_list_of : (options : RunOptions) (workers : ℕ) → (nat_lt 1 workers ≡ true → options.parallel ≡ true) → needs_listing options workers ≡ true → may_list options ≡ true
+may_list_of options workers only needs = wider options.failing (is_some options.load_list) (nat_lt 0 (length options.patterns)) options.parallel (nat_lt 1 workers) only needs
+
+-- ---- which tests
+
+-- what the steps behind the opening of the folder need of the files and the children
+record CanSelect (options : RunOptions) (settings : Settings) (site : Option Files) (children : Option Spawning) : Type 0 where
+  load_list : IfSome options.load_list (λ name. IsSomeAnd site (HasList name))
+  table : IsSomeAnd site HasShortTable
+  count : IsSomeAnd children (TellsCount (calls_of options settings))
+  job : may_list options ≡ true → IsOk (list_job_of settings)
+  ends : may_list options ≡ true → EndsAt (calls_of options settings) children
+
+select_never : (settings : Settings) (options : RunOptions) (a b : Work) (r : Refusal) → Selects settings options a b (Err r) → CanSelect options settings a.site.told a.spawner.told → NoCause r
+select_never settings options a b r (stops fault is step) can =
+    let asked = perhaps_asked a.site b.site fault step.at in
+    same_cause (refusal.LoadList fault) r is (load_list_never asked.0 a.site b.site fault (asked_list options.load_list a.site.told asked.0 asked.1 can.load_list) asked.2)
+select_never settings options a b r (goes_on listed m read (stops fault is step)) can = same_cause (refusal.Tell fault) r is ((λ three. tell_never fault three), (λ child. child))
+select_never settings options a b r (goes_on listed m read (goes_on failing m2 found next)) can =
+    let site : a.site.told ≡ m2.site.told = sym ((λ i. (found.rest i).site.told) ∙ list_stays options.load_list a.site m.site listed read.at) in
+    let children : a.spawner.told ≡ m2.spawner.told = sym ((λ i. (found.rest i).spawner.told) ∙ (λ i. (read.rest i).spawner.told)) in
+    let short : Tables m2 = subst (λ (o : Option Files). IsSomeAnd o HasShortTable) site can.table in
+    let tells : IsSomeAnd m2.spawner.told (TellsCount (calls_of options settings)) = subst (λ (o : Option Spawning). IsSomeAnd o (TellsCount (calls_of options settings))) children can.count in
+    let ends : may_list options ≡ true → EndsAt (calls_of options settings) m2.spawner.told = λ may. subst (EndsAt (calls_of options settings)) children (can.ends may) in
+    elim next [
+      | stops fault is step ↦ same_cause fault r is (workers_never settings options.parallel options.concurrency m2 b fault step short tells)
+      | goes_on workers m3 counted (stops fault is step) ↦
+          let asked = perhaps_asked m3.spawner b.spawner fault step.at in
+          let may : may_list options ≡ true = may_list_of options workers (several_parallel settings options.parallel options.concurrency m2 m3 workers counted) (asked_when (needs_listing options workers) asked.0 asked.1) in
+          same_cause (refusal.Listing fault) r is (listing_never settings m3.spawner b.spawner fault (can.job may) (workers_ends settings options.parallel options.concurrency m2 m3 workers counted (ends may)) asked.2)
+      | goes_on workers m3 counted (goes_on listing m4 asked (stops fault is step)) ↦ same_cause (refusal.Memory fault) r is ((λ three. omega arith), (λ child. child))
+      | goes_on workers m3 counted (goes_on listing m4 asked (goes_on ids m5 chosen gives)) ↦ absurd (gives_not m5 b r gives)
+    ]
+
+-- ---- where ids are given
+
+or_left : (x y : Bool) → x ≡ true → (x || y) ≡ true
+or_left true y is = refl
+or_left false y is = cc
+
+or_right : (x y : Bool) → y ≡ true → (x || y) ≡ true
+or_right true y is = refl
+or_right false y is = is
+
+-- the ids of a run are those of one of these
+chosen_from : {X : Type 0} (patterns : Ids) (failing listed listing : Option Ids) → (IsSome failing → X) → (IsSome listed → X) → (IsSome listing → X) → IsSome (chosen_ids patterns (base_ids failing listed listing)) → X
+chosen_from patterns (Some ids) listed listing by_failing by_listed by_listing some = by_failing refl
+chosen_from patterns None (Some ids) listing by_failing by_listed by_listing some = by_listed refl
+chosen_from patterns None None (Some ids) by_failing by_listed by_listing some = by_listing refl
+chosen_from patterns None None None by_failing by_listed by_listing some = cc
+
+same_selected : (one other : Selected) → ◌≡◌ {A = Result Selected Refusal} (Ok one) (Ok other) → one ≡ other
+same_selected one other is = cc
+
+select_hands : (settings : Settings) (options : RunOptions) (a b : Work) (selected : Selected) → Selects settings options a b (Ok selected) → IsSome selected.ids → may_hand options ≡ true
+select_hands settings options a b selected selects some =
+    let listed = then_did selected selects in
+    let failing = then_did selected listed.next in
+    let counted = then_did selected failing.next in
+    let listing = then_did selected counted.next in
+    let chosen = then_did selected listing.next in
+    let behind : Bool = is_some options.load_list || may_list options in
+    let ids : selected.ids ≡ chosen_ids options.patterns (base_ids failing.value listed.value listing.value) = ap (λ (x : Selected). x.ids) (same_selected _ _ chosen.next.answer) ∙ chosen.done.says.chosen in
+    let by_failing : IsSome failing.value → may_hand options ≡ true = λ found. or_left options.failing behind (when_some options.failing (perhaps_some listed.between.folder failing.between.folder failing.value failing.done.at found)) in
+    let by_listed : IsSome listed.value → may_hand options ≡ true = λ found. or_right options.failing behind (or_left (is_some options.load_list) (may_list options) (perhaps_some a.site listed.between.site listed.value listed.done.at found)) in
+    let by_listing : IsSome listing.value → may_hand options ≡ true = λ found.
+    let needs : needs_listing options counted.value ≡ true = when_some (needs_listing options counted.value) (perhaps_some counted.between.spawner listing.between.spawner listing.value listing.done.at found) in
+    or_right options.failing behind (or_right (is_some options.load_list) (may_list options) (may_list_of options counted.value (several_parallel settings options.parallel options.concurrency failing.between counted.between counted.value counted.done) needs)) in
+    chosen_from options.patterns failing.value listed.value listing.value by_failing by_listed by_listing (subst IsSome ids some)
+
+mapped_some : {A B : Type 0} (f : A → B) (o : Option A) → IsSome (option_map f o) → IsSome o
+mapped_some f None some = cc
+mapped_some f (Some value) some = refl
+
+-- ---- the jobs
+
+-- ids can be handed to a worker of each lane
+abbrev Hands : Settings → Type 0
+Hands settings = (ids : Ids) (lane : ℕ) → IsOk (run_job_of settings (Some ids) lane)
+
+before_ok : (first : Result Job JobFault) (later : Result (List Job) JobFault) (fault : JobFault) → IsOk first → (later ≡ Err fault → ⊥) → job_before first later ≡ Err fault → ⊥
+before_ok (Err why) later fault ok never is = cc
+before_ok (Ok job) (Err why) fault ok never is = never is
+before_ok (Ok job) (Ok jobs) fault ok never is = cc
+
+jobs_ok : (settings : Settings) (lane : ℕ) (shares : List Ids) (fault : JobFault) → Hands settings → jobs_from settings lane shares ≡ Err fault → ⊥
+jobs_ok settings lane [] fault handed is = cc
+jobs_ok settings lane (share ∷ shares) fault handed is = before_ok (run_job_of settings (Some share) lane) (jobs_from settings (lane + 1) shares) fault (handed share lane) (jobs_ok settings (lane + 1) shares fault handed) is
+
+lanes_ok : (settings : Settings) (shares : Option (List Ids)) (fault : JobFault) → (IsSome shares → Hands settings) → lane_jobs settings shares ≡ Err fault → ⊥
+lanes_ok settings None fault handed is = cc
+lanes_ok settings (Some shares) fault handed is = jobs_ok settings 0 shares fault (handed refl) is
+
+job_never : (settings : Settings) (shares : Option (List Ids)) (fault : JobFault) → (IsSome shares → Hands settings) → MakesJobs settings shares (Err fault) → NoCause (refusal.Job fault)
+job_never settings shares fault handed makes = ((λ three. by makes.refused three), (λ child. child))
+  where
+    by : (lane_jobs settings shares ≡ Err fault) ⊎ (fault ≡ job_fault.NoMemory) → job_code fault ≡ 3 → ⊥
+    by (inl is) three = lanes_ok settings shares fault handed is
+    by (inr is) three =
+        let five : job_code fault ≡ 5 = ap job_code is in
+        omega (arith, five, three)
+
+plan_never : (settings : Settings) (selected : Selected) (a b : Work) (r : Refusal) → Plans settings selected a b (Err r) → (IsSome selected.ids → Hands settings) → NoCause r
+plan_never settings selected a b r (stops fault is step) handed = same_cause (refusal.Tell fault) r is ((λ three. tell_never fault three), (λ child. child))
+plan_never settings selected a b r (goes_on times m found (stops fault is step)) handed = same_cause (refusal.Memory fault) r is ((λ three. omega arith), (λ child. child))
+plan_never settings selected a b r (goes_on times m found (goes_on shares m2 dealt (stops fault is step))) handed =
+    let given : IsSome shares → Hands settings = λ some. handed (mapped_some _ selected.ids (subst IsSome dealt.says.shares some)) in
+    same_cause (refusal.Job fault) r is (job_never settings shares fault given step.says)
+plan_never settings selected a b r (goes_on times m found (goes_on shares m2 dealt (goes_on jobs m3 made gives))) handed = absurd (gives_not m3 b r gives)
+
+-- ---- the workers, and what is told of the run
+
+work_never : (partial : Bool) (number : ℕ) (jobs : List Job) (a b : Work) (r : Refusal) → Works partial number jobs a b (Err r) → NoCause r
+work_never partial number jobs a b r (stops fault is step) = same_cause (refusal.Keep fault) r is ((λ three. omega arith), (λ child. child))
+work_never partial number jobs a b r (goes_on _ m begun (stops fault is step)) = same_cause (refusal.Start fault) r is ((λ three. start_never fault three), (λ child. child))
+work_never partial number jobs a b r (goes_on _ m begun (goes_on rests m2 started (stops fault is step))) = same_cause (refusal.Lanes fault) r is ((λ three. lanes_never fault three), (λ child. child))
+work_never partial number jobs a b r (goes_on _ m begun (goes_on rests m2 started (goes_on _ m3 recorded (stops fault is step)))) = same_cause (refusal.Keep fault) r is ((λ three. omega arith), (λ child. child))
+work_never partial number jobs a b r (goes_on _ m begun (goes_on rests m2 started (goes_on _ m3 recorded (goes_on _ m4 kept gives)))) = absurd (gives_not m4 b r gives)
+
+told_never : (number : ℕ) (tags : Ids) (a b : Work) (r : Refusal) → TellsRun number tags a b (Err r) → NoCause r
+told_never number tags a b r (stops fault is step) = same_cause (refusal.Reread fault) r is ((λ three. tell_never fault three), (λ child. child))
+told_never number tags a b r (goes_on report m found (stops fault is step)) = same_cause (refusal.Print fault) r is ((λ three. omega arith), (λ child. child))
+told_never number tags a b r (goes_on report m found (goes_on _ m2 printed gives)) = absurd (gives_not m2 b r gives)
+
+-- ---- `run`
+
+-- what the steps behind the configuration need
+record CanRunBy (options : RunOptions) (settings : Settings) (w : Work) : Type 0 where
+  free : IsSomeAnd w.folder.told (λ s. (number : ℕ) × (number < most_runs) × HasRuns number s)
+  good : All IsPattern options.patterns
+  good_regex : IfSome settings.group_regex IsPattern
+  select : CanSelect options settings w.site.told w.spawner.told
+  handed : may_hand options ≡ true → Hands settings
+
+run_by_never : (options : RunOptions) (settings : Settings) (a b : Work) (r : Refusal) → RunsBy options settings a b (Err r) → CanRunBy options settings a → NoCause r
+run_by_never options settings a b r (stops fault is step) can = same_cause (refusal.Open fault) r is (
+  (λ three. open_never a.folder b.folder fault (takes_in_repository a.folder.told can.free) step.at three),
+  (λ child. child),
+)
+run_by_never options settings a b r (goes_on found m opened (stops fault is step)) can = absurd (not_full a.folder.told can.free (runs_are a.folder m.folder found most_runs opened.at step.says.full.1))
+run_by_never options settings a b r (goes_on found m opened (goes_on _ m2 took (stops fault is step))) can = same_cause (refusal.Pattern fault) r is (pattern_never options.patterns settings.group_regex fault can.good can.good_regex step.says)
+run_by_never options settings a b r (goes_on found m opened (goes_on _ m2 took (goes_on _ m3 compiled (stops fault is step)))) can =
+    let site : a.site.told ≡ m3.site.told = sym ((λ i. (compiled.same i).site.told) ∙ (λ i. (took.same i).site.told) ∙ (λ i. (opened.rest i).site.told)) in
+    let children : a.spawner.told ≡ m3.spawner.told = sym ((λ i. (compiled.same i).spawner.told) ∙ (λ i. (took.same i).spawner.told) ∙ (λ i. (opened.rest i).spawner.told)) in
+    let on_site : CanSelect options settings m3.site.told a.spawner.told = subst (λ (o : Option Files). CanSelect options settings o a.spawner.told) site can.select in
+    same_cause fault r is (select_never settings options m3 b fault step (subst (CanSelect options settings m3.site.told) children on_site))
+run_by_never options settings a b r (goes_on found m opened (goes_on _ m2 took (goes_on _ m3 compiled (goes_on selected m4 selects (stops fault is step))))) can = same_cause fault r is (plan_never settings selected m4 b fault step (λ some. can.handed (select_hands settings options m3 m4 selected selects some)))
+run_by_never options settings a b r (goes_on found m opened (goes_on _ m2 took (goes_on _ m3 compiled (goes_on selected m4 selects (goes_on jobs m5 planned (stops fault is step)))))) can = same_cause fault r is (work_never _ _ jobs m5 b fault step)
+run_by_never options settings a b r (goes_on found m opened (goes_on _ m2 took (goes_on _ m3 compiled (goes_on selected m4 selects (goes_on jobs m5 planned (goes_on _ m6 worked tells)))))) can = told_never _ settings.filter_tags m6 b r tells
+
+can_run_by : (options : RunOptions) (a : Work) (can : CanRun options a) → CanRunBy options can.settings a
+can_run_by options a can = record {
+  free = can.free;
+  good = can.good;
+  good_regex = can.good_regex;
+  select = record { load_list = can.load_list; table = can.table; count = can.count; job = can.job; ends = can.ends };
+  handed = can.handed;
+}
+
+-- the read of the configuration touches no other part, and leaves the files
+read_then : (options : RunOptions) (settings : Settings) (a m : Work) → m.folder.told ≡ a.folder.told → m.site.told ≡ a.site.told → m.spawner.told ≡ a.spawner.told → CanRunBy options settings a → CanRunBy options settings m
+read_then options settings a m folder site children can =
+    let on_site : CanSelect options settings m.site.told a.spawner.told = subst (λ (o : Option Files). CanSelect options settings o a.spawner.told) (sym site) can.select in
+    record {
+      free = subst (λ (o : Option Folder). IsSomeAnd o (λ s. (number : ℕ) × (number < most_runs) × HasRuns number s)) (sym folder) can.free;
+      good = can.good;
+      good_regex = can.good_regex;
+      select = subst (CanSelect options settings m.site.told) (sym children) on_site;
+      handed = can.handed;
+    }
+
+pub run_never : (options : RunOptions) (a b : Work) (r : Refusal) → RunsSuite options a b (Err r) → CanRun options a → NoCause r
+run_never options a b r (stops fault is step) can = same_cause (refusal.Conf fault) r is (conf_never can.settings a.site b.site fault can.conf step.at)
+run_never options a b r (goes_on settings m read next) can =
+    let same : can.settings ≡ settings = same_settings can.settings settings a.site m.site can.conf read.at in
+    let by : CanRunBy options settings a = subst (λ (s : Settings). CanRunBy options s a) same (can_run_by options a can) in
+    run_by_never options settings m b r next (read_then options settings a m (λ i. (read.rest i).folder.told) read.at.same (λ i. (read.rest i).spawner.told) by)
+
+-- ---- both
+
+pub suite_never : (asked : Suite) (a b : Work) (r : Refusal) → PerformsSuite asked a b (Err r) → CanPerformSuite asked a → (refusal_code r ≡ 3 → ⊥) × (IsChildFault (Err r) → ⊥)
+suite_never (list patterns) a b r performs can = list_never patterns a b r performs can
+suite_never (run options) a b r performs can = run_never options a b r performs can

@@ -1,0 +1,87 @@
+-- What the steps of `run` and `list-tests` leave of the folder: all but the steps of its draft leave what reads give and
+-- what a stop leaves.
+use Rattle.std.proofs.Common.{◌≡◌, ℕ, zero, suc, Bool, true, false, Option, None, Some, List, Result, Ok, Err, ◌∙◌}
+use Rattle.edge_io.specs.Disk.{Folder}
+use Rattle.edge_io.specs.Seen.{Seen}
+use Rattle.edge_io.specs.Steps.{Goes}
+use Rattle.testr_conf.specs.Settings.{Settings}
+use Rattle.testr_cli.specs.Outside.{Work, work_site, work_spawner}
+use Rattle.testr_cli.specs.Perhaps.{Perhaps, not_asked, did, refused}
+use Rattle.testr_cli.specs.RunSuite.{ListsSuite}
+use Rattle.testr_cli.specs.Selecting.{UsesCalled, UsesAsked, CountsWorkers, Selects, Plans}
+use Rattle.testr_cli.specs.Steps.{Step, Then, stops, goes_on, Gives}
+use Rattle.testr_cli.specs.Suites.{RunOptions}
+use Rattle.testr_cli.specs.declared.answer.Verdict.{Verdict}
+use Rattle.testr_cli.specs.declared.answer.Refusal.{Refusal}
+use Rattle.testr_cli.specs.declared.selecting.Selected.{Selected}
+use Rattle.testr_cli.proofs.Resting.{Rests, rests_same, rests_of_stays}
+use Rattle.testr_cli.proofs.ChainLemmas.{IsQuiet, Quiet, then_quiet}
+use Rattle.testr_cli.proofs.StepLaws.{still_quiet}
+
+abbrev pub all : Work → Work
+all w = w
+
+pub beside_quiet : (a b : Work) → b.folder ≡ a.folder → IsQuiet a b
+beside_quiet a b same = rests_same a.folder.told b.folder.told (λ i. (same i).told)
+
+pub site_quiet : (a b : Work) → b ≡ work_site.put a b.site → IsQuiet a b
+site_quiet a b rest = beside_quiet a b (λ i. (rest i).folder)
+
+pub spawner_quiet : (a b : Work) → b ≡ work_spawner.put a b.spawner → IsQuiet a b
+spawner_quiet a b rest = beside_quiet a b (λ i. (rest i).folder)
+
+value_quiet : {A : Type 0} {value : A} (a b : Work) (result : Result A Refusal) → Gives value a b result → IsQuiet a b
+value_quiet a b result gives = still_quiet a b gives.same
+
+-- a step of the folder that is done where it is asked for
+perhaps_rests : {X A E : Type 0} {asked : Option X} {step : X → Step (Seen Folder) A E} → ((x : X) (a b : Seen Folder) (result : Result A E) → step x a b result → Goes a.told b.told Rests) → (a b : Seen Folder) (result : Result (Option A) E) → Perhaps asked step a b result → Goes a.told b.told Rests
+perhaps_rests rests a b result (not_asked none is same) = rests_same a.told b.told (λ i. (same i).told)
+perhaps_rests rests a b result (did x value asked is step) = rests x a b (Ok value) step
+perhaps_rests rests a b result (refused x fault asked is step) = rests x a b (Err fault) step
+
+called_quiet : (called : Option ℕ) → Quiet all (UsesCalled called)
+called_quiet (Some (suc less)) = value_quiet
+called_quiet (Some zero) = then_quiet all (λ a b r s. site_quiet a b s.rest) (λ number. value_quiet)
+called_quiet None = then_quiet all (λ a b r s. site_quiet a b s.rest) (λ number. value_quiet)
+
+asked_quiet : (settings : Settings) (asked : ℕ) → Quiet all (UsesAsked settings asked)
+asked_quiet settings (suc less) = value_quiet
+asked_quiet settings zero = then_quiet all (λ a b r s. spawner_quiet a b s.rest) called_quiet
+
+workers_quiet : (settings : Settings) (parallel : Bool) (asked : ℕ) → Quiet all (CountsWorkers settings parallel asked)
+workers_quiet settings false asked = value_quiet
+workers_quiet settings true asked = asked_quiet settings asked
+
+pub select_quiet : (settings : Settings) (options : RunOptions) → Quiet all (Selects settings options)
+select_quiet settings options =
+    then_quiet all (λ a b r s. site_quiet a b s.rest) (λ listed.
+    then_quiet all (λ a b r s. perhaps_rests (λ _ x y found step. rests_of_stays x.told y.told step.same) a.folder b.folder r s.at) (λ failing.
+    then_quiet all (workers_quiet settings options.parallel options.concurrency) (λ workers.
+    then_quiet all (λ a b r s. spawner_quiet a b s.rest) (λ listing.
+    then_quiet all (λ a b r s. still_quiet a b s.same) (λ ids.
+    value_quiet)))))
+
+pub plan_quiet : (settings : Settings) (selected : Selected) → Quiet all (Plans settings selected)
+plan_quiet settings selected =
+    then_quiet all (λ a b r s. perhaps_rests (λ _ x y found step. rests_of_stays x.told y.told step.same) a.folder b.folder r s.at) (λ times.
+    then_quiet all (λ a b r s. still_quiet a b s.same) (λ shares.
+    then_quiet all (λ a b r s. still_quiet a b s.same) (λ jobs.
+    value_quiet)))
+
+-- ---- steps that leave the folder as it is
+
+abbrev pub SameFolder : Work → Work → Type 0
+SameFolder a b = b.folder ≡ a.folder
+
+then_same : {A B E R : Type 0} {name : E → R} {first : Step Work A E} {second : A → Step Work B R} → ((a b : Work) (result : Result A E) → first a b result → SameFolder a b) → ((v : A) (a b : Work) (result : Result B R) → second v a b result → SameFolder a b) → (a b : Work) (result : Result B R) → Then name first second a b result → SameFolder a b
+then_same same rest a b result (stops fault is step) = same a b (Err fault) step
+then_same same rest a b result (goes_on v m step next) = rest v m b result next ∙ same a m (Ok v) step
+
+pub list_same : (patterns : List (List ℕ)) (a b : Work) (result : Result Verdict Refusal) → ListsSuite patterns a b result → SameFolder a b
+list_same patterns =
+    then_same (λ a b r s i. (s.rest i).folder) (λ settings.
+    then_same (λ a b r s i. (s.same i).folder) (λ _.
+    then_same (λ a b r s i. (s.rest i).folder) (λ ids.
+    then_same (λ a b r s i. (s.same i).folder) (λ text.
+    then_same (λ a b r s i. (s.rest i).folder) (λ _ a b r s i.
+    (s.same i).folder)))))

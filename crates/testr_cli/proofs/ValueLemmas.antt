@@ -1,0 +1,54 @@
+-- What the options with a value say.
+use Rattle.std.proofs.Common.{◌≡◌, ◌≤◌, ℕ, Bool, true, false, List, [], ◌∷◌, ◌++◌, map, Option, None, Some, Result, Ok, refl, sym, ap, ◌∙◌, arith}
+use Rattle.std.specs.Prelude.{◌&&◌, nat_le}
+use Rattle.std.specs.Fmt.{decimal}
+use Rattle.std.specs.List.{list_all, flat_map}
+use Rattle.std.specs.Str.{bytes_eq}
+use Rattle.std.specs.Str.Parse.{digits_value}
+use Rattle.std.proofs.lemmas.Bool.{cond-true, cond-false, cases_cond, le-leb, leb-true, and_parts, and_from, false_from_ne_true}
+use Rattle.std.proofs.lemmas.Fmt.{decimal_is_IsNumeral}
+use Rattle.std.proofs.lemmas.List.Folds.{list_all-append}
+use Rattle.std.proofs.lemmas.Slice.Eq.{bytes_eq-Decides}
+use Rattle.std.specs.Option.{option_to_list}
+use Rattle.command_words.specs.Code.{shown}
+use Rattle.command_words.specs.declared.item.Item as code
+use Rattle.testr_cli.specs.Words.{concurrency_word, value_of, values_in, last_of, is_worker_count, worker_count, count_or_zero, workers_in}
+
+-- what is written as a number up to 64 tells that number
+pub tells : (value : List ℕ) (number : ℕ) → number ≤ 64 → value ≡ decimal number → Some number ≡ worker_count value
+tells value number few is =
+    let same : digits_value 10 value ≡ number = ap (digits_value 10) is ∙ (decimal_is_IsNumeral number (omega (arith, few))).1 in
+    let written : bytes_eq value (decimal (digits_value 10 value)) ≡ true = (bytes_eq-Decides value (decimal (digits_value 10 value))).1 (is ∙ ap decimal (sym same)) in
+    let small : nat_le (digits_value 10 value) 64 ≡ true = le-leb (digits_value 10 value) 64 (omega (arith, same, few)) in
+    let counts : is_worker_count value ≡ true = and_from (bytes_eq value (decimal (digits_value 10 value))) (nat_le (digits_value 10 value) 64) written small in
+    ap Some (sym same) ∙ sym (cond-true (is_worker_count value) (Some (digits_value 10 value)) None counts)
+
+-- and what is written as no such number tells none
+pub tells_none : (value : List ℕ) → ((number : ℕ) → number ≤ 64 → value ≡ decimal number → ⊥) → None ≡ worker_count value
+tells_none value other =
+    let counts_not : is_worker_count value ≡ false = false_from_ne_true (is_worker_count value) (λ counts.
+    let parts = and_parts (bytes_eq value (decimal (digits_value 10 value))) (nat_le (digits_value 10 value) 64) counts in
+    other (digits_value 10 value) (leb-true (digits_value 10 value) 64 parts.1) ((bytes_eq-Decides value (decimal (digits_value 10 value))).0 parts.0)) in
+    sym (cond-false (is_worker_count value) (Some (digits_value 10 value)) None counts_not)
+
+-- each of all is fit where those of each item are
+pub all_of_each : {A B C : Type 0} (p : C → Bool) (f : B → List C) (g : A → B) (xs : List A) → list_all p (flat_map f (map g xs)) ≡ list_all (λ x. list_all p (f (g x))) xs
+all_of_each p f g [] = refl
+all_of_each p f g (x ∷ xs) = list_all-append p (f (g x)) (flat_map f (map g xs)) ∙ ap (λ b. list_all p (f (g x)) && b) (all_of_each p f g xs)
+
+module _ (items : List code.Item) (all : Bool) (is : all ≡ list_all (λ item. list_all is_worker_count (option_to_list (value_of concurrency_word (shown item)))) items) where
+  whole : list_all is_worker_count (values_in concurrency_word (map shown items)) ≡ all
+  whole = all_of_each is_worker_count (λ item. option_to_list (value_of concurrency_word item)) shown items ∙ sym is
+
+  -- one of the values is no number
+  pub none_counted : all ≡ false → None ≡ workers_in (map shown items)
+  none_counted not_all = sym (cond-false (list_all is_worker_count (values_in concurrency_word (map shown items))) (count_or_zero (last_of (values_in concurrency_word (map shown items)))) None (whole ∙ not_all))
+
+  -- each is one, and the last of them stands
+  pub last_counts : all ≡ true → (last : Option (List ℕ)) (answer : Option ℕ) → last ≡ last_of (values_in concurrency_word (map shown items)) → answer ≡ count_or_zero last → answer ≡ workers_in (map shown items)
+  last_counts each last answer stands counts =
+      counts ∙ ap count_or_zero stands
+      ∙ sym (cond-true (list_all is_worker_count (values_in concurrency_word (map shown items))) (count_or_zero (last_of (values_in concurrency_word (map shown items)))) None (whole ∙ each))
+
+pub ok_same : {E : Type 0} (r : Result ℕ E) (m n : ℕ) → r ≡ Ok m → r ≡ Ok n → m ≡ n
+ok_same r m n first second = cc

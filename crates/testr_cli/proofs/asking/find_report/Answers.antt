@@ -1,0 +1,12 @@
+use Rattle.std.proofs.Common.{◌∙◌, sym}
+use Rattle.testr_cli.proofs.asking.find_report.Goals as goal
+
+pub returns : goal.returns
+returns g c =
+    let name = sym (c.into_shelf.ensures.same_reference ∙ c.report_at-report.ensures.same_reference ∙ c.attach-store.ensures.same_reference) in
+    let tie = sym (c.shelf-1.given.1 name ∙ c.hand_back.ensures ∙ c.into_shelf.ensures.same) in
+    record {
+      report = rw c.attach-store.ensures.same at c.report_at-report.ensures.report;
+      same = rw tie at (rw c.attach-store.ensures.same at c.report_at-report.ensures.same);
+      count = rw tie at (rw c.attach-store.ensures.same at c.report_at-report.ensures.count);
+    }

@@ -1,0 +1,82 @@
+-- `testr run` and `testr list-tests`, as the chains of their steps.
+use Rattle.std.specs.Prelude.{◌≡◌, ℕ, Bool, None, List, length, Result, Ok, Err, IfOk}
+use Rattle.edge_io.specs.declared.job.Job.{Job}
+use Rattle.run_shelf.specs.Holds.{kinds_of}
+use Rattle.sub_number.specs.declared.memory.NoMemory.{NoMemory}
+use Rattle.testr_conf.specs.Jobs.{id_lines}
+use Rattle.testr_conf.specs.Settings.{Settings}
+use Rattle.suite_plan.specs.ConfFile.{ReadsConf}
+use Rattle.suite_plan.specs.Choosing.{Ids, chosen_of}
+use Rattle.suite_plan.specs.Listing.{ListsTests}
+use Rattle.suite_plan.specs.Patterns.{Compiles}
+use Rattle.suite_run.specs.Recording.{RecordsLanes}
+use Rattle.suite_run.specs.Starting.{StartsLanes}
+use Rattle.testr_cli.specs.Asking.{FindsReport}
+use Rattle.testr_cli.specs.Outside.{Work, work_folder, work_site, work_spawner, work_out}
+use Rattle.testr_cli.specs.Reporting.{Prints}
+use Rattle.testr_cli.specs.Selecting.{Selects, Plans}
+use Rattle.testr_cli.specs.Steps.{Step, Then, Still, Gives, At}
+use Rattle.testr_cli.specs.Store.{Opens, TakesRun, Begins, Keeps}
+use Rattle.testr_cli.specs.Suites.{RunOptions, is_partial}
+use Rattle.suite_plan.specs.declared.patterns.Compiled.{Compiled}
+use Rattle.testr_cli.specs.declared.run.Asked.{Asked}
+use Rattle.testr_cli.specs.declared.answer.Verdict.{Verdict}
+use Rattle.testr_cli.specs.declared.answer.Verdict.TheVariants.{Passed}
+use Rattle.testr_cli.specs.declared.answer.Refusal.{Refusal}
+use Rattle.testr_cli.specs.declared.answer.Refusal.TheVariants.{Conf, Open, Runs, Pattern, Listing, Memory, Start, Lanes, Keep, Reread, Print}
+
+-- ---- `list-tests`
+
+-- of the tests listed, those in which a pattern is found, each on a line
+pub record WritesIds (patterns ids : Ids) (result : Result (List ℕ) NoMemory) : Type 0 where
+  pub lines : IfOk result (λ text. text ≡ id_lines (chosen_of patterns ids))
+
+-- what is done with a configuration
+abbrev pub ListsBy : Ids → Settings → Step Work Verdict Refusal
+ListsBy patterns settings =
+    Then Pattern (Still (Compiles patterns None)) (λ _.
+    Then Listing (At work_spawner (ListsTests settings)) (λ ids.
+    Then Memory (Still (WritesIds patterns ids)) (λ text.
+    Then Print (At work_out (Prints text)) (λ _.
+    Gives Passed))))
+
+abbrev pub ListsSuite : Ids → Step Work Verdict Refusal
+ListsSuite patterns = Then Conf (At work_site ReadsConf) (ListsBy patterns)
+
+-- ---- `run`
+
+-- The workers are started, each with its job, and read to their ends, side by side; what is recorded of them becomes the
+-- run of this number.
+abbrev pub Works : (partial : Bool) → (number : ℕ) → List Job → Step Work (Unit {0}) Refusal
+Works partial number jobs =
+    Then Keep (At work_folder Begins) (λ _.
+    Then Start (At work_spawner (StartsLanes jobs)) (λ rests.
+    Then Lanes (At work_folder (RecordsLanes rests)) (λ _.
+    Then Keep (At work_folder (Keeps partial number)) (λ _.
+    Gives tt))))
+
+-- the run of this number is read, and its report is printed
+abbrev pub TellsRun : (number : ℕ) → (filter_tags : Ids) → Step Work Verdict Refusal
+TellsRun number filter_tags =
+    Then Reread (At work_folder (FindsReport number filter_tags)) (λ report.
+    Then Print (At work_out (Prints report.text.items)) (λ _.
+    Gives report.verdict))
+
+-- the answer, of what is asked the patterns alone
+abbrev pub compiled_in : {E : Type 0} → Result Asked E → Result Compiled E
+compiled_in (Ok asked) = Ok asked.compiled
+compiled_in (Err refusal) = Err refusal
+
+-- what is done with a configuration
+abbrev pub RunsBy : RunOptions → Settings → Step Work Verdict Refusal
+RunsBy options settings =
+    Then Open (At work_folder Opens) (λ found.
+    Then Runs (Still (TakesRun (length (kinds_of found)))) (λ _.
+    Then Pattern (Still (Compiles options.patterns settings.group_regex)) (λ _.
+    Then (λ refusal. refusal) (Selects settings options) (λ selected.
+    Then (λ refusal. refusal) (Plans settings selected) (λ jobs.
+    Then (λ refusal. refusal) (Works (is_partial options) (length (kinds_of found)) jobs) (λ _.
+    TellsRun (length (kinds_of found)) settings.filter_tags))))))
+
+abbrev pub RunsSuite : RunOptions → Step Work Verdict Refusal
+RunsSuite options = Then Conf (At work_site ReadsConf) (RunsBy options)

@@ -1,0 +1,216 @@
+-- What `testr` promises for the commands that start programs: `run` and `list-tests`. The first is the run theorem.
+use Rattle.std.specs.Prelude.{◌≡◌, ◌⊎◌, ⊤, ℕ, zero, suc, ◌≤◌, ◌<◌, nat_lt, pos, Bool, true, false, not, ◌&&◌, ◌||◌, is_some, Option, Some, None, IsSome, IfSome, IsSomeAnd, All, List, [], ◌∷◌, ◌++◌, length, Result, Ok, Err, IsOk}
+use Rattle.std.specs.List.{AllByRecursion}
+use Rattle.std.specs.Io.KnownBytes.{Appends}
+use Rattle.edge_io.specs.Children.{Output}
+use Rattle.edge_io.specs.Seen.{Seen}
+use Rattle.edge_io.specs.Spawners.{Spawning}
+use Rattle.edge_io.specs.Steps.{Goes}
+use Rattle.edge_io.specs.declared.child.Finish.TheVariants.{Exit}
+use Rattle.edge_io.specs.declared.job.Job.{Job}
+use Rattle.outcome_fold.specs.Answers.{status_of}
+use Rattle.outcome_fold.specs.Routes.{SaySame}
+use Rattle.outcome_fold.specs.Rows.{rows_of}
+use Rattle.packet_codec.specs.Canonical.{IsEvent, Fits}
+use Rattle.packet_codec.specs.Lanes.{IsOfLaneBelow, IsMerge, joined}
+use Rattle.packet_codec.specs.declared.event.Event.{Event}
+use Rattle.partition_times.specs.Patterns.{IsPattern}
+use Rattle.run_shelf.specs.Repository.{Run, Shows, most_runs}
+use Rattle.sub_text.specs.Texts.{report_of}
+use Rattle.suite_plan.specs.Calling.{TellsNumber}
+use Rattle.suite_plan.specs.Choosing.{Ids, chosen_of}
+use Rattle.suite_plan.specs.ConfFile.{GivesSettings}
+use Rattle.suite_plan.specs.Listing.{ListsSo}
+use Rattle.suite_plan.specs.LoadList.{IsLoadList}
+use Rattle.suite_plan.specs.Processors.{table_name}
+use Rattle.suite_plan.specs.Texts.{most_text}
+use Rattle.suite_plan.specs.declared.calling.CallRefusal.TheVariants as call
+use Rattle.suite_plan.specs.declared.listing.ListingRefusal.TheVariants as listing
+use Rattle.suite_run.specs.Starting.{StartsAll}
+use Rattle.testr_conf.specs.Jobs.{count_job_of, list_job_of, run_job_of, id_lines}
+use Rattle.testr_conf.specs.Settings.{Settings}
+use Rattle.worker_mux.specs.Outputs.{IsOutput, lists_from}
+use Rattle.testr_cli.specs.Answer.{place_in, may_have_placed}
+use Rattle.testr_cli.specs.Outside.{Outside, Work, work_of, work_folder, SomeRose, RisesAt}
+use Rattle.testr_cli.specs.Program.{GivesUp, KeepsRuns, AddsRun, Tells, Promises, PromisesOfFilters}
+use Rattle.testr_cli.specs.RunSuite.{ListsSuite, RunsSuite}
+use Rattle.testr_cli.specs.Runs.{HasRuns}
+use Rattle.testr_cli.specs.Selecting.{Selects, Plans}
+use Rattle.testr_cli.specs.Steps.{Step}
+use Rattle.testr_cli.specs.SuiteStops.{PassesSuite}
+use Rattle.testr_cli.specs.Suites.{Suite, list, run, RunOptions, is_partial, suite_of}
+use Rattle.testr_cli.specs.Words.{testr_word, and_then, command_of, asked_by}
+use Rattle.testr_cli.specs.declared.answer.Refusal.{Refusal}
+use Rattle.testr_cli.specs.declared.answer.Refusal.TheVariants.{Keep, Reread, Print, Call, Listing}
+use Rattle.testr_cli.specs.declared.answer.Verdict.{Verdict}
+use Rattle.testr_cli.specs.declared.selecting.Selected.{Selected}
+use Rattle.testr_cli.specs.declared.words.UsageFault.TheVariants.{Words}
+
+-- ---- the answer
+
+abbrev pub PerformsSuite : Suite → Step Work Verdict Refusal
+PerformsSuite (list patterns) = ListsSuite patterns
+PerformsSuite (run options) = RunsSuite options
+
+-- one outcome, which the steps of the command made, or memory was wanting for the words; and its line and its status
+pub record SuiteAnswers (asked : Suite) (before after : Outside) (answer : ℕ) : Type 0 where
+  pub outcome : Result Verdict Refusal
+  pub done : PerformsSuite asked (work_of before) (work_of after) outcome ⊎ GivesUp (work_of before) (work_of after) outcome
+  pub told : Tells outcome before.errors after.errors answer
+
+-- the program that lists the tests, or the one that tells how many workers there are, was not read to its end
+abbrev pub IsChildFault : Result Verdict Refusal → Type 0
+IsChildFault (Err (Call call.Child)) = ⊤
+IsChildFault (Err (Listing listing.Child)) = ⊤
+IsChildFault outcome = ⊥
+
+-- Whether a run may be shown that was not before: a run was done, or a call failed that was to give it its name, or that
+-- came behind. So it is of no other outcome.
+abbrev pub may_have_run : Suite → Result Verdict Refusal → Bool
+may_have_run (run options) (Ok verdict) = true
+may_have_run (run options) (Err (Keep fault)) = may_have_placed fault.call
+may_have_run (run options) (Err (Reread fault)) = true
+may_have_run (run options) (Err (Print fault)) = true
+may_have_run asked outcome = false
+
+-- ---- `list-tests`
+
+-- The listing of the project's own configuration gave these ids, those that are picked were printed, each on a line, and
+-- nothing else happened.
+pub record ListsAll (patterns : Ids) (before after : Work) (answer : ℕ) : Type 0 where
+  pub settings : Settings
+  pub conf : IfSome before.site.told (GivesSettings settings)
+  pub ids : Ids
+  pub listed : Goes before.spawner.told after.spawner.told (ListsSo settings ids)
+  pub printed : Appends before.out.told after.out.told (id_lines (chosen_of patterns ids))
+  pub status : answer ≡ 0
+  pub folder : after.folder ≡ before.folder
+  pub input : after.input ≡ before.input
+
+-- ---- `run`
+
+-- The run theorem. By the project's configuration tests were selected, and a job was made for each worker. These jobs were
+-- started; their outputs are the workers'. Whatever runs the folder showed, it shows one run more, and so does what each
+-- later stop leaves: its packets are those of events that are each under one of the lanes, and where the outputs are told
+-- they are a merge of what is recorded of each: all of it, once and in order under its lane. The report of the run's rows
+-- was printed and the status is theirs; both are those of the workers read one after another.
+pub record RunsAll (options : RunOptions) (before after : Work) (answer : ℕ) : Type 0 where
+  pub settings : Settings
+  pub conf : IfSome before.site.told (GivesSettings settings)
+  -- the folder was opened
+  pub opened : Work
+  pub opened_is : opened ≡ work_folder.put before opened.folder
+  -- the tests and the number of workers were selected
+  pub selected : Selected
+  pub selecting : Work
+  pub selects : Selects settings options opened selecting (Ok selected)
+  -- the jobs were made
+  pub jobs : List Job
+  pub few : length jobs ≤ 64
+  pub planning : Work
+  pub plans : Plans settings selected selecting planning (Ok jobs)
+  -- the workers
+  pub outputs : List Output
+  pub started : Goes planning.spawner.told after.spawner.told (StartsAll jobs outputs)
+  pub events : List Event
+  pub are_events : All IsEvent events
+  pub fit : All Fits events
+  pub of_lanes : All (IsOfLaneBelow (length jobs)) events
+  pub merged : IfSome before.spawner.told (λ _. AllByRecursion IsOutput outputs → IsMerge events (lists_from 0 outputs))
+  pub in_turn : IfSome before.spawner.told (λ _. AllByRecursion IsOutput outputs → SaySame events (joined (lists_from 0 outputs)))
+  -- the run, the report and the status
+  pub stored : Goes before.folder.told after.folder.told (AddsRun (is_partial options) events)
+  pub printed : IfSome before.folder.told (λ s. (runs : List Run) → Shows s.disk.published runs → Appends before.out.told after.out.told (report_of (rows_of events) (length runs) settings.filter_tags))
+  pub status : IfSome before.folder.told (λ _. answer ≡ status_of (rows_of events))
+  pub input : after.input ≡ before.input
+
+-- ---- completeness
+
+-- how many children are asked for the number of workers: one where the words leave it open and the project has a command
+-- that tells it, else none
+abbrev pub calls_by : (parallel : Bool) → (asked : ℕ) → (count_job : Option Job) → ℕ
+calls_by true zero (Some job) = 1
+calls_by parallel asked count_job = 0
+
+abbrev pub calls_of : RunOptions → Settings → ℕ
+calls_of options settings = calls_by options.parallel options.concurrency (count_job_of settings)
+
+-- the child behind so many others ends with 0
+abbrev pub EndsWell : ℕ → Spawning → Type 0
+EndsWell count s = (front : List Output) (output : Output) (later : List Output) → s.outputs ≡ front ++ output ∷ later → length front ≡ count → output.finish ≡ Exit (pos 0)
+
+-- the first child tells a number, where one is asked
+abbrev pub TellsCount : ℕ → Spawning → Type 0
+TellsCount zero s = ⊤
+TellsCount (suc more) s = (output : Output) (later : List Output) → s.outputs ≡ output ∷ later → (number : ℕ) × TellsNumber number output
+
+-- The tests may be listed: neither the failing set nor a file gives ids, and a pattern or, it may be, several workers want
+-- them.
+abbrev pub may_list : RunOptions → Bool
+may_list options = not options.failing && not (is_some options.load_list) && (nat_lt 0 (length options.patterns) || options.parallel)
+
+-- the workers may be given ids
+abbrev pub may_hand : RunOptions → Bool
+may_hand options = options.failing || (is_some options.load_list || may_list options)
+
+-- the configuration is there, its patterns are good, it has a listing, and the listing ends with 0
+pub record CanList (patterns : Ids) (before : Work) : Type 0 where
+  pub settings : Settings
+  pub conf : IsSomeAnd before.site.told (GivesSettings settings)
+  pub good : All IsPattern patterns
+  pub job : IsOk (list_job_of settings)
+  pub ends : IsSomeAnd before.spawner.told (EndsWell 0)
+
+-- The same of a run, whose tests need a listing only where they may be listed: there is room for one, the list of ids and
+-- the table of processors can be read, and ids can be handed to the workers where they may be given some.
+pub record CanRun (options : RunOptions) (before : Work) : Type 0 where
+  pub settings : Settings
+  pub conf : IsSomeAnd before.site.told (GivesSettings settings)
+  pub free : IsSomeAnd before.folder.told (λ s. (number : ℕ) × (number < most_runs) × HasRuns number s)
+  pub good : All IsPattern options.patterns
+  pub good_regex : IfSome settings.group_regex IsPattern
+  pub load_list : IfSome options.load_list (λ name. IsSomeAnd before.site.told (λ files. (ids : Ids) × IsLoadList name ids files))
+  pub table : IsSomeAnd before.site.told (λ files. IfSome (files table_name) (λ text. length text ≤ most_text))
+  pub count : IsSomeAnd before.spawner.told (TellsCount (calls_of options settings))
+  pub job : may_list options ≡ true → IsOk (list_job_of settings)
+  pub ends : may_list options ≡ true → IsSomeAnd before.spawner.told (EndsWell (calls_of options settings))
+  pub handed : may_hand options ≡ true → (ids : Ids) (lane : ℕ) → IsOk (run_job_of settings (Some ids) lane)
+
+-- no refusal of the command but a fault or want of memory has a cause
+abbrev pub CanPerformSuite : Suite → Work → Type 0
+CanPerformSuite (list patterns) = CanList patterns
+CanPerformSuite (run options) = CanRun options
+
+-- ---- the promises
+
+pub record SuitePromises (asked : Suite) (before after : Outside) (answer : ℕ) : Type 0 where
+  -- there is one outcome, which the command's steps made, and the status and the line on the errors' sink are its own
+  pub answers : SuiteAnswers asked before after answer
+  -- the count of that part's faults rose whose fault the outcome is, and no other
+  pub counts : RisesAt (place_in answers.outcome) (work_of before) (work_of after)
+  pub usage : answer ≡ 2 → ⊥
+  pub fault : answer ≡ 4 → SomeRose (work_of before) (work_of after) ⊎ IsChildFault answers.outcome
+  -- the runs that the folder showed it shows, and no other, unless a run was done or failed from the naming of its run on
+  pub kept : may_have_run asked answers.outcome ≡ false → Goes before.folder.told after.folder.told KeepsRuns
+  -- a stop at each moment leaves what one before the call might have left, or the files as reads gave them before the
+  -- call with the whole run
+  pub any_moment : Goes before.folder.told after.folder.told (PassesSuite asked before.spawner.told)
+  pub listed : (patterns : Ids) → asked ≡ list patterns → answer ≤ 1 → ListsAll patterns (work_of before) (work_of after) answer
+  pub ran : (options : RunOptions) → asked ≡ run options → answer ≤ 1 → RunsAll options (work_of before) (work_of after) answer
+  -- it does not give up without a cause
+  pub completeness : CanPerformSuite asked (work_of before) → (SomeRose (work_of before) (work_of after) → ⊥) → (answer ≤ 1) ⊎ (answer ≡ 5)
+
+-- what the words behind `testr` ask for of the tests of the project
+abbrev pub suite_asked_by : List (List ℕ) → Option Suite
+suite_asked_by words = and_then (command_of words) suite_of
+
+-- What `testr` promises for all its words: those that start programs, and all others, which leave the spawner.
+pub record TestrPromises (words : List (List ℕ)) (before after : Outside) (answer : ℕ) : Type 0 where
+  pub suite : (asked : Suite) → suite_asked_by words ≡ Some asked → SuitePromises asked before after answer
+  pub others : suite_asked_by words ≡ None → Promises true Words (asked_by words) before after answer × (after.spawner ≡ before.spawner)
+
+-- What each call of the program promises for all its words: what `testr` does for those behind its name, and for others
+-- what the filters do, which also say where words are neither.
+pub record ProgramPromises (words : List (List ℕ)) (before after : Outside) (answer : ℕ) : Type 0 where
+  pub testr : (behind : List (List ℕ)) → words ≡ testr_word ∷ behind → TestrPromises behind before after answer
+  pub filters : ((behind : List (List ℕ)) → words ≡ testr_word ∷ behind → ⊥) → PromisesOfFilters words before after answer

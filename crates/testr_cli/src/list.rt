@@ -1,0 +1,59 @@
+//! `testr list-tests`.
+
+ghost use Rattle.std.specs.Prelude.{◌≡◌, ℕ, List, IfOk};
+ghost use Rattle.edge_io.specs.Disk.{Folder};
+ghost use Rattle.edge_io.specs.Seen.{Seen};
+ghost use Rattle.suite_plan.specs.Choosing.{chosen_of};
+ghost use Rattle.testr_conf.specs.Jobs.{id_lines};
+ghost use Rattle.testr_cli.specs.Outside.{work};
+ghost use Rattle.testr_cli.specs.RunSuite.{ListsBy};
+
+use crate::reporting::print;
+use crate::{Refusal, Verdict};
+use edge_io::{Sink, Spawner};
+use partition_times::Filters;
+use std::alloc::Global;
+use sub_number::{IdList, NoMemory, Text};
+use suite_plan::{choose, compile, list_tests};
+use testr_conf::Conf;
+
+/// Prints the ids that the project's own listing tells of, those in which a pattern is found, or all where there is none,
+/// each once and on a line.
+pub fn list<'a, S: Spawner, O: Sink>(
+    alloc: Global,
+    patterns: &'a IdList,
+    conf: &Conf,
+    spawner: &mut S,
+    out: &mut O,
+) -> Result<Verdict, Refusal<'a>>
+    ensures { (folder : Seen Folder) → (site : _) → (input : Seen (List ℕ)) → ListsBy patterns.now conf.now
+        (work folder site (S.seen spawner.old) input (O.seen out.old))
+        (work folder site (S.seen spawner.new) input (O.seen out.new))
+        result }
+{
+    let compiled = compile(alloc, patterns, None)?;
+    let ids = list_tests(alloc, conf, spawner)?;
+    let text = picked_lines(alloc, &ids, &compiled.filters)?;
+    print(out, &text)?;
+    Ok(Verdict::Passed)
+}
+
+// The ids in which a pattern is found, each once and on a line.
+fn picked_lines(alloc: Global, ids: &IdList, patterns: &Filters) -> Result<Vec<u8>, NoMemory>
+    ensures { IfOk result (λ lines. lines.items ≡ id_lines (chosen_of patterns.now ids.now)) }
+{
+    let picked = choose(alloc, ids, patterns)?;
+    lines(alloc, picked.list())
+}
+
+// Each id on a line.
+fn lines(alloc: Global, ids: &[Text]) -> Result<Vec<u8>, NoMemory>
+    ensures { IfOk result (λ lines. lines.items ≡ id_lines ids.now) }
+{
+    let mut lines = Vec::new(alloc);
+    for id in ids {
+        lines.extend_from_slice(id.bytes())?;
+        lines.push(b'\n')?;
+    }
+    Ok(lines)
+}

@@ -1,0 +1,101 @@
+//! What each worker of a run is started with.
+
+ghost use Rattle.std.specs.Prelude.{◌≡◌, ◌≤◌, ◌⊎◌, ℕ, List, length, IfOk, IfErr, IfSome, OnOk};
+ghost use Rattle.suite_plan.specs.LaneJobs.{lane_jobs};
+ghost use Rattle.std.specs.Option.{option_map};
+ghost use Rattle.edge_io.specs.Seen.{Seen};
+ghost use Rattle.run_shelf.specs.Holds.{kinds_of, FitsWhereTold};
+ghost use Rattle.testr_cli.specs.Asking.{FindsTimes};
+ghost use Rattle.testr_cli.specs.Outside.{work};
+ghost use Rattle.testr_cli.specs.Perhaps.{when, Perhaps, in_list};
+ghost use Rattle.testr_cli.specs.Selecting.{Plans, shares_of_ids};
+
+use crate::Refusal;
+use crate::asking::find_times;
+use crate::selecting::Selected;
+use crate::told::TellFault;
+use edge_io::{Job, Shelf};
+use partition_times::Groups;
+use run_shelf::Found;
+use std::alloc::Global;
+use sub_number::{IdList, NoMemory, TimeMap};
+use suite_plan::{jobs_of_lanes, share_out};
+use testr_conf::{Conf, JobFault};
+
+/// The jobs of a run's workers, in order: 64 at most. The groups are those of the configuration.
+pub fn plan<H: Shelf>(
+    alloc: Global,
+    conf: &Conf,
+    groups: &Groups,
+    selected: &Selected,
+    shelf: &mut H,
+    found: &Found,
+) -> Result<Vec<Job>, Refusal<'static>>
+    requires groups { groups.now ≡ conf.now.group_regex }
+    requires range { (1 ≤ selected.now.workers) × (selected.now.workers ≤ 64) }
+    requires fits { FitsWhereTold (kinds_of found.now) (H.seen shelf.old).told }
+    ensures step { (site : _) → (spawner : _) → (input out : Seen (List ℕ)) → Plans conf.now selected.now
+        (work (H.seen shelf.old) site spawner input out)
+        (work (H.seen shelf.new) site spawner input out)
+        (in_list result) }
+    ensures few { IfOk result (λ jobs. length jobs.items ≤ 64) }
+    ensures fits { OnOk result (FitsWhereTold (kinds_of found.now) (H.seen shelf.new).told) }
+{
+    let times = known_times(alloc, selected.workers > 1, shelf, found)?;
+    let shares = divide(alloc, groups, &times, selected)?;
+    let jobs = jobs_of(alloc, conf, &shares)?;
+    Ok(jobs)
+}
+
+// The jobs of the shares, 64 at most, or that of all tests where there are none.
+fn jobs_of(alloc: Global, conf: &Conf, shares: &Option<Vec<IdList>>) -> Result<Vec<Job>, JobFault>
+    requires { IfSome shares.now (λ list. length list.items ≤ 64) }
+    ensures jobs { IfOk result (λ jobs. lane_jobs conf.now (option_map (λ list. list.items) shares.now) ≡ Ok jobs.items) }
+    ensures refused { IfErr result (λ fault. (lane_jobs conf.now (option_map (λ list. list.items) shares.now) ≡ Err fault) ⊎ (fault ≡ JobFault.NoMemory)) }
+    ensures few { IfOk result (λ jobs. length jobs.items ≤ 64) }
+{
+    match shares {
+        Some(shares) => jobs_of_lanes(alloc, conf, Some(shares.as_slice())),
+        None => jobs_of_lanes(alloc, conf, None),
+    }
+}
+
+// The times of the ids in all runs, where they are wanted.
+fn known_times<H: Shelf>(
+    alloc: Global,
+    wanted: bool,
+    shelf: &mut H,
+    found: &Found,
+) -> Result<Option<TimeMap>, TellFault>
+    requires { FitsWhereTold (kinds_of found.now) (H.seen shelf.old).told }
+    ensures step { Perhaps (when wanted) (λ _. FindsTimes) (H.seen shelf.old) (H.seen shelf.new) result }
+    ensures fits { OnOk result (FitsWhereTold (kinds_of found.now) (H.seen shelf.new).told) }
+{
+    if !wanted {
+        return Ok(None);
+    }
+    Ok(Some(find_times(alloc, shelf, found)?))
+}
+
+// The shares of the ids, where ids are given. Without times all are unknown.
+fn divide(
+    alloc: Global,
+    groups: &Groups,
+    times: &Option<TimeMap>,
+    selected: &Selected,
+) -> Result<Option<Vec<IdList>>, NoMemory>
+    requires range { (1 ≤ selected.now.workers) × (selected.now.workers ≤ 64) }
+    ensures shares { IfOk result (λ shares. option_map (λ list. list.items) shares ≡ shares_of_ids groups.now times.now selected.now) }
+    ensures few { IfOk result (λ shares. IfSome shares (λ list. length list.items ≤ 64)) }
+{
+    let Some(ids) = &selected.ids else {
+        return Ok(None);
+    };
+    let none = TimeMap::new(alloc);
+    let times = match times {
+        Some(times) => times,
+        None => &none,
+    };
+    let shares = share_out(alloc, ids, times, groups, selected.workers)?;
+    Ok(Some(shares))
+}

@@ -1,0 +1,127 @@
+//! `testr run`.
+
+ghost use Rattle.std.specs.Prelude.{◌≡◌, ◌<◌, ℕ, List, length, IfOk};
+ghost use Rattle.edge_io.specs.Seen.{Seen};
+ghost use Rattle.run_shelf.specs.Holds.{kinds_of, FitsWhereTold};
+ghost use Rattle.testr_cli.specs.Outside.{work};
+ghost use Rattle.testr_cli.specs.RunSuite.{RunsBy, TellsRun, compiled_in};
+ghost use Rattle.testr_cli.specs.Suites.{run_options, is_part};
+ghost use Rattle.suite_plan.specs.Patterns.{Compiles};
+
+use crate::asking::find_report;
+use crate::command::Command;
+use crate::planning::plan;
+use crate::reporting::print;
+use crate::selecting::select;
+use crate::store::{open, take_run};
+use crate::working::run_workers;
+use crate::{Refusal, Verdict};
+use edge_io::{Shelf, Sink, Site, Spawner};
+use packet_codec::Tags;
+use run_shelf::Found;
+use std::alloc::Global;
+use std::sync::Wait;
+use std::thread::Threads;
+use suite_plan::{Compiled, PatternRefusal, compile};
+use testr_conf::Conf;
+
+/// Runs the tests that the command selects, by the project's configuration, in worker processes that are read side by side;
+/// keeps what is recorded of them as the next run; and prints the run's report. It may wait for the workers.
+pub fn run<'a, R: Threads + Wait + Sync, H: Shelf, S: Spawner, F: Site, O: Sink>(
+    rt: &R,
+    alloc: Global,
+    command: &'a Command,
+    conf: &'a Conf,
+    shelf: &mut H,
+    spawner: &mut S,
+    site: &mut F,
+    out: &mut O,
+) -> Result<Verdict, Refusal<'a>>
+    ensures { (input : Seen (List ℕ)) → RunsBy (run_options command.now) conf.now
+        (work (H.seen shelf.old) (F.seen site.old) (S.seen spawner.old) input (O.seen out.old))
+        (work (H.seen shelf.new) (F.seen site.new) (S.seen spawner.new) input (O.seen out.new))
+        result }
+{
+    let found = open(alloc, shelf)?;
+    take_run(&found)?;
+    let number = found.runs();
+    let asked = read_asked(alloc, command, conf)?;
+    let selected = select(
+        alloc,
+        conf,
+        command,
+        &asked.compiled.filters,
+        shelf,
+        &found,
+        spawner,
+        site,
+    )?;
+    let jobs = plan(
+        alloc,
+        conf,
+        &asked.compiled.groups,
+        &selected,
+        shelf,
+        &found,
+    )?;
+    let kept = run_workers(rt, alloc, &jobs, asked.partial, shelf, found, spawner)?;
+    tell_run(alloc, number, conf.filter_tags(), shelf, kept, out)
+}
+
+// What the command and the configuration say before anything is read.
+#[derive(Drop)]
+struct Asked {
+    // The patterns of the command and the regex of the configuration's groups.
+    compiled: Compiled,
+    // The run is of a part of the tests.
+    partial: bool,
+}
+
+fn read_asked<'a>(
+    alloc: Global,
+    command: &'a Command,
+    conf: &'a Conf,
+) -> Result<Asked, PatternRefusal<'a>>
+    ensures compiled { Compiles command.now.names conf.now.group_regex (compiled_in result) }
+    ensures partial { IfOk result (λ asked. asked.partial ≡ is_part command.now.partial command.now.failing command.now.load_list command.now.names) }
+{
+    let partial = is_partial(command);
+    match compile(alloc, &command.names, conf.group_regex()) {
+        Ok(compiled) => Ok(Asked { compiled, partial }),
+        Err(refusal) => Err(refusal),
+    }
+}
+
+// Whether the run is of a part of the tests: it is called so, or its tests are chosen.
+fn is_partial(command: &Command) -> bool
+    ensures { result ≡ is_part command.now.partial command.now.failing command.now.load_list command.now.names }
+{
+    command.partial
+        || command.failing
+        || command.load_list.is_some()
+        || !command.names.list().is_empty()
+}
+
+// Reads the run of this number, which there must be, and prints its report.
+fn tell_run<H: Shelf, O: Sink>(
+    alloc: Global,
+    number: u32,
+    filter_tags: &Tags,
+    shelf: &mut H,
+    found: Found,
+    out: &mut O,
+) -> Result<Verdict, Refusal<'static>>
+    requires known { number < length (kinds_of found) }
+    requires fits { FitsWhereTold (kinds_of found) (H.seen shelf.old).told }
+    ensures { (site : _) → (spawner : _) → (input : Seen (List ℕ)) → TellsRun number filter_tags.now
+        (work (H.seen shelf.old) site spawner input (O.seen out.old))
+        (work (H.seen shelf.new) site spawner input (O.seen out.new))
+        result }
+{
+    let report = match find_report(alloc, shelf, found, number, filter_tags) {
+        Ok(report) => report,
+        Err(fault) => return Err(Refusal::Reread(fault)),
+    };
+    print(out, &report.text)?;
+    Ok(report.verdict)
+}
