@@ -83,7 +83,7 @@ def kept(names, route=b"0"):
 
 def run(folder, *words, given=b"", before=(), limit=LIMIT, **how):
     """The status, the output and the errors of `testr WORDS..` in this folder."""
-    how = {"input": given} if "stdin" not in how else how
+    how = how if "stdin" in how else {"input": given, **how}
     try:
         done = subprocess.run([*before, PROGRAM, "testr", *words], cwd=folder, capture_output=True, timeout=limit, **how)
     except subprocess.TimeoutExpired:
