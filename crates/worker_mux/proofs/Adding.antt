@@ -1,6 +1,7 @@
 -- What is added to a run follows what was taken.
 use Rattle.std.proofs.Common.{◌≡◌, ℕ, ◌≤◌, List, [], ◌∷◌, ◌++◌, Bool, true, false, ◌⊎◌, ⊎_elim, inl, inr, refl, sym, ◌∙◌, ap, subst, append_assoc, arith}
 use Rattle.std.specs.Prelude.{Option, None, Some, IfSome, IsSome}
+use Rattle.std.specs.List.{AllByRecursion}
 use Rattle.std.specs.Option.{option_map}
 use Rattle.std.proofs.lemmas.List.{append-nil}
 use Rattle.edge_io.specs.Causes.{Rose}
@@ -13,11 +14,15 @@ use Rattle.run_shelf.specs.Images.{PassesOld}
 use Rattle.run_shelf.specs.Stores.{IsRecording, RecordsUnlessBroken}
 use Rattle.run_shelf.specs.declared.faults.ShelfCall.{ShelfCall}
 use Rattle.run_shelf.specs.declared.faults.ShelfCall.TheVariants.{Append}
+use Rattle.worker_lane.specs.declared.lot.Ending.TheVariants.{NoMemory}
 use Rattle.worker_lane.specs.declared.lot.Lot.{Lot}
-use Rattle.worker_mux.specs.Callers.{GoesOn, HasAdded, KeepsTape, IsOpen, Tape, packet_of, recorded}
-use Rattle.worker_mux.specs.Passes.{lane_count, lots_taken}
+use Rattle.worker_lane.specs.declared.lot.Lot.TheVariants.{End}
+use Rattle.worker_mux.specs.Callers.{GoesOn, HasAdded, IsCaller, KeepsTape, IsOpen, Tape, packet_of, piece_of, pieces_of, recorded}
+use Rattle.worker_mux.specs.Passes.{lane_count, lots_taken, IsTakerFor}
+use Rattle.worker_mux.specs.declared.belt.Belt.{Belt}
 use Rattle.worker_mux.specs.declared.caller.Caller.{Caller}
 use Rattle.worker_mux.specs.declared.knowledge.Parcel.{Parcel}
+use Rattle.worker_mux.proofs.Lists.{all_more}
 
 -- ---- one step of the folder after another
 
@@ -186,7 +191,7 @@ still_fits kinds old new keeps fits without =
 
 -- ---- the one that records goes on
 
-pub goes_same : (caller : Caller) (t : Tape) → GoesOn caller caller t t
+pub goes_same : {L : Type 0} (caller : Caller L) (t : Tape) → GoesOn caller caller t t
 goes_same caller t = record {
   count = refl;
   memory = λ so. so;
@@ -194,7 +199,7 @@ goes_same caller t = record {
   added = λ start so_far. so_far;
 }
 
-pub goes_then : (a b c : Caller) (x y z : Tape) → GoesOn a b x y → GoesOn b c y z → GoesOn a c x z
+pub goes_then : {L : Type 0} (a b c : Caller L) (x y z : Tape) → GoesOn a b x y → GoesOn b c y z → GoesOn a c x z
 goes_then a b c x y z first second = record {
   count = second.count ∙ first.count;
   memory = λ so. first.memory (second.memory so);
@@ -208,7 +213,7 @@ recorded_more (q ∷ qs) p =
     ap (λ l. packet_of q.lot ++ l) (recorded_more qs p) ∙ sym (append_assoc (packet_of q.lot) (recorded qs) (packet_of p.lot))
 
 -- a lot was taken and added
-pub goes_one : (before after : Caller) (old new : Tape) (lane : ℕ) (lot : Lot)
+pub goes_one : {L : Type 0} (before after : Caller L) (old new : Tape) (lane : ℕ) (lot : Lot)
     → lane_count after.taker ≡ lane_count before.taker
     → lots_taken after.taker ≡ lots_taken before.taker ++ record { lane = lane; lot = lot } ∷ []
     → (after.no_memory ≡ false → before.no_memory ≡ false)
@@ -226,10 +231,33 @@ goes_one before after old new lane lot count taken memory keeps added = record {
 }
 
 -- a lane was settled
-pub goes_settled : (before after : Caller) → lane_count after.taker ≡ lane_count before.taker → lots_taken after.taker ≡ lots_taken before.taker → after.no_memory ≡ before.no_memory → (now : Tape) → GoesOn before after now now
+pub goes_settled : {L : Type 0} (before after : Caller L) → lane_count after.taker ≡ lane_count before.taker → lots_taken after.taker ≡ lots_taken before.taker → after.no_memory ≡ before.no_memory → (now : Tape) → GoesOn before after now now
 goes_settled before after count taken memory now = record {
   count = count;
   memory = λ so. sym memory ∙ so;
   keeps = tape_same now;
   added = λ start so_far works. subst (λ (l : List Parcel). Goes start now.folder.told (Grown (recorded l))) (sym taken) (so_far works);
 }
+
+-- ---- and knows what was heard
+
+pieces_more : (ps : List Parcel) (p : Parcel) → pieces_of (ps ++ p ∷ []) ≡ pieces_of ps ++ piece_of p.lot
+pieces_more [] p = append-nil (piece_of p.lot)
+pieces_more (q ∷ qs) p = ap (λ l. piece_of q.lot ++ l) (pieces_more qs p) ∙ sym (append_assoc (piece_of q.lot) (pieces_of qs) (piece_of p.lot))
+
+-- a lot was taken, added and heard
+pub caller_one : {L : Type 0} (hears : L → List (List ℕ) → Type 0) (belt : Belt) (before after : Caller L) (lane : ℕ) (lot : Lot)
+    → IsCaller hears belt before
+    → IsTakerFor belt after.taker
+    → lots_taken after.taker ≡ lots_taken before.taker ++ record { lane = lane; lot = lot } ∷ []
+    → (after.no_memory ≡ false → before.no_memory ≡ false)
+    → (after.no_memory ≡ false → lot ≡ End NoMemory → ⊥)
+    → ((pieces : List (List ℕ)) → hears before.listener pieces → after.no_memory ≡ false → hears after.listener (pieces ++ piece_of lot))
+    → IsCaller hears belt after
+caller_one hears belt before after lane lot ready taker taken memory well heard =
+    let parcel : Parcel = record { lane = lane; lot = lot } in
+    record {
+      taker = taker;
+      well = λ so. subst (AllByRecursion (λ p. p.lot ≡ End NoMemory → ⊥)) (sym taken) (all_more (λ p. p.lot ≡ End NoMemory → ⊥) (lots_taken before.taker) parcel (ready.well (memory so)) (well so));
+      heard = λ so. subst (hears after.listener) (sym (pieces_more (lots_taken before.taker) parcel) ∙ ap pieces_of (sym taken)) (heard (pieces_of (lots_taken before.taker)) (ready.heard (memory so)) so);
+    }

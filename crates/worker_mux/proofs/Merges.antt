@@ -1,10 +1,11 @@
 -- What was added is the packets of each lane's events, merged.
 use Rattle.std.proofs.Common.{◌≡◌, ◌≢◌, ℕ, zero, suc, ◌+◌, ◌<◌, ◌≤◌, List, [], ◌∷◌, ◌++◌, map, length, cond, eqb, Bool, true, false, slice_index_or, inl, inr, refl, sym, ◌∙◌, ap, subst, arith}
-use Rattle.std.specs.Prelude.{Option, None, Some, IfSome, All}
+use Rattle.std.specs.Prelude.{Option, None, Some, IfSome, All, Result, IfOk}
 use Rattle.std.specs.List.{AllByRecursion, flat_map, range_with_len, filter}
 use Rattle.std.proofs.lemmas.Bool.{cases_eq}
 use Rattle.std.proofs.lemmas.Bool.Decides.{nat_tests}
 use Rattle.std.proofs.lemmas.List.{append-nil, length-map}
+use Rattle.std.proofs.lemmas.Result.{IfOk-weaker}
 use Rattle.std.proofs.lemmas.List.Elements.{All-nil, All-cons, All-head, All-tail, filter-append}
 use Rattle.edge_io.specs.Children.{Output}
 use Rattle.edge_io.specs.Disk.{Folder}
@@ -21,16 +22,17 @@ use Rattle.packet_codec.proofs.GrammarLemmas.{fits_from_are}
 use Rattle.packet_codec.proofs.MergeLemmas.{under_is_in_lane, in_one_lane}
 use Rattle.packet_codec.proofs.PacketLemmas.{one_event}
 use Rattle.packet_codec.proofs.SpellingLemmas.{canonical_spells}
+use Rattle.run_shelf.specs.declared.faults.ShelfCall.{ShelfCall}
 use Rattle.worker_lane.specs.Endings.{IsPacketOf}
 use Rattle.worker_lane.specs.Lanes.{rest, lane_number}
 use Rattle.worker_lane.specs.declared.lane.Lane.{Lane}
 use Rattle.worker_lane.specs.declared.lot.Ending.TheVariants.{NoMemory}
 use Rattle.worker_lane.specs.declared.lot.Lot.{Lot}
 use Rattle.worker_lane.specs.declared.lot.Lot.TheVariants.{Packet, End}
-use Rattle.worker_mux.specs.Callers.{GoesOn, HasAdded, Tape, packet_of, recorded}
+use Rattle.worker_mux.specs.Callers.{GoesOn, HasAdded, Tape, packet_of, recorded, piece_of, pieces_of}
 use Rattle.worker_mux.specs.Passes.{lane_count, lots_taken, settled_lanes, HasAll, IsOfLanes}
 use Rattle.worker_mux.specs.Rule.{lots_of}
-use Rattle.worker_mux.specs.Runs.{packets_of, ArePacketsOf, AreEventsOf, HaveEvents, AddsMerge, IsRecorded, share, first_share}
+use Rattle.worker_mux.specs.Runs.{packets_of, ArePacketsOf, AreEventsOf, HaveEvents, AddsMerge, HearsMerge, IsRecorded, share, first_share}
 use Rattle.worker_mux.specs.Works.{AllWell, IsOwn, Pairs, IsEntryOf, Settles}
 use Rattle.worker_mux.specs.declared.caller.Caller.{Caller}
 use Rattle.worker_mux.specs.declared.knowledge.Parcel.{Parcel}
@@ -109,6 +111,25 @@ bytes_of_events (p ∷ ps) own = one p.lane p.lot own.0 (recorded ps) (events_of
     one : (lane : ℕ) (lot : Lot) (is : IsOwn lane lot) (bytes : List ℕ) (events : List Event) → bytes ≡ flat_map canonical events → packet_of lot ++ bytes ≡ flat_map canonical (event_of lane lot is ++ events)
     one lane (Packet packet) is bytes events same = ap (λ (l : List ℕ). l ++ bytes) is.0.packet_is ∙ ap (λ (l : List ℕ). canonical (under lane is.0.event) ++ l) same
     one lane (End how) is bytes events same = same
+
+-- each event in a group of its own
+abbrev alone : List Event → List (List Event)
+alone events = map (λ e. e ∷ []) events
+
+joined : (events : List Event) → flat_map (λ group. group) (alone events) ≡ events
+joined [] = refl
+joined (e ∷ events) = ap (λ l. e ∷ l) (joined events)
+
+-- what was heard are the packets of the events, one in each piece
+pieces_of_events : (ps : List Parcel) (own : AllOwn ps) → pieces_of ps ≡ map (flat_map canonical) (alone (events_of ps own))
+pieces_of_events [] own = refl
+pieces_of_events (p ∷ ps) own = one p.lane p.lot own.0 (pieces_of ps) (events_of ps own.1) (pieces_of_events ps own.1)
+  where
+    one : (lane : ℕ) (lot : Lot) (is : IsOwn lane lot) (pieces : List (List ℕ)) (events : List Event) → pieces ≡ map (flat_map canonical) (alone events) → piece_of lot ++ pieces ≡ map (flat_map canonical) (alone (event_of lane lot is ++ events))
+    one lane (Packet packet) is pieces events same =
+        let first : packet ≡ canonical (under lane is.0.event) ++ [] = is.0.packet_is ∙ sym (append-nil (canonical (under lane is.0.event))) in
+        λ i. first i ∷ same i
+    one lane (End how) is pieces events same = same
 
 -- what holds of each event that is in a packet of its lane
 all_of_taken : (P : Event → Type 0) → ((lane : ℕ) (packet : List ℕ) (is : IsPacketOf lane packet) → AreBytes packet → P (under lane is.event)) → (ps : List Parcel) (own : AllOwn ps) → All P (events_of ps own)
@@ -222,39 +243,61 @@ module _ {C : Type 0} (seen : C → Seen Output) where
   each_told taken well (lane ∷ lanes) (s ∷ table) k numbers pairs accounts (suc n) j within is =
       each_told taken well lanes table (k + 1) (others (lane_number lane) k (map lane_number lanes) (range_with_len (k + 1) (length lanes)) numbers) pairs.1 accounts.1 n j (omega arith) (omega arith)
 
-  pub merged_of : (lanes : List (Lane C)) (works : List (Work C)) (count : ℕ) (old new : Option Folder) → length lanes ≤ 64 → map lane_number lanes ≡ range_with_len 0 (length lanes) → count ≡ length lanes
-      → map (share seen) works ≡ map (first_share seen) lanes → IsRecorded seen count works old new → AddsMerge (map (rest seen) lanes) old new
-  merged_of lanes works count old new few numbers counted shares all =
+  -- all that was taken is of its lanes
+  taken_own : (hears : List (List ℕ) → Type 0) (lanes : List (Lane C)) (works : List (Work C)) (count : ℕ) (old new : Option Folder) → map lane_number lanes ≡ range_with_len 0 (length lanes) → count ≡ length lanes
+      → map (share seen) works ≡ map (first_share seen) lanes → (all : IsRecorded seen hears count works old new) → AllOwn all.taken
+  taken_own hears lanes works count old new numbers counted shares all =
       let pairs : Pairs IsOf (map (first_share seen) lanes) all.table = subst (λ (l : List (ℕ × Option (List Lot))). Pairs IsOf l all.table) shares (pairs_of works all.table all.entries) in
-      let own : AllOwn all.taken = all_own count all.taken (λ n within. each_own all.taken lanes all.table 0 numbers pairs all.accounts n n (omega (arith, counted)) (omega arith)) all.of_lanes in
+      all_own count all.taken (λ n within. each_own all.taken lanes all.table 0 numbers pairs all.accounts n n (omega (arith, counted)) (omega arith)) all.of_lanes
+
+  -- the events of what was taken are a merge of those of the lanes
+  merged_of : (hears : List (List ℕ) → Type 0) (lanes : List (Lane C)) (works : List (Work C)) (count : ℕ) (old new : Option Folder) → length lanes ≤ 64 → map lane_number lanes ≡ range_with_len 0 (length lanes) → count ≡ length lanes
+      → map (share seen) works ≡ map (first_share seen) lanes → (all : IsRecorded seen hears count works old new) → (own : AllOwn all.taken) → (merge : AddsMerge (map (rest seen) lanes) old new) × (events_of all.taken own ≡ merge.events)
+  merged_of hears lanes works count old new few numbers counted shares all own =
+      let pairs : Pairs IsOf (map (first_share seen) lanes) all.table = subst (λ (l : List (ℕ × Option (List Lot))). Pairs IsOf l all.table) shares (pairs_of works all.table all.entries) in
       let events : List Event = events_of all.taken own in
       let is : All IsEvent events = all_of_taken IsEvent (λ lane packet is bytes. is.is_event) all.taken own in
       let fit : All Fits events = all_of_taken Fits (λ lane packet is bytes. is.fits) all.taken own in
       let bytes : All HasCanonicalBytes events = all_of_taken HasCanonicalBytes (λ lane packet is bytes. subst AreBytes is.packet_is bytes) all.taken own in
       let size : length (map (rest seen) lanes) ≡ length lanes = length-map lanes (rest seen) in
-      let below : All (IsOfLaneBelow (length (map (rest seen) lanes))) events = subst (λ (n : ℕ). All (IsOfLaneBelow n) events) (counted ∙ sym size) (of_lanes_below count (omega (arith, few, counted)) all.taken own all.of_lanes) in
+      let below : All (IsOfLaneBelow (length (map (rest seen) lanes))) events = subst (λ (n : ℕ). All (IsOfLaneBelow n) events) (counted ∙ sym size) (of_lanes_below count (omega (arith, few, counted)) all.taken own all.of_lanes) in (
+        record {
+          events = events;
+          added = subst (λ (l : List ℕ). Goes old new (Grown l)) (bytes_of_events all.taken own) all.added;
+          are_events = is;
+          fit = fit;
+          of_lanes = below;
+          merged = λ lists have. record {
+            each = λ lane within.
+                let inside : lane < length lanes = omega (arith, within, have.count, size) in
+                told_events (slice_index_or (map (rest seen) lanes) lane None) (slice_index_or lists lane None) (lots_of lane all.taken) (of_lane lane events)
+                (each_told all.taken all.well lanes all.table 0 numbers pairs all.accounts lane lane inside (omega arith))
+                (have.each lane (omega (arith, inside, size)))
+                (lane_packets lane count (omega (arith, inside, few)) (omega (arith, few, counted)) all.taken own all.of_lanes)
+                (filtered IsEvent (is_of_lane lane) events is)
+                (filtered Fits (is_of_lane lane) events fit)
+                (filtered HasCanonicalBytes (is_of_lane lane) events bytes);
+            of_lanes = subst (λ (n : ℕ). All (IsOfLaneBelow n) events) (sym have.count) below;
+          };
+        },
+        refl,
+      )
+
+  -- with no lack of memory: a merge is added, and was heard
+  pub heard_of : (hears : List (List ℕ) → Type 0) (lanes : List (Lane C)) (works : List (Work C)) (count : ℕ) (old new : Option Folder) → length lanes ≤ 64 → map lane_number lanes ≡ range_with_len 0 (length lanes) → count ≡ length lanes
+      → map (share seen) works ≡ map (first_share seen) lanes → IsRecorded seen hears count works old new → HearsMerge hears (map (rest seen) lanes) old new
+  heard_of hears lanes works count old new few numbers counted shares all =
+      let own : AllOwn all.taken = taken_own hears lanes works count old new numbers counted shares all in
+      let merged = merged_of hears lanes works count old new few numbers counted shares all own in
       record {
-        events = events;
-        added = subst (λ (l : List ℕ). Goes old new (Grown l)) (bytes_of_events all.taken own) all.added;
-        are_events = is;
-        fit = fit;
-        of_lanes = below;
-        merged = λ lists have. record {
-          each = λ lane within.
-              let inside : lane < length lanes = omega (arith, within, have.count, size) in
-              told_events (slice_index_or (map (rest seen) lanes) lane None) (slice_index_or lists lane None) (lots_of lane all.taken) (of_lane lane events)
-              (each_told all.taken all.well lanes all.table 0 numbers pairs all.accounts lane lane inside (omega arith))
-              (have.each lane (omega (arith, inside, size)))
-              (lane_packets lane count (omega (arith, inside, few)) (omega (arith, few, counted)) all.taken own all.of_lanes)
-              (filtered IsEvent (is_of_lane lane) events is)
-              (filtered Fits (is_of_lane lane) events fit)
-              (filtered HasCanonicalBytes (is_of_lane lane) events bytes);
-          of_lanes = subst (λ (n : ℕ). All (IsOfLaneBelow n) events) (sym have.count) below;
-        };
+        merge = merged.0;
+        groups = alone (events_of all.taken own);
+        parts = joined (events_of all.taken own) ∙ merged.1;
+        heard = subst hears (pieces_of_events all.taken own) all.heard;
       }
 
   -- all levels, and then what was left on the belt
-  pub all_recorded : (first between last : Caller) (old mid new : Tape) (works : List (Work C))
+  pub all_recorded : {L : Type 0} (hears : L → List (List ℕ) → Type 0) (first between last : Caller L) (old mid new : Tape) (works : List (Work C))
       → lots_taken first.taker ≡ []
       → settled_lanes first.taker ≡ []
       → GoesOn first between old mid
@@ -263,15 +306,17 @@ module _ {C : Type 0} (seen : C → Seen Output) where
       → settled_lanes last.taker ≡ settled_lanes between.taker
       → (last.no_memory ≡ false → HasAll last.taker × IsOfLanes last.taker)
       → (last.no_memory ≡ false → AllByRecursion (λ p. p.lot ≡ End NoMemory → ⊥) (lots_taken last.taker))
+      → (last.no_memory ≡ false → hears last.listener (pieces_of (lots_taken last.taker)))
       → last.no_memory ≡ false → new.fault ≡ None
-      → IsRecorded seen (lane_count first.taker) works old.folder.told new.folder.told
-  all_recorded first between last old mid new works nothing none_settled levels (table, grown, each) left same empty well memory no_fault =
+      → IsRecorded seen (hears last.listener) (lane_count first.taker) works old.folder.told new.folder.told
+  all_recorded hears first between last old mid new works nothing none_settled levels (table, grown, each) left same empty well heard memory no_fault =
       let all : settled_lanes last.taker ≡ table = same ∙ grown ∙ ap (λ l. table ++ l) none_settled ∙ append-nil table in
       let taken : List Parcel = lots_taken last.taker in
       let begun : HasAdded old.folder.told first old = λ _. subst (λ (l : List Parcel). Goes old.folder.told old.folder.told (Grown (recorded l))) (sym nothing) (goes_grown_none old.folder.told) in
       record {
         taken = taken;
         table = table;
+        heard = heard memory;
         added = left.added old.folder.told (levels.added old.folder.told begun) no_fault;
         entries = each (left.memory memory);
         accounts = subst (AllByRecursion (λ s. lots_of s.lane taken ≡ s.list)) all (empty memory).0;
@@ -280,16 +325,24 @@ module _ {C : Type 0} (seen : C → Seen Output) where
       }
 
 -- with no lane nothing is added
-nothing_added : (rests : List (Option (List Lot))) (told : Option Folder) → rests ≡ [] → AddsMerge rests told told
-nothing_added rests told empty = subst (λ (l : List (Option (List Lot))). AddsMerge l told told) (sym empty) (record {
+nothing_added : (told : Option Folder) → AddsMerge [] told told
+nothing_added told = record {
   events = [];
   added = goes_grown_none told;
   are_events = All-nil IsEvent;
   fit = All-nil Fits;
   of_lanes = All-nil (IsOfLaneBelow 0);
   merged = λ lists have. record { each = λ lane within. absurd (omega (arith, within, have.count)); of_lanes = All-nil (IsOfLaneBelow (length lists)) };
-})
+}
 
-pub without_lanes : {C : Type 0} (seen : C → Seen Output) (lanes : List (Lane C)) (told : Option Folder) → length lanes ≡ 0 → AddsMerge (map (rest seen) lanes) told told
-without_lanes seen [] told empty = nothing_added [] told refl
-without_lanes seen (lane ∷ lanes) told empty = absurd (omega (arith, empty))
+pub without_lanes : {C : Type 0} (seen : C → Seen Output) (hears : List (List ℕ) → Type 0) (lanes : List (Lane C)) (told : Option Folder) → length lanes ≡ 0 → hears [] → HearsMerge hears (map (rest seen) lanes) told told
+unfolding nothing_added
+without_lanes seen hears [] told empty nothing = record { merge = nothing_added told; groups = []; parts = refl; heard = nothing }
+without_lanes seen hears (lane ∷ lanes) told empty nothing = absurd (omega (arith, empty))
+
+-- the same where it answered
+pub heard_if : {C L E : Type 0} (seen : C → Seen Output) (hears : L → List (List ℕ) → Type 0) (answer : Result L E) (lanes : List (Lane C)) (works : List (Work C)) (count : ℕ) (fault : Option ShelfCall) (old new : Option Folder) → length lanes ≤ 64 → map lane_number lanes ≡ range_with_len 0 (length lanes) → count ≡ length lanes
+    → map (share seen) works ≡ map (first_share seen) lanes → IfOk answer (λ l. fault ≡ None → IsRecorded seen (hears l) count works old new) → IfOk answer (λ l. fault ≡ None → HearsMerge (hears l) (map (rest seen) lanes) old new)
+heard_if seen hears answer lanes works count fault old new few numbers counted shares all =
+    IfOk-weaker answer (λ l. fault ≡ None → IsRecorded seen (hears l) count works old new) (λ l. fault ≡ None → HearsMerge (hears l) (map (rest seen) lanes) old new)
+    (λ l recorded no_fault. heard_of seen (hears l) lanes works count old new few numbers counted shares (recorded no_fault)) all

@@ -17,10 +17,21 @@ use Rattle.worker_mux.specs.declared.caller.Caller.{Caller}
 use Rattle.worker_mux.specs.declared.knowledge.Parcel.{Parcel}
 use Rattle.worker_mux.specs.declared.pass.Taker.{Taker}
 
--- its taker is this belt's, and it knows of each lane whose memory ran out
-pub record IsCaller (belt : Belt) (caller : Caller) : Type 0 where
+-- what is heard of a lot, and of all that was taken
+abbrev pub piece_of : Lot → List (List ℕ)
+piece_of (Packet packet) = packet ∷ []
+piece_of (End how) = []
+
+abbrev pub pieces_of : List Parcel → List (List ℕ)
+pieces_of [] = []
+pieces_of (p ∷ ps) = piece_of p.lot ++ pieces_of ps
+
+-- Its taker is this belt's, and it knows of each lane whose memory ran out. Where memory ran out nowhere, what was taken
+-- was heard.
+pub record IsCaller {L : Type 0} (hears : L → List (List ℕ) → Type 0) (belt : Belt) (caller : Caller L) : Type 0 where
   pub taker : IsTakerFor belt caller.taker
   pub well : caller.no_memory ≡ false → AllByRecursion (λ p. p.lot ≡ End NoMemory → ⊥) (lots_taken caller.taker)
+  pub heard : caller.no_memory ≡ false → hears caller.listener (pieces_of (lots_taken caller.taker))
 
 -- a taker that has taken nothing, and knows of no lane that is settled
 pub record IsNewTaker (belt : Belt) (taker : Taker) : Type 0 where
@@ -59,11 +70,11 @@ pub record KeepsTape (old new : Tape) : Type 0 where
   pub stands : new.fault ≡ old.fault → new.folder.faults ≡ old.folder.faults
 
 -- with no fault, what was taken has been added, from `start` on
-abbrev pub HasAdded : Option Folder → Caller → Tape → Type 0
+abbrev pub HasAdded : {L : Type 0} → Option Folder → Caller L → Tape → Type 0
 HasAdded start caller t = t.fault ≡ None → Goes start t.folder.told (Grown (recorded (lots_taken caller.taker)))
 
 -- the lanes stay as many, and what was taken stays added
-pub record GoesOn (before after : Caller) (old new : Tape) : Type 0 where
+pub record GoesOn {L : Type 0} (before after : Caller L) (old new : Tape) : Type 0 where
   pub count : lane_count after.taker ≡ lane_count before.taker
   pub memory : after.no_memory ≡ false → before.no_memory ≡ false
   pub keeps : KeepsTape old new

@@ -1,49 +1,83 @@
 //! The part of the one that records: it alone takes lots and adds them to the run.
 
-ghost use Rattle.std.specs.Prelude.{◌≡◌, ◌∷◌, None, false, IsFalse};
+ghost use Rattle.std.specs.Prelude.{◌≡◌, ◌∷◌, ◌++◌, [], ℕ, List, None, true, false, IsFalse};
 ghost use Rattle.edge_io.specs.Steps.{Goes, Grown};
 ghost use Rattle.worker_lane.specs.declared.lot.Lot.TheVariants.{End};
 ghost use Rattle.worker_lane.specs.declared.lot.Ending.TheVariants.{NoMemory as without_memory};
-ghost use Rattle.worker_mux.specs.Callers.{IsCaller, GoesOn, KeepsTape, IsOpen, Tape, packet_of, tape};
+ghost use Rattle.worker_mux.specs.Callers.{IsCaller, GoesOn, KeepsTape, IsOpen, Tape, packet_of, piece_of, tape};
 ghost use Rattle.worker_mux.specs.Passes.{number_of, settled_lanes, entry_of, HasAll, IsOfLanes};
 ghost use Rattle.worker_mux.specs.Works.{IsOwnPass, IsPut, Drives, IsReadyOutcome};
 
+use crate::listener::Listener;
 use crate::pass::{LanePass, Taker};
 use crate::pen::Pen;
 use crate::work::{Outcome, Shared, Work, drive};
 use edge_io::{Child, Shelf};
 use std::sync::Wait;
 use std::sync::atomic::{AtomicBool, Ordering};
+use sub_number::NoMemory;
 use worker_lane::{Ending, Lot};
 
-/// The taker, how many lanes have not ended yet, and whether memory ran out in a lane.
+/// The taker, who hears what is added, how many lanes have not ended yet, and whether memory ran out: in a lane, or where
+/// it was heard.
 #[derive(Drop)]
-pub(crate) struct Caller {
+pub(crate) struct Caller<L> {
     pub(crate) taker: Taker,
+    pub(crate) listener: L,
     pub(crate) running: usize,
     pub(crate) no_memory: bool,
 }
 
-impl Caller {
+impl<L: Listener> Caller<L> {
+    // Memory ran out: all lanes are told to stop.
+    fn stop_all<R: Wait>(&mut self, rt: &R, shared: &Shared)
+        ensures taker { self.new.taker ≡ self.old.taker }
+        ensures memory { self.new.no_memory ≡ true }
+    {
+        self.no_memory = true;
+        shared.stop.store(true, Ordering::SeqCst);
+        shared.gate.tell(rt);
+    }
+
+    // Adds a packet, and lets it be heard, also where it could not be added.
+    fn add<R: Wait, H: Shelf>(
+        &mut self,
+        rt: &R,
+        shared: &Shared,
+        pen: &mut Pen<'_, H>,
+        packet: &[u8],
+    )
+        requires is_open { IsOpen (tape pen.old.fault (H.seen pen.old.shelf.now)) }
+        ensures taker { self.new.taker ≡ self.old.taker }
+        ensures memory { self.new.no_memory ≡ false → self.old.no_memory ≡ false }
+        ensures heard { (pieces : List (List ℕ)) → L.heard self.old.listener pieces → self.new.no_memory ≡ false → L.heard self.new.listener (pieces ++ packet.now ∷ []) }
+        ensures loan { pen.new.shelf.ghost_name ≡ pen.old.shelf.ghost_name }
+        ensures keeps { KeepsTape (tape pen.old.fault (H.seen pen.old.shelf.now)) (tape pen.new.fault (H.seen pen.new.shelf.now)) }
+        ensures added { pen.new.fault ≡ None → Goes (H.seen pen.old.shelf.now).told (H.seen pen.new.shelf.now).told (Grown packet.now) }
+    {
+        pen.add(packet);
+        match self.listener.hear(packet) {
+            Ok(()) => {}
+            Err(NoMemory) => self.stop_all(rt, shared),
+        }
+    }
+
     // Adds a lot. At the end of a lane whose memory ran out, all lanes are told to stop.
     fn record<R: Wait, H: Shelf>(&mut self, rt: &R, shared: &Shared, pen: &mut Pen<'_, H>, lot: Lot)
         requires is_open { IsOpen (tape pen.old.fault (H.seen pen.old.shelf.now)) }
         ensures taker { self.new.taker ≡ self.old.taker }
         ensures memory { self.new.no_memory ≡ false → self.old.no_memory ≡ false }
         ensures well { self.new.no_memory ≡ false → lot ≡ End without_memory → ⊥ }
+        ensures heard { (pieces : List (List ℕ)) → L.heard self.old.listener pieces → self.new.no_memory ≡ false → L.heard self.new.listener (pieces ++ piece_of lot) }
         ensures loan { pen.new.shelf.ghost_name ≡ pen.old.shelf.ghost_name }
         ensures keeps { KeepsTape (tape pen.old.fault (H.seen pen.old.shelf.now)) (tape pen.new.fault (H.seen pen.new.shelf.now)) }
         ensures added { pen.new.fault ≡ None → Goes (H.seen pen.old.shelf.now).told (H.seen pen.new.shelf.now).told (Grown (packet_of lot)) }
     {
         match lot {
-            Lot::Packet(packet) => pen.add(packet.bytes()),
+            Lot::Packet(packet) => self.add(rt, shared, pen, packet.bytes()),
             Lot::End(Ending::Exit(_)) => self.running = self.running.saturating_sub(1),
             Lot::End(Ending::Fault) => self.running = self.running.saturating_sub(1),
-            Lot::End(Ending::NoMemory) => {
-                self.no_memory = true;
-                shared.stop.store(true, Ordering::SeqCst);
-                shared.gate.tell(rt);
-            }
+            Lot::End(Ending::NoMemory) => self.stop_all(rt, shared),
         }
     }
 
@@ -54,9 +88,9 @@ impl Caller {
         shared: &Shared,
         pen: &mut Pen<'_, H>,
     ) -> bool
-        requires ready { IsCaller shared.now.belt self.old }
+        requires ready { IsCaller L.heard shared.now.belt self.old }
         requires is_open { IsOpen (tape pen.old.fault (H.seen pen.old.shelf.now)) }
-        ensures ready { IsCaller shared.now.belt self.new }
+        ensures ready { IsCaller L.heard shared.now.belt self.new }
         ensures loan { pen.new.shelf.ghost_name ≡ pen.old.shelf.ghost_name }
         ensures goes { GoesOn self.old self.new (tape pen.old.fault (H.seen pen.old.shelf.now)) (tape pen.new.fault (H.seen pen.new.shelf.now)) }
         ensures settled { settled_lanes self.new.taker ≡ settled_lanes self.old.taker }
@@ -84,9 +118,9 @@ impl Caller {
         mut outcome: Outcome<C>,
         pen: &mut Pen<'_, H>,
     ) -> LanePass
-        requires ready { IsCaller shared.now.belt self.old × IsReadyOutcome shared.now.belt outcome }
+        requires ready { IsCaller L.heard shared.now.belt self.old × IsReadyOutcome shared.now.belt outcome }
         requires is_open { IsOpen (tape pen.old.fault (H.seen pen.old.shelf.now)) }
-        ensures ready { IsCaller shared.now.belt self.new × IsOwnPass shared.now.belt result }
+        ensures ready { IsCaller L.heard shared.now.belt self.new × IsOwnPass shared.now.belt result }
         ensures loan { pen.new.shelf.ghost_name ≡ pen.old.shelf.ghost_name }
         ensures goes { GoesOn self.old self.new (tape pen.old.fault (H.seen pen.old.shelf.now)) (tape pen.new.fault (H.seen pen.new.shelf.now)) }
         ensures settled { settled_lanes self.new.taker ≡ settled_lanes self.old.taker }
@@ -112,8 +146,8 @@ impl Caller {
 
     /// Settles a lane: from then on the taker knows all that it put.
     pub(crate) fn settle<R>(&mut self, rt: &R, shared: &Shared, pass: LanePass)
-        requires ready { IsCaller shared.now.belt self.old × IsOwnPass shared.now.belt pass }
-        ensures ready { IsCaller shared.now.belt self.new }
+        requires ready { IsCaller L.heard shared.now.belt self.old × IsOwnPass shared.now.belt pass }
+        ensures ready { IsCaller L.heard shared.now.belt self.new }
         ensures goes { (now : Tape) → GoesOn self.old self.new now now }
         ensures memory { self.new.no_memory ≡ self.old.no_memory }
         ensures settled { settled_lanes self.new.taker ≡ entry_of pass ∷ settled_lanes self.old.taker }
@@ -128,9 +162,9 @@ impl Caller {
         shared: &Shared,
         pen: &mut Pen<'_, H>,
     )
-        requires ready { IsCaller shared.now.belt self.old }
+        requires ready { IsCaller L.heard shared.now.belt self.old }
         requires is_open { IsOpen (tape pen.old.fault (H.seen pen.old.shelf.now)) }
-        ensures ready { IsCaller shared.now.belt self.new }
+        ensures ready { IsCaller L.heard shared.now.belt self.new }
         ensures loan { pen.new.shelf.ghost_name ≡ pen.old.shelf.ghost_name }
         ensures goes { GoesOn self.old self.new (tape pen.old.fault (H.seen pen.old.shelf.now)) (tape pen.new.fault (H.seen pen.new.shelf.now)) }
         ensures settled { settled_lanes self.new.taker ≡ settled_lanes self.old.taker }
@@ -154,9 +188,9 @@ impl Caller {
         shared: &Shared,
         pen: &mut Pen<'_, H>,
     )
-        requires ready { IsCaller shared.now.belt self.old }
+        requires ready { IsCaller L.heard shared.now.belt self.old }
         requires is_open { IsOpen (tape pen.old.fault (H.seen pen.old.shelf.now)) }
-        ensures ready { IsCaller shared.now.belt self.new }
+        ensures ready { IsCaller L.heard shared.now.belt self.new }
         ensures loan { pen.new.shelf.ghost_name ≡ pen.old.shelf.ghost_name }
         ensures goes { GoesOn self.old self.new (tape pen.old.fault (H.seen pen.old.shelf.now)) (tape pen.new.fault (H.seen pen.new.shelf.now)) }
         ensures settled { settled_lanes self.new.taker ≡ settled_lanes self.old.taker }

@@ -7,6 +7,7 @@ ghost use Rattle.worker_mux.specs.Passes.{settled_lanes};
 ghost use Rattle.worker_mux.specs.Works.{IsReady, IsReadyOutcome, Drives, Settles};
 
 use crate::caller::Caller;
+use crate::listener::Listener;
 use crate::pen::Pen;
 use crate::work::{Outcome, Shared, Work, drive};
 use edge_io::{Child, Shelf};
@@ -28,20 +29,27 @@ impl<C: Child> Promise<Outcome<C>> for Driven<C> {
 
 /// Starts a thread for the first lane, does the same for the lanes after it, and then joins that thread and settles the
 /// lane. Where the thread does not start, the lane is driven here, at once and to its end.
-pub(crate) fn level<'s, R: Threads + Wait + Sync, C: Child + Send + Drop + 's, H: Shelf, E>(
+pub(crate) fn level<
+    's,
+    R: Threads + Wait + Sync,
+    C: Child + Send + Drop + 's,
+    H: Shelf,
+    L: Listener,
+    E,
+>(
     rt: &'s R,
     scope: &Scope<'s, E>,
     shared: &'s Shared,
     flags: &'s [AtomicBool],
     works: &mut VecDeque<Work<C>>,
-    caller: &mut Caller,
+    caller: &mut Caller<L>,
     pen: &mut Pen<'_, H>,
 )
-    requires caller { IsCaller shared.now.belt caller.old }
+    requires caller { IsCaller L.heard shared.now.belt caller.old }
     requires is_open { IsOpen (tape pen.old.fault (H.seen pen.old.shelf.now)) }
     requires works { AllByRecursion (IsReady shared.now.belt) works.old.items }
     requires flags { length works.old.items ≤ length flags.now }
-    ensures ready { IsCaller shared.now.belt caller.new }
+    ensures ready { IsCaller L.heard shared.now.belt caller.new }
     ensures loan { pen.new.shelf.ghost_name ≡ pen.old.shelf.ghost_name }
     ensures goes { GoesOn caller.old caller.new (tape pen.old.fault (H.seen pen.old.shelf.now)) (tape pen.new.fault (H.seen pen.new.shelf.now)) }
     ensures settled { Settles C.seen caller.new.no_memory works.old.items (settled_lanes caller.old.taker) (settled_lanes caller.new.taker) }

@@ -10,6 +10,7 @@
 //! - `rule`: the steps of the belt, which keep its rule
 //! - `laws`: what the rule says of each step, and what is recorded of children that tell their output
 //! - `run`: all lanes, each read on a thread of its own, and recorded by the one that called
+//! - `listener`: who hears what is added
 //! - `work`: the work of a lane; `caller`, `pen`: the part of the one that records; `levels`: a thread for each lane
 //! - `gate`: waiting for a move of the belt
 #![tactic(auto)]
@@ -20,6 +21,7 @@ mod gate;
 mod knowledge;
 mod laws;
 mod levels;
+mod listener;
 mod pass;
 mod pen;
 mod rule;
@@ -33,5 +35,6 @@ mod work;
 pub use belt::Belt;
 pub use knowledge::{Carried, Knowledge, Parcel, Settled};
 pub use laws::{lanes_stay_whole, outputs_are_merged};
+pub use listener::Listener;
 pub use pass::{LanePass, Taker};
-pub use run::run_lanes;
+pub use run::{run_lanes, run_lanes_heard};

@@ -1,6 +1,6 @@
 //! All lanes, each on a thread of its own, recorded by the caller.
 
-ghost use Rattle.std.specs.Prelude.{◌≡◌, ◌≤◌, ◌<◌, [], None, false, length, map, IfOk, OnOk};
+ghost use Rattle.std.specs.Prelude.{◌≡◌, ◌≤◌, ◌<◌, [], None, length, map, IfOk, OnOk};
 ghost use Rattle.std.specs.List.{AllByRecursion, range_with_len};
 ghost use Rattle.std.specs.VecDeque.{deque_capacity};
 ghost use Rattle.edge_io.specs.Steps.{Goes};
@@ -9,13 +9,14 @@ ghost use Rattle.run_shelf.specs.Stores.{recorder_kinds, recorder_partial, recor
 ghost use Rattle.worker_lane.specs.Lanes.{rest, lane_number};
 ghost use Rattle.worker_mux.specs.Callers.{IsNewTaker, KeepsTape, IsOpen, tape};
 ghost use Rattle.worker_mux.specs.Passes.{number_of, lane_count, IsFresh};
-ghost use Rattle.worker_mux.specs.Runs.{share, first_share, IsBegun, IsRecorded, AddsMerge};
+ghost use Rattle.worker_mux.specs.Runs.{share, first_share, IsBegun, IsRecorded, AddsMerge, HearsMerge};
 ghost use Rattle.worker_mux.specs.Works.{IsReady};
 
 use crate::belt::Belt;
 use crate::caller::Caller;
 use crate::gate::Gate;
 use crate::levels::level;
+use crate::listener::{Deaf, Listener};
 use crate::pass::{LanePass, Taker};
 use crate::pen::Pen;
 use crate::work::{Shared, Work};
@@ -62,8 +63,42 @@ pub fn run_lanes<R: Threads + Wait + Sync, C: Child + Send + Drop, H: Shelf>(
     // What was added.
     ensures merged { OnOk result (recorder_fault recorder.new ≡ None → AddsMerge (map (rest C.seen) lanes.items) (H.seen recorder.old.shelf.now).told (H.seen recorder.new.shelf.now).told) }
 {
+    run_lanes_heard(rt, alloc, lanes, recorder, Deaf)?;
+    Ok(())
+}
+
+/// The same for a listener that has heard nothing: it hears what is added, in pieces of whole packets, and comes back.
+///
+/// At `Ok`, where no call of the folder has failed, it has heard all that was added. Where one failed, what it has heard is
+/// not known. Where the listener wants memory, all children are stopped, as for a lane's want of it.
+pub fn run_lanes_heard<
+    R: Threads + Wait + Sync,
+    C: Child + Send + Drop,
+    H: Shelf,
+    L: Listener + Drop,
+>(
+    rt: &R,
+    alloc: Global,
+    lanes: Vec<Lane<C>>,
+    recorder: &mut Recorder<'_, H>,
+    listener: L,
+) -> Result<L, NoMemory>
+    requires numbers { map lane_number lanes.items ≡ range_with_len 0 (length lanes.items) }
+    requires few { length lanes.items ≤ 64 }
+    requires fits { RecordsUnlessBroken (recorder_kinds recorder.old) (recorder_fault recorder.old) (H.seen recorder.old.shelf.now).told }
+    requires nothing { L.heard listener [] }
+    ensures same_reference { recorder.new.shelf.ghost_name ≡ recorder.old.shelf.ghost_name }
+    // What each exit leaves.
+    ensures any_moment { Goes (H.seen recorder.old.shelf.now).told (H.seen recorder.new.shelf.now).told PassesOld }
+    ensures keeps { KeepsTape (tape (recorder_fault recorder.old) (H.seen recorder.old.shelf.now)) (tape (recorder_fault recorder.new) (H.seen recorder.new.shelf.now)) }
+    ensures fits { RecordsUnlessBroken (recorder_kinds recorder.new) (recorder_fault recorder.new) (H.seen recorder.new.shelf.now).told }
+    ensures kinds { recorder_kinds recorder.new ≡ recorder_kinds recorder.old }
+    ensures partial { recorder_partial recorder.new ≡ recorder_partial recorder.old }
+    // What was added, and heard.
+    ensures merged { IfOk result (λ l. recorder_fault recorder.new ≡ None → HearsMerge (L.heard l) (map (rest C.seen) lanes.items) (H.seen recorder.old.shelf.now).told (H.seen recorder.new.shelf.now).told) }
+{
     if lanes.len() == 0 {
-        return Ok(());
+        return Ok(listener);
     }
     let Ok(stage) = Stage::new(alloc, lanes.len()) else {
         give_up_all(lanes);
@@ -82,17 +117,18 @@ pub fn run_lanes<R: Threads + Wait + Sync, C: Child + Send + Drop, H: Shelf>(
         gate: Gate::new(),
         stop: AtomicBool::new(false),
     };
-    let (fault, no_memory) = read_all(
+    let (fault, heard) = read_all(
         rt,
         &shared,
         flags.as_slice(),
         works,
         taker,
+        listener,
         &mut *recorder.shelf,
         recorder.recording.fault,
     );
     recorder.recording.fault = fault;
-    if no_memory { Err(NoMemory) } else { Ok(()) }
+    heard
 }
 
 // All the memory that a run takes, before a lane begins.
@@ -174,82 +210,104 @@ fn unset_flags(alloc: Global, count: usize) -> Result<Vec<AtomicBool>, NoMemory>
     Ok(flags)
 }
 
-// Reads all works to their ends: the call of the folder that failed, and whether memory ran out.
-fn read_all<R: Threads + Wait + Sync, C: Child + Send + Drop, H: Shelf>(
+// Reads all works to their ends: the call of the folder that failed, and the listener, unless memory ran out.
+fn read_all<R: Threads + Wait + Sync, C: Child + Send + Drop, H: Shelf, L: Listener + Drop>(
     rt: &R,
     shared: &Shared,
     flags: &[AtomicBool],
     works: VecDeque<Work<C>>,
     taker: Taker,
+    listener: L,
     shelf: &mut H,
     fault: Option<ShelfCall>,
-) -> (Option<ShelfCall>, bool)
+) -> (Option<ShelfCall>, Result<L, NoMemory>)
     requires taker { IsNewTaker shared.now.belt taker }
     requires works { AllByRecursion (IsReady shared.now.belt) works.items }
     requires flags { length works.items ≤ length flags.now }
     requires is_open { IsOpen (tape fault (H.seen shelf.old)) }
+    requires nothing { L.heard listener [] }
     ensures keeps { KeepsTape (tape fault (H.seen shelf.old)) (tape result.0 (H.seen shelf.new)) }
-    ensures recorded { result.1 ≡ false → result.0 ≡ None → IsRecorded C.seen (lane_count taker) works.items (H.seen shelf.old).told (H.seen shelf.new).told }
+    ensures recorded { IfOk result.1 (λ l. result.0 ≡ None → IsRecorded C.seen (L.heard l) (lane_count taker) works.items (H.seen shelf.old).told (H.seen shelf.new).told) }
 {
-    in_scope(rt, shared, flags, works, taker, shelf, fault)
+    in_scope(rt, shared, flags, works, taker, listener, shelf, fault)
 }
 
 // The same. What it asks is one fact, so that the scope's closure asks one.
-fn in_scope<R: Threads + Wait + Sync, C: Child + Send + Drop, H: Shelf>(
+fn in_scope<R: Threads + Wait + Sync, C: Child + Send + Drop, H: Shelf, L: Listener + Drop>(
     rt: &R,
     shared: &Shared,
     flags: &[AtomicBool],
     works: VecDeque<Work<C>>,
     taker: Taker,
+    listener: L,
     shelf: &mut H,
     fault: Option<ShelfCall>,
-) -> (Option<ShelfCall>, bool)
-    requires begun { IsBegun shared.now.belt taker works.items (length flags.now) (tape fault (H.seen shelf.old)) }
+) -> (Option<ShelfCall>, Result<L, NoMemory>)
+    requires begun { IsBegun shared.now.belt taker works.items (length flags.now) (tape fault (H.seen shelf.old)) × L.heard listener [] }
     ensures keeps { KeepsTape (tape fault (H.seen shelf.old)) (tape result.0 (H.seen shelf.new)) }
-    ensures recorded { result.1 ≡ false → result.0 ≡ None → IsRecorded C.seen (lane_count taker) works.items (H.seen shelf.old).told (H.seen shelf.new).told }
+    ensures recorded { IfOk result.1 (λ l. result.0 ≡ None → IsRecorded C.seen (L.heard l) (lane_count taker) works.items (H.seen shelf.old).told (H.seen shelf.new).told) }
 {
-    let (shelf, fault, no_memory) = thread::scope(
+    let (shelf, fault, heard) = thread::scope(
         thread::scope_env(),
         rt,
-        move |scope| -> (&mut H, Option<ShelfCall>, bool)
-            requires begun { IsBegun shared.now.belt taker works.items (length flags.now) (tape fault (H.seen shelf.now)) }
+        move |scope| -> (&mut H, Option<ShelfCall>, Result<L, NoMemory>)
+            requires begun { IsBegun shared.now.belt taker works.items (length flags.now) (tape fault (H.seen shelf.now)) × L.heard listener [] }
             ensures same { result.0.ghost_name ≡ shelf.entry.ghost_name }
             ensures keeps { KeepsTape (tape fault (H.seen shelf.entry.now)) (tape result.1 (H.seen result.0.now)) }
-            ensures recorded { result.2 ≡ false → result.1 ≡ None → IsRecorded C.seen (lane_count taker) works.items (H.seen shelf.entry.now).told (H.seen result.0.now).told }
+            ensures recorded { IfOk result.2 (λ l. result.1 ≡ None → IsRecorded C.seen (L.heard l) (lane_count taker) works.items (H.seen shelf.entry.now).told (H.seen result.0.now).told) }
         {
             let mut pen = Pen { shelf, fault };
-            let no_memory = all_levels(rt, scope, shared, flags, works, taker, &mut pen);
+            let heard = all_levels(rt, scope, shared, flags, works, taker, listener, &mut pen);
             let Pen { shelf, fault } = pen;
-            (shelf, fault, no_memory)
+            (shelf, fault, heard)
         },
     );
     take_back(shelf);
-    (fault, no_memory)
+    (fault, heard)
 }
 
-// All levels, and then what is left on the belt. True where memory ran out.
-fn all_levels<'s, R: Threads + Wait + Sync, C: Child + Send + Drop + 's, H: Shelf, E>(
+// All levels, and then what is left on the belt: the listener, unless memory ran out.
+fn all_levels<
+    's,
+    R: Threads + Wait + Sync,
+    C: Child + Send + Drop + 's,
+    H: Shelf,
+    L: Listener + Drop,
+    E,
+>(
     rt: &'s R,
     scope: &Scope<'s, E>,
     shared: &'s Shared,
     flags: &'s [AtomicBool],
     mut works: VecDeque<Work<C>>,
     taker: Taker,
+    listener: L,
     pen: &mut Pen<'_, H>,
-) -> bool
-    requires begun { IsBegun shared.now.belt taker works.items (length flags.now) (tape pen.old.fault (H.seen pen.old.shelf.now)) }
+) -> Result<L, NoMemory>
+    requires begun { IsBegun shared.now.belt taker works.items (length flags.now) (tape pen.old.fault (H.seen pen.old.shelf.now)) × L.heard listener [] }
     ensures loan { pen.new.shelf.ghost_name ≡ pen.old.shelf.ghost_name }
     ensures keeps { KeepsTape (tape pen.old.fault (H.seen pen.old.shelf.now)) (tape pen.new.fault (H.seen pen.new.shelf.now)) }
-    ensures recorded { result ≡ false → pen.new.fault ≡ None → IsRecorded C.seen (lane_count taker) works.items (H.seen pen.old.shelf.now).told (H.seen pen.new.shelf.now).told }
+    ensures recorded { IfOk result (λ l. pen.new.fault ≡ None → IsRecorded C.seen (L.heard l) (lane_count taker) works.items (H.seen pen.old.shelf.now).told (H.seen pen.new.shelf.now).told) }
 {
     let mut caller = Caller {
         taker,
+        listener,
         running: works.len(),
         no_memory: false,
     };
     level(rt, scope, shared, flags, &mut works, &mut caller, pen);
     caller.take_rest(rt, shared, pen);
-    caller.no_memory
+    let Caller {
+        taker: _,
+        listener,
+        running: _,
+        no_memory,
+    } = caller;
+    if no_memory {
+        Err(NoMemory)
+    } else {
+        Ok(listener)
+    }
 }
 
 // This use of the returned reference ties it to the parameter that lent it.

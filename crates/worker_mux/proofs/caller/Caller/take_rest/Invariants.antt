@@ -5,7 +5,7 @@ use Rattle.worker_mux.proofs.caller.Caller.take_rest.Given as goal
 
 abbrev pub invariant-loop : goal.invariant-loop
 invariant-loop g l = record {
-  ready : IsCaller l.shared.belt l.self;
+  ready : IsCaller g.L.Listener.heard l.shared.belt l.self;
   loan : l.pen.shelf.ghost_name ≡ l.initial.pen.shelf.ghost_name;
   goes : GoesOn l.initial.self l.self (tape l.initial.pen.fault (g.H.Shelf.seen l.initial.pen.shelf.now)) (tape l.pen.fault (g.H.Shelf.seen l.pen.shelf.now));
   settled : settled_lanes l.self.taker ≡ settled_lanes l.initial.self.taker;

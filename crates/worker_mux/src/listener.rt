@@ -1,0 +1,29 @@
+//! Who hears what is added to a run.
+
+ghost use Rattle.std.specs.Prelude.{◌∷◌, ◌++◌, [], ℕ, List, OnOk};
+
+use sub_number::NoMemory;
+
+/// Hears what is added to a run, piece by piece and in order, on the thread that adds it.
+pub trait Listener {
+    /// What it has heard: these pieces, each of which is whole packets.
+    ghost heard: { Self → List (List ℕ) → Type 0 };
+
+    /// Hears the next piece. `NoMemory` comes only for want of memory; nothing is known then of what it has heard.
+    fn hear(&mut self, piece: &[u8]) -> Result<(), NoMemory>
+        ensures hears { (pieces : List (List ℕ)) → heard self.old pieces → OnOk result (heard self.new (pieces ++ piece.now ∷ [])) };
+}
+
+/// Hears nothing.
+#[derive(Drop)]
+pub(crate) struct Deaf;
+
+impl Listener for Deaf {
+    ghost use Rattle.std.specs.Prelude.{⊤};
+
+    ghost heard = { λ _ _. ⊤ };
+
+    fn hear(&mut self, _piece: &[u8]) -> Result<(), NoMemory> {
+        Ok(())
+    }
+}
