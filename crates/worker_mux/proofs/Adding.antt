@@ -1,5 +1,5 @@
 -- What is added to a run follows what was taken.
-use Rattle.std.proofs.Common.{◌≡◌, ℕ, ◌≤◌, List, [], ◌∷◌, ◌++◌, Bool, true, false, ◌⊎◌, ⊎_elim, inl, inr, refl, sym, ◌∙◌, ap, subst, append_assoc, arith}
+use Rattle.std.proofs.Common.{◌≡◌, ℕ, ◌≤◌, List, [], ◌∷◌, ◌++◌, Bool, false, ◌⊎◌, ⊎_elim, inl, inr, refl, sym, ◌∙◌, ap, subst, append_assoc, arith}
 use Rattle.std.specs.Prelude.{Option, None, Some, IfSome, IsSome}
 use Rattle.std.specs.List.{AllByRecursion}
 use Rattle.std.specs.Option.{option_map}
@@ -17,7 +17,7 @@ use Rattle.run_shelf.specs.declared.faults.ShelfCall.TheVariants.{Append}
 use Rattle.worker_lane.specs.declared.lot.Ending.TheVariants.{NoMemory}
 use Rattle.worker_lane.specs.declared.lot.Lot.{Lot}
 use Rattle.worker_lane.specs.declared.lot.Lot.TheVariants.{End}
-use Rattle.worker_mux.specs.Callers.{GoesOn, HasAdded, IsCaller, KeepsTape, IsOpen, Tape, packet_of, piece_of, pieces_of, recorded}
+use Rattle.worker_mux.specs.Callers.{GoesOn, IsCaller, KeepsTape, IsOpen, Tape, packet_of, piece_of, pieces_of, recorded}
 use Rattle.worker_mux.specs.Passes.{lane_count, lots_taken, IsTakerFor}
 use Rattle.worker_mux.specs.declared.belt.Belt.{Belt}
 use Rattle.worker_mux.specs.declared.caller.Caller.{Caller}

@@ -13,7 +13,7 @@ use Rattle.worker_lane.specs.declared.lot.Ending.TheVariants.{NoMemory}
 use Rattle.worker_lane.specs.declared.lot.Lot.{Lot}
 use Rattle.worker_lane.specs.declared.lot.Lot.TheVariants.{End}
 use Rattle.worker_mux.specs.Passes.{number_of, lots_put, entry_of, IsPassFor}
-use Rattle.worker_mux.specs.Works.{AllWell, IsOwn, IsOwnPass, IsReady, given, left, whole, KeepsWork, IsPut, Drives, Settles, Pairs, IsEntryOf}
+use Rattle.worker_mux.specs.Works.{AllWell, IsOwn, IsReady, given, left, whole, KeepsWork, IsPut, Drives, Settles, Pairs, IsEntryOf}
 use Rattle.worker_mux.specs.declared.belt.Belt.{Belt}
 use Rattle.worker_mux.specs.declared.knowledge.Settled.{Settled}
 use Rattle.worker_mux.specs.declared.pass.LanePass.{LanePass}

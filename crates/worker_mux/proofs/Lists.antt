@@ -1,8 +1,8 @@
 -- Lemmas on lists and functions.
 use Rattle.std.proofs.Common.{◌≡◌, ◌≢◌, ℕ, zero, suc, ◌+◌, ◌<◌, eqb, cond, length, List, [], ◌∷◌, ◌++◌, map, sym, ◌∙◌, ap, arith}
-use Rattle.std.specs.List.{AllByRecursion, range_with_len}
+use Rattle.std.specs.List.{AllByRecursion, flat_map, range_with_len}
 use Rattle.std.proofs.lemmas.Bool.Decides.{nat_tests}
-use Rattle.std.proofs.lemmas.List.{map-append, length-append}
+use Rattle.std.proofs.lemmas.List.{map-append, length-append, flat_map_more}
 use mathlib.Core.Option.{some, some-ne-none}
 use lib.ListN.{get_elem?}
 
@@ -46,3 +46,7 @@ numbers_push f xs x so_far last = numbers_more f xs x (length xs) so_far last �
   where
     longer : (n m : ℕ) → m ≡ n + 1 → n + 1 ≡ m
     longer n m is = omega (arith, is)
+
+-- pieces joined, and one piece more
+pub one_piece_more : (bytes piece : List ℕ) (pieces : List (List ℕ)) → bytes ≡ flat_map (λ p. p) pieces → bytes ++ piece ≡ flat_map (λ p. p) (pieces ++ piece ∷ [])
+one_piece_more bytes piece pieces so_far = ap (λ l. l ++ piece) so_far ∙ flat_map_more (λ p. p) [] pieces piece

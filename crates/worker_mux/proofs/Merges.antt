@@ -6,7 +6,7 @@ use Rattle.std.proofs.lemmas.Bool.{cases_eq}
 use Rattle.std.proofs.lemmas.Bool.Decides.{nat_tests}
 use Rattle.std.proofs.lemmas.List.{append-nil, length-map}
 use Rattle.std.proofs.lemmas.Result.{IfOk-weaker}
-use Rattle.std.proofs.lemmas.List.Elements.{All-nil, All-cons, All-head, All-tail, filter-append}
+use Rattle.std.proofs.lemmas.List.Elements.{All-nil, All-cons, All-head, All-tail}
 use Rattle.edge_io.specs.Children.{Output}
 use Rattle.edge_io.specs.Disk.{Folder}
 use Rattle.edge_io.specs.Seen.{Seen}
@@ -14,7 +14,7 @@ use Rattle.edge_io.specs.Steps.{Goes, Grown}
 use Rattle.packet_codec.specs.declared.event.Event.{Event}
 use Rattle.packet_codec.specs.Canonical.{canonical, IsEvent, Fits}
 use Rattle.packet_codec.specs.Grammar.{AreBytes}
-use Rattle.packet_codec.specs.Lanes.{is_of_lane, of_lane, IsOfLaneBelow, IsMergeOfTold}
+use Rattle.packet_codec.specs.Lanes.{is_of_lane, of_lane, IsOfLaneBelow}
 use Rattle.packet_codec.specs.Packet.{SpellsEvent}
 use Rattle.packet_codec.specs.Routing.{under}
 use Rattle.packet_codec.proofs.FilterLemmas.{not_true}
@@ -32,7 +32,7 @@ use Rattle.worker_lane.specs.declared.lot.Lot.TheVariants.{Packet, End}
 use Rattle.worker_mux.specs.Callers.{GoesOn, HasAdded, Tape, packet_of, recorded, piece_of, pieces_of}
 use Rattle.worker_mux.specs.Passes.{lane_count, lots_taken, settled_lanes, HasAll, IsOfLanes}
 use Rattle.worker_mux.specs.Rule.{lots_of}
-use Rattle.worker_mux.specs.Runs.{packets_of, ArePacketsOf, AreEventsOf, HaveEvents, AddsMerge, HearsMerge, IsRecorded, share, first_share}
+use Rattle.worker_mux.specs.Runs.{packets_of, AreEventsOf, AddsMerge, HearsMerge, IsRecorded, share, first_share}
 use Rattle.worker_mux.specs.Works.{AllWell, IsOwn, Pairs, IsEntryOf, Settles}
 use Rattle.worker_mux.specs.declared.caller.Caller.{Caller}
 use Rattle.worker_mux.specs.declared.knowledge.Parcel.{Parcel}

@@ -10,7 +10,7 @@ use Rattle.worker_lane.specs.Lanes.{rest, lane_number}
 use Rattle.worker_lane.specs.declared.lot.Ending.TheVariants.{NoMemory}
 use Rattle.worker_lane.specs.declared.lot.Lot.{Lot}
 use Rattle.worker_lane.specs.declared.lot.Lot.TheVariants.{Packet, End}
-use Rattle.worker_mux.specs.Passes.{number_of, lots_put, entry_of, IsPassFor}
+use Rattle.worker_mux.specs.Passes.{number_of, lots_put, IsPassFor}
 use Rattle.worker_mux.specs.declared.belt.Belt.{Belt}
 use Rattle.worker_mux.specs.declared.knowledge.Settled.{Settled}
 use Rattle.worker_mux.specs.declared.pass.LanePass.{LanePass}

@@ -30,23 +30,17 @@ pub(crate) struct Caller<L> {
 
 impl<L: Listener> Caller<L> {
     // Memory ran out: all lanes are told to stop.
-    fn stop_all<R: Wait>(&mut self, rt: &R, shared: &Shared)
+    fn stop_all(&mut self, shared: &Shared)
         ensures taker { self.new.taker ≡ self.old.taker }
         ensures memory { self.new.no_memory ≡ true }
     {
         self.no_memory = true;
         shared.stop.store(true, Ordering::SeqCst);
-        shared.gate.tell(rt);
+        shared.gate.tell_stop();
     }
 
     // Adds a packet, and lets it be heard, also where it could not be added.
-    fn add<R: Wait, H: Shelf>(
-        &mut self,
-        rt: &R,
-        shared: &Shared,
-        pen: &mut Pen<'_, H>,
-        packet: &[u8],
-    )
+    fn add<H: Shelf>(&mut self, shared: &Shared, pen: &mut Pen<'_, H>, packet: &[u8])
         requires is_open { IsOpen (tape pen.old.fault (H.seen pen.old.shelf.now)) }
         ensures taker { self.new.taker ≡ self.old.taker }
         ensures memory { self.new.no_memory ≡ false → self.old.no_memory ≡ false }
@@ -58,12 +52,12 @@ impl<L: Listener> Caller<L> {
         pen.add(packet);
         match self.listener.hear(packet) {
             Ok(()) => {}
-            Err(NoMemory) => self.stop_all(rt, shared),
+            Err(NoMemory) => self.stop_all(shared),
         }
     }
 
     // Adds a lot. At the end of a lane whose memory ran out, all lanes are told to stop.
-    fn record<R: Wait, H: Shelf>(&mut self, rt: &R, shared: &Shared, pen: &mut Pen<'_, H>, lot: Lot)
+    fn record<H: Shelf>(&mut self, shared: &Shared, pen: &mut Pen<'_, H>, lot: Lot)
         requires is_open { IsOpen (tape pen.old.fault (H.seen pen.old.shelf.now)) }
         ensures taker { self.new.taker ≡ self.old.taker }
         ensures memory { self.new.no_memory ≡ false → self.old.no_memory ≡ false }
@@ -74,10 +68,10 @@ impl<L: Listener> Caller<L> {
         ensures added { pen.new.fault ≡ None → Goes (H.seen pen.old.shelf.now).told (H.seen pen.new.shelf.now).told (Grown (packet_of lot)) }
     {
         match lot {
-            Lot::Packet(packet) => self.add(rt, shared, pen, packet.bytes()),
+            Lot::Packet(packet) => self.add(shared, pen, packet.bytes()),
             Lot::End(Ending::Exit(_)) => self.running = self.running.saturating_sub(1),
             Lot::End(Ending::Fault) => self.running = self.running.saturating_sub(1),
-            Lot::End(Ending::NoMemory) => self.stop_all(rt, shared),
+            Lot::End(Ending::NoMemory) => self.stop_all(shared),
         }
     }
 
@@ -101,8 +95,8 @@ impl<L: Listener> Caller<L> {
         }
         match shared.belt.take(rt, &mut self.taker) {
             Some((_, lot)) => {
-                shared.gate.tell(rt);
-                self.record(rt, shared, pen, lot);
+                shared.gate.tell_take();
+                self.record(shared, pen, lot);
                 true
             }
             None => false,
@@ -173,9 +167,9 @@ impl<L: Listener> Caller<L> {
             if self.running == 0 || self.no_memory {
                 return;
             }
-            let seen = shared.gate.now(rt);
+            let seen = shared.gate.puts();
             if !self.take_one(rt, shared, pen) {
-                shared.gate.wait_past(rt, seen);
+                shared.gate.wait_for_put(rt, seen);
             }
         }
         unreachable!()

@@ -114,7 +114,7 @@ pub fn run_lanes_heard<
     let works = begin(&belt, lanes, passes, works);
     let shared = Shared {
         belt,
-        gate: Gate::new(),
+        gate: Gate::new(ROOM),
         stop: AtomicBool::new(false),
     };
     let (fault, heard) = read_all(

@@ -1,10 +1,10 @@
 //! Runs of several lanes over children and folders in memory: what is recorded, and what no clause says of threads.
 
-ghost use Rattle.std.specs.Prelude.{◌≡◌, ◌≤◌, ◌<◌, ◌+◌, map, length, IfSome};
+ghost use Rattle.std.specs.Prelude.{◌≡◌, ◌≤◌, ◌<◌, ◌+◌, [], map, length, IfSome};
 ghost use Rattle.std.specs.List.{range_with_len};
 ghost use Rattle.worker_lane.specs.Lanes.{lane_number};
 
-use crate::run_lanes;
+use crate::{Listener, run_lanes, run_lanes_heard};
 use edge_io::{Child, Failed, Finish, MemShelf, NamesFault, PlanChild, Shelf};
 use run_shelf::Store;
 use std::alloc::Global;
@@ -13,7 +13,7 @@ use std::sync::{Arc, Wait};
 use std::test::Fail;
 use std::thread;
 use std::thread::Threads;
-use sub_number::{Bytes, Text};
+use sub_number::{Bytes, NoMemory, Text};
 use worker_lane::Lane;
 
 // Two packets without a route, and each of them under lanes 0 to 3.
@@ -389,5 +389,146 @@ fn packets_are_recorded_before_their_child_ends(rt: HostRuntime) -> Result<(), F
     let mut buf = [0u8; 200];
     let size = record(&rt, alloc, &mut shelf, lanes, &mut buf).ok_or("no run")?;
     assert!(rt; is_merge(buf.get(..size).ok_or("size")?, 1));
+    Ok(())
+}
+
+// Keeps what it hears.
+#[derive(Drop)]
+struct Keeping {
+    bytes: Vec<u8>,
+}
+
+impl Listener for Keeping {
+    ghost use Rattle.std.specs.Prelude.{◌≡◌};
+    ghost use Rattle.std.specs.List.{flat_map};
+
+    ghost heard = { λ s pieces. s.bytes.items ≡ flat_map (λ piece. piece) pieces };
+
+    #[tactic(auto, using(crate::proofs::Lists::one_piece_more))]
+    fn hear(&mut self, piece: &[u8]) -> Result<(), NoMemory> {
+        self.bytes.extend_from_slice(piece)?;
+        Ok(())
+    }
+}
+
+// Begins a run, and records the lanes: what the call answers. Nothing is published.
+fn record_heard<R: Threads + Wait + Sync, C: Child + Send + Drop, H: Shelf, L: Listener + Drop>(
+    rt: &R,
+    alloc: Global,
+    shelf: &mut H,
+    lanes: Vec<Lane<C>>,
+    listener: L,
+) -> Option<Result<L, NoMemory>>
+    requires numbers { map lane_number lanes.items ≡ range_with_len 0 (length lanes.items) }
+    requires few { length lanes.items ≤ 64 }
+    requires nothing { L.heard listener [] }
+{
+    let Ok(()) = Store::init(shelf) else {
+        return None;
+    };
+    let Ok(store) = Store::open(alloc, shelf) else {
+        return None;
+    };
+    let Ok(recorder) = store.start_run(alloc, false) else {
+        return None;
+    };
+    let mut recorder = recorder;
+    Some(run_lanes_heard(rt, alloc, lanes, &mut recorder, listener))
+}
+
+#[test]
+fn what_is_added_of_two_lanes_is_heard(rt: HostRuntime) -> Result<(), Fail> {
+    let alloc = rt.alloc();
+    let lanes = plain_lanes(alloc, 2).ok_or("no memory")?;
+    let mut shelf = MemShelf::new(alloc, Vec::new(alloc));
+    let bytes = Vec::new(alloc);
+    let answer = record_heard(&rt, alloc, &mut shelf, lanes, Keeping { bytes }).ok_or("no run")?;
+    let heard = answer.ok().ok_or("no memory")?;
+    assert!(rt; is_merge(heard.bytes.as_slice(), 2));
+    Ok(())
+}
+
+// Wants memory at the second piece.
+#[derive(Drop)]
+struct Forgetful {
+    pieces: u32,
+}
+
+impl Listener for Forgetful {
+    ghost use Rattle.std.specs.Prelude.{⊤};
+
+    ghost heard = { λ _ _. ⊤ };
+
+    fn hear(&mut self, _piece: &[u8]) -> Result<(), NoMemory> {
+        if self.pieces == 1 {
+            return Err(NoMemory);
+        }
+        self.pieces = 1;
+        Ok(())
+    }
+}
+
+// A child that gives packets until it is stopped, and counts the waits for its end.
+#[derive(Drop)]
+struct Endless {
+    stopped: bool,
+    waits: Arc<AtomicU32>,
+    faults: u64,
+}
+
+impl Child for Endless {
+    ghost use Rattle.std.specs.Prelude.{None};
+
+    ghost seen = { λ s. record { told = None; faults = s.faults } };
+
+    fn read(&mut self, buf: &mut [u8]) -> Result<usize, Failed> {
+        if self.stopped || buf.len() < FOO_BAR.len() {
+            self.faults = self.faults.saturating_add(1);
+            return Err(Failed);
+        }
+        buf[..FOO_BAR.len()].copy_from_slice(FOO_BAR);
+        Ok(FOO_BAR.len())
+    }
+
+    fn wait(&mut self) -> Result<i32, Failed> {
+        if self.stopped {
+            self.waits.fetch_add(1, Ordering::SeqCst);
+        }
+        Ok(0)
+    }
+
+    fn stop(&mut self) {
+        self.stopped = true;
+    }
+
+    ghost are_bytes = { λ s. tt };
+}
+
+fn add_endless(alloc: Global, lanes: &mut Vec<Lane<Endless>>, waits: &Arc<AtomicU32>) -> Option<()>
+    requires few { length lanes.old.items < 64 }
+    requires numbers { map lane_number lanes.old.items ≡ range_with_len 0 (length lanes.old.items) }
+    ensures numbers { IfSome result (λ done. map lane_number lanes.new.items ≡ range_with_len 0 (length lanes.new.items)) }
+    ensures one_more { IfSome result (λ done. length lanes.new.items ≡ length lanes.old.items + 1) }
+{
+    let child = Endless {
+        stopped: false,
+        waits: Arc::try_clone(waits).ok()?,
+        faults: 0,
+    };
+    add_lane(alloc, lanes, child)
+}
+
+#[test]
+fn all_children_are_stopped_where_the_listener_wants_memory(rt: HostRuntime) -> Result<(), Fail> {
+    let alloc = rt.alloc();
+    let waits = Arc::new(alloc, AtomicU32::new(0))?;
+    let mut lanes = Vec::new(alloc);
+    add_endless(alloc, &mut lanes, &waits).ok_or("no memory")?;
+    add_endless(alloc, &mut lanes, &waits).ok_or("no memory")?;
+    let mut shelf = MemShelf::new(alloc, Vec::new(alloc));
+    let listener = Forgetful { pieces: 0 };
+    let answer = record_heard(&rt, alloc, &mut shelf, lanes, listener).ok_or("no run")?;
+    assert!(rt; answer.is_err());
+    assert_eq!(rt; waits.load(Ordering::SeqCst), 2);
     Ok(())
 }

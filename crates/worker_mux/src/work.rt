@@ -108,7 +108,7 @@ pub(crate) fn drive<C: Child + Drop, R: Wait>(
 {
     for _ in rt.forever() {
         // The count is read before the flag, so that a stop between the two is not slept through.
-        let seen = shared.gate.now(rt);
+        let seen = shared.gate.takes();
         if shared.stop.load(Ordering::SeqCst) {
             let Work {
                 lane,
@@ -122,13 +122,13 @@ pub(crate) fn drive<C: Child + Drop, R: Wait>(
             return Outcome::Put(work.pass);
         };
         match shared.belt.put(rt, &mut work.pass, lot) {
-            Ok(()) => shared.gate.tell(rt),
+            Ok(()) => shared.gate.tell_put(),
             Err(back) => {
                 work.kept = Some(back);
                 if flag.load(Ordering::SeqCst) {
                     return Outcome::Kept(work);
                 }
-                shared.gate.wait_past(rt, seen);
+                shared.gate.wait_for_take(rt, seen);
             }
         }
     }
