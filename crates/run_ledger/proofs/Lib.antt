@@ -8,4 +8,5 @@ pub mod ReplaceLemmas
 pub mod UniqueLemmas
 pub mod ExistLemmas
 mod WrittenLemmas
+mod HeardLemmas
 pub mod BehindLemmas

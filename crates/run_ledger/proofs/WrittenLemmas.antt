@@ -33,7 +33,7 @@ written_same (Err e) run old new w step = record { events = w.events; are_events
 written_same (Ok x) run old new w step = tt
 
 -- the packets, as a stream, are the events
-events_again : (events : List Event) → All IsEvent events → All Fits events → HasEvents (flat_map canonical events) events
+pub events_again : (events : List Event) → All IsEvent events → All Fits events → HasEvents (flat_map canonical events) events
 events_again events are fit = (_, record { pieces = packets_of events; cut = cut_of_written events are fit; made = sym (notes_of_packets events) }, sym (events_of_packets events))
 
 pub written_rows : {E : Type 0} (r : Result (List Row) E) (run : List ℕ) (w : WrittenRun) → HasWritten w run → ((seen : List Event) → HasFolded w.outcomes seen → IfOk r (λ rows. rows ≡ rows_of seen)) → IfOk r (AreRowsOf run)

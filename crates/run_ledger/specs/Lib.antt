@@ -6,4 +6,5 @@ pub mod Ledger
 pub mod Replacing
 pub mod Starts
 pub mod Writing
+pub mod Hearing
 pub mod Behind

@@ -4,7 +4,7 @@
 //! stand in docs/FORMATS.md, "Streams", "The fold" and "What the runs say together".
 //!
 //! - `run_reader`, `folding`: the rows of one run, read in pieces
-//! - `written_run`: the rows of one run, told while it is written
+//! - `written_run`, `heard_run`: the rows of one run, told while it is written
 //! - `fault`: why nothing is said of the runs of a store
 //! - `rows`: the rows of one run of a store
 //! - `failing_set`, `taking`: the ids that fail after all runs of a store, told from the last full run on
@@ -16,6 +16,7 @@
 mod failing_set;
 mod fault;
 mod folding;
+mod heard_run;
 mod lane_laws;
 mod latest_times;
 mod laws;
@@ -26,6 +27,7 @@ mod written_run;
 
 pub use failing_set::failing;
 pub use fault::LedgerFault;
+pub use heard_run::HeardRun;
 pub use lane_laws::lanes_are_read_in_turn;
 pub use latest_times::times;
 pub use laws::runs_have_one_list_of_rows;

@@ -6,7 +6,7 @@ use packet_codec::{Event, Stamp, Status, encode, fits};
 use run_shelf::{ShelfCall, Store, StoreFault};
 use std::alloc::Global;
 use std::test::Fail;
-use sub_number::Text;
+use sub_number::{IdList, Text};
 
 const FORMAT: &[u8] = b"subunit-store 1\n";
 
@@ -247,5 +247,23 @@ fn a_closed_store_is_not_read(rt: HostRuntime) -> Result<(), Fail> {
     let closed = LedgerFault::Store(StoreFault::Closed(ShelfCall::ReadAt));
     assert_eq!(rt; first, Some(shelf_failed));
     assert_eq!(rt; second, Some(closed));
+    Ok(())
+}
+
+// The ids that fail in a run that is heard in these two pieces.
+fn fail_when_heard(alloc: Global, first: &[u8], second: &[u8]) -> Option<IdList> {
+    let mut run = HeardRun::new(alloc);
+    run.hear(first).ok()?;
+    run.hear(second).ok()?;
+    run.close().ok()?.failing_ids(alloc).ok()
+}
+
+#[test]
+fn each_packet_of_a_piece_is_heard(rt: HostRuntime) -> Result<(), Fail> {
+    let alloc = rt.alloc();
+    let first = ended(alloc, b'c', Status::Fail, b'a', Status::Fail).ok_or("packets")?;
+    let second = ended(alloc, b'b', Status::Success, b'd', Status::Fail).ok_or("packets")?;
+    let ids = fail_when_heard(alloc, &first, &second).ok_or("memory")?;
+    assert!(rt; are(ids.list(), b"acd"));
     Ok(())
 }

@@ -1,0 +1,12 @@
+use Rattle.std.proofs.Common.{length}
+use Rattle.run_ledger.proofs.HeardLemmas.{IsFoldedTo}
+use Rattle.run_ledger.proofs.heard_run.fold_packets.Given as goal
+
+-- the packets so far were folded
+abbrev pub invariant-loop-left : goal.invariant-loop-left
+invariant-loop-left l = record {
+  folded : IsFoldedTo l.bytes l.left l.fn.outcomes l.outcomes;
+}
+
+abbrev pub decreases-loop-left : goal.decreases-loop-left
+decreases-loop-left l = length l.left
