@@ -1,10 +1,14 @@
--- What is recorded of a run's lanes.
-use Rattle.std.specs.Prelude.{◌≡◌, ⊤, Bool, true, false, Option, Some, None, List, Result, Ok, Err, IfErr, OnOk}
+-- What is recorded of a run's lanes, and its rows.
+use Rattle.std.specs.Prelude.{◌≡◌, ⊤, Bool, true, false, Option, Some, None, List, Result, Ok, Err, IfOk, IfErr}
+use Rattle.std.specs.List.{flat_map}
 use Rattle.sub_number.specs.declared.memory.NoMemory as memory
 use Rattle.edge_io.specs.Causes.{RisesExactlyIf}
 use Rattle.edge_io.specs.Disk.{Folder}
 use Rattle.edge_io.specs.Seen.{Seen}
 use Rattle.edge_io.specs.Steps.{Goes}
+use Rattle.outcome_fold.specs.declared.row.Row.{Row}
+use Rattle.packet_codec.specs.Canonical.{canonical}
+use Rattle.run_ledger.specs.Reading.{AreRowsOf}
 use Rattle.run_shelf.specs.Drafts.{SameButDraft}
 use Rattle.run_shelf.specs.declared.faults.ShelfCall.{ShelfCall}
 use Rattle.run_shelf.specs.declared.faults.ShelfCall.TheVariants.{Append}
@@ -23,15 +27,20 @@ abbrev pub TellsOfAppend : LanesRefusal → Type 0
 TellsOfAppend (Shelf call) = call ≡ Append
 TellsOfAppend NoMemory = ⊤
 
--- The recording of lanes that have this to give, where it is told, behind the draft.
-pub record RecordsLanes (rests : List (Option (List Lot))) (before after : Seen Folder) (result : Result (Unit {0}) LanesRefusal) : Type 0 where
-  pub recorded : OnOk result (AddsMerge rests before.told after.told)
+-- behind the draft stand the packets of a merge, and these are the rows of their bytes
+pub record AddsRows (rests : List (Option (List Lot))) (old new : Option Folder) (rows : List Row) : Type 0 where
+  pub merge : AddsMerge rests old new
+  pub rows_are : AreRowsOf (flat_map canonical merge.events) rows
+
+-- The recording of lanes that have this to give, where it is told, behind the draft. It gives the rows of what was added.
+pub record RecordsLanes (rests : List (Option (List Lot))) (before after : Seen Folder) (result : Result (List Row) LanesRefusal) : Type 0 where
+  pub recorded : IfOk result (AddsRows rests before.told after.told)
   pub refused : IfErr result TellsOfAppend
   pub files : Goes before.told after.told SameButDraft
   pub sum : RisesExactlyIf before.faults after.faults (lanes_failed result)
 
 -- a call of the folder that failed decides
-abbrev pub lanes_answer : Option ShelfCall → Result (Unit {0}) memory.NoMemory → Result (Unit {0}) LanesRefusal
+abbrev pub lanes_answer : Option ShelfCall → Result (List Row) memory.NoMemory → Result (List Row) LanesRefusal
 lanes_answer (Some call) outcome = Err (Shelf call)
-lanes_answer None (Ok done) = Ok done
+lanes_answer None (Ok rows) = Ok rows
 lanes_answer None (Err lack) = Err NoMemory

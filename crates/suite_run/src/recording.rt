@@ -1,21 +1,27 @@
-//! Records the lanes of a run behind the draft that was begun.
+//! Records the lanes of a run behind the draft that was begun, and folds what is recorded.
 
-ghost use Rattle.std.specs.Prelude.{◌≡◌, ◌≤◌, ◌<◌, length, map, OnOk};
+ghost use Rattle.std.specs.Prelude.{◌≡◌, ◌≤◌, ◌<◌, Option, List, length, map, IfOk, OnOk};
 ghost use Rattle.std.specs.List.{range_with_len};
+ghost use Rattle.edge_io.specs.Disk.{Folder};
 ghost use Rattle.edge_io.specs.Steps.{HasDraft};
 ghost use Rattle.run_shelf.specs.Holds.{kinds_of, HasRoom, FitsWhereTold};
 ghost use Rattle.run_shelf.specs.Repository.{most_runs};
-ghost use Rattle.suite_run.specs.Recording.{RecordsLanes, lanes_answer};
+ghost use Rattle.suite_run.specs.Recording.{AddsRows, RecordsLanes, lanes_answer};
+ghost use Rattle.run_ledger.specs.Hearing.{HasHeard};
 ghost use Rattle.worker_lane.specs.Lanes.{rest, lane_number};
+ghost use Rattle.worker_lane.specs.declared.lot.Lot.{Lot};
+ghost use Rattle.worker_mux.specs.Runs.{HearsMerge};
 
 use edge_io::{Child, Shelf};
+use outcome_fold::Rows;
+use run_ledger::HeardRun;
 use run_shelf::{Found, Recorder, Recording, ShelfCall};
 use std::alloc::Global;
 use std::sync::Wait;
 use std::thread::Threads;
 use sub_number::NoMemory;
 use worker_lane::Lane;
-use worker_mux::run_lanes;
+use worker_mux::{Listener, run_lanes_heard};
 
 /// Why the lanes of a run were not recorded whole.
 #[derive(Clone, Copy, Debug, PartialEq, Eq)]
@@ -27,7 +33,8 @@ pub enum LanesRefusal {
 }
 
 /// Reads all lanes to their ends, each on a thread of its own, or on the caller's where none can be started, and adds their
-/// packets behind the draft that was begun, as they come. It may wait for the children. It hands back what was found.
+/// packets behind the draft that was begun, as they come. It may wait for the children. It hands back what was found, and
+/// gives the rows of what was added: the thread that adds a packet folds its event, so that the run need not be read again.
 ///
 /// `Shelf` comes exactly where a call of the folder failed, also where memory ran out too. Unless it did, the lanes were
 /// still read to their ends (no clause says so). `NoMemory` comes only for want of memory; all children were then stopped
@@ -39,7 +46,7 @@ pub fn record_lanes<R: Threads + Wait + Sync, C: Child + Send + Drop, H: Shelf>(
     shelf: &mut H,
     found: Found,
     partial: bool,
-) -> (Found, Result<(), LanesRefusal>)
+) -> (Found, Result<Rows, LanesRefusal>)
     requires numbers { map lane_number lanes.items ≡ range_with_len 0 (length lanes.items) }
     requires few { length lanes.items ≤ 64 }
     requires free { length (kinds_of found) < most_runs }
@@ -58,7 +65,10 @@ pub fn record_lanes<R: Threads + Wait + Sync, C: Child + Send + Drop, H: Shelf>(
         fault: None,
     };
     let mut recorder = Recorder { shelf, recording };
-    let outcome = run_lanes(rt, alloc, lanes, &mut recorder);
+    let ear = Ear {
+        run: HeardRun::new(alloc),
+    };
+    let heard = run_lanes_heard(rt, alloc, lanes, &mut recorder, ear);
     let Recorder { shelf, recording } = recorder;
     hand_back(shelf);
     let Recording {
@@ -66,7 +76,7 @@ pub fn record_lanes<R: Threads + Wait + Sync, C: Child + Send + Drop, H: Shelf>(
         partial: _,
         fault,
     } = recording;
-    (found, answer_of(fault, outcome))
+    (found, answer_of(fault, rows_heard(heard)))
 }
 
 // The folder is with its lender again.
@@ -74,13 +84,35 @@ fn hand_back<H: Shelf>(shelf: &mut H)
     ensures { shelf.new ≡ shelf.old }
 {}
 
-// A call of the folder that failed decides.
-fn answer_of(fault: Option<ShelfCall>, outcome: Result<(), NoMemory>) -> Result<(), LanesRefusal>
-    ensures { result ≡ lanes_answer fault outcome }
+// Hears the packets that are added to a run, and folds their events.
+#[derive(Drop)]
+struct Ear {
+    run: HeardRun,
+}
+
+impl Listener for Ear {
+    ghost heard = { λ ear. HasHeard ear.run };
+
+    fn hear(&mut self, piece: &[u8]) -> Result<(), NoMemory> {
+        self.run.hear(piece)
+    }
+}
+
+// The rows of a run that was heard.
+fn rows_heard(heard: Result<Ear, NoMemory>) -> Result<Rows, NoMemory>
+    ensures { (rests : List (Option (List Lot))) (old new : Option Folder) → IfOk heard (λ ear. HearsMerge (HasHeard ear.run) rests old new) → IfOk result (AddsRows rests old new) }
 {
-    match (fault, outcome) {
+    let ear = heard?;
+    ear.run.close()
+}
+
+// A call of the folder that failed decides.
+fn answer_of(fault: Option<ShelfCall>, rows: Result<Rows, NoMemory>) -> Result<Rows, LanesRefusal>
+    ensures { result ≡ lanes_answer fault rows }
+{
+    match (fault, rows) {
         (Some(call), _) => Err(LanesRefusal::Shelf(call)),
-        (None, Ok(())) => Ok(()),
+        (None, Ok(rows)) => Ok(rows),
         (None, Err(NoMemory)) => Err(LanesRefusal::NoMemory),
     }
 }

@@ -51,8 +51,8 @@ fn plan(alloc: Global, output: &[u8], finish: Finish) -> Option<Plan> {
 // What became of a run of children.
 #[derive(Clone, Copy, Debug, PartialEq, Eq)]
 enum Outcome {
-    // It was kept, and so many of its bytes fit into the buffer.
-    Kept(usize),
+    // It was kept, so many of its bytes fit into the buffer, and it has so many rows.
+    Kept(usize, usize),
     NotStarted(StartRefusal),
     NotRecorded(LanesRefusal),
 }
@@ -89,14 +89,15 @@ fn record<R: Threads + Wait + Sync>(
         fault: _,
     } = recording;
     let (mut found, answer) = record_lanes(rt, alloc, lanes, shelf, found, partial);
-    if let Err(refusal) = answer {
-        return Some(Outcome::NotRecorded(refusal));
-    }
+    let rows = match answer {
+        Ok(rows) => rows,
+        Err(refusal) => return Some(Outcome::NotRecorded(refusal)),
+    };
     let Ok(number) = finish_run(shelf, &mut found, partial) else {
         return None;
     };
     let size = read_run(shelf, &found, number, 0, buf).ok()?;
-    Some(Outcome::Kept(size))
+    Some(Outcome::Kept(size, rows.list().len()))
 }
 
 #[test]
@@ -111,7 +112,7 @@ fn a_worker_that_ends_with_a_status_is_recorded_with_it(rt: HostRuntime) -> Resu
     let outcome = record(&rt, alloc, &mut shelf, &mut spawner, &jobs, &mut buf).ok_or("no run")?;
     assert_eq!(rt;
         outcome,
-        Outcome::Kept(BEGUN_UNDER_0.len() + STATUS_2_UNDER_0.len())
+        Outcome::Kept(BEGUN_UNDER_0.len() + STATUS_2_UNDER_0.len(), 2)
     );
     assert!(rt; buf.starts_with(BEGUN_UNDER_0));
     assert!(rt; buf.get(14..).ok_or("size")?.starts_with(STATUS_2_UNDER_0));
@@ -147,7 +148,7 @@ fn each_of_three_workers_is_recorded_under_the_lane_of_its_place(
     let jobs = [first, second, third];
     let mut buf = [0u8; 200];
     let outcome = record(&rt, alloc, &mut shelf, &mut spawner, &jobs, &mut buf).ok_or("no run")?;
-    assert_eq!(rt; outcome, Outcome::Kept(42));
+    assert_eq!(rt; outcome, Outcome::Kept(42, 3));
     assert!(rt; is_among(&buf, FAILED_UNDER_0));
     assert!(rt; is_among(&buf, PASSED_UNDER_1));
     assert!(rt; is_among(&buf, PASSED_UNDER_2));
