@@ -119,7 +119,7 @@ load_did partial names a b v loads =
     let recorded : IsRunOf names a.site.told a.input.told all.run = subst (λ (s : Seen Files). IsRunOf names s.told a.input.told all.run) site (subst (λ (s : Seen (List ℕ)). IsRunOf names begun.between.site.told s.told all.run) input all.is) in
     let packets = have_in_turn 0 recorded.sources recorded.events recorded.few recorded.are_bytes recorded.recorded in
     let rows : read.value ≡ rows_of recorded.events = rows_of_written all.run recorded.events read.value all.run_is packets.are_events packets.fit recorded.packets all.rows_are in
-    let report : IsReport number (rows_of recorded.events) told.value = subst (λ (list : List Row). IsReport number list told.value) rows told.done.says.told in
+    let report : IsReport number [] (rows_of recorded.events) told.value = subst (λ (list : List Row). IsReport number [] list told.value) rows told.done.says.told in
     let run_is : all.run ≡ run_bytes recorded.events = recorded.packets in
     let keeps : Goes opened.between.folder.told b.folder.told (KeepsRun number (run_of partial (run_bytes recorded.events))) =
     subst (λ (l : List ℕ). Goes opened.between.folder.told b.folder.told (KeepsRun number (run_of partial l))) run_is

@@ -1,5 +1,5 @@
 -- What a stop at each moment of a load leaves, and of the making of a repository, at each of its exits.
-use Rattle.std.proofs.Common.{◌≡◌, ◌⊎◌, inl, inr, ℕ, Bool, Option, Result, Ok, Err, List, length, refl, sym, subst, ◌∙◌}
+use Rattle.std.proofs.Common.{◌≡◌, ◌⊎◌, inl, inr, ℕ, Bool, Option, Result, Ok, Err, List, [], length, refl, sym, subst, ◌∙◌}
 use Rattle.edge_io.specs.Disk.{Files, Folder, IsImage}
 use Rattle.edge_io.specs.Seen.{Seen}
 use Rattle.edge_io.specs.Steps.{Goes}
@@ -57,7 +57,7 @@ module _ (partial : Bool) (number : ℕ) (run : List ℕ) where
         subst (λ (f : Seen Folder). Goes s f.told Runs) (sym (printed_or_not text verdict k b result next))
         (run_passes number partial run s a.folder.told k.folder.told written (subst (λ (f : Seen Folder). Goes f.told k.folder.told Drafted) same step.at.any_moment))
 
-    reported_or_not : (rows : List Row) (result : Result Verdict Refusal) → Then Memory (Still (Reports number rows)) (λ (report : Told). Then Keep (At work_folder (Keeps partial number)) (λ _. Then Print (At work_out (Prints report.text.items)) (λ _. Gives report.verdict))) a b result → Goes s b.folder.told Runs
+    reported_or_not : (rows : List Row) (result : Result Verdict Refusal) → Then Memory (Still (Reports number [] rows)) (λ (report : Told). Then Keep (At work_folder (Keeps partial number)) (λ _. Then Print (At work_out (Prints report.text.items)) (λ _. Gives report.verdict))) a b result → Goes s b.folder.told Runs
     reported_or_not rows result (stops fault is step) = rests_run s b.folder.told (subst (λ (w : Work). Goes s w.folder.told Rests) (sym step.same) quiet)
     reported_or_not rows result (goes_on report m step next) = kept_or_not report.text.items report.verdict m result (λ i. (step.same i).folder) next
 

@@ -1,9 +1,9 @@
 -- What `list-tests` and `run` have done, from their chains.
 use Rattle.std.proofs.Common.{◌≡◌, ℕ, zero, suc, ◌≤◌, ◌<◌, nat_lt, Bool, true, false, Option, None, Some, IfSome, Result, Ok, Err, List, length, All, refl, sym, ap, subst, ◌∙◌}
-use Rattle.std.specs.Prelude.{⊤, IsSomeAnd}
+use Rattle.std.specs.Prelude.{⊤}
 use Rattle.std.specs.Io.KnownBytes.{Appends}
 use Rattle.edge_io.specs.Children.{Output}
-use Rattle.edge_io.specs.Disk.{Disk, Folder}
+use Rattle.edge_io.specs.Disk.{Folder}
 use Rattle.edge_io.specs.Seen.{Seen}
 use Rattle.edge_io.specs.Spawners.{Spawning}
 use Rattle.edge_io.specs.Steps.{Goes, Stays, Grown}
@@ -15,13 +15,10 @@ use Rattle.outcome_fold.specs.declared.row.Row.{Row}
 use Rattle.packet_codec.specs.Canonical.{IsEvent, Fits}
 use Rattle.packet_codec.specs.Lanes.{IsOfLaneBelow}
 use Rattle.packet_codec.specs.declared.event.Event.{Event}
-use Rattle.run_ledger.specs.Reading.{AreRowsOf}
-use Rattle.run_shelf.specs.Holds.{kinds_of, FitsFolder}
+use Rattle.run_shelf.specs.Holds.{kinds_of}
 use Rattle.run_shelf.specs.Images.{KeepsRun}
-use Rattle.run_shelf.specs.Outcomes.{Surveys}
-use Rattle.run_shelf.specs.Repository.{Run, run_of, run_at, most_runs, Shows}
+use Rattle.run_shelf.specs.Repository.{Run, run_of, Shows}
 use Rattle.run_shelf.proofs.DraftLemmas.{goes_writes, run_kept}
-use Rattle.run_shelf.proofs.RunLemmas.{here, free_here}
 use Rattle.sub_text.specs.Texts.{report_of}
 use Rattle.suite_plan.specs.Calling.{CallsSo}
 use Rattle.suite_plan.specs.Choosing.{Ids}
@@ -30,17 +27,18 @@ use Rattle.suite_plan.specs.Processors.{CountsProcessors}
 use Rattle.suite_run.specs.Starting.{StartsAll}
 use Rattle.testr_conf.specs.Settings.{Settings}
 use Rattle.worker_mux.specs.Runs.{AddsMerge}
-use Rattle.testr_cli.specs.Asking.{FindsFailing, FindsTimes, IsReportAt}
+use Rattle.testr_cli.specs.Asking.{FindsFailing, FindsTimes}
 use Rattle.testr_cli.specs.Outside.{Work, work_folder, work_site, work_spawner}
 use Rattle.testr_cli.specs.Perhaps.{Perhaps, not_asked, did, refused, when}
 use Rattle.testr_cli.specs.Program.{AddsRun}
+use Rattle.testr_cli.specs.Reporting.{IsReport}
 use Rattle.testr_cli.specs.RunSuite.{ListsSuite, RunsSuite, Works, TellsRun}
 use Rattle.testr_cli.specs.Runs.{run_bytes}
 use Rattle.testr_cli.specs.Selecting.{UsesCalled, CountsWorkers, Selects, Plans}
 use Rattle.testr_cli.specs.Steps.{Step, Then, Gives, At}
 use Rattle.testr_cli.specs.SuiteProgram.{ListsAll, RunsAll}
 use Rattle.testr_cli.specs.Suites.{RunOptions, is_partial}
-use Rattle.testr_cli.specs.Verdicts.{verdict_of, verdict_code}
+use Rattle.testr_cli.specs.Verdicts.{verdict_code}
 use Rattle.testr_cli.specs.declared.answer.Refusal.{Refusal}
 use Rattle.testr_cli.specs.declared.answer.Refusal.TheVariants as refusal
 use Rattle.testr_cli.specs.declared.answer.Verdict.{Verdict}
@@ -50,7 +48,7 @@ use Rattle.testr_cli.proofs.ChainLemmas.{then_did}
 use Rattle.testr_cli.proofs.DoneLaws.{appended, same_verdict, status_is, kept_through, kept_beside, adds_run}
 use Rattle.testr_cli.proofs.MergeLaws.{AreOfOutputs, have_outputs, of_outputs}
 use Rattle.testr_cli.proofs.PacketBytes.{packets_bytes}
-use Rattle.testr_cli.proofs.Resting.{Rests, surveyed_fits}
+use Rattle.testr_cli.proofs.Resting.{Rests}
 use Rattle.testr_cli.proofs.RowsLemmas.{rows_of_written}
 use Rattle.testr_cli.proofs.StepLaws.{open_quiet}
 use Rattle.testr_cli.proofs.SuiteJobs.{selected_range, few_jobs}
@@ -217,7 +215,7 @@ plan_leaves settings selected a b jobs plans =
 
 -- ---- the workers
 
-record Worked (partial : Bool) (number : ℕ) (jobs : List Job) (a b : Work) : Type 0 where
+record Worked (partial : Bool) (number : ℕ) (jobs : List Job) (rows : List Row) (a b : Work) : Type 0 where
   outputs : List Output
   started : Goes a.spawner.told b.spawner.told (StartsAll jobs outputs)
   events : List Event
@@ -225,18 +223,19 @@ record Worked (partial : Bool) (number : ℕ) (jobs : List Job) (a b : Work) : T
   fit : All Fits events
   of_lanes : All (IsOfLaneBelow (length jobs)) events
   of_workers : IfSome a.spawner.told (λ _. AreOfOutputs events outputs)
+  rows_are : rows ≡ rows_of events
   kept : Goes a.folder.told b.folder.told (KeepsRun number (run_of partial (run_bytes events)))
   input : b.input ≡ a.input
   out : b.out.told ≡ a.out.told
 
-work_did : (partial : Bool) (number : ℕ) (jobs : List Job) (a b : Work) (u : Unit {0}) → length jobs ≤ 64 → Works partial number jobs a b (Ok u) → Worked partial number jobs a b
-work_did partial number jobs a b u few works =
-    let begun = then_did u works in
-    let started = then_did u begun.next in
-    let recorded = then_did u started.next in
-    let kept = then_did u recorded.next in
+work_did : (partial : Bool) (number : ℕ) (jobs : List Job) (a b : Work) (rows : List Row) → length jobs ≤ 64 → Works partial number jobs a b (Ok rows) → Worked partial number jobs rows a b
+work_did partial number jobs a b rows few works =
+    let begun = then_did rows works in
+    let started = then_did rows begun.next in
+    let recorded = then_did rows started.next in
+    let kept = then_did rows recorded.next in
     let gives = kept.next in
-    let adds : AddsMerge started.value started.between.folder.told recorded.between.folder.told = recorded.done.at.recorded in
+    let adds : AddsMerge started.value started.between.folder.told recorded.between.folder.told = recorded.done.at.recorded.merge in
     let begin : begun.between.spawner.told ≡ a.spawner.told = λ i. (begun.done.rest i).spawner.told in
     let ended : started.between.spawner.told ≡ b.spawner.told = sym ((λ i. (gives.same i).spawner.told) ∙ (λ i. (kept.done.rest i).spawner.told) ∙ (λ i. (recorded.done.rest i).spawner.told)) in
     let told = have_outputs jobs started.value begun.between.spawner.told started.between.spawner.told started.done.at.started in
@@ -251,6 +250,7 @@ work_did partial number jobs a b u few works =
       fit = adds.fit;
       of_lanes = subst (λ (n : ℕ). All (IsOfLaneBelow n) adds.events) started.done.at.count adds.of_lanes;
       of_workers = subst (λ (o : Option Spawning). IfSome o (λ _. AreOfOutputs adds.events told.outputs)) begin (of_outputs jobs started.value told.outputs begun.between.spawner.told started.between.folder.told recorded.between.folder.told adds few told.count told.rests_are);
+      rows_are = same_value gives.answer ∙ rows_of_written run adds.events recorded.value (packets_bytes adds.events adds.are_events) adds.are_events adds.fit refl recorded.done.at.recorded.rows_are;
       kept = goes_ends (KeepsRun number (run_of partial run)) refl (λ i. (sym gives.same i).folder.told) (run_kept number partial run a.folder.told recorded.between.folder.told kept.between.folder.told written kept.done.at.kept);
       input = (λ i. (gives.same i).input) ∙ (λ i. (kept.done.rest i).input) ∙ (λ i. (recorded.done.rest i).input) ∙ (λ i. (started.done.rest i).input) ∙ (λ i. (begun.done.rest i).input);
       out = (λ i. (gives.same i).out.told) ∙ (λ i. (kept.done.rest i).out.told) ∙ (λ i. (recorded.done.rest i).out.told) ∙ (λ i. (started.done.rest i).out.told) ∙ (λ i. (begun.done.rest i).out.told);
@@ -258,52 +258,41 @@ work_did partial number jobs a b u few works =
 
 -- ---- the report
 
-record ToldSo (number : ℕ) (filter_tags : Ids) (a b : Work) (v : Verdict) : Type 0 where
+record ToldSo (number : ℕ) (filter_tags : Ids) (rows : List Row) (a b : Work) (v : Verdict) : Type 0 where
   report : Told
-  says : IfSome a.folder.told (IsReportAt number filter_tags report)
+  says : IsReport number filter_tags rows report
   folder : b.folder.told ≡ a.folder.told
   spawner : b.spawner.told ≡ a.spawner.told
   input : b.input ≡ a.input
   printed : Appends a.out.told b.out.told report.text.items
   verdict : v ≡ report.verdict
 
-tell_did : (number : ℕ) (filter_tags : Ids) (a b : Work) (v : Verdict) → TellsRun number filter_tags a b (Ok v) → ToldSo number filter_tags a b v
-tell_did number filter_tags a b v tells =
-    let found = then_did v tells in
-    let printed = then_did v found.next in
+tell_did : (number : ℕ) (filter_tags : Ids) (rows : List Row) (a b : Work) (v : Verdict) → TellsRun number filter_tags rows a b (Ok v) → ToldSo number filter_tags rows a b v
+tell_did number filter_tags rows a b v tells =
+    let made = then_did v tells in
+    let printed = then_did v made.next in
     let gives = printed.next in
     record {
-      report = found.value;
-      says = found.done.at.report;
-      folder = (λ i. (gives.same i).folder.told) ∙ (λ i. (printed.done.rest i).folder.told) ∙ stays_is a.folder.told found.between.folder.told found.done.at.same;
-      spawner = (λ i. (gives.same i).spawner.told) ∙ (λ i. (printed.done.rest i).spawner.told) ∙ (λ i. (found.done.rest i).spawner.told);
-      input = (λ i. (gives.same i).input) ∙ (λ i. (printed.done.rest i).input) ∙ (λ i. (found.done.rest i).input);
-      printed = appended {z = printed.between.out.told} (λ i. (found.done.rest i).out.told) (λ i. (sym gives.same i).out.told) refl printed.done.at.whole;
+      report = made.value;
+      says = made.done.says.told;
+      folder = (λ i. (gives.same i).folder.told) ∙ (λ i. (printed.done.rest i).folder.told) ∙ (λ i. (made.done.same i).folder.told);
+      spawner = (λ i. (gives.same i).spawner.told) ∙ (λ i. (printed.done.rest i).spawner.told) ∙ (λ i. (made.done.same i).spawner.told);
+      input = (λ i. (gives.same i).input) ∙ (λ i. (printed.done.rest i).input) ∙ (λ i. (made.done.same i).input);
+      printed = appended {z = printed.between.out.told} (λ i. (made.done.same i).out.told) (λ i. (sym gives.same i).out.told) refl printed.done.at.whole;
       verdict = same_verdict gives.answer;
     }
 
--- the report is that of the events' rows
-record SaysRows (number : ℕ) (filter_tags : Ids) (events : List Event) (report : Told) : Type 0 where
-  text : report.text.items ≡ report_of (rows_of events) number filter_tags
-  verdict : report.verdict ≡ verdict_of (rows_of events)
-
--- the run that was kept is the one that is read
-says_kept : (kinds : List Bool) (partial : Bool) (events : List Event) (filter_tags : Ids) (report : Told) (a b : Option Folder) → length kinds < most_runs → All IsEvent events → All Fits events → IfSome a (FitsFolder kinds) → Goes a b (KeepsRun (length kinds) (run_of partial (run_bytes events))) → IfSome b (IsReportAt (length kinds) filter_tags report) → IfSome a (λ _. SaysRows (length kinds) filter_tags events report)
-says_kept kinds partial events filter_tags report None b room are fit fits kept says = tt
-says_kept kinds partial events filter_tags report (Some s) None room are fit fits kept says = absurd kept
-says_kept kinds partial events filter_tags report (Some s) (Some t) room are fit fits kept says =
-    let run : List ℕ = run_bytes events in
-    let there : run_at t.disk.published (length kinds) ≡ Some (run_of partial run) = ap (λ (d : Disk). run_at d.published (length kinds)) kept.disk ∙ here s.disk.published (length kinds) room (free_here s.disk.published kinds fits.kinds_are room) run partial (length kinds) refl in
-    let rows : AreRowsOf run says.rows = subst (λ (o : Option Run). IsSomeAnd o (λ r. AreRowsOf r.bytes says.rows)) there says.rows_are in
-    let is : says.rows ≡ rows_of events = rows_of_written run events says.rows (packets_bytes events are) are fit refl rows in
-    record { text = says.text ∙ ap (λ (l : List Row). report_of l (length kinds) filter_tags) is; verdict = says.verdict ∙ ap verdict_of is }
-
-prints_rows : (partial : Bool) (number : ℕ) (filter_tags : Ids) (events : List Event) (report : Told) (a b : Option Folder) (printed new : Option (List ℕ)) → Goes a b (KeepsRun number (run_of partial (run_bytes events))) → IfSome a (λ _. SaysRows number filter_tags events report) → Appends printed new report.text.items
+prints_rows : (partial : Bool) (number : ℕ) (filter_tags : Ids) (events : List Event) (report : Told) (a b : Option Folder) (printed new : Option (List ℕ)) → Goes a b (KeepsRun number (run_of partial (run_bytes events))) → IsReport number filter_tags (rows_of events) report → Appends printed new report.text.items
     → IfSome a (λ s. (runs : List Run) → Shows s.disk.published runs → Appends printed new (report_of (rows_of events) (length runs) filter_tags))
 prints_rows partial number filter_tags events report None b printed new kept says appends = tt
 prints_rows partial number filter_tags events report (Some s) None printed new kept says appends = absurd kept
 prints_rows partial number filter_tags events report (Some s) (Some t) printed new kept says appends = λ runs shows.
     subst (λ n. Appends printed new (report_of (rows_of events) n filter_tags)) ((kept_beside number (run_of partial (run_bytes events)) s t kept).counts runs shows) (subst (Appends printed new) says.text appends)
+
+-- what is so is so where this is told
+so_where_told : {S : Type 0} (a : Option S) (X : Type 0) → X → IfSome a (λ _. X)
+so_where_told None X is = tt
+so_where_told (Some s) X is = is
 
 -- ---- the run theorem
 
@@ -325,18 +314,16 @@ run_did options a b v runs =
     let few : length planned.value ≤ 64 = few_jobs conf.value selected.value selected.between planned.between planned.value (selected_range conf.value options begin selected.between selected.value selected.done) planned.done in
     let before = leaves_then begin selected.between planned.between (select_leaves conf.value options begin selected.between selected.value selected.done) (plan_leaves conf.value selected.value selected.between planned.between planned.value planned.done) in
     let work = work_did partial (length kinds) planned.value planned.between worked.between worked.value few worked.done in
-    let tell = tell_did (length kinds) conf.value.filter_tags worked.between b v worked.next in
+    let tell = tell_did (length kinds) conf.value.filter_tags worked.value worked.between b v worked.next in
     let run : Run = run_of partial (run_bytes work.events) in
     let calm : begin ≡ found.between = compiled.done.same ∙ took.done.same in
     let site : conf.between.site ≡ a.site = seen_same a.site conf.between.site conf.done.at.same (conf.done.at.count.stands refl) in
     let first : conf.between ≡ a = conf.done.rest ∙ ap (work_site.put a) site in
     let opened : begin ≡ work_folder.put a begin.folder = calm ∙ found.done.rest ∙ (λ i. work_folder.put (first i) found.between.folder) ∙ (λ i. work_folder.put a (sym calm i).folder) in
-    let surveyed : Goes a.folder.told begin.folder.told (Surveys kinds) = goes_ends (Surveys kinds) (λ i. (first i).folder.told) (λ i. (sym calm i).folder.told) found.done.at.found in
     let quiet : Goes a.folder.told begin.folder.told Rests = goes_ends Rests (λ i. (first i).folder.told) (λ i. (sym calm i).folder.told) (open_quiet conf.between found.between (Ok found.value) found.done.at) in
     let kept : Goes begin.folder.told worked.between.folder.told (KeepsRun (length kinds) run) = goes_ends (KeepsRun (length kinds) run) before.folder refl work.kept in
     let stored : Goes a.folder.told b.folder.told (KeepsRun (length kinds) run) = kept_through (length kinds) run a.folder.told begin.folder.told b.folder.told quiet (goes_ends (KeepsRun (length kinds) run) refl (sym tell.folder) kept) in
-    let says_here = says_kept kinds partial work.events conf.value.filter_tags tell.report begin.folder.told worked.between.folder.told took.done.says.few work.are_events work.fit (surveyed_fits kinds a.folder.told begin.folder.told surveyed) kept tell.says in
-    let says : IfSome a.folder.told (λ _. SaysRows (length kinds) conf.value.filter_tags work.events tell.report) = told_before a.folder.told begin.folder.told (Surveys kinds) (SaysRows (length kinds) conf.value.filter_tags work.events tell.report) surveyed says_here in
+    let says : IsReport (length kinds) conf.value.filter_tags (rows_of work.events) tell.report = subst (λ (l : List Row). IsReport (length kinds) conf.value.filter_tags l tell.report) work.rows_are tell.says in
     let workers_here = told_before begin.spawner.told planned.between.spawner.told (λ s t. ⊤) (AreOfOutputs work.events work.outputs) before.told work.of_workers in
     let workers : IfSome a.spawner.told (λ _. AreOfOutputs work.events work.outputs) = subst (λ (o : Option Spawning). IfSome o (λ _. AreOfOutputs work.events work.outputs)) (λ i. (opened i).spawner.told) workers_here in
     let out : worked.between.out.told ≡ a.out.told = work.out ∙ before.out ∙ (λ i. (opened i).out.told) in
@@ -362,6 +349,6 @@ run_did options a b v runs =
       in_turn = where_told a.spawner.told (AreOfOutputs work.events work.outputs) _ (λ are. are.in_turn) workers;
       stored = goes_weaker a.folder.told b.folder.told (KeepsRun (length kinds) run) (AddsRun partial work.events) stored (adds_run partial (length kinds) work.events);
       printed = prints_rows partial (length kinds) conf.value.filter_tags work.events tell.report a.folder.told b.folder.told a.out.told b.out.told stored says (subst (λ (o : Option (List ℕ)). Appends o b.out.told tell.report.text.items) out tell.printed);
-      status = where_told a.folder.told (SaysRows (length kinds) conf.value.filter_tags work.events tell.report) (verdict_code v ≡ status_of (rows_of work.events)) (λ says. ap verdict_code (tell.verdict ∙ says.verdict) ∙ status_is (rows_of work.events)) says;
+      status = so_where_told a.folder.told (verdict_code v ≡ status_of (rows_of work.events)) (ap verdict_code (tell.verdict ∙ says.verdict) ∙ status_is (rows_of work.events));
       input = tell.input ∙ work.input ∙ before.input ∙ (λ i. (opened i).input);
     }

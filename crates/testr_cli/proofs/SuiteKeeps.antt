@@ -3,6 +3,7 @@ use Rattle.std.proofs.Common.{◌≡◌, ℕ, Bool, true, false, Result, Ok, Err
 use Rattle.edge_io.specs.Steps.{Goes}
 use Rattle.edge_io.specs.declared.job.Job.{Job}
 use Rattle.edge_io.proofs.Going.{goes_then, goes_weaker}
+use Rattle.outcome_fold.specs.declared.row.Row.{Row}
 use Rattle.run_shelf.specs.Drafts.{OfDraft, PlaceFails}
 use Rattle.run_shelf.specs.Repository.{run_name}
 use Rattle.testr_cli.specs.Outside.{Work, work_folder}
@@ -15,7 +16,7 @@ use Rattle.testr_cli.specs.SuiteProgram.{PerformsSuite, may_have_run}
 use Rattle.testr_cli.specs.Suites.{Suite, list, run, RunOptions, is_partial}
 use Rattle.testr_cli.specs.declared.answer.Verdict.{Verdict}
 use Rattle.testr_cli.specs.declared.answer.Refusal.{Refusal}
-use Rattle.testr_cli.specs.declared.answer.Refusal.TheVariants.{Keep, Reread, Print}
+use Rattle.testr_cli.specs.declared.answer.Refusal.TheVariants.{Keep, Report, Print}
 use Rattle.testr_cli.proofs.Resting.{Rests, rests_of_same}
 use Rattle.testr_cli.proofs.ChainLemmas.{Quiet, gives_not}
 use Rattle.testr_cli.proofs.KeepLemmas.{place_keeps, files_keep, keeps_runs}
@@ -45,31 +46,31 @@ module _ (options : RunOptions) where
   gives_keeps value a b r gives not = absurd (gives_not a b r gives)
 
   -- the step that names the run
-  named_last : (number : ℕ) → KeepsUnless {A = Unit {0}} (Then Keep (At work_folder (Keeps (is_partial options) number)) (λ _. Gives tt))
-  named_last number a b r (stops fault is step) not =
+  named_last : (number : ℕ) (rows : List Row) → KeepsUnless (Then Keep (At work_folder (Keeps (is_partial options) number)) (λ _. Gives rows))
+  named_last number rows a b r (stops fault is step) not =
       let before = refused_as (Keep fault) r is not in
       goes_weaker a.folder.told b.folder.told (OfDraft (λ bytes. PlaceFails (run_name number (is_partial options)) bytes fault.call)) KeepsFiles step.at.failed (λ s t of. place_keeps (run_name number (is_partial options)) of.bytes fault.call s t of.does before)
-  named_last number a b r (goes_on _ m step gives) not = absurd (gives_not m b r gives)
+  named_last number rows a b r (goes_on _ m step gives) not = absurd (gives_not m b r gives)
 
   works_keep : (number : ℕ) (jobs : List Job) → KeepsUnless (Works (is_partial options) number jobs)
   works_keep number jobs =
       then_keeps (λ a b r s. begin_quiet a b r s.at) (λ _.
       then_keeps (λ a b r s. spawner_quiet a b s.rest) (λ rests.
-      then_keeps (λ a b r s. rests_of_same a.folder.told b.folder.told s.at.files) (λ _.
-      named_last number)))
+      then_keeps (λ a b r s. rests_of_same a.folder.told b.folder.told s.at.files) (λ rows.
+      named_last number rows)))
 
   -- what refuses behind the run's name
-  told_late : (number : ℕ) (tags : List (List ℕ)) (a b : Work) (r : Refusal) → TellsRun number tags a b (Err r) → may_have r ≡ true
-  told_late number tags a b r (stops fault is step) = ap may_have (same_refusal (Reread fault) r is)
-  told_late number tags a b r (goes_on report m step (stops fault is printed)) = ap may_have (same_refusal (Print fault) r is)
-  told_late number tags a b r (goes_on report m step (goes_on _ m2 printed gives)) = absurd (gives_not m2 b r gives)
+  told_late : (number : ℕ) (tags : List (List ℕ)) (rows : List Row) (a b : Work) (r : Refusal) → TellsRun number tags rows a b (Err r) → may_have r ≡ true
+  told_late number tags rows a b r (stops fault is step) = ap may_have (same_refusal (Report fault) r is)
+  told_late number tags rows a b r (goes_on report m step (stops fault is printed)) = ap may_have (same_refusal (Print fault) r is)
+  told_late number tags rows a b r (goes_on report m step (goes_on _ m2 printed gives)) = absurd (gives_not m2 b r gives)
 
   never : (r : Refusal) → may_have r ≡ true → may_have r ≡ false → ⊥
   never r is not = cc
 
-  works_last : (number : ℕ) (jobs : List Job) (tags : List (List ℕ)) → KeepsUnless (Then (λ refusal. refusal) (Works (is_partial options) number jobs) (λ _. TellsRun number tags))
+  works_last : (number : ℕ) (jobs : List Job) (tags : List (List ℕ)) → KeepsUnless (Then (λ refusal. refusal) (Works (is_partial options) number jobs) (λ rows. TellsRun number tags rows))
   works_last number jobs tags a b r (stops fault is step) not = works_keep number jobs a b fault step (refused_as fault r is not)
-  works_last number jobs tags a b r (goes_on _ m step next) not = absurd (never r (told_late number tags m b r next) not)
+  works_last number jobs tags a b r (goes_on rows m step next) not = absurd (never r (told_late number tags rows m b r next) not)
 
   run_keeps : KeepsUnless (RunsSuite options)
   run_keeps =

@@ -4,6 +4,8 @@ use Rattle.std.proofs.Common.{◌≡◌, ◌⊎◌, inl, inr, ℕ, zero, suc, �
 use Rattle.edge_io.specs.Causes.{Rose, RisesExactlyIf}
 use Rattle.edge_io.specs.Seen.{Seen}
 use Rattle.edge_io.specs.declared.job.Job.{Job}
+use Rattle.outcome_fold.specs.declared.row.Row.{Row}
+use Rattle.sub_number.specs.declared.memory.NoMemory.{NoMemory}
 use Rattle.suite_plan.specs.Calling.{CallsOut}
 use Rattle.suite_plan.specs.ConfFile.{ReadsConf}
 use Rattle.suite_plan.specs.Listing.{ListsTests}
@@ -138,10 +140,6 @@ module _ (a b : Work) where
     tell_refuses tell_fault.Shelf count = folder_raised (refusal.Tell tell_fault.Shelf) refl refl (count.rose refl)
     tell_refuses tell_fault.NoMemory count = plain (refusal.Tell tell_fault.NoMemory) (omega arith) (omega arith) (λ four. omega arith) (folder_same (count.stands refl))
 
-    reread_refuses : (fault : TellFault) → RisesExactlyIf a.folder.faults b.folder.faults (fault_fails fault) → SuiteRefused (refusal.Reread fault) a b
-    reread_refuses tell_fault.Shelf count = folder_raised (refusal.Reread tell_fault.Shelf) refl refl (count.rose refl)
-    reread_refuses tell_fault.NoMemory count = plain (refusal.Reread tell_fault.NoMemory) (omega arith) (omega arith) (λ four. omega arith) (folder_same (count.stands refl))
-
     lanes_refuse : (rests : List (Option (List Lot))) (fault : LanesRefusal) → RecordsLanes rests a.folder b.folder (Err fault) → SuiteRefused (refusal.Lanes fault) a b
     lanes_refuse rests (lanes.Shelf which) records = folder_raised (refusal.Lanes (lanes.Shelf which)) refl refl (records.sum.rose refl)
     lanes_refuse rests lanes.NoMemory records = plain (refusal.Lanes lanes.NoMemory) (omega arith) (omega arith) (λ four. omega arith) (folder_same (records.sum.stands refl))
@@ -204,6 +202,9 @@ module _ (a b : Work) where
   pattern_refuses : (fault : PatternRefusal) → b ≡ a → SuiteRefused (refusal.Pattern fault) a b
   pattern_refuses (pattern.Bad given) same = plain (refusal.Pattern (pattern.Bad given)) (omega arith) (omega arith) (λ four. omega arith) (still_counts a b same)
   pattern_refuses pattern.NoMemory same = plain (refusal.Pattern pattern.NoMemory) (omega arith) (omega arith) (λ four. omega arith) (still_counts a b same)
+
+  untold_refuses : (fault : NoMemory) → b ≡ a → SuiteRefused (refusal.Report fault) a b
+  untold_refuses fault same = plain (refusal.Report fault) (omega arith) (omega arith) (λ four. omega arith) (still_counts a b same)
 
   job_refuses : (fault : JobFault) → b ≡ a → SuiteRefused (refusal.Job fault) a b
   job_refuses (job.NoOption which) same = plain (refusal.Job (job.NoOption which)) (omega arith) (omega arith) (λ four. omega arith) (still_counts a b same)
@@ -289,15 +290,15 @@ work_counts partial number jobs =
     then_counts all (λ a b v s. keep_counts a b partial number v s.at s.rest) (λ _.
     value_counts))))
 
-report_refuses : (number : ℕ) (filter_tags : List (List ℕ)) → SuiteRefuses (λ r. r) (TellsRun number filter_tags)
-report_refuses number filter_tags =
-    then_suite (λ a b v s. folder_same a b s.rest (s.at.count.stands refl)) (λ a b e s. reread_refuses a b s.rest e s.at.count) (λ report.
+report_refuses : (number : ℕ) (filter_tags : List (List ℕ)) (rows : List Row) → SuiteRefuses (λ r. r) (TellsRun number filter_tags rows)
+report_refuses number filter_tags rows =
+    then_suite (λ a b v s. still_counts a b s.same) (λ a b e s. untold_refuses a b e s.same) (λ report.
     then_suite (λ a b v s. print_counts a b _ v s.at s.rest) (λ a b e s. of_fault a b (refusal.Print e) (print_faults a b _ e s.at s.rest)) (λ _.
     value_refuses))
 
-report_counts : (number : ℕ) (filter_tags : List (List ℕ)) → Counts all (TellsRun number filter_tags)
-report_counts number filter_tags =
-    then_counts all (λ a b v s. folder_same a b s.rest (s.at.count.stands refl)) (λ report.
+report_counts : (number : ℕ) (filter_tags : List (List ℕ)) (rows : List Row) → Counts all (TellsRun number filter_tags rows)
+report_counts number filter_tags rows =
+    then_counts all (λ a b v s. still_counts a b s.same) (λ report.
     then_counts all (λ a b v s. print_counts a b _ v s.at s.rest) (λ _.
     value_counts))
 
@@ -326,8 +327,8 @@ run_by_refuses options settings =
     then_suite (λ a b v s. still_counts a b s.same) (λ a b e s. pattern_refuses a b e s.same) (λ _.
     then_suite (select_counts settings options) (select_refuses settings options) (λ selected.
     then_suite (plan_counts settings selected) (plan_refuses settings selected) (λ jobs.
-    then_suite (work_counts _ _ jobs) (work_refuses _ _ jobs) (λ _.
-    report_refuses _ settings.filter_tags))))))
+    then_suite (work_counts _ _ jobs) (work_refuses _ _ jobs) (λ rows.
+    report_refuses _ settings.filter_tags rows))))))
 
 run_by_counts : (options : RunOptions) (settings : Settings) → Counts all (RunsBy options settings)
 run_by_counts options settings =
@@ -336,8 +337,8 @@ run_by_counts options settings =
     then_counts all (λ a b v s. still_counts a b s.same) (λ _.
     then_counts all (select_counts settings options) (λ selected.
     then_counts all (plan_counts settings selected) (λ jobs.
-    then_counts all (work_counts _ _ jobs) (λ _.
-    report_counts _ settings.filter_tags))))))
+    then_counts all (work_counts _ _ jobs) (λ rows.
+    report_counts _ settings.filter_tags rows))))))
 
 pub suite_refused : (asked : Suite) (a b : Work) (r : Refusal) → PerformsSuite asked a b (Err r) → SuiteRefused r a b
 suite_refused (list patterns) = then_suite (λ a b v s. site_same a b s.rest (s.at.count.stands refl)) (λ a b e s. conf_refuses a b s.rest e s.at) (list_by_refuses patterns)

@@ -8,6 +8,7 @@ use Rattle.edge_io.specs.Steps.{Goes, Stays, Grown}
 use Rattle.edge_io.specs.declared.job.Job.{Job}
 use Rattle.edge_io.proofs.Going.{goes_then, goes_weaker}
 use Rattle.edge_io.proofs.Passing.{passes_then, passes_weaker}
+use Rattle.outcome_fold.specs.declared.row.Row.{Row}
 use Rattle.packet_codec.specs.Lanes.{IsOfLaneBelow}
 use Rattle.packet_codec.specs.declared.event.Event.{Event}
 use Rattle.run_shelf.specs.Drafts.{Writes}
@@ -112,31 +113,31 @@ module _ (partial : Bool) (told : Option Spawning) where
         (passes_weaker (λ image. IsImage m.disk image ⊎ HasRunBeside m.disk.published number (run_of partial (run_bytes events)) image) (Left s) (left_by s m rests) m t passes))
 
   -- the step that names the run, over a draft of these bytes
-  named_moves : (number : ℕ) (bytes : List ℕ) (w a b : Work) (result : Result (Unit {0}) Refusal) → Goes w.folder.told a.folder.told (Writes bytes) → Then Keep (At work_folder (Keeps partial number)) (λ _. Gives tt) a b result → Goes w.folder.told b.folder.told (PassesRun number (run_of partial bytes))
-  named_moves number bytes w a b result written (stops fault is step) = run_passes number partial bytes w.folder.told a.folder.told b.folder.told written step.at.any_moment
-  named_moves number bytes w a b result written (goes_on _ m step gives) =
+  named_moves : (number : ℕ) (rows : List Row) (bytes : List ℕ) (w a b : Work) (result : Result (List Row) Refusal) → Goes w.folder.told a.folder.told (Writes bytes) → Then Keep (At work_folder (Keeps partial number)) (λ _. Gives rows) a b result → Goes w.folder.told b.folder.told (PassesRun number (run_of partial bytes))
+  named_moves number rows bytes w a b result written (stops fault is step) = run_passes number partial bytes w.folder.told a.folder.told b.folder.told written step.at.any_moment
+  named_moves number rows bytes w a b result written (goes_on _ m step gives) =
       subst (λ (x : Work). Goes w.folder.told x.folder.told (PassesRun number (run_of partial bytes))) (sym gives.same)
       (run_passes number partial bytes w.folder.told a.folder.told m.folder.told written step.at.any_moment)
 
-  works_moves : (number : ℕ) (jobs : List Job) → length jobs ≤ 64 → (a w b : Work) (result : Result (Unit {0}) Refusal) → told ≡ a.spawner.told → IsQuiet a w → Asks 2 a w → Works partial number jobs w b result → Moves a b
+  works_moves : (number : ℕ) (jobs : List Job) → length jobs ≤ 64 → (a w b : Work) (result : Result (List Row) Refusal) → told ≡ a.spawner.told → IsQuiet a w → Asks 2 a w → Works partial number jobs w b result → Moves a b
   works_moves number jobs few a w b result is_told quiet asks (stops fault is step) = quiet_moves a b (quiet_then a w b quiet (begin_quiet w b (Err fault) step.at))
   works_moves number jobs few a w b result is_told quiet asks (goes_on _ m begun (stops fault is step)) =
       quiet_moves a b (quiet_then a w b quiet (quiet_then w m b (begin_quiet w m (Ok tt) begun.at) (spawner_quiet m b step.rest)))
   works_moves number jobs few a w b result is_told quiet asks (goes_on _ m begun (goes_on rests m2 started (stops fault is step))) =
       quiet_moves a b (quiet_then a w b quiet (quiet_then w m b (begin_quiet w m (Ok tt) begun.at) (quiet_then m m2 b (spawner_quiet m m2 started.rest) (rests_of_same m2.folder.told b.folder.told step.at.files))))
-  works_moves number jobs few a w b result is_told quiet asks (goes_on _ m begun (goes_on rests m2 started (goes_on _ m3 recorded named))) =
-      let adds : AddsMerge rests m2.folder.told m3.folder.told = recorded.at.recorded in
+  works_moves number jobs few a w b result is_told quiet asks (goes_on _ m begun (goes_on rests m2 started (goes_on rows m3 recorded named))) =
+      let adds : AddsMerge rests m2.folder.told m3.folder.told = recorded.at.recorded.merge in
       let events : List Event = adds.events in
       let grown : Goes m.folder.told m3.folder.told (Grown (run_bytes events)) = subst (λ (f : Seen Folder). Goes f.told m3.folder.told (Grown (run_bytes events))) (λ i. (started.rest i).folder) adds.added in
       let written : Goes w.folder.told m3.folder.told (Writes (run_bytes events)) = goes_writes w.folder.told m.folder.told m3.folder.told (run_bytes events) begun.at.begun grown in
       let starts : Goes w.spawner.told m2.spawner.told (HasStarted jobs rests) = subst (λ (s : Seen Spawning). Goes s.told m2.spawner.told (HasStarted jobs rests)) (λ i. (begun.rest i).spawner) started.at.started in
       let workers : IfSome told (AreOfWorkers events) = subst (λ (s : Option Spawning). IfSome s (AreOfWorkers events)) (sym is_told) (of_workers jobs few rests m2.folder.told m3.folder.told adds a.spawner.told w.spawner.told m2.spawner.told asks starts) in
-      run_moves number events (of_lanes jobs few rests m2.folder.told m3.folder.told adds started.at.count) workers a w b quiet (named_moves number (run_bytes events) w m3 b result written named)
+      run_moves number events (of_lanes jobs few rests m2.folder.told m3.folder.told adds started.at.count) workers a w b quiet (named_moves number rows (run_bytes events) w m3 b result written named)
 
-tells_stays : (number : ℕ) (tags : List (List ℕ)) (a b : Work) (result : Result Verdict Refusal) → TellsRun number tags a b result → Goes a.folder.told b.folder.told Stays
-tells_stays number tags a b result (stops fault is step) = step.at.same
-tells_stays number tags a b result (goes_on report m step (stops fault is printed)) = then_stays a.folder.told m.folder.told b.folder.told Stays step.at.same (same_stays m b (λ i. (printed.rest i).folder))
-tells_stays number tags a b result (goes_on report m step (goes_on _ m2 printed gives)) = then_stays a.folder.told m.folder.told b.folder.told Stays step.at.same (same_stays m b ((λ i. (gives.same i).folder) ∙ (λ i. (printed.rest i).folder)))
+tells_stays : (number : ℕ) (tags : List (List ℕ)) (rows : List Row) (a b : Work) (result : Result Verdict Refusal) → TellsRun number tags rows a b result → Goes a.folder.told b.folder.told Stays
+tells_stays number tags rows a b result (stops fault is step) = same_stays a b (λ i. (step.same i).folder)
+tells_stays number tags rows a b result (goes_on report m step (stops fault is printed)) = same_stays a b ((λ i. (printed.rest i).folder) ∙ (λ i. (step.same i).folder))
+tells_stays number tags rows a b result (goes_on report m step (goes_on _ m2 printed gives)) = same_stays a b ((λ i. (gives.same i).folder) ∙ (λ i. (printed.rest i).folder) ∙ (λ i. (step.same i).folder))
 
 module _ (options : RunOptions) (settings : Settings) where
   abbrev MovesFrom : Work → Work → Type 0
@@ -146,15 +147,15 @@ module _ (options : RunOptions) (settings : Settings) where
   quiet_from a b quiet = quiet_moves (is_partial options) a.spawner.told a b quiet
 
   -- behind the steps that select the tests
-  worked_moves : (number : ℕ) (jobs : List Job) → length jobs ≤ 64 → (a w b : Work) (result : Result Verdict Refusal) → IsQuiet a w → Asks 2 a w → Then (λ refusal. refusal) (Works (is_partial options) number jobs) (λ _. TellsRun number settings.filter_tags) w b result → MovesFrom a b
+  worked_moves : (number : ℕ) (jobs : List Job) → length jobs ≤ 64 → (a w b : Work) (result : Result Verdict Refusal) → IsQuiet a w → Asks 2 a w → Then (λ refusal. refusal) (Works (is_partial options) number jobs) (λ rows. TellsRun number settings.filter_tags rows) w b result → MovesFrom a b
   worked_moves number jobs few a w b result quiet asks (stops fault is step) = works_moves (is_partial options) a.spawner.told number jobs few a w b (Err fault) refl quiet asks step
-  worked_moves number jobs few a w b result quiet asks (goes_on _ m step next) =
+  worked_moves number jobs few a w b result quiet asks (goes_on rows m step next) =
       then_stays a.folder.told m.folder.told b.folder.told (PassesSuiteRun (is_partial options) a.spawner.told)
-      (works_moves (is_partial options) a.spawner.told number jobs few a w m (Ok tt) refl quiet asks step)
-      (tells_stays number settings.filter_tags m b result next)
+      (works_moves (is_partial options) a.spawner.told number jobs few a w m (Ok rows) refl quiet asks step)
+      (tells_stays number settings.filter_tags rows m b result next)
 
   -- behind the opening
-  selected_moves : (number : ℕ) (a m b : Work) (result : Result Verdict Refusal) → IsQuiet a m → m.spawner ≡ a.spawner → Then (λ refusal. refusal) (Selects settings options) (λ selected. Then (λ refusal. refusal) (Plans settings selected) (λ jobs. Then (λ refusal. refusal) (Works (is_partial options) number jobs) (λ _. TellsRun number settings.filter_tags))) m b result → MovesFrom a b
+  selected_moves : (number : ℕ) (a m b : Work) (result : Result Verdict Refusal) → IsQuiet a m → m.spawner ≡ a.spawner → Then (λ refusal. refusal) (Selects settings options) (λ selected. Then (λ refusal. refusal) (Plans settings selected) (λ jobs. Then (λ refusal. refusal) (Works (is_partial options) number jobs) (λ rows. TellsRun number settings.filter_tags rows))) m b result → MovesFrom a b
   selected_moves number a m b result quiet same (stops fault is step) = quiet_from a b (quiet_then a m b quiet (select_quiet settings options m b (Err fault) step))
   selected_moves number a m b result quiet same (goes_on selected m2 selects (stops fault is step)) =
       quiet_from a b (quiet_then a m b quiet (quiet_then m m2 b (select_quiet settings options m m2 (Ok selected) selects) (plan_quiet settings selected m2 b (Err fault) step)))

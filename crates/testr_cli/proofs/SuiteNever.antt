@@ -7,6 +7,7 @@ use Rattle.edge_io.specs.Spawners.{Spawning}
 use Rattle.edge_io.specs.Steps.{Stays}
 use Rattle.edge_io.specs.declared.child.Finish.TheVariants.{Exit}
 use Rattle.edge_io.specs.declared.job.Job.{Job}
+use Rattle.outcome_fold.specs.declared.row.Row.{Row}
 use Rattle.run_shelf.specs.Repository.{most_runs}
 use Rattle.partition_times.specs.Patterns.{IsPattern}
 use Rattle.suite_plan.specs.Calling.{TellsNumber, TellsNone, StartsCounting, HasCallCause, CallsOut, called}
@@ -375,10 +376,10 @@ work_never partial number jobs a b r (goes_on _ m begun (goes_on rests m2 starte
 work_never partial number jobs a b r (goes_on _ m begun (goes_on rests m2 started (goes_on _ m3 recorded (stops fault is step)))) = same_cause (refusal.Keep fault) r is ((λ three. omega arith), (λ child. child))
 work_never partial number jobs a b r (goes_on _ m begun (goes_on rests m2 started (goes_on _ m3 recorded (goes_on _ m4 kept gives)))) = absurd (gives_not m4 b r gives)
 
-told_never : (number : ℕ) (tags : Ids) (a b : Work) (r : Refusal) → TellsRun number tags a b (Err r) → NoCause r
-told_never number tags a b r (stops fault is step) = same_cause (refusal.Reread fault) r is ((λ three. tell_never fault three), (λ child. child))
-told_never number tags a b r (goes_on report m found (stops fault is step)) = same_cause (refusal.Print fault) r is ((λ three. omega arith), (λ child. child))
-told_never number tags a b r (goes_on report m found (goes_on _ m2 printed gives)) = absurd (gives_not m2 b r gives)
+told_never : (number : ℕ) (tags : Ids) (rows : List Row) (a b : Work) (r : Refusal) → TellsRun number tags rows a b (Err r) → NoCause r
+told_never number tags rows a b r (stops fault is step) = same_cause (refusal.Report fault) r is ((λ three. omega arith), (λ child. child))
+told_never number tags rows a b r (goes_on report m found (stops fault is step)) = same_cause (refusal.Print fault) r is ((λ three. omega arith), (λ child. child))
+told_never number tags rows a b r (goes_on report m found (goes_on _ m2 printed gives)) = absurd (gives_not m2 b r gives)
 
 -- ---- `run`
 
@@ -404,7 +405,7 @@ run_by_never options settings a b r (goes_on found m opened (goes_on _ m2 took (
     same_cause fault r is (select_never settings options m3 b fault step (subst (CanSelect options settings m3.site.told) children on_site))
 run_by_never options settings a b r (goes_on found m opened (goes_on _ m2 took (goes_on _ m3 compiled (goes_on selected m4 selects (stops fault is step))))) can = same_cause fault r is (plan_never settings selected m4 b fault step (λ some. can.handed (select_hands settings options m3 m4 selected selects some)))
 run_by_never options settings a b r (goes_on found m opened (goes_on _ m2 took (goes_on _ m3 compiled (goes_on selected m4 selects (goes_on jobs m5 planned (stops fault is step)))))) can = same_cause fault r is (work_never _ _ jobs m5 b fault step)
-run_by_never options settings a b r (goes_on found m opened (goes_on _ m2 took (goes_on _ m3 compiled (goes_on selected m4 selects (goes_on jobs m5 planned (goes_on _ m6 worked tells)))))) can = told_never _ settings.filter_tags m6 b r tells
+run_by_never options settings a b r (goes_on found m opened (goes_on _ m2 took (goes_on _ m3 compiled (goes_on selected m4 selects (goes_on jobs m5 planned (goes_on rows m6 worked tells)))))) can = told_never _ settings.filter_tags rows m6 b r tells
 
 can_run_by : (options : RunOptions) (a : Work) (can : CanRun options a) → CanRunBy options can.settings a
 can_run_by options a can = record {

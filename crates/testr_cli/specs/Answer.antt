@@ -24,7 +24,7 @@ use Rattle.testr_cli.specs.declared.recording.RecordFault.TheVariants as record_
 use Rattle.testr_cli.specs.declared.told.TellFault.TheVariants as tell_fault
 use Rattle.testr_cli.specs.declared.answer.Verdict.{Verdict}
 use Rattle.testr_cli.specs.declared.answer.Refusal.{Refusal}
-use Rattle.testr_cli.specs.declared.answer.Refusal.TheVariants.{Usage, Init, Open, Runs, Record, Memory, Keep, Tell, Print, Conf, Pattern, LoadList, Call, Table, Listing, Job, Start, Lanes, Reread}
+use Rattle.testr_cli.specs.declared.answer.Refusal.TheVariants.{Usage, Init, Open, Runs, Record, Memory, Keep, Tell, Print, Conf, Pattern, LoadList, Call, Table, Listing, Job, Start, Lanes, Report}
 
 abbrev pub refusal_code : Refusal → ℕ
 refusal_code (Usage fault) = 2
@@ -45,7 +45,7 @@ refusal_code (Listing fault) = listing_code fault
 refusal_code (Job fault) = job_code fault
 refusal_code (Start fault) = start_code fault
 refusal_code (Lanes fault) = lanes_code fault
-refusal_code (Reread fault) = tell_code fault
+refusal_code (Report fault) = 5
 
 abbrev pub refusal_text : Refusal → List ℕ
 refusal_text (Usage fault) = usage_text fault
@@ -66,7 +66,7 @@ refusal_text (Listing fault) = listing_text fault
 refusal_text (Job fault) = job_text fault
 refusal_text (Start fault) = start_text fault
 refusal_text (Lanes fault) = lanes_text fault
-refusal_text (Reread fault) = tell_text fault
+refusal_text (Report fault) = memory_text
 
 -- the part whose call failed, where the refusal is a fault
 abbrev pub place_of : Refusal → Option Place
@@ -85,7 +85,6 @@ place_of (Table table.Site) = Some in_site
 place_of (Listing listing.Spawn) = Some in_spawner
 place_of (Start start.Spawn) = Some in_spawner
 place_of (Lanes (lanes.Shelf which)) = Some in_folder
-place_of (Reread tell_fault.Shelf) = Some in_folder
 place_of refusal = None
 
 abbrev pub code_of : Result Verdict Refusal → ℕ

@@ -1,5 +1,5 @@
 -- `testr load`, as the chain of its steps.
-use Rattle.std.specs.Prelude.{Bool, ℕ, List, length}
+use Rattle.std.specs.Prelude.{Bool, ℕ, List, [], length}
 use Rattle.run_shelf.specs.Holds.{kinds_of}
 use Rattle.testr_cli.specs.Steps.{Step, Then, Still, Gives, At}
 use Rattle.testr_cli.specs.Outside.{Work, work_folder, work_out}
@@ -16,7 +16,7 @@ Loads partial names =
     Then Runs (Still (TakesRun (length (kinds_of found)))) (λ _.
     Then Keep (At work_folder Begins) (λ _.
     Then Record (RecordsSources names) (λ rows.
-    Then Memory (Still (Reports (length (kinds_of found)) rows)) (λ report.
+    Then Memory (Still (Reports (length (kinds_of found)) [] rows)) (λ report.
     Then Keep (At work_folder (Keeps partial (length (kinds_of found)))) (λ _.
     Then Print (At work_out (Prints report.text.items)) (λ _.
     Gives report.verdict)))))))

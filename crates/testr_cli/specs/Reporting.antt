@@ -11,13 +11,14 @@ use Rattle.testr_cli.specs.Verdicts.{verdict_of}
 use Rattle.testr_cli.specs.declared.told.Told.{Told}
 use Rattle.testr_cli.specs.declared.reporting.PrintFault.{PrintFault}
 
--- the text and the verdict are those of the run of these rows and this number
-pub record IsReport (number : ℕ) (rows : List Row) (report : Told) : Type 0 where
-  pub text : report.text.items ≡ report_of rows number []
+-- the text and the verdict are those of the run of these rows and this number; tests that do not fail and have one of these
+-- tags are not counted
+pub record IsReport (number : ℕ) (filter_tags : List (List ℕ)) (rows : List Row) (report : Told) : Type 0 where
+  pub text : report.text.items ≡ report_of rows number filter_tags
   pub verdict : report.verdict ≡ verdict_of rows
 
-pub record Reports (number : ℕ) (rows : List Row) (result : Result Told NoMemory) : Type 0 where
-  pub told : IfOk result (IsReport number rows)
+pub record Reports (number : ℕ) (filter_tags : List (List ℕ)) (rows : List Row) (result : Result Told NoMemory) : Type 0 where
+  pub told : IfOk result (IsReport number filter_tags rows)
 
 abbrev pub memory_text : List ℕ
 memory_text = codes "testr: out of memory\n"

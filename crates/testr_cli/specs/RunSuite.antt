@@ -1,6 +1,7 @@
 -- `testr run` and `testr list-tests`, as the chains of their steps.
 use Rattle.std.specs.Prelude.{◌≡◌, ℕ, Bool, None, List, length, Result, Ok, Err, IfOk}
 use Rattle.edge_io.specs.declared.job.Job.{Job}
+use Rattle.outcome_fold.specs.declared.row.Row.{Row}
 use Rattle.run_shelf.specs.Holds.{kinds_of}
 use Rattle.sub_number.specs.declared.memory.NoMemory.{NoMemory}
 use Rattle.testr_conf.specs.Jobs.{id_lines}
@@ -11,19 +12,19 @@ use Rattle.suite_plan.specs.Listing.{ListsTests}
 use Rattle.suite_plan.specs.Patterns.{Compiles}
 use Rattle.suite_run.specs.Recording.{RecordsLanes}
 use Rattle.suite_run.specs.Starting.{StartsLanes}
-use Rattle.testr_cli.specs.Asking.{FindsReport}
 use Rattle.testr_cli.specs.Outside.{Work, work_folder, work_site, work_spawner, work_out}
-use Rattle.testr_cli.specs.Reporting.{Prints}
+use Rattle.testr_cli.specs.Reporting.{Reports, Prints}
 use Rattle.testr_cli.specs.Selecting.{Selects, Plans}
 use Rattle.testr_cli.specs.Steps.{Step, Then, Still, Gives, At}
 use Rattle.testr_cli.specs.Store.{Opens, TakesRun, Begins, Keeps}
 use Rattle.testr_cli.specs.Suites.{RunOptions, is_partial}
 use Rattle.suite_plan.specs.declared.patterns.Compiled.{Compiled}
 use Rattle.testr_cli.specs.declared.run.Asked.{Asked}
+use Rattle.testr_cli.specs.declared.working.Ran.{Ran}
 use Rattle.testr_cli.specs.declared.answer.Verdict.{Verdict}
 use Rattle.testr_cli.specs.declared.answer.Verdict.TheVariants.{Passed}
 use Rattle.testr_cli.specs.declared.answer.Refusal.{Refusal}
-use Rattle.testr_cli.specs.declared.answer.Refusal.TheVariants.{Conf, Open, Runs, Pattern, Listing, Memory, Start, Lanes, Keep, Reread, Print}
+use Rattle.testr_cli.specs.declared.answer.Refusal.TheVariants.{Conf, Open, Runs, Pattern, Listing, Memory, Start, Lanes, Keep, Report, Print}
 
 -- ---- `list-tests`
 
@@ -46,19 +47,24 @@ ListsSuite patterns = Then Conf (At work_site ReadsConf) (ListsBy patterns)
 -- ---- `run`
 
 -- The workers are started, each with its job, and read to their ends, side by side; what is recorded of them becomes the
--- run of this number.
-abbrev pub Works : (partial : Bool) → (number : ℕ) → List Job → Step Work (Unit {0}) Refusal
+-- run of this number. It gives the run's rows.
+abbrev pub Works : (partial : Bool) → (number : ℕ) → List Job → Step Work (List Row) Refusal
 Works partial number jobs =
     Then Keep (At work_folder Begins) (λ _.
     Then Start (At work_spawner (StartsLanes jobs)) (λ rests.
-    Then Lanes (At work_folder (RecordsLanes rests)) (λ _.
+    Then Lanes (At work_folder (RecordsLanes rests)) (λ rows.
     Then Keep (At work_folder (Keeps partial number)) (λ _.
-    Gives tt))))
+    Gives rows))))
 
--- the run of this number is read, and its report is printed
-abbrev pub TellsRun : (number : ℕ) → (filter_tags : Ids) → Step Work Verdict Refusal
-TellsRun number filter_tags =
-    Then Reread (At work_folder (FindsReport number filter_tags)) (λ report.
+-- the answer, of what was done the rows alone
+abbrev pub rows_in : {E : Type 0} → Result Ran E → Result (List Row) E
+rows_in (Ok ran) = Ok ran.rows
+rows_in (Err refusal) = Err refusal
+
+-- the report of the run of these rows and this number is made and printed
+abbrev pub TellsRun : (number : ℕ) → (filter_tags : Ids) → List Row → Step Work Verdict Refusal
+TellsRun number filter_tags rows =
+    Then Report (Still (Reports number filter_tags rows)) (λ report.
     Then Print (At work_out (Prints report.text.items)) (λ _.
     Gives report.verdict))
 
@@ -75,8 +81,8 @@ RunsBy options settings =
     Then Pattern (Still (Compiles options.patterns settings.group_regex)) (λ _.
     Then (λ refusal. refusal) (Selects settings options) (λ selected.
     Then (λ refusal. refusal) (Plans settings selected) (λ jobs.
-    Then (λ refusal. refusal) (Works (is_partial options) (length (kinds_of found)) jobs) (λ _.
-    TellsRun (length (kinds_of found)) settings.filter_tags))))))
+    Then (λ refusal. refusal) (Works (is_partial options) (length (kinds_of found)) jobs) (λ rows.
+    TellsRun (length (kinds_of found)) settings.filter_tags rows))))))
 
 abbrev pub RunsSuite : RunOptions → Step Work Verdict Refusal
 RunsSuite options = Then Conf (At work_site ReadsConf) (RunsBy options)

@@ -41,7 +41,7 @@ use Rattle.testr_cli.specs.SuiteStops.{PassesSuite}
 use Rattle.testr_cli.specs.Suites.{Suite, list, run, RunOptions, is_partial, suite_of}
 use Rattle.testr_cli.specs.Words.{testr_word, and_then, command_of, asked_by}
 use Rattle.testr_cli.specs.declared.answer.Refusal.{Refusal}
-use Rattle.testr_cli.specs.declared.answer.Refusal.TheVariants.{Keep, Reread, Print, Call, Listing}
+use Rattle.testr_cli.specs.declared.answer.Refusal.TheVariants.{Keep, Report, Print, Call, Listing}
 use Rattle.testr_cli.specs.declared.answer.Verdict.{Verdict}
 use Rattle.testr_cli.specs.declared.selecting.Selected.{Selected}
 use Rattle.testr_cli.specs.declared.words.UsageFault.TheVariants.{Words}
@@ -64,12 +64,12 @@ IsChildFault (Err (Call call.Child)) = ⊤
 IsChildFault (Err (Listing listing.Child)) = ⊤
 IsChildFault outcome = ⊥
 
--- Whether a run may be shown that was not before: a run was done, or a call failed that was to give it its name, or that
--- came behind. So it is of no other outcome.
+-- Whether a run may be shown that was not before: a run was done; or a call failed that was to give it its name, or that
+-- came behind; or there was no memory for its report. So it is of no other outcome.
 abbrev pub may_have_run : Suite → Result Verdict Refusal → Bool
 may_have_run (run options) (Ok verdict) = true
 may_have_run (run options) (Err (Keep fault)) = may_have_placed fault.call
-may_have_run (run options) (Err (Reread fault)) = true
+may_have_run (run options) (Err (Report fault)) = true
 may_have_run (run options) (Err (Print fault)) = true
 may_have_run asked outcome = false
 

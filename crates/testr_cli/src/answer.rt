@@ -85,8 +85,8 @@ pub enum Refusal<'a> {
     Start(StartRefusal),
     /// The workers were not recorded whole.
     Lanes(LanesRefusal),
-    /// The run that was kept was not read again, or there is not enough memory for its report.
-    Reread(TellFault),
+    /// There is not enough memory for the report of the run, which is kept.
+    Report(NoMemory),
 }
 
 impl<'a> From<InitFault> for Refusal<'a> {
@@ -285,9 +285,9 @@ impl<'a> Refusal<'a> {
             Refusal::Open(fault) => open_status(fault),
             Refusal::Runs(_) => 3,
             Refusal::Record(fault) => fault.code(),
-            Refusal::Tell(fault) | Refusal::Reread(fault) => fault.code(),
+            Refusal::Tell(fault) => fault.code(),
             Refusal::Keep(_) | Refusal::Print(_) => 4,
-            Refusal::Memory(_) => 5,
+            Refusal::Memory(_) | Refusal::Report(_) => 5,
             Refusal::Conf(refusal) => conf_status(refusal),
             Refusal::Pattern(refusal) => pattern_status(refusal),
             Refusal::LoadList(refusal) => list_status(refusal),
@@ -310,9 +310,9 @@ impl<'a> Refusal<'a> {
             Refusal::Open(fault) => open_line(fault),
             Refusal::Runs(fault) => fault.line(),
             Refusal::Record(fault) => fault.line(),
-            Refusal::Memory(_) => Line::of("testr: out of memory\n"),
+            Refusal::Memory(_) | Refusal::Report(_) => Line::of("testr: out of memory\n"),
             Refusal::Keep(fault) => fault.line(),
-            Refusal::Tell(fault) | Refusal::Reread(fault) => fault.line(),
+            Refusal::Tell(fault) => fault.line(),
             Refusal::Print(fault) => fault.line(),
             Refusal::Conf(refusal) => conf_line(refusal),
             Refusal::Pattern(refusal) => pattern_line(refusal),

@@ -11,6 +11,7 @@ use crate::reporting::{print, report_rows};
 use crate::store::{begin, keep, open, take_run};
 use crate::{Refusal, Verdict};
 use edge_io::{Shelf, Sink, Site, Source};
+use packet_codec::Tags;
 use std::alloc::Global;
 use std::mem::forget;
 use sub_number::IdList;
@@ -37,7 +38,7 @@ pub fn load<'a, H: Shelf, F: Site, I: Source, O: Sink>(
     take_run(&found)?;
     begin(shelf)?;
     let rows = record_sources(alloc, names, shelf, site, input)?;
-    let report = report_rows(alloc, found.runs(), &rows)?;
+    let report = report_rows(alloc, found.runs(), &Tags::new(alloc), &rows)?;
     keep(shelf, &mut found, partial)?;
     print(out, &report.text)?;
     // The program ends here, and the system takes the memory back in one piece.

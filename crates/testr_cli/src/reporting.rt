@@ -18,11 +18,17 @@ use std::alloc::Global;
 use sub_number::NoMemory;
 use sub_text::report_text;
 
-/// The report of the run of these rows and this number, and its verdict.
-pub fn report_rows(alloc: Global, number: u32, rows: &Rows) -> Result<Told, NoMemory>
-    ensures { Reports number rows.now result }
+/// The report of the run of these rows and this number, and its verdict. Tests that do not fail and have one of the tags are
+/// not counted.
+pub fn report_rows(
+    alloc: Global,
+    number: u32,
+    filter_tags: &Tags,
+    rows: &Rows,
+) -> Result<Told, NoMemory>
+    ensures { Reports number filter_tags.now rows.now result }
 {
-    let text = report(alloc, rows, number)?;
+    let text = tagged_report(alloc, rows, number, filter_tags)?;
     Ok(Told {
         text,
         verdict: verdict(rows),
@@ -60,8 +66,20 @@ pub fn print<O: Sink>(out: &mut O, text: &[u8]) -> Result<(), PrintFault>
 pub fn report(alloc: Global, rows: &Rows, number: u32) -> Result<Vec<u8>, NoMemory>
     ensures { IfOk result (λ text. text.items ≡ report_of rows.now number []) }
 {
+    tagged_report(alloc, rows, number, &Tags::new(alloc))
+}
+
+// The text of the report of these rows.
+fn tagged_report(
+    alloc: Global,
+    rows: &Rows,
+    number: u32,
+    filter_tags: &Tags,
+) -> Result<Vec<u8>, NoMemory>
+    ensures { IfOk result (λ text. text.items ≡ report_of rows.now number filter_tags.now) }
+{
     let mut text = Vec::new(alloc);
-    report_text(rows, number, &Tags::new(alloc), &mut text)?;
+    report_text(rows, number, filter_tags, &mut text)?;
     Ok(text)
 }
 

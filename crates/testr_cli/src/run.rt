@@ -1,32 +1,33 @@
 //! `testr run`.
 
-ghost use Rattle.std.specs.Prelude.{◌≡◌, ◌<◌, ℕ, List, length, IfOk};
+ghost use Rattle.std.specs.Prelude.{◌≡◌, ℕ, List, IfOk};
+ghost use Rattle.edge_io.specs.Disk.{Folder};
 ghost use Rattle.edge_io.specs.Seen.{Seen};
-ghost use Rattle.run_shelf.specs.Holds.{kinds_of, FitsWhereTold};
 ghost use Rattle.testr_cli.specs.Outside.{work};
 ghost use Rattle.testr_cli.specs.RunSuite.{RunsBy, TellsRun, compiled_in};
 ghost use Rattle.testr_cli.specs.Suites.{run_options, is_part};
 ghost use Rattle.suite_plan.specs.Patterns.{Compiles};
 
-use crate::asking::find_report;
 use crate::command::Command;
 use crate::planning::plan;
-use crate::reporting::print;
+use crate::reporting::{print, report_rows};
 use crate::selecting::select;
 use crate::store::{open, take_run};
 use crate::working::run_workers;
 use crate::{Refusal, Verdict};
 use edge_io::{Shelf, Sink, Site, Spawner};
+use outcome_fold::Rows;
 use packet_codec::Tags;
-use run_shelf::Found;
 use std::alloc::Global;
+use std::mem::forget;
 use std::sync::Wait;
 use std::thread::Threads;
 use suite_plan::{Compiled, PatternRefusal, compile};
 use testr_conf::Conf;
 
 /// Runs the tests that the command selects, by the project's configuration, in worker processes that are read side by side;
-/// keeps what is recorded of them as the next run; and prints the run's report. It may wait for the workers.
+/// keeps what is recorded of them as the next run; and prints the run's report, of the rows that were told as it was recorded.
+/// It may wait for the workers.
 pub fn run<'a, R: Threads + Wait + Sync, H: Shelf, S: Spawner, F: Site, O: Sink>(
     rt: &R,
     alloc: Global,
@@ -64,8 +65,11 @@ pub fn run<'a, R: Threads + Wait + Sync, H: Shelf, S: Spawner, F: Site, O: Sink>
         shelf,
         &found,
     )?;
-    let kept = run_workers(rt, alloc, &jobs, asked.partial, shelf, found, spawner)?;
-    tell_run(alloc, number, conf.filter_tags(), shelf, kept, out)
+    let ran = run_workers(rt, alloc, &jobs, asked.partial, shelf, found, spawner)?;
+    let answer = tell_run(alloc, number, conf.filter_tags(), &ran.rows, out);
+    // The program ends here, and the system takes the memory back in one piece.
+    forget(ran);
+    answer
 }
 
 // What the command and the configuration say before anything is read.
@@ -102,25 +106,22 @@ fn is_partial(command: &Command) -> bool
         || !command.names.list().is_empty()
 }
 
-// Reads the run of this number, which there must be, and prints its report.
-fn tell_run<H: Shelf, O: Sink>(
+// Makes the report of the run of these rows and this number, which is kept, and prints it.
+fn tell_run<O: Sink>(
     alloc: Global,
     number: u32,
     filter_tags: &Tags,
-    shelf: &mut H,
-    found: Found,
+    rows: &Rows,
     out: &mut O,
 ) -> Result<Verdict, Refusal<'static>>
-    requires known { number < length (kinds_of found) }
-    requires fits { FitsWhereTold (kinds_of found) (H.seen shelf.old).told }
-    ensures { (site : _) → (spawner : _) → (input : Seen (List ℕ)) → TellsRun number filter_tags.now
-        (work (H.seen shelf.old) site spawner input (O.seen out.old))
-        (work (H.seen shelf.new) site spawner input (O.seen out.new))
+    ensures { (folder : Seen Folder) → (site : _) → (spawner : _) → (input : Seen (List ℕ)) → TellsRun number filter_tags.now rows.now
+        (work folder site spawner input (O.seen out.old))
+        (work folder site spawner input (O.seen out.new))
         result }
 {
-    let report = match find_report(alloc, shelf, found, number, filter_tags) {
+    let report = match report_rows(alloc, number, filter_tags, rows) {
         Ok(report) => report,
-        Err(fault) => return Err(Refusal::Reread(fault)),
+        Err(fault) => return Err(Refusal::Report(fault)),
     };
     print(out, &report.text)?;
     Ok(report.verdict)

@@ -488,3 +488,17 @@ fn a_report_that_is_not_written_leaves_the_new_run(rt: HostRuntime) -> Result<()
     assert!(rt; has_file(&mut shelf, "0", FOO_KEPT)?);
     Ok(())
 }
+
+#[test]
+fn once_the_run_is_kept_the_folder_is_not_called(rt: HostRuntime) -> Result<(), Fail> {
+    let alloc = rt.alloc();
+    // Four calls look at the runs, one begins the new one, one adds to it and three keep it. The next one fails.
+    let mut shelf = repository(alloc, &[9])?;
+    let mut project = project_of(alloc, CONF, &[(FOO, ENDED)], &[], &[])?;
+    let told = call_in(&rt, &["testr", "run"], &mut shelf, &mut project, &[])?;
+    assert!(rt; told.is(0, PASSED_AS_0, NOTHING));
+    let told = call_in(&rt, &["testr", "last"], &mut shelf, &mut project, &[])?;
+    assert!(rt; told.is(4, NOTHING, SHELF_FAULT));
+    assert!(rt; has_file(&mut shelf, "0", FOO_KEPT)?);
+    Ok(())
+}

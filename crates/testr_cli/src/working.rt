@@ -1,6 +1,6 @@
 //! Starts the workers of a run, and records them.
 
-ghost use Rattle.std.specs.Prelude.{◌≡◌, ◌≤◌, ◌<◌, ℕ, List, length, map, IfOk, OnOk};
+ghost use Rattle.std.specs.Prelude.{◌≡◌, ◌≤◌, ◌<◌, ◌++◌, ◌∷◌, [], ℕ, List, length, map, IfOk, OnOk};
 ghost use Rattle.std.specs.List.{range_with_len};
 ghost use Rattle.edge_io.specs.Steps.{HasDraft};
 ghost use Rattle.suite_run.specs.Recording.{RecordsLanes};
@@ -9,12 +9,12 @@ ghost use Rattle.edge_io.specs.Seen.{Seen};
 ghost use Rattle.run_shelf.specs.Holds.{kinds_of, HasRoom, FitsWhereTold};
 ghost use Rattle.run_shelf.specs.Repository.{most_runs};
 ghost use Rattle.testr_cli.specs.Outside.{work};
-ghost use Rattle.testr_cli.specs.Perhaps.{no_value};
-ghost use Rattle.testr_cli.specs.RunSuite.{Works};
+ghost use Rattle.testr_cli.specs.RunSuite.{Works, rows_in};
 
 use crate::Refusal;
 use crate::store::{begin, keep};
 use edge_io::{Child, Job, Shelf, Spawner};
+use outcome_fold::Rows;
 use run_shelf::Found;
 use std::alloc::Global;
 use std::sync::Wait;
@@ -22,8 +22,17 @@ use std::thread::Threads;
 use suite_run::{LanesRefusal, record_lanes, start_lanes};
 use worker_lane::Lane;
 
+/// A run that was kept.
+#[derive(Drop)]
+pub struct Ran {
+    /// The runs that there are, with this one.
+    pub found: Found,
+    /// The rows of this one, which are those of its stored bytes.
+    pub rows: Rows,
+}
+
 /// Starts a worker for each of the jobs, 64 at most, reads them to their ends, side by side, and keeps what is recorded of
-/// them as the next run. It may wait for them. It gives the runs that there are then.
+/// them as the next run, whose rows are told as it is recorded. It may wait for them.
 pub fn run_workers<R: Threads + Wait + Sync, H: Shelf, S: Spawner>(
     rt: &R,
     alloc: Global,
@@ -32,7 +41,7 @@ pub fn run_workers<R: Threads + Wait + Sync, H: Shelf, S: Spawner>(
     shelf: &mut H,
     found: Found,
     spawner: &mut S,
-) -> Result<Found, Refusal<'static>>
+) -> Result<Ran, Refusal<'static>>
     requires few { length jobs.now ≤ 64 }
     requires free { length (kinds_of found) < most_runs }
     requires room { HasRoom found }
@@ -40,18 +49,19 @@ pub fn run_workers<R: Threads + Wait + Sync, H: Shelf, S: Spawner>(
     ensures step { (site : _) → (input out : Seen (List ℕ)) → Works partial (length (kinds_of found)) jobs.now
         (work (H.seen shelf.old) site (S.seen spawner.old) input out)
         (work (H.seen shelf.new) site (S.seen spawner.new) input out)
-        (no_value result) }
-    ensures one_more { IfOk result (λ now. length (kinds_of found) < length (kinds_of now)) }
-    ensures fits { IfOk result (λ now. FitsWhereTold (kinds_of now) (H.seen shelf.new).told) }
+        (rows_in result) }
+    ensures kinds { IfOk result (λ ran. kinds_of ran.found ≡ kinds_of found ++ partial ∷ []) }
+    ensures fits { IfOk result (λ ran. FitsWhereTold (kinds_of ran.found) (H.seen shelf.new).told) }
 {
     begin(shelf)?;
     let lanes = start_lanes(alloc, spawner, jobs)?;
-    let mut found = record_workers(rt, alloc, lanes, shelf, found, partial)?;
-    keep(shelf, &mut found, partial)?;
-    Ok(found)
+    let mut ran = record_workers(rt, alloc, lanes, shelf, found, partial)?;
+    keep(shelf, &mut ran.found, partial)?;
+    Ok(ran)
 }
 
-// Records the lanes of the workers behind the draft that was begun, and gives back the runs that there are.
+// Records the lanes of the workers behind the draft that was begun, and gives the runs that there are, and the rows of what
+// was recorded.
 fn record_workers<R: Threads + Wait + Sync, C: Child + Send + Drop, H: Shelf>(
     rt: &R,
     alloc: Global,
@@ -59,22 +69,22 @@ fn record_workers<R: Threads + Wait + Sync, C: Child + Send + Drop, H: Shelf>(
     shelf: &mut H,
     found: Found,
     partial: bool,
-) -> Result<Found, LanesRefusal>
+) -> Result<Ran, LanesRefusal>
     requires numbers { map lane_number lanes.items ≡ range_with_len 0 (length lanes.items) }
     requires few { length lanes.items ≤ 64 }
     requires free { length (kinds_of found) < most_runs }
     requires room { HasRoom found }
     requires fits { FitsWhereTold (kinds_of found) (H.seen shelf.old).told }
     requires draft { HasDraft (H.seen shelf.old).told }
-    ensures step { RecordsLanes (map (rest C.seen) lanes.items) (H.seen shelf.old) (H.seen shelf.new) (no_value result) }
+    ensures step { RecordsLanes (map (rest C.seen) lanes.items) (H.seen shelf.old) (H.seen shelf.new) (rows_in result) }
     ensures draft { OnOk result (HasDraft (H.seen shelf.new).told) }
-    ensures fits { IfOk result (λ now. FitsWhereTold (kinds_of now) (H.seen shelf.new).told) }
-    ensures kinds { IfOk result (λ now. kinds_of now ≡ kinds_of found) }
-    ensures room { IfOk result (λ now. HasRoom now) }
+    ensures fits { IfOk result (λ ran. FitsWhereTold (kinds_of ran.found) (H.seen shelf.new).told) }
+    ensures kinds { IfOk result (λ ran. kinds_of ran.found ≡ kinds_of found) }
+    ensures room { IfOk result (λ ran. HasRoom ran.found) }
 {
     let (found, recorded) = record_lanes(rt, alloc, lanes, shelf, found, partial);
     match recorded {
-        Ok(()) => Ok(found),
+        Ok(rows) => Ok(Ran { found, rows }),
         Err(refusal) => Err(refusal),
     }
 }

@@ -30,7 +30,7 @@ returns-in_err-report g c = λ spawner.
     (still_done _ c.in_ok-take_run.ensures
     (part_done _ _ c.in_ok-begin.ensures
     (goes_on c.in_ok-rows.rows _ (c.in_ok-rows.ensures.step spawner (g.O.Sink.seen c.args.out.now))
-    (still_stops _ c.from_residual-in_err-report.ensures.1 (reports_as c.runs.ensures c.in_err-report.ensures) refl))))
+    (still_stops _ c.from_residual-in_err-report.ensures.1 (reports_as c.runs.ensures c.new.ensures c.in_err-report.ensures) refl))))
 
 pub returns-in_err-keep : goal.returns-in_err-keep
 returns-in_err-keep g c = λ spawner.
@@ -38,7 +38,7 @@ returns-in_err-keep g c = λ spawner.
     (still_done _ c.in_ok-take_run.ensures
     (part_done _ _ c.in_ok-begin.ensures
     (goes_on c.in_ok-rows.rows _ (c.in_ok-rows.ensures.step spawner (g.O.Sink.seen c.args.out.now))
-    (still_done c.in_ok-report.report (reports_as c.runs.ensures c.in_ok-report.ensures)
+    (still_done c.in_ok-report.report (reports_as c.runs.ensures c.new.ensures c.in_ok-report.ensures)
     (part_stops _ c.from_residual-in_err-keep.ensures.1 c.in_err-keep.ensures.step refl)))))
 
 pub returns-in_err-print : goal.returns-in_err-print
@@ -47,7 +47,7 @@ returns-in_err-print g c = λ spawner.
     (still_done _ c.in_ok-take_run.ensures
     (part_done _ _ c.in_ok-begin.ensures
     (goes_on c.in_ok-rows.rows _ (c.in_ok-rows.ensures.step spawner (g.O.Sink.seen c.args.out.now))
-    (still_done c.in_ok-report.report (reports_as c.runs.ensures c.in_ok-report.ensures)
+    (still_done c.in_ok-report.report (reports_as c.runs.ensures c.new.ensures c.in_ok-report.ensures)
     (part_done _ _ c.in_ok-keep.ensures.step
     (part_stops _ c.from_residual-in_err-print.ensures.1 (prints_as c.deref.ensures.value c.in_err-print.ensures) refl))))))
 
@@ -57,7 +57,7 @@ returns g c = λ spawner.
     (still_done _ c.in_ok-take_run.ensures
     (part_done _ _ c.in_ok-begin.ensures
     (goes_on c.in_ok-rows.rows _ (c.in_ok-rows.ensures.step spawner (g.O.Sink.seen c.args.out.now))
-    (still_done c.in_ok-report.report (reports_as c.runs.ensures c.in_ok-report.ensures)
+    (still_done c.in_ok-report.report (reports_as c.runs.ensures c.new.ensures c.in_ok-report.ensures)
     (part_done _ _ c.in_ok-keep.ensures.step
     (part_done _ _ (prints_as c.deref.ensures.value c.in_ok-print.ensures)
     gives))))))

@@ -33,14 +33,14 @@ returns-in_err-jobs g c = λ input.
     (goes_on c.in_ok-selected.selected _ (c.in_ok-selected.ensures.step _ _)
     (stopped _ c.from_residual-in_err-jobs.ensures.1 (c.in_err-jobs.ensures.step _ _ _ _)))))
 
-pub returns-in_err-kept : goal.returns-in_err-kept
-returns-in_err-kept g c = λ input.
+pub returns-in_err-ran : goal.returns-in_err-ran
+returns-in_err-ran g c = λ input.
     part_done _ _ c.in_ok-found.ensures
     (still_done _ c.in_ok-take_run.ensures
     (still_done c.in_ok-asked.asked.compiled c.in_ok-asked.ensures.compiled
     (goes_on c.in_ok-selected.selected _ (c.in_ok-selected.ensures.step _ _)
     (goes_on c.in_ok-jobs.jobs.items _ (c.in_ok-jobs.ensures.step _ _ _ _)
-    (stopped _ c.from_residual-in_err-kept.ensures.1 (works_as c.in_ok-asked.ensures.partial c.deref.ensures.value (c.in_err-kept.ensures.step _ _ _)))))))
+    (stopped _ c.from_residual-in_err-ran.ensures.1 (works_as c.in_ok-asked.ensures.partial c.deref.ensures.value (c.in_err-ran.ensures.step _ _ _)))))))
 
 pub returns : goal.returns
 returns g c = λ input.
@@ -49,5 +49,5 @@ returns g c = λ input.
     (still_done c.in_ok-asked.asked.compiled c.in_ok-asked.ensures.compiled
     (goes_on c.in_ok-selected.selected _ (c.in_ok-selected.ensures.step _ _)
     (goes_on c.in_ok-jobs.jobs.items _ (c.in_ok-jobs.ensures.step _ _ _ _)
-    (goes_on tt _ (works_as c.in_ok-asked.ensures.partial c.deref.ensures.value (c.in_ok-kept.ensures.step _ _ _))
-    (tells_as c.runs-number.ensures c.filter_tags.ensures (c.tell_run.ensures _ _ _)))))))
+    (goes_on c.in_ok-ran.ran.rows _ (works_as c.in_ok-asked.ensures.partial c.deref.ensures.value (c.in_ok-ran.ensures.step _ _ _))
+    (tells_as c.runs-number.ensures c.filter_tags.ensures (c.tell_run-answer.ensures _ _ _ _)))))))
