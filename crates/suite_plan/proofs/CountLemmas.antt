@@ -1,64 +1,35 @@
 -- The number that an output tells, and the digits that write it.
-use Rattle.std.proofs.Common.{◌≡◌, ℕ, ◌+◌, ◌-◌, ◌*◌, ◌^◌, ◌<◌, ◌≤◌, true, false, List, [], ◌∷◌, ◌++◌, length, take, min, get_or, None, inl, inr, arith, leb-true, nat_le, refl, sym, ap, ◌∙◌, suc, zero}
-use Rattle.std.proofs.lemmas.Bool.{and_parts, cases_lt}
+use Rattle.std.proofs.Common.{◌≡◌, ℕ, ◌+◌, ◌-◌, ◌≤◌, true, false, List, ◌++◌, length, take, min, get_or, None, Result, Ok, inl, inr, arith, nat_le, rules, refl, sym, ap, ◌∙◌}
+use Rattle.std.proofs.lemmas.Bool.{cases_lt}
 use Rattle.std.proofs.lemmas.Bool.Decides.{nat_tests}
-use Rattle.std.proofs.lemmas.Int.Digits.{digits_value-lt, digits_value_more}
 use Rattle.std.proofs.Math.Seq.{take-append-add}
-use Rattle.std.proofs.lemmas.List.{take_all, length-take, append-nil, take-append-le}
-use Rattle.std.proofs.lemmas.Str.{digit_value_digit}
+use Rattle.std.proofs.lemmas.List.{take_all, length-take, append-nil, take-append-le, get_or_past}
+use Rattle.std.proofs.lemmas.Str.{IsUtf8-from_ascii}
+use Rattle.std.proofs.lemmas.Str.Parse.{IsNumeralModel, numerals_by_value, digit_at, parse_gives, digits_value_short}
 use Rattle.std.specs.Char.{is_ascii_digit}
-use Rattle.std.specs.Int.{IsInRange}
 use Rattle.std.specs.List.{list_all}
-use Rattle.std.specs.Str.Parse.{digits_value, AllDigits}
+use Rattle.std.specs.Str.{IsUtf8, IsAscii}
+use Rattle.std.specs.Str.Parse.{digits_value, AllDigits, ParsesUnsigned}
 use Rattle.suite_plan.specs.Calling.{called}
-use native.Mathlib.Nat.{pow-le-pow_right}
 
 -- ---- digits
 
-in_range : (byte : ℕ) → is_ascii_digit byte ≡ true → IsInRange 48 57 byte
-in_range byte is =
-    let both = and_parts (nat_le 48 byte) (nat_le byte 57) is in
-    (leb-true 48 byte both.0, leb-true byte 57 both.1)
+digits : IsNumeralModel (λ ds. list_all is_ascii_digit ds ≡ true) (digits_value 10)
+digits = numerals_by_value (λ ds. list_all is_ascii_digit ds ≡ true) (search rules)
 
-all_digits : (bytes : List ℕ) → list_all is_ascii_digit bytes ≡ true → AllDigits 10 bytes
-all_digits [] all = tt
-all_digits (byte ∷ bytes) all =
-    let both = and_parts (is_ascii_digit byte) (list_all is_ascii_digit bytes) all in
-    let bounds = in_range byte both.0 in
-    let value = digit_value_digit byte bounds in
-    let low : 48 ≤ byte = bounds.0 in
-    let high : byte ≤ 57 = bounds.1 in
-    (omega (arith, value, low, high), all_digits bytes both.1)
-
--- the digit at a place
-digit_at : (bytes : List ℕ) (i : ℕ) → list_all is_ascii_digit bytes ≡ true → i < length bytes → IsInRange 48 57 (get_or bytes i 0)
-digit_at [] i all below = absurd (omega arith)
-digit_at (byte ∷ bytes) zero all below = in_range byte (and_parts (is_ascii_digit byte) (list_all is_ascii_digit bytes) all).0
-digit_at (byte ∷ bytes) (suc i) all below = digit_at bytes i (and_parts (is_ascii_digit byte) (list_all is_ascii_digit bytes) all).1 (omega arith)
-
--- what so few digits write has room to grow
-pub room : (bytes : List ℕ) (i : ℕ) → list_all is_ascii_digit bytes ≡ true → i < length bytes → length bytes ≤ 9 → digits_value 10 (take i bytes) < 100000000
-room bytes i all below few =
-    let most : 10 ^ i ≤ 100000000 = pow-le-pow_right {n = 10} (omega arith) (eight i (omega (arith, below, few))) in
-    omega (arith, digits_value-lt 10 (take i bytes) (taken i bytes (all_digits bytes all)), length-take i bytes, digits_of_fewer i (length (take i bytes)) (omega (arith, length-take i bytes)), most)
+-- they are ASCII
+pub digits_utf8 : (bytes : List ℕ) → list_all is_ascii_digit bytes ≡ true → IsUtf8 bytes
+digits_utf8 bytes all = IsUtf8-from_ascii bytes (below bytes (digits.to bytes all))
   where
-    taken : (i : ℕ) (bytes : List ℕ) → AllDigits 10 bytes → AllDigits 10 (take i bytes)
-    taken zero bytes all = tt
-    taken (suc i) [] all = tt
-    taken (suc i) (byte ∷ bytes) all = (all.0, taken i bytes all.1)
+    below : (bytes : List ℕ) → AllDigits 10 bytes → IsAscii bytes
+    below bytes all i = elim (cases_lt i (length bytes)) [
+      | inl less ↦ (let digit = digit_at bytes i all less in let high : get_or bytes i 0 ≤ 57 = digit.1 in omega (arith, high))
+      | inr more ↦ omega (arith, get_or_past bytes i 0 more)
+    ]
 
-    digits_of_fewer : (i n : ℕ) → n ≤ i → 10 ^ n ≤ 10 ^ i
-    digits_of_fewer i n few = pow-le-pow_right {n = 10} (omega arith) few
-
-    eight : (i : ℕ) → i < 9 → i ≤ 8
-    eight i below = omega (arith, below)
-
--- one digit more
-pub one_more_digit : (bytes : List ℕ) (i digit : ℕ) → list_all is_ascii_digit bytes ≡ true → i < length bytes → digit ≡ get_or bytes i 0 → digits_value 10 (take i bytes) * 10 + (digit - 48) ≡ digits_value 10 (take (i + 1) bytes)
-one_more_digit bytes i digit all below is =
-    let value = digit_value_digit (get_or bytes i 0) (digit_at bytes i all below) in
-    let step = digits_value_more 10 bytes i below in
-    omega (arith, value, step, is)
+-- so few write a number of 32 bits
+pub digits_parsed : {E : Type 0} (bytes : List ℕ) (result : Result ℕ E) → ParsesUnsigned 32 10 bytes result → list_all is_ascii_digit bytes ≡ true → 1 ≤ length bytes → length bytes ≤ 9 → result ≡ Ok (digits_value 10 bytes)
+digits_parsed bytes result parsed all some few = parse_gives digits 32 bytes result parsed all (omega (arith, some)) (omega (arith, digits_value_short digits bytes 9 all few))
 
 -- ---- the first bytes
 

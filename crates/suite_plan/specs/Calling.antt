@@ -1,7 +1,7 @@
 -- The number that a project's count job tells (docs/FORMATS.md, "What a count job tells").
-use Rattle.std.specs.Prelude.{◌≡◌, ◌⊎◌, ⊤, ℕ, ℤ, ◌-◌, ◌&&◌, Bool, true, false, pos, Option, Some, None, IsSome, Result, Ok, Err, IfOk, IfErr, List, length, take, drop, nat_le, if◌then◌else◌}
+use Rattle.std.specs.Prelude.{◌≡◌, ◌⊎◌, ⊤, ℕ, ℤ, ◌&&◌, Bool, true, false, pos, Option, Some, None, IsSome, Result, Ok, Err, IfOk, IfErr, List, length, nat_le, if◌then◌else◌}
 use Rattle.std.specs.Char.{is_ascii_digit}
-use Rattle.std.specs.List.{list_all, prefix_len, suffix_len}
+use Rattle.std.specs.List.{list_all}
 use Rattle.std.specs.Str.Parse.{digits_value}
 use Rattle.edge_io.specs.Causes.{RisesExactlyIf}
 use Rattle.edge_io.specs.Children.{Output}
@@ -12,18 +12,10 @@ use Rattle.edge_io.specs.declared.child.Finish.TheVariants.{Exit}
 use Rattle.edge_io.specs.declared.job.Job.{Job}
 use Rattle.testr_conf.specs.Jobs.{count_job_of}
 use Rattle.testr_conf.specs.Settings.{Settings}
-use Rattle.testr_conf.specs.White.{is_gap}
+use Rattle.testr_conf.specs.White.{trimmed}
 use Rattle.suite_plan.specs.Children.{StartsFor, IsBroken}
 use Rattle.suite_plan.specs.declared.calling.CallRefusal.{CallRefusal}
 use Rattle.suite_plan.specs.declared.calling.CallRefusal.TheVariants.{Spawn, Child, NoNumber, NoMemory}
-
--- without the white space and the newlines at the front
-abbrev pub from_text : List ℕ → List ℕ
-from_text bytes = drop (prefix_len is_gap bytes) bytes
-
--- the same at the end
-abbrev pub to_text : List ℕ → List ℕ
-to_text bytes = take (length bytes - suffix_len is_gap bytes) bytes
 
 -- 1 to 9 decimal digits
 abbrev pub is_count : List ℕ → Bool
@@ -32,9 +24,9 @@ is_count digits = list_all is_ascii_digit digits && (nat_le 1 (length digits) &&
 abbrev pub count_of : List ℕ → Option ℕ
 count_of digits = if is_count digits then Some (digits_value 10 digits) else None
 
--- the number that a whole output tells: it has 64 bytes at most
+-- the number that a whole output tells, which has 64 bytes at most, between white space and newlines
 abbrev pub called : List ℕ → Option ℕ
-called bytes = if nat_le (length bytes) 64 then count_of (to_text (from_text bytes)) else None
+called bytes = if nat_le (length bytes) 64 then count_of (trimmed bytes) else None
 
 -- the count job was started, and its child has an output that meets this
 pub record StartsCounting (settings : Settings) (Meets : Output → Type 0) (s t : Spawning) : Type 0 where

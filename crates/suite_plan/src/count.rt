@@ -2,10 +2,12 @@
 
 ghost use Rattle.std.specs.Prelude.{◌≡◌, ◌≤◌, IsTrue, length};
 ghost use Rattle.std.specs.Char.{is_ascii_digit};
-ghost use Rattle.std.specs.List.{list_all, prefix_len};
+ghost use Rattle.std.specs.List.{list_all};
 ghost use Rattle.std.specs.Str.Parse.{digits_value};
-ghost use Rattle.testr_conf.specs.White as white;
-ghost use Rattle.suite_plan.specs.Calling.{from_text, to_text, count_of, called};
+ghost use Rattle.suite_plan.specs.Calling.{count_of, called};
+
+use std::str;
+use testr_conf::trim;
 
 // The most bytes of an output that tells a number.
 const MOST_BYTES: usize = 64;
@@ -21,57 +23,22 @@ pub(crate) fn called(bytes: &[u8]) -> Option<u32>
     if bytes.len() > MOST_BYTES {
         return None;
     }
-    count_of(to_text(from_text(bytes)))
+    count_of(trim(bytes))
 }
 
-fn is_gap(byte: u8) -> bool
-    ensures { result ≡ white.is_gap byte }
-{
-    matches!(byte, b' ' | b'\t' | b'\r' | 0x0b | 0x0c | b'\n')
-}
-
-// How much white space stands at the front.
-fn leading_gaps(bytes: &[u8]) -> usize
-    ensures count { result ≡ prefix_len white.is_gap bytes.now }
-    ensures within { result ≤ length bytes.now }
-{
-    let mut count = 0;
-    while count < bytes.len() && is_gap(bytes[count]) {
-        count += 1;
-    }
-    count
-}
-
-// The bytes without the white space at the front.
-fn from_text(bytes: &[u8]) -> &[u8]
-    ensures trimmed { result.now ≡ from_text bytes.now }
-    ensures within { length result.now ≤ length bytes.now }
-{
-    &bytes[leading_gaps(bytes)..]
-}
-
-// The bytes without the white space at the end.
-fn to_text(bytes: &[u8]) -> &[u8]
-    ensures trimmed { result.now ≡ to_text bytes.now }
-    ensures within { length result.now ≤ length bytes.now }
-{
-    let mut end = bytes.len();
-    while end > 0 && is_gap(bytes[end - 1]) {
-        end -= 1;
-    }
-    &bytes[..end]
-}
-
-// The number that so few digits write.
+// The number that 1 to 9 digits write.
 fn value_of(digits: &[u8]) -> u32
     requires digits { IsTrue (list_all is_ascii_digit digits.now) }
+    requires some { 1 ≤ length digits.now }
     requires few { length digits.now ≤ 9 }
     ensures { result ≡ digits_value 10 digits.now }
 {
-    let mut value = 0;
-    for digit in digits {
-        value = value * 10 + u32::from(digit - b'0');
-    }
+    let Ok(text) = str::from_utf8(digits) else {
+        unreachable!();
+    };
+    let Ok(value) = text.parse() else {
+        unreachable!();
+    };
     value
 }
 

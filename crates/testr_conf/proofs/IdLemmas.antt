@@ -5,18 +5,14 @@ use Rattle.std.proofs.lemmas.List.Elements.{filter-append}
 use Rattle.std.proofs.lemmas.Bool.{cond-true, cond-false, eqb-true, false_from_ne_true}
 use Rattle.bstr.specs.Text.{lines_of}
 use Rattle.bstr.proofs.lemmas.LengthLemmas.{length-lines_of}
-use Rattle.testr_conf.specs.White.{has_bytes}
-use Rattle.testr_conf.specs.Lines.{is_text, without_last}
-use Rattle.testr_conf.specs.ListedIds.{entry_of, entries_of, first_other, unless_other, ids_in}
+use Rattle.testr_conf.specs.White.{trimmed, has_bytes}
+use Rattle.testr_conf.specs.Lines.{is_text}
+use Rattle.testr_conf.specs.ListedIds.{entries_of, first_other, unless_other, ids_in}
 use Rattle.testr_conf.specs.declared.ids.IdsFault.{IdsFault}
 use Rattle.testr_conf.specs.declared.ids.IdsFault.TheVariants.{NotText, NoMemory}
 use Rattle.sub_number.specs.Texts.{IsShortText}
 use Rattle.testr_conf.proofs.TextLemmas.{text_from_test, test_from_text, text_nil}
-use Rattle.testr_conf.proofs.TrimLemmas.{trimmed_short}
-use Rattle.testr_conf.proofs.PartLemmas.{without_last_short, first_size, lines_size}
-
-pub entry_short : (line : List ℕ) → length (entry_of line) ≤ length line
-entry_short line = omega (arith, trimmed_short (without_last 10 line), without_last_short 10 line)
+use Rattle.testr_conf.proofs.PartLemmas.{first_size, lines_size}
 
 pub empty_text : (bytes : List ℕ) → true ≡ (length bytes == 0) → is_text bytes ≡ true
 empty_text [] e = test_from_text [] text_nil
@@ -31,20 +27,20 @@ on_ok (Err e) P p = tt
 
 -- behind so many lines, with these ids
 pub record Listed (text : List ℕ) (rest : List (List ℕ)) (number : ℕ) (ids : List (List ℕ)) : Type 0 where
-  pub other : first_other 1 (entries_of text) ≡ first_other (number + 1) (map entry_of rest)
-  pub listed : filter has_bytes (entries_of text) ≡ ids ++ filter has_bytes (map entry_of rest)
+  pub other : first_other 1 (entries_of text) ≡ first_other (number + 1) (map trimmed rest)
+  pub listed : filter has_bytes (entries_of text) ≡ ids ++ filter has_bytes (map trimmed rest)
   pub count : number + length rest ≡ length (lines_of text)
   pub room : length (concat rest) ≤ length text
 
 pub listed_first : (text : List ℕ) (lines : List (List ℕ)) (ids : List (List ℕ)) → lines ≡ lines_of text → ids ≡ [] → Listed text lines 0 ids
 listed_first text lines ids lines_are none = record {
-  other = ap (λ l. first_other 1 (map entry_of l)) (sym lines_are);
-  listed = ap (λ l. filter has_bytes (map entry_of l)) (sym lines_are) ∙ ap (λ i. i ++ filter has_bytes (map entry_of lines)) (sym none);
+  other = ap (λ l. first_other 1 (map trimmed l)) (sym lines_are);
+  listed = ap (λ l. filter has_bytes (map trimmed l)) (sym lines_are) ∙ ap (λ i. i ++ filter has_bytes (map trimmed lines)) (sym none);
   count = omega (arith, ap length lines_are);
   room = omega (arith, ap (λ l. length (concat l)) lines_are, lines_size text);
 }
 
-module _ (text : List ℕ) (lines rest : List (List ℕ)) (line entry : List ℕ) (number : ℕ) (ids : List (List ℕ)) (first : lines ≡ line ∷ rest) (entry_is : entry ≡ entry_of line)
+module _ (text : List ℕ) (lines rest : List (List ℕ)) (line entry : List ℕ) (number : ℕ) (ids : List (List ℕ)) (first : lines ≡ line ∷ rest) (entry_is : entry ≡ trimmed line)
     (h : Listed text lines number ids) where
   pub line_number : length text ≤ 16777216 → number < 16777216
   line_number short = omega (arith, h.count, ap length first, length-lines_of text)
@@ -52,20 +48,20 @@ module _ (text : List ℕ) (lines rest : List (List ℕ)) (line entry : List ℕ
   pub line_room : length line ≤ length text
   line_room = omega (arith, h.room, first_size lines rest line first)
 
-  other_here : first_other 1 (entries_of text) ≡ cond (is_text entry) (first_other (number + 1 + 1) (map entry_of rest)) (Some (number + 1))
+  other_here : first_other 1 (entries_of text) ≡ cond (is_text entry) (first_other (number + 1 + 1) (map trimmed rest)) (Some (number + 1))
   other_here =
-      h.other ∙ ap (λ l. first_other (number + 1) (map entry_of l)) first
-      ∙ ap (λ e. cond (is_text e) (first_other (number + 1 + 1) (map entry_of rest)) (Some (number + 1))) (sym entry_is)
+      h.other ∙ ap (λ l. first_other (number + 1) (map trimmed l)) first
+      ∙ ap (λ e. cond (is_text e) (first_other (number + 1 + 1) (map trimmed rest)) (Some (number + 1))) (sym entry_is)
 
   pub listed_next : (new : List (List ℕ)) → is_text entry ≡ true → new ≡ ids ++ filter has_bytes (entry ∷ []) → Listed text rest (number + 1) new
   listed_next new fine added = record {
-    other = other_here ∙ cond-true (is_text entry) (first_other (number + 1 + 1) (map entry_of rest)) (Some (number + 1)) fine;
+    other = other_here ∙ cond-true (is_text entry) (first_other (number + 1 + 1) (map trimmed rest)) (Some (number + 1)) fine;
     listed =
-        h.listed ∙ ap (λ l. ids ++ filter has_bytes (map entry_of l)) first
-        ∙ ap (λ e. ids ++ filter has_bytes (e ∷ map entry_of rest)) (sym entry_is)
-        ∙ ap (λ f. ids ++ f) (filter-append has_bytes (entry ∷ []) (map entry_of rest))
-        ∙ sym (append_assoc ids (filter has_bytes (entry ∷ [])) (filter has_bytes (map entry_of rest)))
-        ∙ ap (λ i. i ++ filter has_bytes (map entry_of rest)) (sym added);
+        h.listed ∙ ap (λ l. ids ++ filter has_bytes (map trimmed l)) first
+        ∙ ap (λ e. ids ++ filter has_bytes (e ∷ map trimmed rest)) (sym entry_is)
+        ∙ ap (λ f. ids ++ f) (filter-append has_bytes (entry ∷ []) (map trimmed rest))
+        ∙ sym (append_assoc ids (filter has_bytes (entry ∷ [])) (filter has_bytes (map trimmed rest)))
+        ∙ ap (λ i. i ++ filter has_bytes (map trimmed rest)) (sym added);
     count = omega (arith, h.count, ap length first);
     room = omega (arith, h.room, first_size lines rest line first);
   }
@@ -75,7 +71,7 @@ module _ (text : List ℕ) (lines rest : List (List ℕ)) (line entry : List ℕ
       ⊎_elim
       (λ other. inl
       (ap (λ o. unless_other o (filter has_bytes (entries_of text)))
-      (other_here ∙ cond-false (is_text entry) (first_other (number + 1 + 1) (map entry_of rest)) (Some (number + 1)) other.0)
+      (other_here ∙ cond-false (is_text entry) (first_other (number + 1 + 1) (map trimmed rest)) (Some (number + 1)) other.0)
       ∙ ap Err (sym other.1)))
       (λ memory. inr memory)
       reason

@@ -24,11 +24,11 @@ front_text : (bytes : List ℕ) → IsText bytes → IsText (front_trimmed bytes
 front_text [] text = text
 front_text (b ∷ bytes) text =
     ⊎_elim
-    (λ white.
-    let rest : IsText bytes = text_behind (b ∷ bytes) 0 text (omega arith) (white_small b white) in
-    subst (λ w. IsText (cond w (front_trimmed bytes) (b ∷ bytes))) (sym white) (front_text bytes rest))
+    (λ gap.
+    let rest : IsText bytes = text_behind (b ∷ bytes) 0 text (omega arith) (gap_small b gap) in
+    subst (λ w. IsText (cond w (front_trimmed bytes) (b ∷ bytes))) (sym gap) (front_text bytes rest))
     (λ other. subst (λ w. IsText (cond w (front_trimmed bytes) (b ∷ bytes))) (sym other) text)
-    (cases_Bool (is_white b))
+    (cases_Bool (is_gap b))
 
 -- the last byte of a text, where it is ASCII, may be left out
 front_of : (bytes : List ℕ) (b : ℕ) → b < 128 → IsText (bytes ++ b ∷ []) → IsText bytes
@@ -40,11 +40,11 @@ back_text : (back : List ℕ) → IsText (reverse back) → IsText (reverse (fro
 back_text [] text = text
 back_text (b ∷ back) text =
     ⊎_elim
-    (λ white.
-    subst (λ w. IsText (reverse (cond w (front_trimmed back) (b ∷ back)))) (sym white)
-    (back_text back (front_of (reverse back) b (white_small b white) (subst IsText (reverse-append (b ∷ []) back) text))))
+    (λ gap.
+    subst (λ w. IsText (reverse (cond w (front_trimmed back) (b ∷ back)))) (sym gap)
+    (back_text back (front_of (reverse back) b (gap_small b gap) (subst IsText (reverse-append (b ∷ []) back) text))))
     (λ other. subst (λ w. IsText (reverse (cond w (front_trimmed back) (b ∷ back)))) (sym other) text)
-    (cases_Bool (is_white b))
+    (cases_Bool (is_gap b))
 
 pub trimmed_text : (bytes : List ℕ) → IsText bytes → IsText (trimmed bytes)
 trimmed_text bytes text =
@@ -55,9 +55,9 @@ front_short : (bytes : List ℕ) → length (front_trimmed bytes) ≤ length byt
 front_short [] = omega arith
 front_short (b ∷ bytes) =
     ⊎_elim
-    (λ white. subst (λ w. length (cond w (front_trimmed bytes) (b ∷ bytes)) ≤ length (b ∷ bytes)) (sym white) (omega (arith, front_short bytes)))
+    (λ gap. subst (λ w. length (cond w (front_trimmed bytes) (b ∷ bytes)) ≤ length (b ∷ bytes)) (sym gap) (omega (arith, front_short bytes)))
     (λ other. subst (λ w. length (cond w (front_trimmed bytes) (b ∷ bytes)) ≤ length (b ∷ bytes)) (sym other) (omega arith))
-    (cases_Bool (is_white b))
+    (cases_Bool (is_gap b))
 
 pub trimmed_short : (bytes : List ℕ) → length (trimmed bytes) ≤ length bytes
 trimmed_short bytes =

@@ -3,16 +3,13 @@ use Rattle.std.specs.Prelude.{ℕ, ◌+◌, Option, None, Some, Result, Ok, Err,
 use Rattle.std.specs.List.{filter}
 use Rattle.bstr.specs.Text.{lines_of}
 use Rattle.testr_conf.specs.White.{trimmed, has_bytes}
-use Rattle.testr_conf.specs.Lines.{is_text, without_last}
+use Rattle.testr_conf.specs.Lines.{is_text}
 use Rattle.testr_conf.specs.declared.ids.IdsFault.{IdsFault}
 use Rattle.testr_conf.specs.declared.ids.IdsFault.TheVariants.{NotText}
 
--- a line without its newline, and then without the white space at both ends
-abbrev pub entry_of : List ℕ → List ℕ
-entry_of line = trimmed (without_last 10 line)
-
+-- the lines, each without its newline and the white space at both ends
 abbrev pub entries_of : List ℕ → List (List ℕ)
-entries_of text = map entry_of (lines_of text)
+entries_of text = map trimmed (lines_of text)
 
 -- the number of the first entry that is no text, where the first entry has this number
 abbrev pub first_other : ℕ → List (List ℕ) → Option ℕ

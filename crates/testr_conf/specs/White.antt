@@ -6,21 +6,22 @@ use Rattle.std.specs.List.{filter, slice_split}
 abbrev pub is_white : ℕ → Bool
 is_white byte = byte == 32 || byte == 9 || byte == 13 || byte == 11 || byte == 12
 
--- the bytes without the white space at their front
+-- what separates the words of a list: white space, or a newline
+abbrev pub is_gap : ℕ → Bool
+is_gap byte = is_white byte || byte == 10
+
+-- the bytes without the white space and the newlines at their front
 abbrev pub front_trimmed : List ℕ → List ℕ
 front_trimmed [] = []
-front_trimmed (byte ∷ bytes) = if is_white byte then front_trimmed bytes else byte ∷ bytes
+front_trimmed (byte ∷ bytes) = if is_gap byte then front_trimmed bytes else byte ∷ bytes
 
 -- the same at their end
 abbrev pub end_trimmed : List ℕ → List ℕ
 end_trimmed bytes = reverse (front_trimmed (reverse bytes))
 
+-- The same at both ends. A line has no newline but at its end.
 abbrev pub trimmed : List ℕ → List ℕ
 trimmed bytes = end_trimmed (front_trimmed bytes)
-
--- what separates the words of a list
-abbrev pub is_gap : ℕ → Bool
-is_gap byte = is_white byte || byte == 10
 
 abbrev pub has_bytes : List ℕ → Bool
 has_bytes bytes = nat_lt 0 (length bytes)

@@ -4,9 +4,8 @@ ghost use Rattle.std.specs.Prelude.{◌≡◌, ◌≤◌, ◌⊎◌, false, true
 ghost use Rattle.std.specs.List.{filter};
 ghost use Rattle.testr_conf.specs.White.{has_bytes};
 ghost use Rattle.testr_conf.specs.Lines.{is_text};
-ghost use Rattle.testr_conf.specs.ListedIds.{ids_in, entry_of};
+ghost use Rattle.testr_conf.specs.ListedIds.{ids_in};
 
-use crate::line::without_last;
 use crate::white::trim;
 use bstr::ByteSlice;
 use std::alloc::Global;
@@ -19,13 +18,6 @@ pub enum IdsFault {
     NotText(u32),
     /// There is not enough memory.
     NoMemory,
-}
-
-fn read_entry(line: &[u8]) -> &[u8]
-    ensures value { result.now ≡ entry_of line.now }
-    ensures short { length result.now ≤ length line.now }
-{
-    trim(without_last(b'\n', line))
 }
 
 // Adds the id, if it is one.
@@ -65,7 +57,7 @@ pub fn read_ids(alloc: Global, text: &[u8]) -> Result<IdList, IdsFault>
     let mut number: u32 = 0;
     while let Some(line) = lines.next() {
         number += 1;
-        match push_id(alloc, number, read_entry(line), &mut ids) {
+        match push_id(alloc, number, trim(line), &mut ids) {
             Ok(()) => {}
             Err(fault) => return Err(fault),
         }

@@ -1,19 +1,19 @@
 //! White space, which is spaces, tabs, carriage returns, vertical tabs and form feeds, and the words between it.
 
-ghost use Rattle.std.specs.Prelude.{◌≡◌, ◌<◌, [], ◌∷◌, ◌++◌, length, IfOk, OnOk, MatchOption};
+ghost use Rattle.std.specs.Prelude.{◌≡◌, ◌≤◌, ◌<◌, [], ◌∷◌, ◌++◌, length, IfOk, OnOk, MatchOption};
 ghost use Rattle.std.specs.List.{position_or_len, filter};
 ghost use Rattle.sub_number.specs.Texts.{IsShortText};
-ghost use Rattle.testr_conf.specs.White.{is_white, is_gap, front_trimmed, end_trimmed, trimmed, has_bytes, words_of};
+ghost use Rattle.testr_conf.specs.White.{is_gap, front_trimmed, end_trimmed, trimmed, has_bytes, words_of};
 
 use bstr::ByteSlice;
 use packet_codec::Tags;
 use std::alloc::Global;
 use sub_number::{NoMemory, Text, TextFault};
 
-fn is_white(byte: u8) -> bool
-    ensures { result ≡ is_white byte }
+fn is_gap(byte: u8) -> bool
+    ensures { result ≡ is_gap byte }
 {
-    byte == b' ' || byte == b'\t' || byte == b'\r' || byte == 0x0b || byte == 0x0c
+    matches!(byte, b' ' | b'\t' | b'\r' | 0x0b | 0x0c | b'\n')
 }
 
 fn trim_front(bytes: &[u8]) -> &[u8]
@@ -21,7 +21,7 @@ fn trim_front(bytes: &[u8]) -> &[u8]
 {
     let mut rest = bytes;
     while let [first, after @ ..] = rest {
-        if !is_white(*first) {
+        if !is_gap(*first) {
             return rest;
         }
         rest = after;
@@ -34,7 +34,7 @@ fn trim_end(bytes: &[u8]) -> &[u8]
 {
     let mut rest = bytes;
     while let [before @ .., last] = rest {
-        if !is_white(*last) {
+        if !is_gap(*last) {
             return rest;
         }
         rest = before;
@@ -42,9 +42,11 @@ fn trim_end(bytes: &[u8]) -> &[u8]
     rest
 }
 
-// The bytes without the white space at both ends.
-pub(crate) fn trim(bytes: &[u8]) -> &[u8]
-    ensures { result.now ≡ trimmed bytes.now }
+/// The bytes without the white space and the newlines at both ends. White space is spaces, tabs, carriage returns, vertical
+/// tabs and form feeds.
+pub fn trim(bytes: &[u8]) -> &[u8]
+    ensures value { result.now ≡ trimmed bytes.now }
+    ensures short { length result.now ≤ length bytes.now }
 {
     trim_end(trim_front(bytes))
 }

@@ -1,14 +1,11 @@
-use Rattle.std.proofs.Common.{arith, refl, get_or}
-use Rattle.suite_plan.proofs.CountLemmas.{room, one_more_digit}
+use Rattle.std.specs.Str.Parse.{digits_value}
+use Rattle.suite_plan.proofs.CountLemmas.{digits_utf8, digits_parsed}
 use Rattle.suite_plan.proofs.count.value_of.Goals as goal
 
-pub overflow_mul-value : goal.overflow_mul-value
-overflow_mul-value c = omega (arith, room c.args.digits.now c.loop-digit.digit-index c.requires.digits c.loop-digit-test.true c.requires.few)
+pub unreachable-requires : goal.unreachable-requires
+unreachable-requires c = c.in_default.ensures.cases.0 (digits_utf8 c.args.digits.now c.requires.digits)
 
-pub overflow_add-value : goal.overflow_add-value
-overflow_add-value c = omega (arith, room c.args.digits.now c.loop-digit.digit-index c.requires.digits c.loop-digit-test.true c.requires.few)
-
-pub loop-digit-preserved : goal.loop-digit-preserved
-loop-digit-preserved c =
-    let step = one_more_digit c.args.digits.now c.loop-digit.digit-index (get_or c.args.digits.now c.loop-digit.digit-index 0) c.requires.digits c.loop-digit-test.true refl in
-    omega (arith, step, c.from.ensures)
+pub unreachable-requires-in_default-parse : goal.unreachable-requires-in_default-parse
+unreachable-requires-in_default-parse c =
+    let parsed = rw c.in-Ok.ensures.cases.0 at c.parse.ensures.value.0 in
+    c.in_default-parse.not-Ok (digits_value 10 c.args.digits.now) (digits_parsed c.args.digits.now c.parse.result parsed c.requires.digits c.requires.some c.requires.few)

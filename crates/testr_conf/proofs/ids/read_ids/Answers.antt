@@ -15,17 +15,17 @@ pub push_id-requires : goal.push_id-requires
 push_id-requires c =
     omega (
       arith,
-      line_room c.args.text.now c.loop-line.lines c.next.new.self c.in-Some.line.now c.read_entry.result.now c.loop-line.number c.loop-line.ids c.in-Some.ensures.steps c.read_entry.ensures.value c.loop-line.invariant,
-      c.read_entry.ensures.short,
+      line_room c.args.text.now c.loop-line.lines c.next.new.self c.in-Some.line.now c.trim.result.now c.loop-line.number c.loop-line.ids c.in-Some.ensures.steps c.trim.ensures.value c.loop-line.invariant,
+      c.trim.ensures.short,
       c.requires,
     )
 
 pub loop-line-preserved : goal.loop-line-preserved
 loop-line-preserved c =
-    listed_next c.args.text.now c.loop-line.lines c.next.new.self c.in-Some.line.now c.read_entry.result.now c.loop-line.number c.loop-line.ids c.in-Some.ensures.steps c.read_entry.ensures.value c.loop-line.invariant
+    listed_next c.args.text.now c.loop-line.lines c.next.new.self c.in-Some.line.now c.trim.result.now c.loop-line.number c.loop-line.ids c.in-Some.ensures.steps c.trim.ensures.value c.loop-line.invariant
     c.push_id.new.ids c.in-Ok.ensures.text c.in-Ok.ensures.ok
 
 pub returns-in-Err-clause-refused : goal.returns-in-Err-clause-refused
 returns-in-Err-clause-refused c =
-    listed_refused c.args.text.now c.loop-line.lines c.next.new.self c.in-Some.line.now c.read_entry.result.now c.loop-line.number c.loop-line.ids c.in-Some.ensures.steps c.read_entry.ensures.value c.loop-line.invariant
+    listed_refused c.args.text.now c.loop-line.lines c.next.new.self c.in-Some.line.now c.trim.result.now c.loop-line.number c.loop-line.ids c.in-Some.ensures.steps c.trim.ensures.value c.loop-line.invariant
     c.in-Err.fault c.in-Err.ensures.err

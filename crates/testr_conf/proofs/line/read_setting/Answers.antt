@@ -5,4 +5,4 @@ pub returns-in_default : goal.returns-in_default
 returns-in_default c = setting_without_sign c.args.line.now c.in_default.ensures
 
 pub returns : goal.returns
-returns c = setting_read c.args.line.now c.in-Some.at c.in-Some.ensures.0 c.trim-key.result.now c.trim.result.now c.in-Some.ensures.1 c.trim-key.ensures c.trim.ensures c.if-is_empty.ensures
+returns c = setting_read c.args.line.now c.in-Some.at c.in-Some.ensures.0 c.trim-key.result.now c.trim.result.now c.in-Some.ensures.1 c.trim-key.ensures.value c.trim.ensures.value c.if-is_empty.ensures
