@@ -75,7 +75,7 @@ all_filtered : (P : List ℕ → Type 0) (p : List ℕ → Bool) (xs : List (Lis
 all_filtered P p [] all = tt
 all_filtered P p (x ∷ xs) all = elim (p x) as (λ b. AllByRecursion P (cond b (x ∷ filter p xs) (filter p xs))) [ true ↦ (all.0, all_filtered P p xs all.1) | false ↦ all_filtered P p xs all.1 ]
 
-distinct_filtered : (p : List ℕ → Bool) (xs : List (List ℕ)) → IsDistinct bytes_eq xs → IsDistinct bytes_eq (filter p xs)
+pub distinct_filtered : (p : List ℕ → Bool) (xs : List (List ℕ)) → IsDistinct bytes_eq xs → IsDistinct bytes_eq (filter p xs)
 unfolding IsDistinct
 distinct_filtered p [] distinct = tt
 distinct_filtered p (x ∷ xs) distinct = elim (p x) as (λ b. IsDistinct bytes_eq (cond b (x ∷ filter p xs) (filter p xs))) [
@@ -103,6 +103,19 @@ pub firsts_distinct : (ids : List (List ℕ)) → IsDistinct bytes_eq (firsts id
 unfolding IsDistinct
 firsts_distinct [] = tt
 firsts_distinct (id ∷ ids) = (others_apart id (firsts ids), distinct_filtered (λ text. not (among (id ∷ []) text)) (firsts ids) (firsts_distinct ids))
+
+-- ids of which each stands once are theirs
+kept_apart : (x y : List ℕ) → bytes_eq x y ≡ false → not (among (x ∷ []) y) ≡ true
+kept_apart x y is = ap (λ e. not (e || false)) (sym ((eq_by_cmp_equiv nat_list_cmp_total).symm x y) ∙ is_eq-slice_cmp x y ∙ is)
+
+none_out : (x : List ℕ) (ids : List (List ℕ)) → AllByRecursion (λ y. bytes_eq x y ≡ false) ids → without ids (x ∷ []) ≡ ids
+none_out x [] all = refl
+none_out x (y ∷ ids) all = ap (λ b. cond b (y ∷ without ids (x ∷ [])) (without ids (x ∷ []))) (kept_apart x y all.0) ∙ ap (λ l. y ∷ l) (none_out x ids all.1)
+
+pub firsts_same : (ids : List (List ℕ)) → IsDistinct bytes_eq ids → firsts ids ≡ ids
+unfolding IsDistinct
+firsts_same [] distinct = refl
+firsts_same (id ∷ ids) distinct = ap (λ l. id ∷ without l (id ∷ [])) (firsts_same ids distinct.1) ∙ ap (λ l. id ∷ l) (none_out id ids distinct.0)
 
 pub has_distinct : (found : FirstIds) (ids : List (List ℕ)) → HasFirsts found ids → IsDistinct bytes_eq found.ids
 has_distinct found ids has = subst (IsDistinct bytes_eq) (sym has.ids_are) (firsts_distinct ids)

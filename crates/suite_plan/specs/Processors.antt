@@ -8,6 +8,7 @@ use Rattle.edge_io.specs.Seen.{Seen}
 use Rattle.edge_io.specs.declared.whole_file.ReadFault.{ReadFault}
 use Rattle.edge_io.specs.declared.whole_file.ReadFault.TheVariants as read
 use Rattle.suite_plan.specs.Texts.{most_text, HasTooMuch}
+use Rattle.suite_plan.specs.declared.sharing.TheConstants.{MOST_WORKERS}
 use Rattle.suite_plan.specs.declared.processors.TableRefusal.{TableRefusal}
 use Rattle.suite_plan.specs.declared.processors.TableRefusal.TheVariants.{Site, TooLong, NoMemory}
 
@@ -21,9 +22,9 @@ is_processor line = starts_with nat_eq line (codes "processor")
 abbrev pub processors_in : List ℕ → ℕ
 processors_in text = length (filter is_processor (lines_of text))
 
--- a number of workers, at least 1 and at most 64
+-- a number of workers, at least 1 and at most so many as a run may have
 abbrev pub cut : ℕ → ℕ
-cut number = max 1 (min number 64)
+cut number = max 1 (min number MOST_WORKERS)
 
 -- a table that is not there counts as an empty one
 abbrev pub workers_for : Option (List ℕ) → ℕ
@@ -55,7 +56,7 @@ unread_table read.TooLong = TooLong
 unread_table read.NoMemory = NoMemory
 
 abbrev pub IsInRange : ℕ → Type 0
-IsInRange number = (1 ≤ number) × (number ≤ 64)
+IsInRange number = (1 ≤ number) × (number ≤ MOST_WORKERS)
 
 -- The step that counts the processors. What it says of files holds where they are told.
 pub record CountsProcessors (before after : Seen Files) (result : Result ℕ TableRefusal) : Type 0 where

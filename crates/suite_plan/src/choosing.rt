@@ -1,7 +1,10 @@
 //! Which tests a run has.
 
-ghost use Rattle.std.specs.Prelude.{◌≡◌, IfOk};
-ghost use Rattle.suite_plan.specs.Choosing.{ids_in_both, base_ids, chosen_of, chosen_ids};
+ghost use Rattle.std.specs.Prelude.{◌≡◌, IfOk, IfSome};
+ghost use Rattle.std.specs.List.{IsDistinct};
+ghost use Rattle.std.specs.Str.{bytes_eq};
+ghost use Rattle.partition_times.specs.Patterns.{picked_ids};
+ghost use Rattle.suite_plan.specs.Choosing.{ids_in_both, given_ids, base_ids, chosen_of, chosen_ids};
 
 use crate::first_ids::firsts;
 use outcome_fold::TextSet;
@@ -33,39 +36,54 @@ fn those_in(alloc: Global, ids: &IdList, known: &TextSet) -> Result<IdList, NoMe
     Ok(both)
 }
 
-/// The ids in which some pattern is found, or all of them where there is no pattern, in their order, of repeated ones the
-/// first.
-///
-/// `NoMemory` comes only for want of memory.
-pub fn choose(alloc: Global, ids: &IdList, filters: &Filters) -> Result<IdList, NoMemory>
-    ensures { IfOk result (λ chosen. chosen ≡ chosen_of filters.now ids.now) }
+// The ids in which some pattern is found. Where there is no pattern, the list itself is handed on.
+fn picked(alloc: Global, ids: IdList, filters: &Filters) -> Result<IdList, NoMemory>
+    ensures { IfOk result (λ picked. picked ≡ picked_ids filters.now ids) }
 {
-    firsts(alloc, &pick(alloc, ids, filters)?)
+    if filters.is_empty() {
+        return Ok(ids);
+    }
+    pick(alloc, &ids, filters)
 }
 
-/// The ids before any pattern: of the failing ids those that a load list has, in the order of the failing ids; else the
-/// failing ids, or those of the load list, or those of a listing, whichever is given first. `None` comes exactly where
-/// none of the three is given: then no ids are given, and one worker runs all tests.
+/// The ids, of which each stands once, in which some pattern is found, or all of them where there is no pattern, in their
+/// order.
 ///
 /// `NoMemory` comes only for want of memory.
-pub fn choose_base(
+pub fn choose(alloc: Global, ids: IdList, filters: &Filters) -> Result<IdList, NoMemory>
+    requires distinct { IsDistinct bytes_eq ids }
+    ensures { IfOk result (λ chosen. chosen ≡ chosen_of filters.now ids) }
+{
+    picked(alloc, ids, filters)
+}
+
+// The same of ids that may be repeated. Of repeated ones the first is chosen.
+fn choose_firsts(alloc: Global, ids: IdList, filters: &Filters) -> Result<IdList, NoMemory>
+    ensures { IfOk result (λ chosen. chosen ≡ chosen_of filters.now ids) }
+{
+    firsts(alloc, &picked(alloc, ids, filters)?)
+}
+
+// The ids that are given without a listing: of the failing ids those that a load list has, or the failing ids, or those of
+// the load list. None comes exactly where neither is given.
+fn choose_given(
     alloc: Global,
     failing: Option<IdList>,
     listed: Option<IdList>,
-    listing: Option<IdList>,
 ) -> Result<Option<IdList>, NoMemory>
-    ensures { IfOk result (λ base. base ≡ base_ids failing listed listing) }
+    ensures { IfOk result (λ given. given ≡ given_ids failing listed) }
 {
     match (failing, listed) {
         (Some(failing), Some(listed)) => Ok(Some(in_both(alloc, &failing, &listed)?)),
         (Some(failing), None) => Ok(Some(failing)),
-        (None, Some(listed)) => Ok(Some(listed)),
-        (None, None) => Ok(listing),
+        (None, listed) => Ok(listed),
     }
 }
 
-/// The ids of a run: those of `choose_base` that the patterns pick, of repeated ones the first. `None` comes exactly where
-/// no ids are given.
+/// The ids of a run, which the patterns pick of those that are given, of repeated ones the first: of the failing ids those
+/// that a load list has, in the order of the failing ids; else the failing ids, or those of the load list, or those of a
+/// listing, of which each stands once, whichever is given first. `None` comes exactly where none of the three is given:
+/// then one worker runs all tests.
 ///
 /// `NoMemory` comes only for want of memory.
 pub fn chosen(
@@ -75,10 +93,12 @@ pub fn chosen(
     listing: Option<IdList>,
     filters: &Filters,
 ) -> Result<Option<IdList>, NoMemory>
+    requires distinct { IfSome listing (IsDistinct bytes_eq) }
     ensures { IfOk result (λ ids. ids ≡ chosen_ids filters.now (base_ids failing listed listing)) }
 {
-    match choose_base(alloc, failing, listed, listing)? {
-        Some(base) => Ok(Some(choose(alloc, &base, filters)?)),
-        None => Ok(None),
+    match (choose_given(alloc, failing, listed)?, listing) {
+        (Some(given), _) => Ok(Some(choose_firsts(alloc, given, filters)?)),
+        (None, Some(listing)) => Ok(Some(choose(alloc, listing, filters)?)),
+        (None, None) => Ok(None),
     }
 }

@@ -3,6 +3,7 @@
 ghost use Rattle.std.specs.Prelude.{◌≡◌, ◌≤◌, ◌⊎◌, ◌∷◌, ◌++◌, [], Some, length, IfOk, IfErr, IfSome, OnOk};
 ghost use Rattle.std.specs.Option.{option_copied};
 ghost use Rattle.testr_conf.specs.Jobs.{all_job_of};
+ghost use Rattle.suite_plan.specs.declared.sharing.TheConstants.{MOST_WORKERS};
 ghost use Rattle.suite_plan.specs.LaneJobs.{lane_jobs};
 
 use edge_io::Job;
@@ -20,11 +21,11 @@ pub fn jobs_of_lanes(
     conf: &Conf,
     shares: Option<&[IdList]>,
 ) -> Result<Vec<Job>, JobFault>
-    requires { IfSome (option_copied shares) (λ shares. length shares ≤ 64) }
+    requires { IfSome (option_copied shares) (λ shares. length shares ≤ MOST_WORKERS) }
     ensures ok { IfOk result (λ jobs. lane_jobs conf.now (option_copied shares.entry) ≡ Ok jobs.items) }
     ensures refused { IfErr result (λ fault. (lane_jobs conf.now (option_copied shares.entry) ≡ Err fault) ⊎ (fault ≡ JobFault.NoMemory)) }
     ensures exactly { IfErr (lane_jobs conf.now (option_copied shares.entry)) (λ fault. (result ≡ Err fault) ⊎ (result ≡ Err JobFault.NoMemory)) }
-    ensures few { IfOk result (λ jobs. length jobs.items ≤ 64) }
+    ensures few { IfOk result (λ jobs. length jobs.items ≤ MOST_WORKERS) }
 {
     match shares {
         Some(shares) => jobs_of_shares(alloc, conf, shares),
@@ -44,7 +45,7 @@ fn job_of_all(alloc: Global, conf: &Conf) -> Result<Vec<Job>, JobFault>
 
 // The job of each share, the first share being that of lane 0.
 fn jobs_of_shares(alloc: Global, conf: &Conf, shares: &[IdList]) -> Result<Vec<Job>, JobFault>
-    requires { length shares.now ≤ 64 }
+    requires { length shares.now ≤ MOST_WORKERS }
     ensures ok { IfOk result (λ jobs. lane_jobs conf.now (Some shares.now) ≡ Ok jobs.items) }
     ensures refused { IfErr result (λ fault. (lane_jobs conf.now (Some shares.now) ≡ Err fault) ⊎ (fault ≡ JobFault.NoMemory)) }
     ensures count { IfOk result (λ jobs. length jobs.items ≡ length shares.now) }

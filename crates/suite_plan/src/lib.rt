@@ -32,7 +32,7 @@ mod sharing;
 mod texts;
 
 pub use calling::{CallRefusal, call_out};
-pub use choosing::{choose, choose_base, chosen, in_both};
+pub use choosing::{choose, chosen, in_both};
 pub use conf_file::{ConfRefusal, read_conf};
 pub use first_ids::firsts;
 pub use lane_jobs::jobs_of_lanes;
@@ -40,7 +40,7 @@ pub use listing::{ListingRefusal, list_tests};
 pub use load_list::{ListRefusal, read_load_list};
 pub use patterns::{Compiled, PatternRefusal, compile};
 pub use processors::{TableRefusal, count_processors};
-pub use sharing::share_out;
+pub use sharing::{MOST_WORKERS, share_out};
 
 #[cfg(test)]
 mod tests_children;

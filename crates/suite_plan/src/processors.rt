@@ -4,6 +4,7 @@ ghost use Rattle.std.specs.Prelude.{◌≡◌, ◌≤◌, length};
 ghost use Rattle.suite_plan.specs.Processors.{CountsProcessors, processors_in, cut};
 ghost use Rattle.suite_plan.specs.Texts.{most_text};
 
+use crate::sharing::MOST_WORKERS;
 use crate::texts::MOST_TEXT;
 use bstr::ByteSlice;
 use edge_io::{ReadFault, Site, read_file};
@@ -50,11 +51,11 @@ fn processors_in(table: &[u8]) -> u32
     number
 }
 
-// At least 1, and at most 64.
+// At least 1, and at most so many as a run may have.
 fn cut(number: u32) -> u32
     ensures { result ≡ cut number }
 {
-    number.clamp(1, 64)
+    number.clamp(1, MOST_WORKERS)
 }
 
 /// How many lines of the table `/proc/cpuinfo` begin with `processor`: at least 1, and at most 64. A table that is not there

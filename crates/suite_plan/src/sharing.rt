@@ -3,11 +3,15 @@
 ghost use Rattle.std.specs.Prelude.{◌≡◌, ◌≤◌, [], ◌∷◌, length, IfOk};
 ghost use Rattle.std.specs.List.{filter};
 ghost use Rattle.std.specs.FinMap as fin;
+ghost use Rattle.suite_plan.specs.declared.sharing.TheConstants.{MOST_WORKERS};
 ghost use Rattle.suite_plan.specs.Sharing.{has_ids, dealt_among, shares_for};
 
 use partition_times::{Groups, partition};
 use std::alloc::Global;
 use sub_number::{IdList, NoMemory, TimeMap};
+
+/// How many workers a run has at most.
+pub const MOST_WORKERS: u32 = 64;
 
 /// The shares of the ids for which a worker is started, in the order of the workers' lanes.
 ///
@@ -18,14 +22,14 @@ use sub_number::{IdList, NoMemory, TimeMap};
 /// `NoMemory` comes only for want of memory.
 pub fn share_out(
     alloc: Global,
-    ids: &IdList,
+    ids: IdList,
     times: &TimeMap,
     groups: &Groups,
     workers: u32,
 ) -> Result<Vec<IdList>, NoMemory>
     requires some { 1 ≤ workers }
-    requires most { workers ≤ 64 }
-    ensures shares { IfOk result (λ shares. shares.items ≡ shares_for (fin.get times.now) groups.now ids.now workers) }
+    requires most { workers ≤ MOST_WORKERS }
+    ensures shares { IfOk result (λ shares. shares.items ≡ shares_for (fin.get times.now) groups.now ids workers) }
     ensures few { IfOk result (λ shares. length shares.items ≤ workers) }
 {
     let shares = deal(alloc, ids, times, groups, workers)?;
@@ -35,40 +39,29 @@ pub fn share_out(
 // A share for each of the workers, which may be empty.
 fn deal(
     alloc: Global,
-    ids: &IdList,
+    ids: IdList,
     times: &TimeMap,
     groups: &Groups,
     workers: u32,
 ) -> Result<Vec<IdList>, NoMemory>
     requires { 1 ≤ workers }
-    ensures shares { IfOk result (λ shares. shares.items ≡ dealt_among (fin.get times.now) groups.now ids.now workers) }
+    ensures shares { IfOk result (λ shares. shares.items ≡ dealt_among (fin.get times.now) groups.now ids workers) }
     ensures count { IfOk result (λ shares. length shares.items ≡ workers) }
 {
     if workers == 1 {
         one_share(alloc, ids)
     } else {
-        partition(alloc, ids, times, groups, workers)
+        partition(alloc, &ids, times, groups, workers)
     }
 }
 
-// All ids as one share.
-fn one_share(alloc: Global, ids: &IdList) -> Result<Vec<IdList>, NoMemory>
-    ensures { IfOk result (λ shares. shares.items ≡ ids.now ∷ []) }
+// All ids as one share. They are moved.
+fn one_share(alloc: Global, ids: IdList) -> Result<Vec<IdList>, NoMemory>
+    ensures { IfOk result (λ shares. shares.items ≡ ids ∷ []) }
 {
     let mut shares = Vec::new(alloc);
-    shares.push(copied(alloc, ids)?)?;
+    shares.push(ids)?;
     Ok(shares)
-}
-
-// Another list of the same ids.
-fn copied(alloc: Global, ids: &IdList) -> Result<IdList, NoMemory>
-    ensures { IfOk result (λ copy. copy ≡ ids.now) }
-{
-    let mut copy = IdList::new(alloc);
-    for id in ids.list() {
-        copy.push(id.copy()?).map_err(|_| NoMemory)?;
-    }
-    Ok(copy)
 }
 
 // The shares that are not empty. They are moved.

@@ -1,8 +1,11 @@
 //! Which tests run, in which shares, and what their workers are started with.
 
-ghost use Rattle.std.specs.Prelude.{◌≤◌};
+ghost use Rattle.std.specs.Prelude.{◌≤◌, IfSome};
+ghost use Rattle.std.specs.List.{IsDistinct};
+ghost use Rattle.std.specs.Str.{bytes_eq};
+ghost use Rattle.suite_plan.specs.declared.sharing.TheConstants.{MOST_WORKERS};
 
-use crate::{PatternRefusal, chosen, compile, jobs_of_lanes, share_out};
+use crate::{PatternRefusal, chosen, compile, firsts, jobs_of_lanes, share_out};
 use edge_io::Job;
 use partition_times::{Filters, Groups};
 use std::alloc::Global;
@@ -69,12 +72,12 @@ fn shares_of(
     workers: u32,
 ) -> Option<Vec<IdList>>
     requires some { 1 ≤ workers }
-    requires most { workers ≤ 64 }
+    requires most { workers ≤ MOST_WORKERS }
 {
     let ids = ids_of(alloc, ids)?;
     let times = times_of(alloc, times)?;
     let groups = groups_of(alloc, regex)?;
-    share_out(alloc, &ids, &times, &groups, workers).ok()
+    share_out(alloc, ids, &times, &groups, workers).ok()
 }
 
 fn are_shares(shares: &Option<Vec<IdList>>, wanted: &[&str]) -> bool {
@@ -207,10 +210,20 @@ fn filters_of(alloc: Global, patterns: &str) -> Option<Filters> {
     Filters::new(alloc, ids_of(alloc, patterns)?.list()).ok()
 }
 
+// The ids of a listing, each once, where there is one.
+fn listing_of(alloc: Global, texts: Option<&str>) -> Option<Option<IdList>>
+    ensures { IfSome result (λ ids. IfSome ids (IsDistinct bytes_eq)) }
+{
+    match texts {
+        Some(texts) => Some(Some(firsts(alloc, &ids_of(alloc, texts)?).ok()?)),
+        None => Some(None),
+    }
+}
+
 fn chosen_of(alloc: Global, given: &Given, patterns: &str) -> Option<Option<IdList>> {
     let failing = maybe_ids(alloc, given.0)?;
     let listed = maybe_ids(alloc, given.1)?;
-    let listing = maybe_ids(alloc, given.2)?;
+    let listing = listing_of(alloc, given.2)?;
     let filters = filters_of(alloc, patterns)?;
     chosen(alloc, failing, listed, listing, &filters).ok()
 }

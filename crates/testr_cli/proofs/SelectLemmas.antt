@@ -8,6 +8,7 @@ use Rattle.testr_conf.specs.Settings.{Settings}
 use Rattle.suite_plan.specs.Calling.{CallsOut}
 use Rattle.suite_plan.specs.Choosing.{Ids, base_ids, chosen_ids}
 use Rattle.suite_plan.specs.Processors.{CountsProcessors}
+use Rattle.suite_plan.specs.declared.sharing.TheConstants.{MOST_WORKERS}
 use Rattle.testr_cli.specs.Outside.{Work, work_site, work_spawner}
 use Rattle.testr_cli.specs.Perhaps.{when, Perhaps, refused}
 use Rattle.testr_cli.specs.Selecting.{Chooses, CountsWorkers, UsesAsked, UsesCalled}
@@ -36,7 +37,7 @@ pub one_worker : (settings : Settings) (parallel : Bool) (asked : ℕ) (w : Work
 one_worker settings false asked w is = record { answer = refl; same = refl }
 one_worker settings true asked w is = cc
 
-pub asked_workers : (settings : Settings) (parallel : Bool) (asked number : ℕ) (w : Work) → parallel ≡ true → 0 < asked → number ≡ min asked 64 → CountsWorkers settings parallel asked w w (Ok number)
+pub asked_workers : (settings : Settings) (parallel : Bool) (asked number : ℕ) (w : Work) → parallel ≡ true → 0 < asked → number ≡ min asked MOST_WORKERS → CountsWorkers settings parallel asked w w (Ok number)
 asked_workers settings false asked number w is some number_is = cc
 asked_workers settings true zero number w is some number_is = absurd (omega (arith, some))
 asked_workers settings true (suc less) number w is some number_is = record { answer = ap Ok number_is; same = refl }
@@ -46,10 +47,10 @@ unasked_workers settings false asked a b result is none uses = cc
 unasked_workers settings true zero a b result is none uses = uses
 unasked_workers settings true (suc less) a b result is none uses = absurd (omega (arith, none))
 
-pub uses_called : (called : Option ℕ) (value number : ℕ) (w : Work) → value ≡ unwrap_or called 0 → 0 < value → number ≡ min value 64 → UsesCalled called w w (Ok number)
+pub uses_called : (called : Option ℕ) (value number : ℕ) (w : Work) → value ≡ unwrap_or called 0 → 0 < value → number ≡ min value MOST_WORKERS → UsesCalled called w w (Ok number)
 uses_called None value number w is some number_is = absurd (omega (arith, is, some))
 uses_called (Some zero) value number w is some number_is = absurd (omega (arith, is, some))
-uses_called (Some (suc less)) value number w is some number_is = record { answer = ap Ok (number_is ∙ ap (λ n. min n 64) is); same = refl }
+uses_called (Some (suc less)) value number w is some number_is = record { answer = ap Ok (number_is ∙ ap (λ n. min n MOST_WORKERS) is); same = refl }
 
 pub uses_table : (called : Option ℕ) (value : ℕ) (a b : Work) (result : Result ℕ Refusal) → value ≡ unwrap_or called 0 → value ≤ 0 → Then Table (At work_site CountsProcessors) (λ number. Gives number) a b result → UsesCalled called a b result
 uses_table None value a b result is none table = table

@@ -1,4 +1,4 @@
--- A run has 64 workers at most.
+-- How many workers a run has at most.
 use Rattle.std.proofs.Common.{◌≡◌, ℕ, zero, suc, ◌≤◌, Bool, true, false, cond, Option, None, Some, IfSome, Result, Ok, Err, List, [], ◌∷◌, length, replicate, min, ◌==◌, ◌+◌, ◌%◌, refl, sym, ap, subst, ◌∙◌, arith}
 use Rattle.std.proofs.lemmas.List.{length-replicate}
 use Rattle.std.specs.FinMap as fin
@@ -13,6 +13,7 @@ use Rattle.partition_times.proofs.ShareLemmas.{length-given, length-to_least}
 use Rattle.suite_plan.specs.LaneJobs.{job_before, jobs_from, lane_jobs}
 use Rattle.suite_plan.specs.Processors.{IsInRange}
 use Rattle.suite_plan.specs.Sharing.{dealt_among, shares_for}
+use Rattle.suite_plan.specs.declared.sharing.TheConstants.{MOST_WORKERS}
 use Rattle.suite_plan.proofs.ShareLemmas.{few_kept}
 use Rattle.testr_cli.specs.Outside.{Work}
 use Rattle.testr_cli.specs.Selecting.{UsesCalled, UsesAsked, CountsWorkers, Selects, shares_of_ids, Plans}
@@ -99,11 +100,11 @@ same_number n m is = cc
 given_range : (number : ℕ) (a b : Work) (n : ℕ) → IsInRange number → Gives {R = Refusal} number a b (Ok n) → IsInRange n
 given_range number a b n range gives = subst IsInRange (sym (same_number n number gives.answer)) range
 
-cut_range : (less : ℕ) → IsInRange (min (suc less) 64)
+cut_range : (less : ℕ) → IsInRange (min (suc less) MOST_WORKERS)
 cut_range less = (omega arith, omega arith)
 
 called_range : (called : Option ℕ) (a b : Work) (n : ℕ) → UsesCalled called a b (Ok n) → IsInRange n
-called_range (Some (suc less)) a b n uses = given_range (min (suc less) 64) a b n (cut_range less) uses
+called_range (Some (suc less)) a b n uses = given_range (min (suc less) MOST_WORKERS) a b n (cut_range less) uses
 called_range (Some zero) a b n uses =
     let counted = then_did n uses in
     given_range counted.value counted.between b n counted.done.at.range counted.next
@@ -112,7 +113,7 @@ called_range None a b n uses =
     given_range counted.value counted.between b n counted.done.at.range counted.next
 
 asked_range : (settings : Settings) (asked : ℕ) (a b : Work) (n : ℕ) → UsesAsked settings asked a b (Ok n) → IsInRange n
-asked_range settings (suc less) a b n uses = given_range (min (suc less) 64) a b n (cut_range less) uses
+asked_range settings (suc less) a b n uses = given_range (min (suc less) MOST_WORKERS) a b n (cut_range less) uses
 asked_range settings zero a b n uses =
     let called = then_did n uses in
     called_range called.value called.between b n called.next

@@ -12,23 +12,24 @@ use Rattle.std.proofs.lemmas.Slice.Eq.{bytes_eq-Decides}
 use Rattle.std.specs.Option.{option_to_list}
 use Rattle.command_words.specs.Code.{shown}
 use Rattle.command_words.specs.declared.item.Item as code
+use Rattle.suite_plan.specs.declared.sharing.TheConstants.{MOST_WORKERS}
 use Rattle.testr_cli.specs.Words.{concurrency_word, value_of, values_in, last_of, is_worker_count, worker_count, count_or_zero, workers_in}
 
--- what is written as a number up to 64 tells that number
-pub tells : (value : List ℕ) (number : ℕ) → number ≤ 64 → value ≡ decimal number → Some number ≡ worker_count value
+-- what is written as so small a number tells that number
+pub tells : (value : List ℕ) (number : ℕ) → number ≤ MOST_WORKERS → value ≡ decimal number → Some number ≡ worker_count value
 tells value number few is =
     let same : digits_value 10 value ≡ number = ap (digits_value 10) is ∙ (decimal_is_IsNumeral number (omega (arith, few))).1 in
     let written : bytes_eq value (decimal (digits_value 10 value)) ≡ true = (bytes_eq-Decides value (decimal (digits_value 10 value))).1 (is ∙ ap decimal (sym same)) in
-    let small : nat_le (digits_value 10 value) 64 ≡ true = le-leb (digits_value 10 value) 64 (omega (arith, same, few)) in
-    let counts : is_worker_count value ≡ true = and_from (bytes_eq value (decimal (digits_value 10 value))) (nat_le (digits_value 10 value) 64) written small in
+    let small : nat_le (digits_value 10 value) MOST_WORKERS ≡ true = le-leb (digits_value 10 value) MOST_WORKERS (omega (arith, same, few)) in
+    let counts : is_worker_count value ≡ true = and_from (bytes_eq value (decimal (digits_value 10 value))) (nat_le (digits_value 10 value) MOST_WORKERS) written small in
     ap Some (sym same) ∙ sym (cond-true (is_worker_count value) (Some (digits_value 10 value)) None counts)
 
 -- and what is written as no such number tells none
-pub tells_none : (value : List ℕ) → ((number : ℕ) → number ≤ 64 → value ≡ decimal number → ⊥) → None ≡ worker_count value
+pub tells_none : (value : List ℕ) → ((number : ℕ) → number ≤ MOST_WORKERS → value ≡ decimal number → ⊥) → None ≡ worker_count value
 tells_none value other =
     let counts_not : is_worker_count value ≡ false = false_from_ne_true (is_worker_count value) (λ counts.
-    let parts = and_parts (bytes_eq value (decimal (digits_value 10 value))) (nat_le (digits_value 10 value) 64) counts in
-    other (digits_value 10 value) (leb-true (digits_value 10 value) 64 parts.1) ((bytes_eq-Decides value (decimal (digits_value 10 value))).0 parts.0)) in
+    let parts = and_parts (bytes_eq value (decimal (digits_value 10 value))) (nat_le (digits_value 10 value) MOST_WORKERS) counts in
+    other (digits_value 10 value) (leb-true (digits_value 10 value) MOST_WORKERS parts.1) ((bytes_eq-Decides value (decimal (digits_value 10 value))).0 parts.0)) in
     sym (cond-false (is_worker_count value) (Some (digits_value 10 value)) None counts_not)
 
 -- each of all is fit where those of each item are

@@ -17,6 +17,7 @@ use Rattle.suite_plan.specs.Listing.{ListsTests}
 use Rattle.suite_plan.specs.LoadList.{ReadsLoadList}
 use Rattle.suite_plan.specs.Processors.{CountsProcessors}
 use Rattle.suite_plan.specs.Sharing.{shares_for}
+use Rattle.suite_plan.specs.declared.sharing.TheConstants.{MOST_WORKERS}
 use Rattle.testr_cli.specs.Asking.{FindsFailing, FindsTimes}
 use Rattle.testr_cli.specs.Outside.{Work, work_folder, work_site, work_spawner}
 use Rattle.testr_cli.specs.Perhaps.{when, Perhaps}
@@ -30,13 +31,13 @@ use Rattle.testr_cli.specs.declared.answer.Refusal.TheVariants.{LoadList, Tell, 
 
 -- the number that the project's own command called out; where it called out none, or 0, that of the processors
 abbrev pub UsesCalled : Option ℕ → Step Work ℕ Refusal
-UsesCalled (Some (suc less)) = Gives (min (suc less) 64)
+UsesCalled (Some (suc less)) = Gives (min (suc less) MOST_WORKERS)
 UsesCalled (Some zero) = Then Table (At work_site CountsProcessors) (λ number. Gives number)
 UsesCalled None = Then Table (At work_site CountsProcessors) (λ number. Gives number)
 
 -- the number that the words say, unless that is 0
 abbrev pub UsesAsked : Settings → ℕ → Step Work ℕ Refusal
-UsesAsked settings (suc less) = Gives (min (suc less) 64)
+UsesAsked settings (suc less) = Gives (min (suc less) MOST_WORKERS)
 UsesAsked settings zero = Then Call (At work_spawner (CallsOut settings)) UsesCalled
 
 -- one worker, unless the tests run side by side

@@ -8,6 +8,7 @@ use Rattle.std.specs.Str.Parse.{digits_value}
 use Rattle.command_words.specs.declared.table.Kind.{Kind}
 use Rattle.command_words.specs.declared.table.Kind.TheVariants.{Flag, Valued}
 use Rattle.command_words.specs.Items.{Item, flag, valued, name, is_text, items_of}
+use Rattle.suite_plan.specs.declared.sharing.TheConstants.{MOST_WORKERS}
 use Rattle.testr_cli.specs.declared.words.UsageFault.{UsageFault}
 use Rattle.testr_cli.specs.declared.words.UsageFault.TheVariants.{Words}
 use Rattle.testr_cli.specs.declared.command.Verb.{Verb}
@@ -138,9 +139,9 @@ last_behind before values = fold (λ stood value. Some value) before values
 abbrev pub last_of : List (List ℕ) → Option (List ℕ)
 last_of values = last_behind None values
 
--- The value is the decimal of a number up to 64.
+-- The value is the decimal of a number of workers that a run may have, or of 0.
 abbrev pub is_worker_count : List ℕ → Bool
-is_worker_count value = bytes_eq value (decimal (digits_value 10 value)) && nat_le (digits_value 10 value) 64
+is_worker_count value = bytes_eq value (decimal (digits_value 10 value)) && nat_le (digits_value 10 value) MOST_WORKERS
 
 -- that number
 abbrev pub worker_count : List ℕ → Option ℕ

@@ -1,6 +1,8 @@
 //! `testr list-tests`.
 
 ghost use Rattle.std.specs.Prelude.{◌≡◌, ℕ, List, IfOk};
+ghost use Rattle.std.specs.List.{IsDistinct};
+ghost use Rattle.std.specs.Str.{bytes_eq};
 ghost use Rattle.edge_io.specs.Disk.{Folder};
 ghost use Rattle.edge_io.specs.Seen.{Seen};
 ghost use Rattle.suite_plan.specs.Choosing.{chosen_of};
@@ -13,9 +15,9 @@ use crate::{Refusal, Verdict};
 use edge_io::{Sink, Spawner};
 use partition_times::Filters;
 use std::alloc::Global;
-use sub_number::{IdList, NoMemory, Text};
+use sub_number::{IdList, NoMemory};
 use suite_plan::{choose, compile, list_tests};
-use testr_conf::Conf;
+use testr_conf::{Conf, id_lines};
 
 /// Prints the ids that the project's own listing tells of, those in which a pattern is found, or all where there is none,
 /// each once and on a line.
@@ -33,27 +35,16 @@ pub fn list<'a, S: Spawner, O: Sink>(
 {
     let compiled = compile(alloc, patterns, None)?;
     let ids = list_tests(alloc, conf, spawner)?;
-    let text = picked_lines(alloc, &ids, &compiled.filters)?;
+    let text = picked_lines(alloc, ids, &compiled.filters)?;
     print(out, &text)?;
     Ok(Verdict::Passed)
 }
 
-// The ids in which a pattern is found, each once and on a line.
-fn picked_lines(alloc: Global, ids: &IdList, patterns: &Filters) -> Result<Vec<u8>, NoMemory>
-    ensures { IfOk result (λ lines. lines.items ≡ id_lines (chosen_of patterns.now ids.now)) }
+// The ids, of which each stands once, in which a pattern is found, each on a line.
+fn picked_lines(alloc: Global, ids: IdList, patterns: &Filters) -> Result<Vec<u8>, NoMemory>
+    requires { IsDistinct bytes_eq ids }
+    ensures { IfOk result (λ lines. lines.items ≡ id_lines (chosen_of patterns.now ids)) }
 {
     let picked = choose(alloc, ids, patterns)?;
-    lines(alloc, picked.list())
-}
-
-// Each id on a line.
-fn lines(alloc: Global, ids: &[Text]) -> Result<Vec<u8>, NoMemory>
-    ensures { IfOk result (λ lines. lines.items ≡ id_lines ids.now) }
-{
-    let mut lines = Vec::new(alloc);
-    for id in ids {
-        lines.extend_from_slice(id.bytes())?;
-        lines.push(b'\n')?;
-    }
-    Ok(lines)
+    id_lines(alloc, picked.list())
 }

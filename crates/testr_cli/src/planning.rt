@@ -2,6 +2,8 @@
 
 ghost use Rattle.std.specs.Prelude.{◌≡◌, ◌≤◌, ◌⊎◌, ℕ, List, length, IfOk, IfErr, IfSome, OnOk};
 ghost use Rattle.suite_plan.specs.LaneJobs.{lane_jobs};
+ghost use Rattle.suite_plan.specs.Processors.{IsInRange};
+ghost use Rattle.suite_plan.specs.declared.sharing.TheConstants.{MOST_WORKERS};
 ghost use Rattle.std.specs.Option.{option_map};
 ghost use Rattle.edge_io.specs.Seen.{Seen};
 ghost use Rattle.run_shelf.specs.Holds.{kinds_of, FitsWhereTold};
@@ -22,23 +24,23 @@ use sub_number::{IdList, NoMemory, TimeMap};
 use suite_plan::{jobs_of_lanes, share_out};
 use testr_conf::{Conf, JobFault};
 
-/// The jobs of a run's workers, in order: 64 at most. The groups are those of the configuration.
+/// The jobs of a run's workers, in order, which are no more than a run may have. The groups are those of the configuration.
 pub fn plan<H: Shelf>(
     alloc: Global,
     conf: &Conf,
     groups: &Groups,
-    selected: &Selected,
+    selected: Selected,
     shelf: &mut H,
     found: &Found,
 ) -> Result<Vec<Job>, Refusal<'static>>
     requires groups { groups.now ≡ conf.now.group_regex }
-    requires range { (1 ≤ selected.now.workers) × (selected.now.workers ≤ 64) }
+    requires range { IsInRange selected.workers }
     requires fits { FitsWhereTold (kinds_of found.now) (H.seen shelf.old).told }
-    ensures step { (site : _) → (spawner : _) → (input out : Seen (List ℕ)) → Plans conf.now selected.now
+    ensures step { (site : _) → (spawner : _) → (input out : Seen (List ℕ)) → Plans conf.now selected
         (work (H.seen shelf.old) site spawner input out)
         (work (H.seen shelf.new) site spawner input out)
         (in_list result) }
-    ensures few { IfOk result (λ jobs. length jobs.items ≤ 64) }
+    ensures few { IfOk result (λ jobs. length jobs.items ≤ MOST_WORKERS) }
     ensures fits { OnOk result (FitsWhereTold (kinds_of found.now) (H.seen shelf.new).told) }
 {
     let times = known_times(alloc, selected.workers > 1, shelf, found)?;
@@ -47,12 +49,12 @@ pub fn plan<H: Shelf>(
     Ok(jobs)
 }
 
-// The jobs of the shares, 64 at most, or that of all tests where there are none.
+// The jobs of the shares, which are no more than a run may have workers, or that of all tests where there are none.
 fn jobs_of(alloc: Global, conf: &Conf, shares: &Option<Vec<IdList>>) -> Result<Vec<Job>, JobFault>
-    requires { IfSome shares.now (λ list. length list.items ≤ 64) }
+    requires { IfSome shares.now (λ list. length list.items ≤ MOST_WORKERS) }
     ensures jobs { IfOk result (λ jobs. lane_jobs conf.now (option_map (λ list. list.items) shares.now) ≡ Ok jobs.items) }
     ensures refused { IfErr result (λ fault. (lane_jobs conf.now (option_map (λ list. list.items) shares.now) ≡ Err fault) ⊎ (fault ≡ JobFault.NoMemory)) }
-    ensures few { IfOk result (λ jobs. length jobs.items ≤ 64) }
+    ensures few { IfOk result (λ jobs. length jobs.items ≤ MOST_WORKERS) }
 {
     match shares {
         Some(shares) => jobs_of_lanes(alloc, conf, Some(shares.as_slice())),
@@ -82,13 +84,14 @@ fn divide(
     alloc: Global,
     groups: &Groups,
     times: &Option<TimeMap>,
-    selected: &Selected,
+    selected: Selected,
 ) -> Result<Option<Vec<IdList>>, NoMemory>
-    requires range { (1 ≤ selected.now.workers) × (selected.now.workers ≤ 64) }
-    ensures shares { IfOk result (λ shares. option_map (λ list. list.items) shares ≡ shares_of_ids groups.now times.now selected.now) }
-    ensures few { IfOk result (λ shares. IfSome shares (λ list. length list.items ≤ 64)) }
+    requires range { IsInRange selected.workers }
+    ensures shares { IfOk result (λ shares. option_map (λ list. list.items) shares ≡ shares_of_ids groups.now times.now selected) }
+    ensures few { IfOk result (λ shares. IfSome shares (λ list. length list.items ≤ MOST_WORKERS)) }
 {
-    let Some(ids) = &selected.ids else {
+    let Selected { workers, ids } = selected;
+    let Some(ids) = ids else {
         return Ok(None);
     };
     let none = TimeMap::new(alloc);
@@ -96,6 +99,6 @@ fn divide(
         Some(times) => times,
         None => &none,
     };
-    let shares = share_out(alloc, ids, times, groups, selected.workers)?;
+    let shares = share_out(alloc, ids, times, groups, workers)?;
     Ok(Some(shares))
 }

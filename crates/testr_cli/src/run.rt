@@ -57,14 +57,7 @@ pub fn run<'a, R: Threads + Wait + Sync, H: Shelf, S: Spawner, F: Site, O: Sink>
         spawner,
         site,
     )?;
-    let jobs = plan(
-        alloc,
-        conf,
-        &asked.compiled.groups,
-        &selected,
-        shelf,
-        &found,
-    )?;
+    let jobs = plan(alloc, conf, &asked.compiled.groups, selected, shelf, &found)?;
     let ran = run_workers(rt, alloc, &jobs, asked.partial, shelf, found, spawner)?;
     let answer = tell_run(alloc, number, conf.filter_tags(), &ran.rows, out);
     // The program ends here, and the system takes the memory back in one piece.

@@ -1,10 +1,13 @@
 //! Which tests a run is of, and in how many workers they run.
 
-ghost use Rattle.std.specs.Prelude.{◌≡◌, ◌≤◌, ℕ, List, IfOk, OnOk};
+ghost use Rattle.std.specs.Prelude.{◌≡◌, ℕ, List, IfOk, IfSome, OnOk};
+ghost use Rattle.std.specs.List.{IsDistinct};
+ghost use Rattle.std.specs.Str.{bytes_eq};
 ghost use Rattle.edge_io.specs.Seen.{Seen};
 ghost use Rattle.run_shelf.specs.Holds.{kinds_of, FitsWhereTold};
 ghost use Rattle.suite_plan.specs.Listing.{ListsTests};
 ghost use Rattle.suite_plan.specs.LoadList.{ReadsLoadList};
+ghost use Rattle.suite_plan.specs.Processors.{IsInRange};
 ghost use Rattle.testr_cli.specs.Asking.{FindsFailing};
 ghost use Rattle.testr_cli.specs.Outside.{work};
 ghost use Rattle.testr_cli.specs.Perhaps.{when, Perhaps};
@@ -22,17 +25,15 @@ use run_shelf::Found;
 use std::alloc::Global;
 use sub_number::{IdList, Text};
 use suite_plan::{
-    ListRefusal, ListingRefusal, call_out, chosen, count_processors, list_tests, read_load_list,
+    ListRefusal, ListingRefusal, MOST_WORKERS, call_out, chosen, count_processors, list_tests,
+    read_load_list,
 };
 use testr_conf::Conf;
-
-/// How many workers there are at most.
-const MOST_WORKERS: u32 = 64;
 
 /// How many workers a run has, and which tests it is of: where no ids are given, one worker runs all that there are.
 #[derive(Drop)]
 pub struct Selected {
-    /// The number of workers, 1 to 64.
+    /// The number of workers, at least 1 and at most `MOST_WORKERS`.
     pub workers: u32,
     /// The ids of the tests, in their order, each once.
     pub ids: Option<IdList>,
@@ -55,7 +56,7 @@ pub fn select<'a, H: Shelf, S: Spawner, F: Site>(
         (work (H.seen shelf.old) (F.seen site.old) (S.seen spawner.old) input out)
         (work (H.seen shelf.new) (F.seen site.new) (S.seen spawner.new) input out)
         result }
-    ensures range { IfOk result (λ selected. (1 ≤ selected.workers) × (selected.workers ≤ 64)) }
+    ensures range { IfOk result (λ selected. IsInRange selected.workers) }
     ensures fits { OnOk result (FitsWhereTold (kinds_of found.now) (H.seen shelf.new).told) }
 {
     let listed = load_list(alloc, &command.load_list, site)?;
@@ -104,7 +105,7 @@ fn failing_ids<H: Shelf>(
     Ok(Some(find_failing(alloc, shelf, found)?))
 }
 
-// The number of workers, 1 to 64.
+// The number of workers, at least 1 and at most so many as a run may have.
 fn count_workers<S: Spawner, F: Site>(
     alloc: Global,
     conf: &Conf,
@@ -117,7 +118,7 @@ fn count_workers<S: Spawner, F: Site>(
         (work folder (F.seen site.old) (S.seen spawner.old) input out)
         (work folder (F.seen site.new) (S.seen spawner.new) input out)
         result }
-    ensures range { IfOk result (λ workers. (1 ≤ workers) × (workers ≤ 64)) }
+    ensures range { IfOk result IsInRange }
 {
     if !parallel {
         return Ok(1);
@@ -149,7 +150,8 @@ fn listing<S: Spawner>(
     conf: &Conf,
     spawner: &mut S,
 ) -> Result<Option<IdList>, ListingRefusal>
-    ensures { Perhaps (when wanted) (λ _. ListsTests conf.now) (S.seen spawner.old) (S.seen spawner.new) result }
+    ensures step { Perhaps (when wanted) (λ _. ListsTests conf.now) (S.seen spawner.old) (S.seen spawner.new) result }
+    ensures distinct { IfOk result (λ ids. IfSome ids (IsDistinct bytes_eq)) }
 {
     if !wanted {
         return Ok(None);

@@ -10,12 +10,10 @@ use command_words::{Item, text_of};
 use itoa::Buffer;
 use std::alloc::Global;
 use sub_number::{NoMemory, Text};
-
-/// The most workers that may be asked for.
-const MOST_WORKERS: u32 = 64;
+use suite_plan::MOST_WORKERS;
 
 /// How many workers are asked for: what the last option tells that tells it, or 0 where none does. None comes exactly
-/// where one of these options has another value than a number up to 64, in decimal without sign or leading zero.
+/// where one of these options has another value than a number up to `MOST_WORKERS`, in decimal without sign or leading zero.
 pub(crate) fn workers_in(items: &[Item<'_>]) -> Option<u32>
     ensures { result ≡ words.workers_in (map shown items.now) }
 {

@@ -34,8 +34,10 @@ fn id_file_name(alloc: Global, lane: u32) -> Result<Text, NoMemory>
     }
 }
 
-// Each id on a line.
-fn id_lines(alloc: Global, ids: &[Text]) -> Result<Vec<u8>, NoMemory>
+/// The ids in their order, each on a line.
+///
+/// `NoMemory` comes only for want of memory.
+pub fn id_lines(alloc: Global, ids: &[Text]) -> Result<Vec<u8>, NoMemory>
     ensures { IfOk result (λ lines. lines.items ≡ id_lines ids.now) }
 {
     let mut lines = Vec::new(alloc);

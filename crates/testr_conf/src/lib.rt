@@ -27,6 +27,7 @@ mod white;
 pub use conf::Conf;
 pub use fault::{ConfFault, JobFault, Key};
 pub use ids::{IdsFault, read_ids};
+pub use job::id_lines;
 pub use white::trim;
 
 #[cfg(test)]

@@ -23,14 +23,14 @@ returns-in_err-listing-clause-step g c = λ input out.
     part_done _ _ c.in_ok-listed.ensures
     (part_done _ _ c.in_ok-failing.ensures.step
     (goes_on c.in_ok-workers.workers _ (c.in_ok-workers.ensures.step _ _ _)
-    (part_stops _ c.from_residual-in_err-listing.ensures.1 (perhaps_as c.needs_listing.ensures c.in_err-listing.ensures) refl)))
+    (part_stops _ c.from_residual-in_err-listing.ensures.1 (perhaps_as c.needs_listing.ensures c.in_err-listing.ensures.step) refl)))
 
 pub returns-in_err-ids-clause-step : goal.returns-in_err-ids-clause-step
 returns-in_err-ids-clause-step g c = λ input out.
     part_done _ _ c.in_ok-listed.ensures
     (part_done _ _ c.in_ok-failing.ensures.step
     (goes_on c.in_ok-workers.workers _ (c.in_ok-workers.ensures.step _ _ _)
-    (part_done _ _ (perhaps_as c.needs_listing.ensures c.in_ok-listing.ensures)
+    (part_done _ _ (perhaps_as c.needs_listing.ensures c.in_ok-listing.ensures.step)
     (still_stops _ c.from_residual-in_err-ids.ensures.1 (record { chosen = tt }) refl))))
 
 pub returns-clause-step : goal.returns-clause-step
@@ -38,6 +38,6 @@ returns-clause-step g c = λ input out.
     part_done _ _ c.in_ok-listed.ensures
     (part_done _ _ c.in_ok-failing.ensures.step
     (goes_on c.in_ok-workers.workers _ (c.in_ok-workers.ensures.step _ _ _)
-    (part_done _ _ (perhaps_as c.needs_listing.ensures c.in_ok-listing.ensures)
+    (part_done _ _ (perhaps_as c.needs_listing.ensures c.in_ok-listing.ensures.step)
     (still_done _ (chooses_as _ _ _ _ _ _ c.requires.patterns c.in_ok-ids.ensures)
     gives))))
