@@ -41,7 +41,7 @@ use Rattle.testr_cli.specs.RunSuite.{Works, TellsRun, RunsBy, RunsSuite}
 use Rattle.testr_cli.specs.Runs.{HasRuns}
 use Rattle.testr_cli.specs.Selecting.{UsesCalled, UsesAsked, CountsWorkers, needs_listing, Selects, MakesJobs, Plans}
 use Rattle.testr_cli.specs.Steps.{Step, stops, goes_on}
-use Rattle.testr_cli.specs.SuiteProgram.{PerformsSuite, IsChildFault, calls_by, calls_of, EndsWell, TellsCount, may_list, may_hand, CanRun, CanPerformSuite}
+use Rattle.testr_cli.specs.SuiteProgram.{PerformsSuite, IsChildFault, calls_by, calls_of, EndsWell, CountIsTold, may_list, may_hand, CanRun, CanPerformSuite}
 use Rattle.testr_cli.specs.SuiteTexts.{list_code, table_code, job_code, start_code, lanes_code}
 use Rattle.testr_cli.specs.Suites.{Suite, list, run, RunOptions}
 use Rattle.testr_cli.specs.Told.{tell_code}
@@ -167,12 +167,12 @@ abbrev calls_in : Settings → ℕ
 calls_in settings = calls_by true zero (count_job_of settings)
 
 -- the child that is asked tells a number
-counting_tells : (settings : Settings) (Meets : Output → Type 0) (s t : Spawning) → TellsCount (calls_in settings) s → (starts : StartsCounting settings Meets s t) → (number : ℕ) × TellsNumber number starts.output
+counting_tells : (settings : Settings) (Meets : Output → Type 0) (s t : Spawning) → CountIsTold (calls_in settings) s → (starts : StartsCounting settings Meets s t) → (number : ℕ) × TellsNumber number starts.output
 counting_tells settings Meets s t tells starts =
-    let one : TellsCount 1 s = subst (λ (j : Option Job). TellsCount (calls_by true zero j) s) starts.job_is tells in
+    let one : CountIsTold 1 s = subst (λ (j : Option Job). CountIsTold (calls_by true zero j) s) starts.job_is tells in
     one starts.output t.outputs starts.started.first
 
-call_cause : (settings : Settings) (fault : CallRefusal) (s t : Spawning) → TellsCount (calls_in settings) s → HasCallCause settings fault s t → NoCause (refusal.Call fault)
+call_cause : (settings : Settings) (fault : CallRefusal) (s t : Spawning) → CountIsTold (calls_in settings) s → HasCallCause settings fault s t → NoCause (refusal.Call fault)
 call_cause settings call.Spawn s t tells cause = ((λ three. omega arith), (λ child. child))
 call_cause settings call.Child s t tells cause =
     let told = counting_tells settings (λ output. IsBroken output.finish) s t tells cause in
@@ -182,8 +182,8 @@ call_cause settings call.NoNumber s t tells cause =
     ((λ three. no_number told.0 cause.output told.1 cause.meets), (λ child. child))
 call_cause settings call.NoMemory s t tells cause = ((λ three. omega arith), (λ child. child))
 
-call_never : (settings : Settings) (a b : Seen Spawning) (fault : CallRefusal) → IsSomeAnd a.told (TellsCount (calls_in settings)) → CallsOut settings a b (Err fault) → NoCause (refusal.Call fault)
-call_never settings a b fault tells calls = from_both a.told b.told (TellsCount (calls_in settings)) (HasCallCause settings fault) tells calls.refused (λ s t told cause. call_cause settings fault s t told cause)
+call_never : (settings : Settings) (a b : Seen Spawning) (fault : CallRefusal) → IsSomeAnd a.told (CountIsTold (calls_in settings)) → CallsOut settings a b (Err fault) → NoCause (refusal.Call fault)
+call_never settings a b fault tells calls = from_both a.told b.told (CountIsTold (calls_in settings)) (HasCallCause settings fault) tells calls.refused (λ s t told cause. call_cause settings fault s t told cause)
 
 -- the child behind it is the first then
 call_ends : (settings : Settings) (number : Option ℕ) (a b : Seen Spawning) → CallsOut settings a b (Ok number) → IsSomeAnd a.told (EndsWell (calls_in settings)) → IsSomeAnd b.told (EndsWell 0)
@@ -206,14 +206,14 @@ called_never (Some zero) a b r (goes_on number m counted gives) short = absurd (
 called_never None a b r (stops fault is step) short = same_cause (refusal.Table fault) r is (table_never a.site b.site fault short step.at)
 called_never None a b r (goes_on number m counted gives) short = absurd (gives_not m b r gives)
 
-asked_never : (settings : Settings) (asked : ℕ) (a b : Work) (r : Refusal) → UsesAsked settings asked a b (Err r) → Tables a → IsSomeAnd a.spawner.told (TellsCount (calls_by true asked (count_job_of settings))) → NoCause r
+asked_never : (settings : Settings) (asked : ℕ) (a b : Work) (r : Refusal) → UsesAsked settings asked a b (Err r) → Tables a → IsSomeAnd a.spawner.told (CountIsTold (calls_by true asked (count_job_of settings))) → NoCause r
 asked_never settings (suc less) a b r uses short tells = absurd (gives_not a b r uses)
 asked_never settings zero a b r (stops fault is step) short tells = same_cause (refusal.Call fault) r is (call_never settings a.spawner b.spawner fault tells step.at)
 asked_never settings zero a b r (goes_on number m called next) short tells =
     let site : a.site.told ≡ m.site.told = sym (λ i. (called.rest i).site.told) in
     called_never number m b r next (subst (λ (o : Option Files). IsSomeAnd o HasShortTable) site short)
 
-workers_never : (settings : Settings) (parallel : Bool) (asked : ℕ) (a b : Work) (r : Refusal) → CountsWorkers settings parallel asked a b (Err r) → Tables a → IsSomeAnd a.spawner.told (TellsCount (calls_by parallel asked (count_job_of settings))) → NoCause r
+workers_never : (settings : Settings) (parallel : Bool) (asked : ℕ) (a b : Work) (r : Refusal) → CountsWorkers settings parallel asked a b (Err r) → Tables a → IsSomeAnd a.spawner.told (CountIsTold (calls_by parallel asked (count_job_of settings))) → NoCause r
 workers_never settings false asked a b r counts short tells = absurd (gives_not a b r counts)
 workers_never settings true asked a b r counts short tells = asked_never settings asked a b r counts short tells
 
@@ -266,7 +266,7 @@ may_list_of options workers only needs = wider options.failing (is_some options.
 record CanSelect (options : RunOptions) (settings : Settings) (site : Option Files) (children : Option Spawning) : Type 0 where
   load_list : IfSome options.load_list (λ name. IsSomeAnd site (HasList name))
   table : IsSomeAnd site HasShortTable
-  count : IsSomeAnd children (TellsCount (calls_of options settings))
+  count : IsSomeAnd children (CountIsTold (calls_of options settings))
   job : may_list options ≡ true → IsOk (list_job_of settings)
   ends : may_list options ≡ true → EndsAt (calls_of options settings) children
 
@@ -279,7 +279,7 @@ select_never settings options a b r (goes_on listed m read (goes_on failing m2 f
     let site : a.site.told ≡ m2.site.told = sym ((λ i. (found.rest i).site.told) ∙ list_stays options.load_list a.site m.site listed read.at) in
     let children : a.spawner.told ≡ m2.spawner.told = sym ((λ i. (found.rest i).spawner.told) ∙ (λ i. (read.rest i).spawner.told)) in
     let short : Tables m2 = subst (λ (o : Option Files). IsSomeAnd o HasShortTable) site can.table in
-    let tells : IsSomeAnd m2.spawner.told (TellsCount (calls_of options settings)) = subst (λ (o : Option Spawning). IsSomeAnd o (TellsCount (calls_of options settings))) children can.count in
+    let tells : IsSomeAnd m2.spawner.told (CountIsTold (calls_of options settings)) = subst (λ (o : Option Spawning). IsSomeAnd o (CountIsTold (calls_of options settings))) children can.count in
     let ends : may_list options ≡ true → EndsAt (calls_of options settings) m2.spawner.told = λ may. subst (EndsAt (calls_of options settings)) children (can.ends may) in
     elim next [
       | stops fault is step ↦ same_cause fault r is (workers_never settings options.parallel options.concurrency m2 b fault step short tells)

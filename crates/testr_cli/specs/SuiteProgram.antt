@@ -140,9 +140,9 @@ abbrev pub EndsWell : ℕ → Spawning → Type 0
 EndsWell count s = (front : List Output) (output : Output) (later : List Output) → s.outputs ≡ front ++ output ∷ later → length front ≡ count → output.finish ≡ Exit (pos 0)
 
 -- the first child tells a number, where one is asked
-abbrev pub TellsCount : ℕ → Spawning → Type 0
-TellsCount zero s = ⊤
-TellsCount (suc more) s = (output : Output) (later : List Output) → s.outputs ≡ output ∷ later → (number : ℕ) × TellsNumber number output
+abbrev pub CountIsTold : ℕ → Spawning → Type 0
+CountIsTold zero s = ⊤
+CountIsTold (suc more) s = (output : Output) (later : List Output) → s.outputs ≡ output ∷ later → (number : ℕ) × TellsNumber number output
 
 -- The tests may be listed: neither the failing set nor a file gives ids, and a pattern or, it may be, several workers want
 -- them.
@@ -171,7 +171,7 @@ pub record CanRun (options : RunOptions) (before : Work) : Type 0 where
   pub good_regex : IfSome settings.group_regex IsPattern
   pub load_list : IfSome options.load_list (λ name. IsSomeAnd before.site.told (λ files. (ids : Ids) × IsLoadList name ids files))
   pub table : IsSomeAnd before.site.told (λ files. IfSome (files table_name) (λ text. length text ≤ most_text))
-  pub count : IsSomeAnd before.spawner.told (TellsCount (calls_of options settings))
+  pub count : IsSomeAnd before.spawner.told (CountIsTold (calls_of options settings))
   pub job : may_list options ≡ true → IsOk (list_job_of settings)
   pub ends : may_list options ≡ true → IsSomeAnd before.spawner.told (EndsWell (calls_of options settings))
   pub handed : may_hand options ≡ true → (ids : Ids) (lane : ℕ) → IsOk (run_job_of settings (Some ids) lane)
