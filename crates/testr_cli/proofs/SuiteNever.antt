@@ -1,10 +1,12 @@
 -- `run` and `list-tests` do not give up without a cause.
 use Rattle.std.proofs.Common.{◌≡◌, ◌⊎◌, inl, inr, ℕ, zero, suc, ◌+◌, ◌<◌, ◌≤◌, nat_lt, pos, Bool, true, false, not, ◌&&◌, ◌||◌, Option, None, Some, is_some, option_map, IsSome, IfSome, IsSomeAnd, IsOk, All, Result, Ok, Err, List, [], ◌∷◌, length, refl, sym, ap, subst, ◌∙◌, arith}
+use Rattle.std.specs.Bool.{⊤}
+use Rattle.std.specs.Option.{unwrap_or}
 use Rattle.edge_io.specs.Children.{Output}
 use Rattle.edge_io.specs.Disk.{Files, Folder}
 use Rattle.edge_io.specs.Seen.{Seen}
 use Rattle.edge_io.specs.Spawners.{Spawning}
-use Rattle.edge_io.specs.Steps.{Stays}
+use Rattle.edge_io.specs.Steps.{Goes, Stays}
 use Rattle.edge_io.specs.declared.child.Finish.TheVariants.{Exit}
 use Rattle.edge_io.specs.declared.job.Job.{Job}
 use Rattle.outcome_fold.specs.declared.row.Row.{Row}
@@ -41,7 +43,7 @@ use Rattle.testr_cli.specs.RunSuite.{Works, TellsRun, RunsBy, RunsSuite}
 use Rattle.testr_cli.specs.Runs.{HasRuns}
 use Rattle.testr_cli.specs.Selecting.{UsesCalled, UsesAsked, CountsWorkers, needs_listing, Selects, MakesJobs, Plans}
 use Rattle.testr_cli.specs.Steps.{Step, stops, goes_on}
-use Rattle.testr_cli.specs.SuiteProgram.{PerformsSuite, IsChildFault, calls_by, calls_of, EndsWell, CountIsTold, may_list, may_hand, CanRun, CanPerformSuite}
+use Rattle.testr_cli.specs.SuiteProgram.{PerformsSuite, IsChildFault, calls_by, calls_of, EndsWell, CountIsTold, CallsOutNone, may_list, may_hand, CanRun, CanPerformSuite}
 use Rattle.testr_cli.specs.SuiteTexts.{list_code, table_code, job_code, start_code, lanes_code}
 use Rattle.testr_cli.specs.Suites.{Suite, list, run, RunOptions}
 use Rattle.testr_cli.specs.Told.{tell_code}
@@ -199,21 +201,41 @@ call_ends settings (Some number) a b calls ends = moved a.told b.told (EndsWell 
 abbrev Tables : Work → Type 0
 Tables w = IsSomeAnd w.site.told HasShortTable
 
-called_never : (number : Option ℕ) (a b : Work) (r : Refusal) → UsesCalled number a b (Err r) → Tables a → NoCause r
+called_never : (number : Option ℕ) (a b : Work) (r : Refusal) → UsesCalled number a b (Err r) → (unwrap_or number 0 ≡ 0 → Tables a) → NoCause r
 called_never (Some (suc less)) a b r uses short = absurd (gives_not a b r uses)
-called_never (Some zero) a b r (stops fault is step) short = same_cause (refusal.Table fault) r is (table_never a.site b.site fault short step.at)
+called_never (Some zero) a b r (stops fault is step) short = same_cause (refusal.Table fault) r is (table_never a.site b.site fault (short refl) step.at)
 called_never (Some zero) a b r (goes_on number m counted gives) short = absurd (gives_not m b r gives)
-called_never None a b r (stops fault is step) short = same_cause (refusal.Table fault) r is (table_never a.site b.site fault short step.at)
+called_never None a b r (stops fault is step) short = same_cause (refusal.Table fault) r is (table_never a.site b.site fault (short refl) step.at)
 called_never None a b r (goes_on number m counted gives) short = absurd (gives_not m b r gives)
 
-asked_never : (settings : Settings) (asked : ℕ) (a b : Work) (r : Refusal) → UsesAsked settings asked a b (Err r) → Tables a → IsSomeAnd a.spawner.told (CountIsTold (calls_by true asked (count_job_of settings))) → NoCause r
+-- what is told is told
+is_told : (told : Option Spawning) (P : Spawning → Type 0) → IsSomeAnd told P → IsSomeAnd told (λ s. ⊤)
+is_told None P has = has
+is_told (Some s) P has = tt
+
+-- a number that was not called out, or is 0
+none_called : (settings : Settings) (number : Option ℕ) (a b : Seen Spawning) → CallsOut settings a b (Ok number) → IsSomeAnd a.told (CountIsTold (calls_in settings)) → unwrap_or number 0 ≡ 0 → IsSomeAnd a.told (CallsOutNone (count_job_of settings))
+none_called settings None a b calls told none = subst (λ (j : Option Job). IsSomeAnd a.told (CallsOutNone j)) (sym (calls.jobless refl)) (is_told a.told (CountIsTold (calls_in settings)) told)
+none_called settings (Some number) a b calls told none = by a.told b.told told calls.told
+  where
+    by : (x y : Option Spawning) → IsSomeAnd x (CountIsTold (calls_in settings)) → Goes x y (StartsCounting settings (TellsNumber number)) → IsSomeAnd x (CallsOutNone (count_job_of settings))
+    by None y told starts = told
+    by (Some s) None told starts = absurd starts
+    by (Some s) (Some t) told starts = subst (λ (j : Option Job). CallsOutNone j s) (sym starts.job_is) (starts.output, t.outputs, starts.started.first, subst (λ (n : ℕ). TellsNumber n starts.output) none starts.meets)
+
+-- the table is short where it is asked
+abbrev Counts : Settings → (parallel : Bool) → (asked : ℕ) → Option Spawning → Option Files → Type 0
+Counts settings parallel asked children site = parallel ≡ true → asked ≡ 0 → IsSomeAnd children (CallsOutNone (count_job_of settings)) → IsSomeAnd site HasShortTable
+
+asked_never : (settings : Settings) (asked : ℕ) (a b : Work) (r : Refusal) → UsesAsked settings asked a b (Err r) → Counts settings true asked a.spawner.told a.site.told → IsSomeAnd a.spawner.told (CountIsTold (calls_by true asked (count_job_of settings))) → NoCause r
 asked_never settings (suc less) a b r uses short tells = absurd (gives_not a b r uses)
 asked_never settings zero a b r (stops fault is step) short tells = same_cause (refusal.Call fault) r is (call_never settings a.spawner b.spawner fault tells step.at)
 asked_never settings zero a b r (goes_on number m called next) short tells =
     let site : a.site.told ≡ m.site.told = sym (λ i. (called.rest i).site.told) in
-    called_never number m b r next (subst (λ (o : Option Files). IsSomeAnd o HasShortTable) site short)
+    let table : unwrap_or number 0 ≡ 0 → Tables m = λ none. subst (λ (o : Option Files). IsSomeAnd o HasShortTable) site (short refl refl (none_called settings number a.spawner m.spawner called.at tells none)) in
+    called_never number m b r next table
 
-workers_never : (settings : Settings) (parallel : Bool) (asked : ℕ) (a b : Work) (r : Refusal) → CountsWorkers settings parallel asked a b (Err r) → Tables a → IsSomeAnd a.spawner.told (CountIsTold (calls_by parallel asked (count_job_of settings))) → NoCause r
+workers_never : (settings : Settings) (parallel : Bool) (asked : ℕ) (a b : Work) (r : Refusal) → CountsWorkers settings parallel asked a b (Err r) → Counts settings parallel asked a.spawner.told a.site.told → IsSomeAnd a.spawner.told (CountIsTold (calls_by parallel asked (count_job_of settings))) → NoCause r
 workers_never settings false asked a b r counts short tells = absurd (gives_not a b r counts)
 workers_never settings true asked a b r counts short tells = asked_never settings asked a b r counts short tells
 
@@ -265,7 +287,7 @@ may_list_of options workers only needs = wider options.failing (is_some options.
 -- what the steps behind the opening of the folder need of the files and the children
 record CanSelect (options : RunOptions) (settings : Settings) (site : Option Files) (children : Option Spawning) : Type 0 where
   load_list : IfSome options.load_list (λ name. IsSomeAnd site (HasList name))
-  table : IsSomeAnd site HasShortTable
+  table : Counts settings options.parallel options.concurrency children site
   count : IsSomeAnd children (CountIsTold (calls_of options settings))
   job : may_list options ≡ true → IsOk (list_job_of settings)
   ends : may_list options ≡ true → EndsAt (calls_of options settings) children
@@ -278,7 +300,8 @@ select_never settings options a b r (goes_on listed m read (stops fault is step)
 select_never settings options a b r (goes_on listed m read (goes_on failing m2 found next)) can =
     let site : a.site.told ≡ m2.site.told = sym ((λ i. (found.rest i).site.told) ∙ list_stays options.load_list a.site m.site listed read.at) in
     let children : a.spawner.told ≡ m2.spawner.told = sym ((λ i. (found.rest i).spawner.told) ∙ (λ i. (read.rest i).spawner.told)) in
-    let short : Tables m2 = subst (λ (o : Option Files). IsSomeAnd o HasShortTable) site can.table in
+    let on_site : Counts settings options.parallel options.concurrency a.spawner.told m2.site.told = subst (Counts settings options.parallel options.concurrency a.spawner.told) site can.table in
+    let short : Counts settings options.parallel options.concurrency m2.spawner.told m2.site.told = subst (λ (o : Option Spawning). Counts settings options.parallel options.concurrency o m2.site.told) children on_site in
     let tells : IsSomeAnd m2.spawner.told (CountIsTold (calls_of options settings)) = subst (λ (o : Option Spawning). IsSomeAnd o (CountIsTold (calls_of options settings))) children can.count in
     let ends : may_list options ≡ true → EndsAt (calls_of options settings) m2.spawner.told = λ may. subst (EndsAt (calls_of options settings)) children (can.ends may) in
     elim next [

@@ -144,6 +144,11 @@ abbrev pub CountIsTold : ℕ → Spawning → Type 0
 CountIsTold zero s = ⊤
 CountIsTold (suc more) s = (output : Output) (later : List Output) → s.outputs ≡ output ∷ later → (number : ℕ) × TellsNumber number output
 
+-- No number over 0 is called out: no child is asked for one, or the first child tells 0.
+abbrev pub CallsOutNone : (count_job : Option Job) → Spawning → Type 0
+CallsOutNone None s = ⊤
+CallsOutNone (Some job) s = (output : Output) × (later : List Output) × (s.outputs ≡ output ∷ later) × TellsNumber 0 output
+
 -- The tests may be listed: neither the failing set nor a file gives ids, and a pattern or, it may be, several workers want
 -- them.
 abbrev pub may_list : RunOptions → Bool
@@ -161,8 +166,9 @@ pub record CanList (patterns : Ids) (before : Work) : Type 0 where
   pub job : IsOk (list_job_of settings)
   pub ends : IsSomeAnd before.spawner.told (EndsWell 0)
 
--- The same of a run, whose tests need a listing only where they may be listed: there is room for one, the list of ids and
--- the table of processors can be read, and ids can be handed to the workers where they may be given some.
+-- The same of a run, whose tests need a listing only where they may be listed: there is room for one, the list of ids can be
+-- read, so can the table of processors where the number of workers is neither said nor called out, and ids can be handed to
+-- the workers where they may be given some.
 pub record CanRun (options : RunOptions) (before : Work) : Type 0 where
   pub settings : Settings
   pub conf : IsSomeAnd before.site.told (GivesSettings settings)
@@ -170,7 +176,7 @@ pub record CanRun (options : RunOptions) (before : Work) : Type 0 where
   pub good : All IsPattern options.patterns
   pub good_regex : IfSome settings.group_regex IsPattern
   pub load_list : IfSome options.load_list (λ name. IsSomeAnd before.site.told (λ files. (ids : Ids) × IsLoadList name ids files))
-  pub table : IsSomeAnd before.site.told (λ files. IfSome (files table_name) (λ text. length text ≤ most_text))
+  pub table : options.parallel ≡ true → options.concurrency ≡ 0 → IsSomeAnd before.spawner.told (CallsOutNone (count_job_of settings)) → IsSomeAnd before.site.told (λ files. IfSome (files table_name) (λ text. length text ≤ most_text))
   pub count : IsSomeAnd before.spawner.told (CountIsTold (calls_of options settings))
   pub job : may_list options ≡ true → IsOk (list_job_of settings)
   pub ends : may_list options ≡ true → IsSomeAnd before.spawner.told (EndsWell (calls_of options settings))
