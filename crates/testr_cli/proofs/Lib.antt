@@ -40,3 +40,4 @@ pub mod RunLemmas
 pub mod ValueLemmas
 mod ExactLemmas
 mod ExactFiles
+mod ExactSuite

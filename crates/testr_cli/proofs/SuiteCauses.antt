@@ -76,7 +76,7 @@ same_text file one other is also =
 
 -- ---- the configuration
 
-not_fault : (settings : Settings) (fault : ConfFault) (files : Files) → GivesSettings settings files → GivesFault fault files → ⊥
+pub not_fault : (settings : Settings) (fault : ConfFault) (files : Files) → GivesSettings settings files → GivesFault fault files → ⊥
 not_fault settings fault files gives refused =
     let same : gives.text ≡ refused.text = same_text (files conf_name) gives.text refused.text gives.has.there refused.has.there in
     let both : ◌≡◌ {A = Result Settings ConfFault} (Ok settings) (Err fault) = sym gives.says ∙ ap conf_of same ∙ refused.says in
@@ -109,7 +109,7 @@ same_settings given read a b gives reads = from_told a.told (GivesSettings given
 
 -- ---- patterns
 
-regex_never : (regex : Option (List ℕ)) (text : List ℕ) → IfSome regex IsPattern → IsBadRegex regex text → ⊥
+pub regex_never : (regex : Option (List ℕ)) (text : List ℕ) → IfSome regex IsPattern → IsBadRegex regex text → ⊥
 regex_never None text good bad = bad
 regex_never (Some regex) text good bad = good_not_bad regex good bad.1
 
@@ -138,7 +138,7 @@ failed_never status output ended failed =
     let both : Exit status ≡ Exit (pos 0) = sym failed.ended ∙ ended in
     failed.other cc
 
-not_ok : {A E : Type 0} (result : Result A E) → IsOk result → IsErr result → ⊥
+pub not_ok : {A E : Type 0} (result : Result A E) → IsOk result → IsErr result → ⊥
 not_ok (Ok value) ok err = cc
 not_ok (Err fault) ok err = cc
 

@@ -153,7 +153,7 @@ table_never a b fault short counts = (
 
 -- ---- the number that a child tells
 
-no_number : (number : ℕ) (output : Output) → TellsNumber number output → TellsNone output → ⊥
+pub no_number : (number : ℕ) (output : Output) → TellsNumber number output → TellsNone output → ⊥
 no_number number output tells none = by none.none
   where
     by : (none.status ≡ pos 0 → ⊥) ⊎ (called output.bytes ≡ None) → ⊥

@@ -27,3 +27,4 @@ pub mod Program
 pub mod SuiteStops
 pub mod SuiteProgram
 pub mod Exact
+pub mod ExactSuite

@@ -10,7 +10,7 @@
 //! - `answer`, `suite_refusals`, `telling`: statuses and refusals by step, and the lines that tell of them
 //! - `init`, `load`, `ask`, `run`, `list`: the commands, each a chain of steps
 //! - `top`: `program`, `testr` and `quiet`
-//! - `laws`: each named refusal comes exactly where its cause is
+//! - `laws`, `suite_laws`: each named refusal comes exactly where its cause is
 #![tactic(auto)]
 
 mod answer;
@@ -29,6 +29,7 @@ mod reporting;
 mod run;
 mod selecting;
 mod store;
+mod suite_laws;
 mod suite_refusals;
 mod telling;
 mod told;
@@ -44,6 +45,7 @@ pub use laws::refusals_are_exact;
 pub use recording::RecordFault;
 pub use reporting::PrintFault;
 pub use store::{KeepFault, RunsFault};
+pub use suite_laws::suite_refusals_are_exact;
 pub use told::TellFault;
 pub use top::{program, quiet, testr};
 pub use words::{UsageFault, reads};

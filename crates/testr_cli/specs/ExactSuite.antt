@@ -1,0 +1,57 @@
+-- Where a named refusal of a step of `run` or `list-tests` has its cause, it comes, but for a call that failed or want of
+-- memory.
+use Rattle.std.specs.Prelude.{◌≡◌, ◌⊎◌, ℕ, IsSomeAnd, List, [], ◌∷◌, Result, Ok, Err}
+use Rattle.edge_io.specs.Children.{Output}
+use Rattle.edge_io.specs.Seen.{Seen}
+use Rattle.edge_io.specs.Spawners.{Spawning}
+use Rattle.suite_plan.specs.declared.patterns.PatternRefusal.{PatternRefusal}
+use Rattle.suite_plan.specs.declared.patterns.PatternRefusal.TheVariants as pattern
+use Rattle.suite_plan.specs.declared.load_list.ListRefusal.{ListRefusal}
+use Rattle.suite_plan.specs.declared.load_list.ListRefusal.TheVariants.{Site, TooLong, Absent, NotId, NoMemory}
+
+-- this refusal comes, unless a call failed or memory was wanting
+abbrev pub Comes : {T E : Type 0} → (named failed short : E) → Result T E → Type 0
+Comes named failed short result = (result ≡ Err named) ⊎ ((result ≡ Err failed) ⊎ (result ≡ Err short))
+
+-- the next child to be started has an output that meets this
+abbrev pub NextMeets : (Output → Type 0) → Seen Spawning → Type 0
+NextMeets Meets before = IsSomeAnd before.told (λ s. (output : Output) × (later : List Output) × (s.outputs ≡ output ∷ later) × Meets output)
+
+-- this pattern was named as a bad one
+abbrev pub IsNamedBad : {T : Type 0} → List ℕ → Result T PatternRefusal → Type 0
+IsNamedBad text (Ok value) = ⊥
+IsNamedBad text (Err (pattern.Bad given)) = given.now ≡ text
+IsNamedBad text (Err pattern.NoMemory) = ⊥
+
+-- ---- a list of ids, whose refusals name it
+
+-- a read of the list failed, or memory was wanting
+abbrev pub ListEnds : {T : Type 0} → Result T ListRefusal → Type 0
+ListEnds result = (result ≡ Err Site) ⊎ (result ≡ Err NoMemory)
+
+-- the list of this name was refused as one that is missing
+abbrev pub IsListAbsent : {T : Type 0} → List ℕ → Result T ListRefusal → Type 0
+IsListAbsent name (Ok value) = ⊥
+IsListAbsent name (Err Site) = ⊥
+IsListAbsent name (Err (TooLong given)) = ⊥
+IsListAbsent name (Err (Absent given)) = given.now ≡ name
+IsListAbsent name (Err (NotId given number)) = ⊥
+IsListAbsent name (Err NoMemory) = ⊥
+
+-- it was refused as one that is too long
+abbrev pub IsListTooLong : {T : Type 0} → List ℕ → Result T ListRefusal → Type 0
+IsListTooLong name (Ok value) = ⊥
+IsListTooLong name (Err Site) = ⊥
+IsListTooLong name (Err (TooLong given)) = given.now ≡ name
+IsListTooLong name (Err (Absent given)) = ⊥
+IsListTooLong name (Err (NotId given number)) = ⊥
+IsListTooLong name (Err NoMemory) = ⊥
+
+-- it was refused at this line
+abbrev pub IsNoId : {T : Type 0} → List ℕ → ℕ → Result T ListRefusal → Type 0
+IsNoId name number (Ok value) = ⊥
+IsNoId name number (Err Site) = ⊥
+IsNoId name number (Err (TooLong given)) = ⊥
+IsNoId name number (Err (Absent given)) = ⊥
+IsNoId name number (Err (NotId given line)) = (given.now ≡ name) × (line ≡ number)
+IsNoId name number (Err NoMemory) = ⊥
