@@ -5,11 +5,10 @@ use Rattle.std.proofs.KnownBytes.{Appends-nil, Appends-trans}
 use Rattle.std.proofs.lemmas.Result.{err_from_is_err_and}
 use Rattle.std.specs.Io.KnownBytes.{Appends}
 use Rattle.edge_io.specs.Bytes.{AppendsPrefix}
-use Rattle.edge_io.specs.Causes.{Rose, HasCause}
+use Rattle.edge_io.specs.Causes.{Rose, HasCause, RisesExactlyIf}
 use Rattle.edge_io.specs.Disk.{Folder}
 use Rattle.edge_io.specs.Seen.{Seen}
 use Rattle.edge_io.specs.Steps.{Goes, Stays, IsPart}
-use Rattle.run_shelf.specs.Faults.{RisesExactlyIf}
 use Rattle.run_shelf.specs.Holds.{FitsFolder}
 use Rattle.run_shelf.specs.Outcomes.{IsRunPart}
 use Rattle.run_shelf.specs.Repository.{Run, run_at}

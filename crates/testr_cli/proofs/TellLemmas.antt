@@ -4,7 +4,7 @@ use Rattle.edge_io.specs.Disk.{Folder}
 use Rattle.run_shelf.specs.declared.faults.ShelfCall.{ShelfCall}
 use Rattle.run_shelf.specs.declared.faults.StoreFault.{StoreFault}
 use Rattle.run_shelf.specs.declared.faults.StoreFault.TheVariants as store_fault
-use Rattle.run_shelf.specs.Faults.{RisesExactlyIf}
+use Rattle.edge_io.specs.Causes.{RisesExactlyIf}
 use Rattle.run_shelf.specs.Holds.{FitsFolder}
 use Rattle.run_shelf.specs.Stores.{Closes, store_failed}
 use Rattle.run_ledger.specs.declared.fault.LedgerFault.{LedgerFault}

@@ -3,7 +3,7 @@ use Rattle.std.specs.Prelude.{◌≡◌, ℕ, Bool, true, false, IfSome, IsSomeA
 use Rattle.std.specs.Io.KnownBytes.{Appends}
 use Rattle.edge_io.specs.Disk.{Folder}
 use Rattle.edge_io.specs.Steps.{Goes, Stays}
-use Rattle.run_shelf.specs.Faults.{RisesExactlyIf}
+use Rattle.edge_io.specs.Causes.{RisesExactlyIf}
 use Rattle.run_shelf.specs.Repository.{run_at}
 use Rattle.testr_cli.specs.Outside.{Shown}
 use Rattle.testr_cli.specs.Told.{fault_fails}

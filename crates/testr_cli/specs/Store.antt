@@ -1,7 +1,7 @@
 -- The steps of the folder: what each does to it, why it refuses, and what it says then.
 use Rattle.std.specs.Prelude.{◌≡◌, ℕ, ◌<◌, Bool, List, ◌++◌, codes, Result, IfOk, IfErr, OnOk, OnErr}
 use Rattle.std.specs.Fmt.{decimal}
-use Rattle.edge_io.specs.Causes.{HasCause}
+use Rattle.edge_io.specs.Causes.{HasCause, RisesExactlyIf}
 use Rattle.edge_io.specs.Disk.{Folder}
 use Rattle.edge_io.specs.Seen.{Seen}
 use Rattle.edge_io.specs.Steps.{Goes, Opened, Dropped}
@@ -12,7 +12,7 @@ use Rattle.run_shelf.specs.declared.faults.OpenFault.TheVariants as open_fault
 use Rattle.run_shelf.specs.declared.found.Found.{Found}
 use Rattle.run_shelf.specs.declared.faults.ShelfCall.TheVariants.{StartDraft}
 use Rattle.run_shelf.specs.Drafts.{OfDraft, PlaceFails}
-use Rattle.run_shelf.specs.Faults.{RisesExactlyIf, init_failed, open_failed}
+use Rattle.run_shelf.specs.Faults.{init_failed, open_failed}
 use Rattle.run_shelf.specs.Holds.{kinds_of, HasRoom}
 use Rattle.run_shelf.specs.Images.{MakesRepository, KeepsRun, PassesFormat, PassesOld, PassesRun}
 use Rattle.run_shelf.specs.Outcomes.{InitFails, Surveys, OpenFails}

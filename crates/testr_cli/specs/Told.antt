@@ -3,7 +3,7 @@ use Rattle.std.specs.Prelude.{◌≡◌, ℕ, Bool, true, false, IfSome, IfOk, L
 use Rattle.edge_io.specs.Disk.{Folder}
 use Rattle.edge_io.specs.Seen.{Seen}
 use Rattle.edge_io.specs.Steps.{Goes, Stays}
-use Rattle.run_shelf.specs.Faults.{RisesExactlyIf}
+use Rattle.edge_io.specs.Causes.{RisesExactlyIf}
 use Rattle.run_ledger.specs.declared.fault.LedgerFault.{LedgerFault}
 use Rattle.run_ledger.specs.declared.fault.LedgerFault.TheVariants as ledger_fault
 use Rattle.testr_cli.specs.Says.{SaysOfFolder}

@@ -2,8 +2,8 @@
 
 ghost use Rattle.std.specs.Prelude.{◌≡◌, None, IfOk, IfSome};
 ghost use Rattle.edge_io.specs.Steps.{Goes, Stays};
+ghost use Rattle.edge_io.specs.Causes.{RisesExactlyIf};
 ghost use Rattle.run_ledger.specs.Ledger.{IsFailingSet, AreTimes};
-ghost use Rattle.run_shelf.specs.Faults.{RisesExactlyIf};
 ghost use Rattle.run_shelf.specs.Holds.{kinds_of, FitsWhereTold};
 ghost use Rattle.run_shelf.specs.Stores.{store_kinds, store_fault, FitsUnlessBroken};
 ghost use Rattle.testr_cli.specs.Asking.{FindsFailing, FindsTimes};

@@ -2,7 +2,7 @@
 
 ghost use Rattle.std.specs.Prelude.{◌≡◌, ◌<◌, ◌-◌, None, length, IfSome, IfOk};
 ghost use Rattle.edge_io.specs.Steps.{Goes, Stays};
-ghost use Rattle.run_shelf.specs.Faults.{RisesExactlyIf};
+ghost use Rattle.edge_io.specs.Causes.{RisesExactlyIf};
 ghost use Rattle.run_shelf.specs.Holds.{kinds_of, FitsWhereTold};
 ghost use Rattle.run_shelf.specs.Stores.{store_kinds, store_fault, FitsUnlessBroken};
 ghost use Rattle.run_ledger.specs.Ledger.{HasRowsAt};
