@@ -13,6 +13,8 @@ mod recording;
 mod starting;
 #[cfg(test)]
 mod tests;
+#[cfg(test)]
+mod tests_starting;
 
 pub use laws::outputs_are_recorded;
 pub use recording::{LanesRefusal, record_lanes};
