@@ -9,6 +9,9 @@ use Rattle.std.proofs.lemmas.Bool.{cases_lt}
 use Rattle.std.proofs.lemmas.List.{append_cancel_right, take-append-drop}
 use Rattle.std.proofs.lemmas.Fmt.{decimal_injective, decimal_digit, decimal_step, decimal_by_steps}
 use Rattle.run_shelf.specs.Repository.{full_name, partial_name, run_name, format_name}
+use Rattle.run_shelf.specs.Sides.{side_name}
+use Rattle.run_shelf.specs.declared.side.Side.{Side}
+use Rattle.run_shelf.specs.declared.side.Side.TheVariants.{Failing, Times}
 
 last : List ℕ → ℕ
 last [] = 0
@@ -68,6 +71,31 @@ format_differs number true fits same =
 format_differs number false fits same =
     let digit = begins number fits in
     omega (arith, digit.digit, sym first_of_format ∙ ap (λ (l : List ℕ). get_or l 0 0) same)
+
+-- nor does a file of a cache have the name of a run
+first_of_side : (side : Side) → 57 < get_or (side_name side) 0 0
+first_of_side Failing = omega arith
+first_of_side Times = omega arith
+
+first_of_run : (number : ℕ) (partial : Bool) → number < 2 ^ 64 → get_or (run_name number partial) 0 0 ≤ 57
+first_of_run number true fits =
+    let digit = begins number fits in
+    omega (arith, digit.digit, first_of (decimal number) (codes ".part") digit.some)
+first_of_run number false fits = (begins number fits).digit
+
+pub side_differs : (side : Side) (number : ℕ) (partial : Bool) → number < 2 ^ 64 → run_name number partial ≡ side_name side → ⊥
+side_differs side number partial fits same =
+    omega (arith, first_of_run number partial fits, first_of_side side, ap (λ (l : List ℕ). get_or l 0 0) same)
+
+second_of_format : get_or format_name 1 0 ≡ 111
+second_of_format = refl
+
+second_of_side : (side : Side) → get_or (side_name side) 1 0 ≤ 105
+second_of_side Failing = omega arith
+second_of_side Times = omega arith
+
+pub side_no_format : (side : Side) → format_name ≡ side_name side → ⊥
+side_no_format side same = omega (arith, second_of_format, second_of_side side, ap (λ (l : List ℕ). get_or l 1 0) same)
 
 -- so a name tells number and kind
 pub full_same : (m n : ℕ) → m < 2 ^ 64 → n < 2 ^ 64 → full_name m ≡ full_name n → m ≡ n

@@ -8,4 +8,5 @@ pub mod Holds
 pub mod Looking
 pub mod Outcomes
 pub mod Stores
+pub mod Sides
 pub mod Openings

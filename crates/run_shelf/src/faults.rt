@@ -80,6 +80,28 @@ pub enum StartFault {
     NoMemory,
 }
 
+/// Why a file of a cache was not read.
+#[derive(Clone, Copy, Debug, PartialEq, Eq, Error)]
+pub enum SideFault {
+    /// A call of the folder failed, or had failed before.
+    #[error("{0}")]
+    Store(StoreFault),
+    /// There is not enough memory.
+    #[error("out of memory")]
+    NoMemory,
+}
+
+impl From<AllocError> for SideFault {
+    ghost use Rattle.std.specs.Prelude.{◌≡◌};
+    ghost use Rattle.run_shelf.specs.declared.faults.SideFault.TheVariants.{NoMemory};
+
+    ghost from_gives = { λ _ fault. fault ≡ NoMemory };
+
+    fn from(_: AllocError) -> Self {
+        SideFault::NoMemory
+    }
+}
+
 impl From<AllocError> for OpenFault {
     ghost use Rattle.std.specs.Prelude.{◌≡◌};
     ghost use Rattle.run_shelf.specs.declared.faults.OpenFault.TheVariants.{NoMemory};

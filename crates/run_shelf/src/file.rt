@@ -5,7 +5,7 @@ ghost use Rattle.edge_io.specs.Causes.{HasCause};
 ghost use Rattle.edge_io.specs.Steps.{Goes, HasDraft};
 ghost use Rattle.run_shelf.specs.Drafts.{OfDraft, Writes, DraftFails, PlaceFails};
 ghost use Rattle.run_shelf.specs.Images.{AtRest, KeepsFile, PassesFile};
-ghost use Rattle.run_shelf.specs.Outcomes.{KeepFails};
+ghost use Rattle.run_shelf.specs.Outcomes.{KeepFails, TicksUpTo};
 
 use crate::ShelfCall;
 use edge_io::Shelf;
@@ -17,6 +17,7 @@ pub fn keep_file<H: Shelf>(shelf: &mut H, name: &str, bytes: &[u8]) -> Result<()
     ensures kept { OnOk result (Goes (H.seen shelf.old).told (H.seen shelf.new).told (KeepsFile name.now bytes.now)) }
     ensures failed { IfErr result (λ call. Goes (H.seen shelf.old).told (H.seen shelf.new).told (KeepFails name.now bytes.now call)) }
     ensures any_moment { Goes (H.seen shelf.old).told (H.seen shelf.new).told (PassesFile name.now bytes.now) }
+    ensures time { TicksUpTo 5 (H.clock shelf.old) (H.clock shelf.new) }
     ensures cause { HasCause (H.seen shelf.old).faults (H.seen shelf.new).faults result }
 {
     write_draft(shelf, bytes)?;
@@ -27,6 +28,7 @@ pub fn keep_file<H: Shelf>(shelf: &mut H, name: &str, bytes: &[u8]) -> Result<()
 fn write_draft<H: Shelf>(shelf: &mut H, bytes: &[u8]) -> Result<(), ShelfCall>
     ensures written { OnOk result (Goes (H.seen shelf.old).told (H.seen shelf.new).told (Writes bytes.now)) }
     ensures failed { IfErr result (λ call. Goes (H.seen shelf.old).told (H.seen shelf.new).told (DraftFails call)) }
+    ensures time { TicksUpTo 2 (H.clock shelf.old) (H.clock shelf.new) }
     ensures cause { HasCause (H.seen shelf.old).faults (H.seen shelf.new).faults result }
 {
     let Ok(()) = shelf.start_draft() else {
@@ -46,6 +48,7 @@ pub fn place_draft<H: Shelf>(shelf: &mut H, name: &str) -> Result<(), ShelfCall>
     ensures kept { OnOk result (Goes (H.seen shelf.old).told (H.seen shelf.new).told (OfDraft (KeepsFile name.now))) }
     ensures failed { IfErr result (λ call. Goes (H.seen shelf.old).told (H.seen shelf.new).told (OfDraft (λ bytes. PlaceFails name.now bytes call))) }
     ensures any_moment { Goes (H.seen shelf.old).told (H.seen shelf.new).told (OfDraft (PassesFile name.now)) }
+    ensures time { TicksUpTo 3 (H.clock shelf.old) (H.clock shelf.new) }
     ensures cause { HasCause (H.seen shelf.old).faults (H.seen shelf.new).faults result }
 {
     let Ok(()) = shelf.sync_draft() else {

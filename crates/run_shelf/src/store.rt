@@ -8,20 +8,22 @@ ghost use Rattle.run_shelf.specs.Faults.{RisesExactlyIf, init_failed};
 ghost use Rattle.run_shelf.specs.Holds.{kinds_of};
 ghost use Rattle.run_shelf.specs.Images.{MakesRepository, PassesFormat, PassesOld};
 ghost use Rattle.run_shelf.specs.Openings.{IsNotOpened};
-ghost use Rattle.run_shelf.specs.Outcomes.{InitFails, Surveys, IsRunLength, IsRunPart, TicksAtMost};
+ghost use Rattle.run_shelf.specs.Outcomes.{InitFails, Surveys, IsRunLength, IsRunPart, TicksAtMost, TicksUpTo};
+ghost use Rattle.run_shelf.specs.Sides.{HoldsSide, KeepsSide, PassesSide, PutFails, TellsOfReading, SideReads};
 ghost use Rattle.run_shelf.specs.declared.faults.ShelfCall.TheVariants.{Length, ReadAt};
 ghost use Rattle.run_shelf.specs.declared.faults.StoreFault.TheVariants.{Shelf as ShelfFailed};
-ghost use Rattle.run_shelf.specs.Stores.{store_kinds, store_fault, FitsUnlessBroken, seen_store, StoreReads, TellsOf, HasOpenCause, HasStartCause, StartsFrom, StartFails, start_failed, fault_after_start, recorder_kinds, recorder_fault, RecordsUnlessBroken};
+ghost use Rattle.run_shelf.specs.Stores.{store_kinds, store_fault, FitsUnlessBroken, seen_store, store_failed, StoreReads, Closes, TellsOf, HasOpenCause, HasStartCause, StartsFrom, StartFails, start_failed, fault_after_start, recorder_kinds, recorder_fault, RecordsUnlessBroken};
 
 use crate::opening::open_or_hand_back;
 use crate::recorder::Recorder;
 use crate::recording::Recording;
 use crate::{
-    Found, InitFault, MOST_RUNS, OpenFault, ShelfCall, StartFault, StoreFault, begin_run,
-    make_repository, read_run, run_length,
+    Found, InitFault, MOST_RUNS, OpenFault, ShelfCall, Side, SideFault, StartFault, StoreFault,
+    begin_run, make_repository, read_run, read_side, run_length, write_side,
 };
 use edge_io::Shelf;
 use std::alloc::Global;
+use sub_number::Bytes;
 
 /// A repository over the folder that it was opened on. What it knows of the runs fits the folder until a call of the
 /// folder fails; then each call that can tell of it answers `StoreFault::Closed` with that call, until the folder is
@@ -131,6 +133,53 @@ impl<'h, H: Shelf> Store<'h, H> {
         }
         match read_run(self.shelf, &self.found, number, place, buf) {
             Ok(count) => Ok(count),
+            Err(call) => Err(self.close(call)),
+        }
+    }
+
+    /// The bytes of the file of this cache, as `read_side`.
+    ///
+    /// `Store` comes only with the call of the folder that failed, and with `Closed` exactly where one had failed before,
+    /// which comes first. `NoMemory` comes only for want of memory, and leaves the store open.
+    pub fn side(&mut self, alloc: Global, side: Side) -> Result<Option<Bytes>, SideFault>
+        requires fits { FitsUnlessBroken (store_kinds self.old) (store_fault self.old) (H.seen self.old.shelf.now).told }
+        ensures same_reference { self.new.shelf.ghost_name ≡ self.old.shelf.ghost_name }
+        ensures found { IfOk result (λ found. IfSome (H.seen self.old.shelf.now).told (HoldsSide side found)) }
+        ensures failed { IfErr result TellsOfReading }
+        ensures reads { SideReads (seen_store self.old (H.seen self.old.shelf.now)) (seen_store self.new (H.seen self.new.shelf.now)) result }
+        ensures time { TicksUpTo 2 (H.clock self.old.shelf.now) (H.clock self.new.shelf.now) }
+    {
+        if let Some(call) = self.fault {
+            return Err(SideFault::Store(StoreFault::Closed(call)));
+        }
+        match read_side(alloc, self.shelf, side) {
+            Ok(found) => Ok(found),
+            Err(SideFault::Store(StoreFault::Shelf(call))) => {
+                Err(SideFault::Store(self.close(call)))
+            }
+            Err(fault) => Err(fault),
+        }
+    }
+
+    /// Puts the file of this cache beside the runs, which stay as they are, as `write_side`. It takes no memory. After a
+    /// fault the store is closed, and where one had failed before, nothing is done.
+    pub fn put_side(&mut self, side: Side, bytes: &[u8]) -> Result<(), StoreFault>
+        requires fits { FitsUnlessBroken (store_kinds self.old) (store_fault self.old) (H.seen self.old.shelf.now).told }
+        ensures same_reference { self.new.shelf.ghost_name ≡ self.old.shelf.ghost_name }
+        ensures kept { OnOk result (Goes (H.seen self.old.shelf.now).told (H.seen self.new.shelf.now).told (KeepsSide side bytes.now)) }
+        ensures failed { IfErr result (λ fault. Goes (H.seen self.old.shelf.now).told (H.seen self.new.shelf.now).told (PutFails side bytes.now fault)) }
+        ensures any_moment { Goes (H.seen self.old.shelf.now).told (H.seen self.new.shelf.now).told (PassesSide side bytes.now) }
+        ensures closes { Closes (store_fault self.old) (store_fault self.new) result }
+        ensures kinds { store_kinds self.new ≡ store_kinds self.old }
+        ensures fits { FitsUnlessBroken (store_kinds self.new) (store_fault self.new) (H.seen self.new.shelf.now).told }
+        ensures time { TicksUpTo 5 (H.clock self.old.shelf.now) (H.clock self.new.shelf.now) }
+        ensures cause { RisesExactlyIf (H.seen self.old.shelf.now).faults (H.seen self.new.shelf.now).faults (store_failed result) }
+    {
+        if let Some(call) = self.fault {
+            return Err(StoreFault::Closed(call));
+        }
+        match write_side(self.shelf, side, bytes) {
+            Ok(()) => Ok(()),
             Err(call) => Err(self.close(call)),
         }
     }

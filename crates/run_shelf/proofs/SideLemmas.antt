@@ -1,0 +1,97 @@
+-- A file of a cache put beside the runs.
+use Rattle.std.proofs.Common.{◌≡◌, ◌⊎◌, inl, inr, ℕ, ◌<◌, Option, None, Some, IsSome, List, Bool, refl, sym, ap, ◌∙◌, subst, arith, true, false}
+use Rattle.std.specs.Option.{option_map}
+use Rattle.edge_io.specs.Disk.{Files, put, Disk, Folder, IsImage, at_rest}
+use Rattle.edge_io.specs.Steps.{Goes}
+use Rattle.edge_io.proofs.Going.{goes_weaker}
+use Rattle.edge_io.proofs.Passing.{passes_weaker, passes_same}
+use Rattle.run_shelf.specs.Holds.{FitsFolder, FitsWhereTold}
+use Rattle.run_shelf.specs.Images.{KeepsFile, PassesFile}
+use Rattle.run_shelf.specs.Outcomes.{KeepFails}
+use Rattle.run_shelf.specs.Repository.{Run, run_of_files, run_at, full_name, partial_name, most_runs, Shows, HasKinds, IsRepository, format_name}
+use Rattle.run_shelf.specs.Sides.{side_name, HasSideBeside, PassesSide, KeepsSide}
+use Rattle.run_shelf.specs.declared.faults.ShelfCall.{ShelfCall}
+use Rattle.run_shelf.specs.declared.side.Side.{Side}
+use Rattle.run_shelf.proofs.Joining.{rest_images, goes_with, some_after}
+use Rattle.run_shelf.proofs.NameLemmas.{side_differs, side_no_format}
+use Rattle.run_shelf.proofs.RunLemmas.{put_other}
+
+module _ (files : Files) (side : Side) (bytes : List ℕ) where
+  abbrev image : Files
+  image = put files (side_name side) bytes
+
+  pub run_stays : (k : ℕ) → k < most_runs → run_at image k ≡ run_at files k
+  run_stays k few =
+      ap (λ found. run_of_files found (image (partial_name k))) (put_other files (side_name side) bytes (full_name k) (side_differs side k false (omega (arith, few))))
+      ∙ ap (run_of_files (files (full_name k))) (put_other files (side_name side) bytes (partial_name k) (side_differs side k true (omega (arith, few))))
+
+  pub shows_still : (runs : List Run) → Shows files runs → Shows image runs
+  shows_still runs shows = record { few = shows.few; each = λ k few. run_stays k few ∙ shows.each k few }
+
+  pub kinds_still : (kinds : List Bool) → HasKinds files kinds → HasKinds image kinds
+  kinds_still kinds has = record { few = has.few; each = λ k few. ap (option_map (λ (r : Run). r.partial)) (run_stays k few) ∙ has.each k few }
+
+  pub repository_still : IsRepository files → IsRepository image
+  repository_still repository = record {
+    format = put_other files (side_name side) bytes format_name (side_no_format side) ∙ repository.format;
+    no_gap = λ k other less few some. subst IsSome (sym (run_stays k (omega (arith, less, few)))) (repository.no_gap k other less few (subst IsSome (run_stays other few) some));
+  }
+
+  pub side_beside : (other : Files) → other ≡ image → HasSideBeside files side bytes other
+  side_beside other is = record {
+    is = is;
+    repository = λ repository. subst IsRepository (sym is) (repository_still repository);
+    shows = λ runs shows. subst (λ (f : Files). Shows f runs) (sym is) (shows_still runs shows);
+  }
+
+-- what was kept and what a stop leaves, for the name that the file has
+module _ (side : Side) (name bytes : List ℕ) (named : name ≡ side_name side) (a b : Option Folder) where
+  image_is : (files : Files) → put files name bytes ≡ put files (side_name side) bytes
+  image_is files = ap (λ (n : List ℕ). put files n bytes) named
+
+  keeps : (s t : Folder) → KeepsFile name bytes s t → KeepsSide side bytes s t
+  keeps s t kept =
+      let disk : t.disk ≡ at_rest (put s.disk.published (side_name side) bytes) = kept ∙ ap at_rest (image_is s.disk.published) in
+      record {
+        disk = disk;
+        lasts = λ left is. side_beside s.disk.published side bytes left (rest_images (put s.disk.published (side_name side) bytes) left (subst (λ (d : Disk). IsImage d left) disk is));
+      }
+
+  pub goes_keeps_side : Goes a b (KeepsFile name bytes) → Goes a b (KeepsSide side bytes)
+  goes_keeps_side kept = goes_weaker a b (KeepsFile name bytes) (KeepsSide side bytes) kept keeps
+
+  allowed : (s : Folder) (left : Files) → IsImage s.disk left ⊎ (left ≡ put s.disk.published name bytes) → IsImage s.disk left ⊎ HasSideBeside s.disk.published side bytes left
+  allowed s left (inl old) = inl old
+  allowed s left (inr new) = inr (side_beside s.disk.published side bytes left (new ∙ image_is s.disk.published))
+
+  passes : (s t : Folder) → PassesFile name bytes s t → PassesSide side bytes s t
+  passes s t through =
+      passes_weaker (λ left. IsImage s.disk left ⊎ (left ≡ put s.disk.published name bytes)) (λ left. IsImage s.disk left ⊎ HasSideBeside s.disk.published side bytes left)
+      (allowed s) s t through
+
+  pub goes_passes_side : Goes a b (PassesFile name bytes) → Goes a b (PassesSide side bytes)
+  goes_passes_side through = goes_weaker a b (PassesFile name bytes) (PassesSide side bytes) through passes
+
+  pub goes_fails_side : (call : ShelfCall) → Goes a b (KeepFails name bytes call) → Goes a b (KeepFails (side_name side) bytes call)
+  goes_fails_side call failed = subst (λ (n : List ℕ). Goes a b (KeepFails n bytes call)) named failed
+
+-- what the store knows still fits
+module _ (kinds : List Bool) (side : Side) (bytes : List ℕ) where
+  fits_after : (s t : Folder) → FitsFolder kinds s × KeepsSide side bytes s t → FitsFolder kinds t
+  fits_after s t both =
+      let published : t.disk.published ≡ put s.disk.published (side_name side) bytes = ap (λ (d : Disk). d.published) both.1.disk in
+      record {
+        rest = both.1.disk ∙ ap at_rest (sym published);
+        repository = subst IsRepository (sym published) (repository_still s.disk.published side bytes both.0.repository);
+        kinds_are = subst (λ (f : Files). HasKinds f kinds) (sym published) (kinds_still s.disk.published side bytes kinds both.0.kinds_are);
+      }
+
+  pub goes_fits_side : (a b : Option Folder) → FitsWhereTold kinds a → Goes a b (KeepsSide side bytes) → FitsWhereTold kinds b
+  goes_fits_side a b fits kept =
+      some_after a b (λ s t. FitsFolder kinds s × KeepsSide side bytes s t) (FitsFolder kinds)
+      (goes_with a b (FitsFolder kinds) (KeepsSide side bytes) fits kept) fits_after
+
+-- nothing was done
+pub side_passes_still : (side : Side) (bytes : List ℕ) (a : Option Folder) → Goes a a (PassesSide side bytes)
+side_passes_still side bytes None = tt
+side_passes_still side bytes (Some s) = passes_same (λ left. IsImage s.disk left ⊎ HasSideBeside s.disk.published side bytes left) s s refl refl

@@ -1,0 +1,85 @@
+-- The files of the caches, which stand beside the runs (docs/DISK.md, "Files of a store").
+use Rattle.std.specs.Prelude.{◌≡◌, ◌↔◌, ◌⊎◌, ⊤, Bool, true, false, Option, Some, List, ℕ, codes, Result, Ok, Err}
+use Rattle.edge_io.specs.Disk.{Files, put, Folder, IsImage, at_rest}
+use Rattle.edge_io.specs.Moments.{LeavesOnly, Passes}
+use Rattle.edge_io.specs.Steps.{Stays}
+use Rattle.run_shelf.specs.declared.faults.ShelfCall.{ShelfCall}
+use Rattle.run_shelf.specs.declared.faults.ShelfCall.TheVariants.{Length, ReadAt}
+use Rattle.run_shelf.specs.declared.faults.StoreFault.{StoreFault}
+use Rattle.run_shelf.specs.declared.faults.StoreFault.TheVariants.{Shelf, Closed}
+use Rattle.run_shelf.specs.declared.faults.SideFault.{SideFault}
+use Rattle.run_shelf.specs.declared.faults.SideFault.TheVariants.{Store, NoMemory}
+use Rattle.run_shelf.specs.declared.side.Side.{Side}
+use Rattle.run_shelf.specs.declared.side.Side.TheVariants.{Failing, Times}
+use Rattle.run_shelf.specs.Outcomes.{KeepFails}
+use Rattle.run_shelf.specs.Repository.{Run, Shows, IsRepository}
+use Rattle.run_shelf.specs.Stores.{StoreSeen, Reads}
+
+abbrev pub side_name : Side → List ℕ
+side_name Failing = codes "failing.set"
+side_name Times = codes "times.set"
+
+-- what the file holds, and none where it is not there
+abbrev pub HoldsSide : Side → Option (List ℕ) → Folder → Type 0
+HoldsSide side found s = found ≡ s.disk.published (side_name side)
+
+-- The files and this one beside them, in place of any other of its name. Nothing else differs, so the runs are as they
+-- were.
+pub record HasSideBeside (files : Files) (side : Side) (bytes : List ℕ) (image : Files) : Type 0 where
+  pub is : image ≡ put files (side_name side) bytes
+  pub repository : IsRepository files → IsRepository image
+  pub shows : (runs : List Run) → Shows files runs → Shows image runs
+
+-- a stop at each moment leaves what one at the first might have left, or the files as read at the first moment with this
+-- one beside them
+abbrev pub PassesSide : Side → List ℕ → Folder → Folder → Type 0
+PassesSide side bytes s t = Passes (λ image. IsImage s.disk image ⊎ HasSideBeside s.disk.published side bytes image) s t
+
+-- the file is on the disk for good, and each later stop leaves it
+pub record KeepsSide (side : Side) (bytes : List ℕ) (s t : Folder) : Type 0 where
+  pub disk : t.disk ≡ at_rest (put s.disk.published (side_name side) bytes)
+  pub lasts : LeavesOnly (HasSideBeside s.disk.published side bytes) t.disk
+
+-- the file was not put: this call failed, or the store was closed and nothing was done
+abbrev pub PutFails : Side → List ℕ → StoreFault → Folder → Folder → Type 0
+PutFails side bytes (Shelf call) s t = KeepFails (side_name side) bytes call s t
+PutFails side bytes (Closed call) s t = Stays s t
+
+-- one of the two calls that read a file
+abbrev pub IsReading : ShelfCall → Type 0
+IsReading call = (call ≡ Length) ⊎ (call ≡ ReadAt)
+
+-- why a file was not read: one of these calls failed, or memory was wanting
+abbrev pub SideFails : SideFault → Type 0
+SideFails (Store (Shelf call)) = IsReading call
+SideFails (Store (Closed call)) = ⊥
+SideFails NoMemory = ⊤
+
+-- the same of a store, which may have been closed
+abbrev pub TellsOfReading : SideFault → Type 0
+TellsOfReading (Store (Shelf call)) = IsReading call
+TellsOfReading (Store (Closed call)) = ⊤
+TellsOfReading NoMemory = ⊤
+
+-- whether a call of the folder failed
+abbrev pub side_failed : {T : Type 0} → Result T SideFault → Bool
+side_failed (Ok found) = false
+side_failed (Err (Store (Shelf call))) = true
+side_failed (Err (Store (Closed call))) = false
+side_failed (Err NoMemory) = false
+
+-- the call that failed after which the store is closed: this one's, or the one before it
+abbrev pub fault_after_side : {T : Type 0} → Option ShelfCall → Result T SideFault → Option ShelfCall
+fault_after_side before (Ok found) = before
+fault_after_side before (Err (Store (Shelf call))) = Some call
+fault_after_side before (Err (Store (Closed call))) = before
+fault_after_side before (Err NoMemory) = before
+
+-- `Closed` comes exactly after a fault, with its call, and each fault is kept
+pub record SideCloses {T : Type 0} (before after : Option ShelfCall) (result : Result T SideFault) : Type 0 where
+  pub closed : (call : ShelfCall) → (result ≡ Err (Store (Closed call))) ↔ (before ≡ Some call)
+  pub kept : after ≡ fault_after_side before result
+
+-- the store was only read, or closed by a fault
+abbrev pub SideReads : {T : Type 0} → StoreSeen → StoreSeen → Result T SideFault → Type 0
+SideReads before after result = Reads before after (λ old new. SideCloses old new result) (side_failed result)

@@ -1,0 +1,86 @@
+//! The files of the caches, which stand beside the runs.
+
+ghost use Rattle.std.specs.Prelude.{◌≡◌, IfSome, IfOk, IfErr, OnOk, vec_len};
+ghost use Rattle.edge_io.specs.Causes.{HasCause};
+ghost use Rattle.edge_io.specs.Steps.{Goes, Stays};
+ghost use Rattle.run_shelf.specs.Faults.{RisesExactlyIf};
+ghost use Rattle.run_shelf.specs.Images.{AtRest};
+ghost use Rattle.run_shelf.specs.Outcomes.{KeepFails, TicksUpTo};
+ghost use Rattle.run_shelf.specs.Sides.{side_name, HoldsSide, KeepsSide, PassesSide, SideFails, side_failed};
+
+use crate::file::keep_file;
+use crate::{ShelfCall, SideFault, StoreFault};
+use edge_io::Shelf;
+use std::alloc::Global;
+use sub_number::Bytes;
+
+/// A file of a cache.
+#[derive(Clone, Copy, Debug, PartialEq, Eq)]
+pub enum Side {
+    /// The cache of the failing set, `failing.set`.
+    Failing,
+    /// The cache of the times, `times.set`.
+    Times,
+}
+
+impl Side {
+    /// The name of the file.
+    pub fn name(self) -> &'static str
+        ensures { result.now ≡ side_name self }
+    {
+        match self {
+            Side::Failing => "failing.set",
+            Side::Times => "times.set",
+        }
+    }
+}
+
+/// The bytes of this file, and `None` exactly where it is not there. It makes at most two calls of the folder, in which
+/// nothing changes.
+///
+/// `Store` comes only with the call of the folder that failed, and `NoMemory` only for want of memory.
+pub fn read_side<H: Shelf>(
+    alloc: Global,
+    shelf: &mut H,
+    side: Side,
+) -> Result<Option<Bytes>, SideFault>
+    ensures found { IfOk result (λ found. IfSome (H.seen shelf.old).told (HoldsSide side found)) }
+    ensures failed { IfErr result SideFails }
+    ensures same { Goes (H.seen shelf.old).told (H.seen shelf.new).told Stays }
+    ensures time { TicksUpTo 2 (H.clock shelf.old) (H.clock shelf.new) }
+    ensures cause { RisesExactlyIf (H.seen shelf.old).faults (H.seen shelf.new).faults (side_failed result) }
+{
+    let name = side.name();
+    let Ok(length) = shelf.length(name) else {
+        return Err(SideFault::Store(StoreFault::Shelf(ShelfCall::Length)));
+    };
+    let Some(size) = length else {
+        return Ok(None);
+    };
+    let mut bytes = vec![in alloc; 0u8; size as usize]?;
+    if size == 0 {
+        return Ok(Some(Bytes::from_vec(bytes)));
+    }
+    let Ok(count) = shelf.read_at(name, 0, &mut bytes) else {
+        return Err(SideFault::Store(StoreFault::Shelf(ShelfCall::ReadAt)));
+    };
+    bytes.truncate(count);
+    Ok(Some(Bytes::from_vec(bytes)))
+}
+
+/// Puts this file beside the runs, with these bytes and in place of any other, in a folder in which nothing is pending. It
+/// takes no memory and makes at most five calls of the folder, those of the keeping of a run.
+///
+/// At `Ok` each later stop leaves the file. The error is the call of the folder that failed: before the publish the files
+/// are as they were, at it the file is there or not, after it the file is there. A stop at any moment leaves what one
+/// before the call might have left, or the files as read before it with this one beside them.
+pub fn write_side<H: Shelf>(shelf: &mut H, side: Side, bytes: &[u8]) -> Result<(), ShelfCall>
+    requires { IfSome (H.seen shelf.old).told AtRest }
+    ensures kept { OnOk result (Goes (H.seen shelf.old).told (H.seen shelf.new).told (KeepsSide side bytes.now)) }
+    ensures failed { IfErr result (λ call. Goes (H.seen shelf.old).told (H.seen shelf.new).told (KeepFails (side_name side) bytes.now call)) }
+    ensures any_moment { Goes (H.seen shelf.old).told (H.seen shelf.new).told (PassesSide side bytes.now) }
+    ensures time { TicksUpTo 5 (H.clock shelf.old) (H.clock shelf.new) }
+    ensures cause { HasCause (H.seen shelf.old).faults (H.seen shelf.new).faults result }
+{
+    keep_file(shelf, side.name(), bytes)
+}
