@@ -10,3 +10,9 @@ pub mod ExistLemmas
 mod WrittenLemmas
 mod HeardLemmas
 pub mod BehindLemmas
+pub mod FormLemmas
+pub mod HeadLemmas
+pub mod CacheLemmas
+pub mod OrderedLemmas
+pub mod TimedLemmas
+pub mod CachedLemmas

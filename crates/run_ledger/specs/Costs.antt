@@ -25,3 +25,7 @@ ReadsFrom start before now s = (runs : List Run) → Shows s.disk.published runs
 abbrev pub ReadsTo : ℕ → ℕ → ℕ → ℕ → Folder → Type 0
 ReadsTo start number before now s =
     (runs : List Run) → Shows s.disk.published runs → now * 65536 + asked_for_each (drop number runs) ≤ before * 65536 + asked_for_each (drop start runs)
+
+-- at most two calls that read the file of a cache, and then the reads of the runs from this number on, each once
+abbrev pub ReadsBehindCache : ℕ → ℕ → ℕ → Folder → Type 0
+ReadsBehindCache start before now s = (runs : List Run) → Shows s.disk.published runs → now * 65536 ≤ before * 65536 + (131072 + asked_for_each (drop start runs))

@@ -8,3 +8,6 @@ pub mod Starts
 pub mod Writing
 pub mod Hearing
 pub mod Behind
+pub mod Caches
+pub mod Cuts
+pub mod Cached

@@ -39,7 +39,7 @@ pub fn failing<H: Shelf>(alloc: Global, store: &mut Store<'_, H>) -> Result<IdLi
 }
 
 // The number of the last full run, which replaces what the runs before it say, or 0 where no run is full.
-fn first_to_read<H: Shelf>(store: &Store<'_, H>) -> u32
+pub(crate) fn first_to_read<H: Shelf>(store: &Store<'_, H>) -> u32
     ensures { IsStart (store_kinds store.now) result }
 {
     for number in (0..store.runs()).rev() {

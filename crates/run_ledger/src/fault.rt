@@ -6,7 +6,7 @@ ghost use Rattle.run_shelf.specs.declared.faults.StoreFault.TheVariants.{Closed}
 ghost use Rattle.run_ledger.specs.declared.fault.LedgerFault.TheVariants.{Store as StoreRefused};
 
 use edge_io::Shelf;
-use run_shelf::{Store, StoreFault};
+use run_shelf::{SideFault, Store, StoreFault};
 use sub_number::NoMemory;
 use thiserror::Error;
 
@@ -29,6 +29,20 @@ impl From<StoreFault> for LedgerFault {
 
     fn from(cause: StoreFault) -> Self {
         LedgerFault::Store(cause)
+    }
+}
+
+impl From<SideFault> for LedgerFault {
+    ghost use Rattle.std.specs.Prelude.{◌≡◌};
+    ghost use Rattle.run_ledger.specs.Cached.{ledger_fault};
+
+    ghost from_gives = { λ cause fault. fault ≡ ledger_fault cause };
+
+    fn from(cause: SideFault) -> Self {
+        match cause {
+            SideFault::Store(fault) => LedgerFault::Store(fault),
+            SideFault::NoMemory => LedgerFault::NoMemory,
+        }
     }
 }
 

@@ -38,7 +38,11 @@ pub fn times<H: Shelf>(alloc: Global, store: &mut Store<'_, H>) -> Result<TimeMa
 }
 
 // Gives each id that has a time in these rows that time.
-fn replace_times(alloc: Global, latest: &mut TimeMap, rows: &Rows) -> Result<(), NoMemory>
+pub(crate) fn replace_times(
+    alloc: Global,
+    latest: &mut TimeMap,
+    rows: &Rows,
+) -> Result<(), NoMemory>
     ensures { OnOk result (latest.new ≡ replaced latest.old (times_of rows.now)) }
 {
     let times = rows.times(alloc)?;

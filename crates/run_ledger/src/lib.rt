@@ -8,11 +8,18 @@
 //! - `fault`: why nothing is said of the runs of a store
 //! - `rows`: the rows of one run of a store
 //! - `failing_set`, `taking`: the ids that fail after all runs of a store, told from the last full run on
+//! - `cutting`, `failing_cache`, `times_cache`: the two caches, written and read
+//! - `cached_failing`, `cached_times`: the failing set and the times, told with the help of their caches
 //! - `latest_times`: the times of the ids after all runs of a store
-//! - `laws`: each run has one list of rows
+//! - `laws`, `cache_laws`: each run has one list of rows, and each cache holds one thing
 //! - `lane_laws`: a run of several lanes has the rows of the lanes one after another
 #![tactic(auto)]
 
+mod cache_laws;
+mod cached_failing;
+mod cached_times;
+mod cutting;
+mod failing_cache;
 mod failing_set;
 mod fault;
 mod folding;
@@ -23,8 +30,13 @@ mod laws;
 mod rows;
 mod run_reader;
 mod taking;
+mod times_cache;
 mod written_run;
 
+pub use cache_laws::caches_hold_one_thing;
+pub use cached_failing::failing_by_cache;
+pub use cached_times::times_by_cache;
+pub use failing_cache::{FailingCache, read_failing_cache, write_failing_cache};
 pub use failing_set::failing;
 pub use fault::LedgerFault;
 pub use heard_run::HeardRun;
@@ -33,7 +45,12 @@ pub use latest_times::times;
 pub use laws::runs_have_one_list_of_rows;
 pub use rows::rows_of;
 pub use run_reader::RunReader;
+pub use times_cache::{TimesCache, read_times_cache, write_times_cache};
 pub use written_run::WrittenRun;
 
 #[cfg(test)]
 mod tests;
+#[cfg(test)]
+mod tests_caches;
+#[cfg(test)]
+mod tests_times;

@@ -1,0 +1,319 @@
+-- What is told with the help of a cache.
+use Rattle.std.proofs.Common.{◌≡◌, inl, inr, ℕ, zero, suc, ◌+◌, ◌<◌, ◌≤◌, Bool, true, false, true≢false, IsTrue, nat_lt, List, [], ◌∷◌, ◌++◌, take, drop, length, Option, Some, None, IfSome, IsSome, IsErrAnd, Result, Ok, Err, refl, sym, ap, ◌∙◌, subst, arith, ltb-true, lt-ltb}
+use Rattle.std.specs.Prelude.{slice_get, IfNone}
+use Rattle.std.specs.Option.{option_map}
+use Rattle.std.specs.FinMap.{FinMap}
+use Rattle.std.specs.Result.{is_err}
+use Rattle.std.specs.List.Sorted.{IsStrictlySortedBy}
+use Rattle.std.proofs.lemmas.Bool.{cases_lt}
+use Rattle.edge_io.specs.Disk.{Folder}
+use Rattle.outcome_fold.specs.Order.{text_cmp, in_byte_order}
+use Rattle.outcome_fold.proofs.SetLemmas.{ordered_already}
+use Rattle.run_shelf.specs.declared.faults.ShelfCall.{ShelfCall}
+use Rattle.run_shelf.specs.declared.faults.StoreFault.{StoreFault}
+use Rattle.run_shelf.specs.declared.faults.StoreFault.TheVariants.{Shelf, Closed}
+use Rattle.run_shelf.specs.declared.faults.SideFault.{SideFault}
+use Rattle.run_shelf.specs.declared.faults.SideFault.TheVariants as side_fault
+use Rattle.run_shelf.specs.declared.side.Side.TheVariants.{Failing, Times}
+use Rattle.run_shelf.specs.Holds.{FitsFolder}
+use Rattle.run_shelf.specs.Repository.{Run, run_at, most_runs, Shows}
+use Rattle.run_shelf.specs.Sides.{HoldsSide, SideCloses, SideReads, fault_after_side}
+use Rattle.run_shelf.specs.Stores.{StoreSeen, Reads}
+use Rattle.run_shelf.proofs.ReadingLemmas.{StaysOpen, reads_as}
+use Rattle.run_shelf.proofs.RunLemmas.{past_items, within_items, none_is_not_some}
+use Rattle.run_shelf.proofs.ShowsLemmas.{shown}
+use Rattle.run_ledger.specs.declared.fault.LedgerFault.{LedgerFault}
+use Rattle.run_ledger.specs.declared.fault.LedgerFault.TheVariants.{Store, NoMemory}
+use Rattle.run_ledger.specs.Outcomes.{LedgerCloses, LedgerReads, closed_by}
+use Rattle.run_ledger.specs.Cached.{ledger_fault, ReadsSound, HoldsFailing, HoldsNoFailing, HoldsTimes, HoldsNoTimes, Spares}
+use Rattle.run_ledger.specs.Caches.{IsFailingCache, IsTimesCache, SaidOfFirst}
+use Rattle.run_ledger.specs.Costs.{asked_for_each, ReadsFrom, ReadsBehindCache}
+use Rattle.run_ledger.specs.Ledger.{RunRows, AreRunRows, failing_after, times_after}
+use Rattle.run_ledger.specs.Starts.{IsStart}
+use Rattle.run_ledger.proofs.CacheLemmas.{one_failing}
+use Rattle.run_ledger.proofs.CostLemmas.{one_start}
+use Rattle.run_ledger.proofs.TimedLemmas.{one_times}
+use Rattle.run_ledger.proofs.LedgerLemmas.{SaysTo}
+
+-- ---- the faults of a file of a cache are handed on
+
+abbrev side_refusal : (T : Type 0) → SideFault → Result T SideFault
+side_refusal T e = Err e
+
+abbrev refusal : (T : Type 0) → LedgerFault → Result T LedgerFault
+refusal T e = Err e
+
+side_item : (T : Type 0) (a b : StoreFault) → side_refusal T (side_fault.Store a) ≡ side_refusal T (side_fault.Store b) → a ≡ b
+side_item T a b e = cc
+
+store_item : (T : Type 0) (a b : StoreFault) → refusal T (Store a) ≡ refusal T (Store b) → a ≡ b
+store_item T a b e = cc
+
+side_none : (T : Type 0) (a : StoreFault) → side_refusal T side_fault.NoMemory ≡ side_refusal T (side_fault.Store a) → ⊥
+side_none T a e = cc
+
+store_none : (T : Type 0) (a : StoreFault) → refusal T NoMemory ≡ refusal T (Store a) → ⊥
+store_none T a e = cc
+
+kept_by : (T U : Type 0) (before : Option ShelfCall) (e : SideFault) → fault_after_side before (side_refusal T e) ≡ closed_by before (refusal U (ledger_fault e))
+kept_by T U before (side_fault.Store (Shelf call)) = refl
+kept_by T U before (side_fault.Store (Closed call)) = refl
+kept_by T U before side_fault.NoMemory = refl
+
+closed_as : (T U : Type 0) (before after : Option ShelfCall) (e : SideFault) → SideCloses before after (side_refusal T e) → (call : ShelfCall)
+    → (refusal U (ledger_fault e) ≡ refusal U (Store (Closed call)) → before ≡ Some call) × (before ≡ Some call → refusal U (ledger_fault e) ≡ refusal U (Store (Closed call)))
+closed_as T U before after (side_fault.Store f) closes call = (
+  λ told. (closes.closed call).0 (ap (λ g. side_refusal T (side_fault.Store g)) (store_item U f (Closed call) told)),
+  λ told. ap (λ g. refusal U (Store g)) (side_item T f (Closed call) ((closes.closed call).1 told)),
+)
+closed_as T U before after side_fault.NoMemory closes call = (
+  λ told. absurd (store_none U (Closed call) told),
+  λ told. absurd (side_none T (Closed call) ((closes.closed call).1 told)),
+)
+
+closes_as : (T U : Type 0) (before after : Option ShelfCall) (e : SideFault) → SideCloses before after (side_refusal T e) → LedgerCloses before after (refusal U (ledger_fault e))
+closes_as T U before after e closes = record { closed = closed_as T U before after e closes; kept = closes.kept ∙ kept_by T U before e }
+
+ok_is_no_err : {T E : Type 0} (x : T) (e : E) → Ok x ≡ Err e → ⊥
+ok_is_no_err x e is = true≢false (sym (ap is_err is))
+
+open_at_found : {T : Type 0} (before after : Option ShelfCall) (x : T) → SideCloses before after (Ok x) → before ≡ None
+open_at_found None after x closes = refl
+open_at_found (Some call) after x closes = absurd (ok_is_no_err x (side_fault.Store (Closed call)) ((closes.closed call).1 refl))
+
+module _ (a b : StoreSeen) where
+  pub found_reading : {T : Type 0} (x : T) → SideReads a b (Ok x) → Reads a b StaysOpen false
+  found_reading x reads = reads_as a b (λ p q. SideCloses p q (Ok x)) StaysOpen false (λ closes. (open_at_found _ _ x closes, closes.kept)) reads
+
+  handed_on : {T U : Type 0} (e : SideFault) → SideReads a b (side_refusal T e) → LedgerReads a b (refusal U (ledger_fault e))
+  handed_on {T = T} {U = U} (side_fault.Store (Shelf call)) reads =
+      reads_as a b (λ p q. SideCloses p q (side_refusal T (side_fault.Store (Shelf call)))) (λ p q. LedgerCloses p q (refusal U (Store (Shelf call)))) true (closes_as T U _ _ (side_fault.Store (Shelf call))) reads
+  handed_on {T = T} {U = U} (side_fault.Store (Closed call)) reads =
+      reads_as a b (λ p q. SideCloses p q (side_refusal T (side_fault.Store (Closed call)))) (λ p q. LedgerCloses p q (refusal U (Store (Closed call)))) false (closes_as T U _ _ (side_fault.Store (Closed call))) reads
+  handed_on {T = T} {U = U} side_fault.NoMemory reads =
+      reads_as a b (λ p q. SideCloses p q (side_refusal T side_fault.NoMemory)) (λ p q. LedgerCloses p q (refusal U NoMemory)) false (closes_as T U _ _ side_fault.NoMemory) reads
+
+  pub tells_side : {T U : Type 0} (r : Result U LedgerFault) (e : SideFault) → SideReads a b (side_refusal T e) → IsErrAnd r (λ fault. fault ≡ ledger_fault e) → LedgerReads a b r
+  tells_side (Ok x) e reads is = absurd is
+  tells_side {T = T} {U = U} (Err fault) e reads is = subst (λ (f : LedgerFault). LedgerReads a b (refusal U f)) (sym is) (handed_on {T = T} e reads)
+
+-- ---- what the file holds
+
+some_bytes : (a b : List ℕ) → Some a ≡ Some b → a ≡ b
+some_bytes a b e = cc
+
+pub if_none : {X P Q : Type 0} (o : Option X) → (P → Q) → IfNone o P → IfNone o Q
+if_none None f p = f p
+if_none (Some x) f p = tt
+
+pub holds_none : (state : Option Folder) (found : Option (List ℕ)) (bytes : List ℕ) → found ≡ Some bytes → IfSome state (HoldsSide Failing found) → ((covers : ℕ) (ids : List (List ℕ)) → IsFailingCache bytes covers ids → ⊥)
+    → IfSome state HoldsNoFailing
+holds_none None found bytes is holds none = tt
+holds_none (Some s) found bytes is holds none = λ covers ids cache.
+    let same : cache.bytes ≡ bytes = some_bytes cache.bytes bytes (sym cache.file ∙ sym holds ∙ is) in
+    none covers ids (subst (λ (l : List ℕ). IsFailingCache l covers ids) same cache.form)
+
+-- ---- what a sound folder holds
+
+module _ {X : Type 0} where
+  prefix_is : (xs ys : List X) → ((k : ℕ) → k < length ys → slice_get xs k ≡ slice_get ys k) → take (length ys) xs ≡ ys
+  prefix_is xs [] same = refl
+  prefix_is [] (y ∷ ys) same = absurd (none_is_not_some (Some y) (sym (same 0 (omega arith))) refl)
+  prefix_is (x ∷ xs) (y ∷ ys) same =
+      let first : x ≡ y = some_item x y (same 0 (omega arith)) in
+      let rest : take (length ys) xs ≡ ys = prefix_is xs ys (λ k less. same (suc k) (omega (arith, less))) in
+      (λ i. first i ∷ rest i)
+    where
+      some_item : (a b : X) → Some a ≡ Some b → a ≡ b
+      some_item a b e = cc
+
+module _ {X : Type 0} (says : List RunRows → X) (s : Folder) (kinds : List Bool) (fits : FitsFolder kinds s) (covers : ℕ) (x : X) (said : SaidOfFirst says s.disk.published covers x) where
+  all_runs : (runs : List Run) × Shows s.disk.published runs
+  all_runs = shown s.disk.published fits.repository
+
+  first_are : take covers all_runs.0 ≡ said.runs
+  first_are =
+      ap (λ n. take n all_runs.0) (sym said.count)
+      ∙ prefix_is all_runs.0 said.runs (λ k less. sym (all_runs.1.each k (omega (arith, less, said.first.few))) ∙ said.first.each k less)
+
+  says_first : SaysTo says covers x s
+  says_first = (said.entries, record { runs = all_runs.0; shown = all_runs.1; are = subst (λ (l : List Run). AreRunRows l said.entries) (sym first_are) said.rows }, said.said)
+
+  first_few : covers ≤ length kinds
+  first_few = elim (cases_lt (length kinds) covers) [
+    | inr most ↦ most
+    | inl less ↦
+        let few : length kinds < most_runs = omega (arith, less, said.count, said.first.few) in
+        absurd
+        (none_is_not_some (run_at s.disk.published (length kinds)) (kind_none (run_at s.disk.published (length kinds)) (fits.kinds_are.each (length kinds) few ∙ past_items kinds (length kinds) (omega arith)))
+        (subst IsSome (sym (said.first.each (length kinds) (omega (arith, less, said.count)))) (within_items said.runs (length kinds) (omega (arith, less, said.count)))))
+  ]
+    where
+      kind_none : (run : Option Run) → option_map (λ r. r.partial) run ≡ None → run ≡ None
+      kind_none None none = refl
+      kind_none (Some run) none = cc
+
+-- the fold goes on from there
+pub said_to : {X : Type 0} (says : List RunRows → X) (state : Option Folder) (kinds : List Bool) (covers : ℕ) (x : X) → IfSome state (FitsFolder kinds)
+    → IfSome state (λ s. SaidOfFirst says s.disk.published covers x) → IfSome state (SaysTo says covers x)
+said_to says None kinds covers x fits said = tt
+said_to says (Some s) kinds covers x fits said = says_first says s kinds fits covers x said
+
+pub set_of : (ids list now old : List (List ℕ)) → list ≡ ids → old ≡ [] → IsStrictlySortedBy text_cmp ids → now ≡ in_byte_order (old ++ list) → now ≡ ids
+set_of ids list now old same none ordered is = is ∙ (λ i. in_byte_order (none i ++ same i)) ∙ ordered_already ids ordered
+
+-- a cache in a sound folder
+pub held_is_said : (state : Option Folder) (covers : ℕ) (ids : List (List ℕ)) → IfSome state ReadsSound → IfSome state (HoldsFailing covers ids) → IfSome state (λ s. SaidOfFirst failing_after s.disk.published covers ids)
+held_is_said None covers ids sound holds = tt
+held_is_said (Some s) covers ids sound holds = sound.failing holds.bytes covers ids holds.file holds.form
+
+-- ---- how many calls it takes
+
+asked_less : (runs : List Run) (a b : ℕ) → a ≤ b → asked_for_each (drop b runs) ≤ asked_for_each (drop a runs)
+asked_less [] zero zero less = omega arith
+asked_less [] zero (suc b) less = omega arith
+asked_less [] (suc a) zero less = omega arith
+asked_less [] (suc a) (suc b) less = omega arith
+asked_less (run ∷ runs) zero zero less = omega arith
+asked_less (run ∷ runs) zero (suc b) less = omega (arith, asked_less runs zero b (omega arith), drop_zero runs)
+  where
+    drop_zero : (runs : List Run) → asked_for_each (drop 0 runs) ≡ asked_for_each runs
+    drop_zero runs = refl
+asked_less (run ∷ runs) (suc a) zero less = absurd (omega (arith, less))
+asked_less (run ∷ runs) (suc a) (suc b) less = asked_less runs a b (omega (arith, less))
+
+-- the file was read, and no run
+pub cache_alone : (state : Option Folder) (start before now : ℕ) → now ≤ before + 2 → IfSome state (ReadsBehindCache start before now)
+cache_alone None start before now ticks = tt
+cache_alone (Some s) start before now ticks = λ runs shows. omega (arith, ticks)
+
+-- and the runs from this number on
+pub cache_and_runs : (state : Option Folder) (start less before middle now : ℕ) → less ≤ start → middle ≤ before + 2 → IfSome state (ReadsFrom start middle now) → IfSome state (ReadsBehindCache less before now)
+cache_and_runs None start less before middle now most ticks reads = tt
+cache_and_runs (Some s) start less before middle now most ticks reads = λ runs shows. omega (arith, ticks, reads runs shows, asked_less runs less start most)
+
+-- whether a cache saves reads
+pub spares_by : (kinds : List Bool) (covers first start : ℕ) → covers ≤ length kinds → IsStart kinds first → start ≡ first → (IsTrue (nat_lt start covers) → Spares kinds covers) × (Spares kinds covers → IsTrue (nat_lt start covers))
+spares_by kinds covers first start few begins is = (
+  λ less. record {
+    few = few;
+    behind = λ other also. (let same : other ≡ first = one_start kinds other first also begins in omega (arith, same, is, ltb-true start covers less));
+  },
+  λ spares. lt-ltb start covers (omega (arith, is, spares.behind first begins)),
+)
+
+-- a cache that saves none
+pub spares_none : (kinds : List Bool) (covers start : ℕ) → (Spares kinds covers → ⊥) → covers ≤ length kinds → IsStart kinds start → covers ≤ start
+spares_none kinds covers start none few begins = elim (cases_lt start covers) [
+  | inl less ↦ absurd (none (record { few = few; behind = λ other also. (let same : other ≡ start = one_start kinds other start also begins in omega (arith, same, less)) }))
+  | inr most ↦ most
+]
+
+-- the reads where the cache is not used, or lacks
+module _ (kinds : List Bool) (before middle now : ℕ) (ticks : middle ≤ before + 2) where
+  pub reads_without : (state : Option Folder) → IfSome state (λ s. (start : ℕ) → IsStart kinds start → ReadsFrom start middle now s) → IfSome state (λ s. (start : ℕ) → IsStart kinds start → ReadsBehindCache start before now s)
+  reads_without None reads = tt
+  reads_without (Some s) reads = λ start begins. cache_and_runs (Some s) start start before middle now (omega arith) ticks (reads start begins)
+
+  pub lacks_cache : (state : Option Folder) → IfSome state HoldsNoFailing → IfSome state (λ s. (covers : ℕ) (ids : List (List ℕ)) → HoldsFailing covers ids s → ReadsBehindCache covers before now s)
+  lacks_cache None none = tt
+  lacks_cache (Some s) none = λ covers ids holds. absurd (none covers ids holds)
+
+-- there is one cache in a file
+module _ (covers : ℕ) (ids : List (List ℕ)) (s : Folder) (holds : HoldsFailing covers ids s) where
+  one_cache : (also : ℕ) (others : List (List ℕ)) → HoldsFailing also others s → also ≡ covers
+  one_cache also others other =
+      let same : other.bytes ≡ holds.bytes = some_bytes other.bytes holds.bytes (sym other.file ∙ holds.file) in
+      (one_failing holds.bytes covers also ids others holds.form (subst (λ (l : List ℕ). IsFailingCache l also others) same other.form)).0
+
+-- the reads where the cache is used
+module _ (state : Option Folder) (covers : ℕ) (ids : List (List ℕ)) (before middle now : ℕ) (holds : IfSome state (HoldsFailing covers ids)) (ticks : middle ≤ before + 2) where
+  pub with_cache : IfSome state (ReadsFrom covers middle now) → IfSome state (λ s. (also : ℕ) (others : List (List ℕ)) → HoldsFailing also others s → ReadsBehindCache also before now s)
+  with_cache reads = there state holds reads
+    where
+      there : (state : Option Folder) → IfSome state (HoldsFailing covers ids) → IfSome state (ReadsFrom covers middle now) → IfSome state (λ s. (also : ℕ) (others : List (List ℕ)) → HoldsFailing also others s → ReadsBehindCache also before now s)
+      there None h r = tt
+      there (Some s) h r = λ also others other.
+          let same : also ≡ covers = one_cache covers ids s h also others other in
+          cache_and_runs (Some s) covers also before middle now (omega (arith, same)) ticks r
+
+  pub with_cache_start : (kinds : List Bool) → Spares kinds covers → IfSome state (ReadsFrom covers middle now) → IfSome state (λ s. (start : ℕ) → IsStart kinds start → ReadsBehindCache start before now s)
+  with_cache_start kinds spares reads = there state reads
+    where
+      there : (state : Option Folder) → IfSome state (ReadsFrom covers middle now) → IfSome state (λ s. (start : ℕ) → IsStart kinds start → ReadsBehindCache start before now s)
+      there None r = tt
+      there (Some s) r = λ start begins. cache_and_runs (Some s) covers start before middle now (omega (arith, spares.behind start begins)) ticks r
+
+  -- or is not used, since a later run is full
+  pub unused_cache : (kinds : List Bool) (first : ℕ) → IsStart kinds first → IfSome state (FitsFolder kinds) → IfSome state ReadsSound → (Spares kinds covers → ⊥)
+      → IfSome state (λ s. (start : ℕ) → IsStart kinds start → ReadsFrom start middle now s) → IfSome state (λ s. (also : ℕ) (others : List (List ℕ)) → HoldsFailing also others s → ReadsBehindCache also before now s)
+  unused_cache kinds first begins fits sound none reads = there state holds fits sound reads
+    where
+      there : (state : Option Folder) → IfSome state (HoldsFailing covers ids) → IfSome state (FitsFolder kinds) → IfSome state ReadsSound → IfSome state (λ s. (start : ℕ) → IsStart kinds start → ReadsFrom start middle now s)
+          → IfSome state (λ s. (also : ℕ) (others : List (List ℕ)) → HoldsFailing also others s → ReadsBehindCache also before now s)
+      there None h f d r = tt
+      there (Some s) h f d r = λ also others other.
+          let same : also ≡ covers = one_cache covers ids s h also others other in
+          let few : covers ≤ length kinds = first_few failing_after s kinds f covers ids (d.failing h.bytes covers ids h.file h.form) in
+          cache_and_runs (Some s) first also before middle now (omega (arith, same, spares_none kinds covers first none few begins)) ticks (r first begins)
+
+-- each list of kinds has a run from which on is read
+StartUpTo : List Bool → ℕ → Type 0
+StartUpTo kinds n = ((other : ℕ) → n ≤ other → slice_get kinds other ≡ Some false → ⊥) → (start : ℕ) × IsStart kinds start
+
+start_before : (kinds : List Bool) (n : ℕ) (o : Option Bool) → slice_get kinds n ≡ o → StartUpTo kinds n → StartUpTo kinds (suc n)
+unfolding StartUpTo
+start_before kinds n (Some false) is before none = (n, record { full = inr is; last = λ other less full. none other (omega (arith, less)) full })
+start_before kinds n (Some true) is before none = before (λ other most full. elim (cases_lt n other) [
+  | inl less ↦ none other (omega (arith, less)) full
+  | inr least ↦ absurd (let there : slice_get kinds n ≡ Some false = subst (λ (m : ℕ). slice_get kinds m ≡ Some false) (omega (arith, most, least)) full in cc)
+])
+start_before kinds n None is before none = before (λ other most full. elim (cases_lt n other) [
+  | inl less ↦ none other (omega (arith, less)) full
+  | inr least ↦ absurd (let there : slice_get kinds n ≡ Some false = subst (λ (m : ℕ). slice_get kinds m ≡ Some false) (omega (arith, most, least)) full in cc)
+])
+
+start_up_to : (kinds : List Bool) (n : ℕ) → StartUpTo kinds n
+unfolding StartUpTo
+start_up_to kinds zero none = (0, record { full = inl refl; last = λ other less full. none other (omega arith) full })
+start_up_to kinds (suc n) none = start_before kinds n (slice_get kinds n) refl (start_up_to kinds n) none
+
+pub some_start : (kinds : List Bool) → (start : ℕ) × IsStart kinds start
+unfolding StartUpTo
+some_start kinds = start_up_to kinds (length kinds) (λ other past full. none_is_not_some (slice_get kinds other) (past_items kinds other past) (subst IsSome (sym full) refl))
+
+-- ---- the same of the times
+
+pub holds_no_times : (state : Option Folder) (found : Option (List ℕ)) (bytes : List ℕ) → found ≡ Some bytes → IfSome state (HoldsSide Times found) → ((covers : ℕ) (times : FinMap text_cmp ℕ) → IsTimesCache bytes covers times → ⊥)
+    → IfSome state HoldsNoTimes
+holds_no_times None found bytes is holds none = tt
+holds_no_times (Some s) found bytes is holds none = λ covers times cache.
+    let same : cache.bytes ≡ bytes = some_bytes cache.bytes bytes (sym cache.file ∙ sym holds ∙ is) in
+    none covers times (subst (λ (l : List ℕ). IsTimesCache l covers times) same cache.form)
+
+pub held_times_said : (state : Option Folder) (covers : ℕ) (times : FinMap text_cmp ℕ) → IfSome state ReadsSound → IfSome state (HoldsTimes covers times) → IfSome state (λ s. SaidOfFirst times_after s.disk.published covers times)
+held_times_said None covers times sound holds = tt
+held_times_said (Some s) covers times sound holds = sound.times holds.bytes covers times holds.file holds.form
+
+one_times_cache : (covers also : ℕ) (times others : FinMap text_cmp ℕ) (s : Folder) → HoldsTimes covers times s → HoldsTimes also others s → also ≡ covers
+one_times_cache covers also times others s holds other =
+    let same : other.bytes ≡ holds.bytes = some_bytes other.bytes holds.bytes (sym other.file ∙ holds.file) in
+    (one_times holds.bytes covers also times others holds.form (subst (λ (l : List ℕ). IsTimesCache l also others) same other.form)).0
+
+module _ (before middle now : ℕ) (ticks : middle ≤ before + 2) where
+  pub lacks_times : (state : Option Folder) → IfSome state HoldsNoTimes → IfSome state (λ s. (covers : ℕ) (times : FinMap text_cmp ℕ) → HoldsTimes covers times s → ReadsBehindCache covers before now s)
+  lacks_times None none = tt
+  lacks_times (Some s) none = λ covers times holds. absurd (none covers times holds)
+
+  pub with_times : (state : Option Folder) (covers : ℕ) (times : FinMap text_cmp ℕ) → IfSome state (HoldsTimes covers times) → IfSome state (ReadsFrom covers middle now)
+      → IfSome state (λ s. (also : ℕ) (others : FinMap text_cmp ℕ) → HoldsTimes also others s → ReadsBehindCache also before now s)
+  with_times None covers times holds reads = tt
+  with_times (Some s) covers times holds reads = λ also others other.
+      let same : also ≡ covers = one_times_cache covers also times others s holds other in
+      cache_and_runs (Some s) covers also before middle now (omega (arith, same)) ticks reads
+
+  -- a sound folder has no cache of more runs than there are
+  pub too_many_times : (state : Option Folder) (kinds : List Bool) (covers : ℕ) (times : FinMap text_cmp ℕ) → IfSome state (FitsFolder kinds) → IfSome state ReadsSound → IfSome state (HoldsTimes covers times) → (covers ≤ length kinds → ⊥)
+      → IfSome state (λ s. (also : ℕ) (others : FinMap text_cmp ℕ) → HoldsTimes also others s → ReadsBehindCache also before now s)
+  too_many_times None kinds covers times fits sound holds more = tt
+  too_many_times (Some s) kinds covers times fits sound holds more = absurd (more (first_few times_after s kinds fits covers times (sound.times holds.bytes covers times holds.file holds.form)))

@@ -1,0 +1,17 @@
+use Rattle.std.proofs.Common.{◌≡◌, false, IfSome}
+use Rattle.run_shelf.specs.Stores.{seen_store, Reads}
+use Rattle.run_shelf.proofs.ReadingLemmas.{StaysOpen}
+use Rattle.run_ledger.specs.Caches.{SaidOfFirst}
+use Rattle.run_ledger.specs.Costs.{ReadsTo}
+use Rattle.run_ledger.specs.Ledger.{failing_after}
+use Rattle.run_ledger.proofs.LedgerLemmas.{SaysTo}
+use Rattle.run_ledger.proofs.cached_failing.go_on.Given as goal
+
+-- Where the cache holds what its runs say, the ids are the failing set of the runs so far; each later one was read once, and the store is as it was
+abbrev pub invariant-loop-number : goal.invariant-loop-number
+invariant-loop-number g l = record {
+  ids : IfSome (g.H.Shelf.seen l.fn.store.shelf.now).told (λ s. SaidOfFirst failing_after s.disk.published l.fn.cache.covers l.fn.cache.ids) → IfSome (g.H.Shelf.seen l.fn.store.shelf.now).told (SaysTo failing_after l.number l.failed);
+  same_reference : l.store.shelf.ghost_name ≡ l.fn.store.shelf.ghost_name;
+  reads : Reads (seen_store l.fn.store (g.H.Shelf.seen l.fn.store.shelf.now)) (seen_store l.store (g.H.Shelf.seen l.store.shelf.now)) StaysOpen false;
+  time : IfSome (g.H.Shelf.seen l.fn.store.shelf.now).told (ReadsTo l.fn.cache.covers l.number (g.H.Shelf.clock l.fn.store.shelf.now) (g.H.Shelf.clock l.store.shelf.now));
+}

@@ -1,0 +1,46 @@
+-- What is told with the help of a cache.
+use Rattle.std.specs.Prelude.{◌≡◌, ℕ, ◌<◌, ◌≤◌, Bool, Some, List, length}
+use Rattle.std.specs.FinMap.{FinMap}
+use Rattle.edge_io.specs.Disk.{Folder}
+use Rattle.outcome_fold.specs.Order.{text_cmp}
+use Rattle.run_shelf.specs.declared.faults.SideFault.{SideFault}
+use Rattle.run_shelf.specs.declared.faults.SideFault.TheVariants as side_fault
+use Rattle.run_shelf.specs.declared.side.Side.TheVariants.{Failing, Times}
+use Rattle.run_shelf.specs.Sides.{side_name}
+use Rattle.run_ledger.specs.declared.fault.LedgerFault.{LedgerFault}
+use Rattle.run_ledger.specs.declared.fault.LedgerFault.TheVariants.{Store, NoMemory}
+use Rattle.run_ledger.specs.Caches.{IsFailingCache, IsTimesCache, IsSound}
+use Rattle.run_ledger.specs.Starts.{IsStart}
+
+abbrev pub ledger_fault : SideFault → LedgerFault
+ledger_fault (side_fault.Store fault) = Store fault
+ledger_fault side_fault.NoMemory = NoMemory
+
+-- the files, as they are read now, are sound
+abbrev pub ReadsSound : Folder → Type 0
+ReadsSound s = IsSound s.disk.published
+
+-- the file of the cache holds this one
+pub record HoldsFailing (covers : ℕ) (ids : List (List ℕ)) (s : Folder) : Type 0 where
+  pub bytes : List ℕ
+  pub file : s.disk.published (side_name Failing) ≡ Some bytes
+  pub form : IsFailingCache bytes covers ids
+
+-- the file of the cache holds none, or is not there
+abbrev pub HoldsNoFailing : Folder → Type 0
+HoldsNoFailing s = (covers : ℕ) (ids : List (List ℕ)) → HoldsFailing covers ids s → ⊥
+
+-- A cache of so many runs covers no more than there are, and the run from which on is read without it.
+pub record Spares (kinds : List Bool) (covers : ℕ) : Type 0 where
+  pub few : covers ≤ length kinds
+  pub behind : (start : ℕ) → IsStart kinds start → start < covers
+
+-- the file of the cache holds these times
+pub record HoldsTimes (covers : ℕ) (times : FinMap text_cmp ℕ) (s : Folder) : Type 0 where
+  pub bytes : List ℕ
+  pub file : s.disk.published (side_name Times) ≡ Some bytes
+  pub form : IsTimesCache bytes covers times
+
+-- the file of the cache holds none, or is not there
+abbrev pub HoldsNoTimes : Folder → Type 0
+HoldsNoTimes s = (covers : ℕ) (times : FinMap text_cmp ℕ) → HoldsTimes covers times s → ⊥

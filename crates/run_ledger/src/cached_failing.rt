@@ -1,0 +1,104 @@
+//! The failing set of the runs of a store, told with the help of its cache.
+
+ghost use Rattle.std.specs.Prelude.{◌≡◌, ◌≤◌, ◌<◌, ◌↔◌, None, ℕ, List, length, IsTrue, IfSome, IfNone, IfOk};
+ghost use Rattle.std.specs.List.Sorted.{IsStrictlySortedBy};
+ghost use Rattle.outcome_fold.specs.Order.{text_cmp};
+ghost use Rattle.run_shelf.specs.Outcomes.{TicksUpTo};
+ghost use Rattle.run_shelf.specs.Stores.{store_kinds, store_fault, FitsUnlessBroken, seen_store};
+ghost use Rattle.run_ledger.specs.Cached.{ReadsSound, HoldsFailing, HoldsNoFailing, Spares};
+ghost use Rattle.run_ledger.specs.Caches.{SaidOfFirst};
+ghost use Rattle.run_ledger.specs.Costs.{ReadsFrom, ReadsBehindCache};
+ghost use Rattle.run_ledger.specs.Ledger.{failing_after, IsFailingSet};
+ghost use Rattle.run_ledger.specs.Outcomes.{LedgerReads};
+ghost use Rattle.run_ledger.specs.Starts.{IsStart};
+
+use crate::failing_cache::{FailingCache, read_failing_cache};
+use crate::failing_set::{failing, first_to_read};
+use crate::fault::LedgerFault;
+use crate::rows::rows_of;
+use crate::taking::take_run;
+use edge_io::Shelf;
+use outcome_fold::TextSet;
+use run_shelf::{Side, Store};
+use std::alloc::Global;
+use sub_number::IdList;
+
+/// The ids of the failing set, as `failing` tells them, in a folder that is sound: each cache of its form in it covers at
+/// most the runs that there are and holds what these say. A cache is taken for what the runs say that it covers, and the
+/// later ones are read and folded on, each once. Without a cache, where it covers more runs than there are, and where the
+/// last full run is one that it does not cover, it reads as `failing` does. Nothing changes in the folder.
+///
+/// `Store` comes only where a call of the folder failed, and where one had failed before, which comes first. `NoMemory`
+/// comes for want of memory, or of a run without an end in a folder that tells nothing, and leaves the store open.
+pub fn failing_by_cache<H: Shelf>(
+    alloc: Global,
+    store: &mut Store<'_, H>,
+) -> Result<IdList, LedgerFault>
+    requires fits { FitsUnlessBroken (store_kinds store.old) (store_fault store.old) (H.seen store.old.shelf.now).told }
+    ensures same_reference { store.new.shelf.ghost_name ≡ store.old.shelf.ghost_name }
+    ensures ids { IfSome (H.seen store.old.shelf.now).told ReadsSound → IfOk result (λ ids. IfSome (H.seen store.old.shelf.now).told (IsFailingSet ids)) }
+    ensures reads { LedgerReads (seen_store store.old (H.seen store.old.shelf.now)) (seen_store store.new (H.seen store.new.shelf.now)) result }
+    ensures spares { IfSome (H.seen store.old.shelf.now).told ReadsSound → IfSome (H.seen store.old.shelf.now).told (λ s. (covers : ℕ) (ids : List (List ℕ)) → HoldsFailing covers ids s → ReadsBehindCache covers (H.clock store.old.shelf.now) (H.clock store.new.shelf.now) s) }
+    ensures time { IfSome (H.seen store.old.shelf.now).told (λ s. (start : ℕ) → IsStart (store_kinds store.old) start → ReadsBehindCache start (H.clock store.old.shelf.now) (H.clock store.new.shelf.now) s) }
+{
+    if let Some(cache) = read_cache(alloc, store)? {
+        if spares(store, cache.covers) {
+            return go_on(alloc, store, cache);
+        }
+    }
+    failing(alloc, store)
+}
+
+// What the file of the cache holds.
+fn read_cache<H: Shelf>(
+    alloc: Global,
+    store: &mut Store<'_, H>,
+) -> Result<Option<FailingCache>, LedgerFault>
+    requires fits { FitsUnlessBroken (store_kinds store.old) (store_fault store.old) (H.seen store.old.shelf.now).told }
+    ensures same_reference { store.new.shelf.ghost_name ≡ store.old.shelf.ghost_name }
+    ensures some { IfOk result (λ found. IfSome found (λ cache. IfSome (H.seen store.old.shelf.now).told (HoldsFailing cache.covers cache.ids))) }
+    ensures ordered { IfOk result (λ found. IfSome found (λ cache. IsStrictlySortedBy text_cmp cache.ids)) }
+    ensures none { IfOk result (λ found. IfNone found (IfSome (H.seen store.old.shelf.now).told HoldsNoFailing)) }
+    ensures reads { LedgerReads (seen_store store.old (H.seen store.old.shelf.now)) (seen_store store.new (H.seen store.new.shelf.now)) result }
+    ensures time { TicksUpTo 2 (H.clock store.old.shelf.now) (H.clock store.new.shelf.now) }
+{
+    let Some(bytes) = store.side(alloc, Side::Failing)? else {
+        return Ok(None);
+    };
+    Ok(read_failing_cache(alloc, bytes.bytes())?)
+}
+
+// Whether a cache that covers so many runs covers no more than there are, and saves reads.
+fn spares<H: Shelf>(store: &Store<'_, H>, covers: u64) -> bool
+    ensures { IsTrue result ↔ Spares (store_kinds store.now) covers }
+{
+    covers <= u64::from(store.runs()) && u64::from(first_to_read(store)) < covers
+}
+
+// Folds the runs on that the cache does not cover.
+fn go_on<H: Shelf>(
+    alloc: Global,
+    store: &mut Store<'_, H>,
+    cache: FailingCache,
+) -> Result<IdList, LedgerFault>
+    requires fits { FitsUnlessBroken (store_kinds store.old) (store_fault store.old) (H.seen store.old.shelf.now).told }
+    requires open { store_fault store.old ≡ None }
+    requires few { cache.covers ≤ length (store_kinds store.old) }
+    requires ordered { IsStrictlySortedBy text_cmp cache.ids }
+    ensures same_reference { store.new.shelf.ghost_name ≡ store.old.shelf.ghost_name }
+    ensures ids { IfSome (H.seen store.old.shelf.now).told (λ s. SaidOfFirst failing_after s.disk.published cache.covers cache.ids) → IfOk result (λ ids. IfSome (H.seen store.old.shelf.now).told (IsFailingSet ids)) }
+    ensures reads { LedgerReads (seen_store store.old (H.seen store.old.shelf.now)) (seen_store store.new (H.seen store.new.shelf.now)) result }
+    ensures time { IfSome (H.seen store.old.shelf.now).told (ReadsFrom cache.covers (H.clock store.old.shelf.now) (H.clock store.new.shelf.now)) }
+{
+    let FailingCache { covers, ids } = cache;
+    if covers == u64::from(store.runs()) {
+        return Ok(ids);
+    }
+    let mut failed = TextSet::new(alloc);
+    failed.insert_all(ids.list())?;
+    for number in covers as u32..store.runs() {
+        let rows = rows_of(alloc, store, number)?;
+        take_run(alloc, &mut failed, store.partial(number), &rows)?;
+    }
+    Ok(failed.into_ids(alloc)?)
+}

@@ -1,0 +1,154 @@
+//! Caches of the failing set: which bytes are one, and what is told with their help.
+
+use super::*;
+use edge_io::{Failed, MemShelf, Shelf};
+use packet_codec::{Event, Status, encode, fits};
+use run_shelf::{Side, Store};
+use std::alloc::Global;
+use std::test::Fail;
+use sub_number::{IdList, Text};
+
+// Keeps a file over any stop.
+fn keep<H: Shelf>(shelf: &mut H, name: &str, bytes: &[u8]) -> Result<(), Failed> {
+    shelf.sync_folder()?;
+    shelf.start_draft()?;
+    shelf.append(bytes)?;
+    shelf.sync_draft()?;
+    shelf.publish(name)?;
+    shelf.sync_folder()
+}
+
+// How many runs the bytes cover, and how many ids they have, where they are a cache.
+fn held(alloc: Global, bytes: &[u8]) -> Result<Option<(u64, usize)>, Fail> {
+    match read_failing_cache(alloc, bytes)? {
+        Some(cache) => Ok(Some((cache.covers, cache.ids.list().len()))),
+        None => Ok(None),
+    }
+}
+
+#[test]
+fn a_cache_is_read_by_its_form_alone(rt: HostRuntime) -> Result<(), Fail> {
+    let alloc = rt.alloc();
+    for (bytes, found) in [
+        (b"subunit-failing 1\n2\nb\0c\0".as_slice(), Some((2, 2))),
+        (b"subunit-failing 1\n0\n".as_slice(), Some((0, 0))),
+        (b"subunit-failing 1\n7\n\0a\0aa\0".as_slice(), Some((7, 3))),
+        (
+            b"subunit-failing 1\n18446744073709551615\n".as_slice(),
+            Some((u64::MAX, 0)),
+        ),
+        (
+            b"subunit-failing 1\n18446744073709551616\n".as_slice(),
+            None,
+        ),
+        (b"".as_slice(), None),
+        (b"x".as_slice(), None),
+        (b"subunit-failing 1\n".as_slice(), None),
+        (b"subunit-failing 1\n2".as_slice(), None),
+        (b"subunit-failing 1\n\nb\0".as_slice(), None),
+        (b"subunit-failing 1\n02\nb\0".as_slice(), None),
+        (b"subunit-failing 1\n+2\nb\0".as_slice(), None),
+        (b"subunit-failing 1\n2\nb\0b\0".as_slice(), None),
+        (b"subunit-failing 1\n2\nc\0b\0".as_slice(), None),
+        (b"subunit-failing 1\n2\nb\0c".as_slice(), None),
+        (b"subunit-failing 1\n2\nb\0\xff\0".as_slice(), None),
+        (b"subunit-failing 2\n2\nb\0c\0".as_slice(), None),
+        (b"subunit-times 1\n2\nb\0c\0".as_slice(), None),
+    ] {
+        assert_eq!(rt; held(alloc, bytes)?, found);
+    }
+    Ok(())
+}
+
+#[test]
+fn a_cache_is_written_by_its_form(rt: HostRuntime) -> Result<(), Fail> {
+    let alloc = rt.alloc();
+    let mut ids = IdList::new(alloc);
+    for id in [b"b", b"c"] {
+        let Ok(text) = Text::new(alloc, id) else {
+            return Err(LedgerFault::NoMemory.into());
+        };
+        ids.push(text).map_err(|_| LedgerFault::NoMemory)?;
+    }
+    let bytes = write_failing_cache(alloc, 2, &ids)?;
+    assert_eq!(rt; bytes.bytes(), b"subunit-failing 1\n2\nb\0c\0".as_slice());
+    Ok(())
+}
+
+// Appends the packet of an event of the test.
+fn says(alloc: Global, run: &mut Vec<u8>, id: u8, status: Status) -> Option<()> {
+    let event = Event {
+        stamp: None,
+        id: Some(Text::new(alloc, &[id]).ok()?),
+        tags: None,
+        runnable: true,
+        status,
+        mime: None,
+        file: None,
+        eof: false,
+        route: None,
+    };
+    if !fits(&event) {
+        return None;
+    }
+    encode(&event, run).ok()
+}
+
+// A run in which two tests end so.
+fn ended(alloc: Global, a: u8, first: Status, b: u8, second: Status) -> Option<Vec<u8>> {
+    let mut run = Vec::new(alloc);
+    says(alloc, &mut run, a, first)?;
+    says(alloc, &mut run, b, second)?;
+    Some(run)
+}
+
+// A repository in which a and b fail in a full run, and then a passes and c fails in a partial one.
+fn two_runs(alloc: Global) -> Result<Option<MemShelf>, Fail> {
+    let Some(first) = ended(alloc, b'b', Status::Fail, b'a', Status::Fail) else {
+        return Ok(None);
+    };
+    let Some(second) = ended(alloc, b'a', Status::Success, b'c', Status::Fail) else {
+        return Ok(None);
+    };
+    let mut shelf = MemShelf::new(alloc, Vec::new(alloc));
+    keep(&mut shelf, "format", b"subunit-store 1\n")?;
+    keep(&mut shelf, "0", &first)?;
+    keep(&mut shelf, "1.part", &second)?;
+    Ok(Some(shelf))
+}
+
+// Whether these ids of one byte each are told where the file of the cache has these bytes.
+fn fails<H: Shelf>(alloc: Global, shelf: &mut H, cache: &[u8], names: &[u8]) -> Result<bool, Fail> {
+    let mut store = Store::open(alloc, shelf)?;
+    store.put_side(Side::Failing, cache)?;
+    let ids = failing_by_cache(alloc, &mut store)?;
+    let texts = ids.list();
+    Ok(
+        texts.len() == names.len()
+            && texts
+                .iter()
+                .zip(names.iter())
+                .all(|(text, name)| text.bytes() == [*name].as_slice()),
+    )
+}
+
+#[test]
+fn a_cache_is_taken_for_the_runs_that_it_covers(rt: HostRuntime) -> Result<(), Fail> {
+    let alloc = rt.alloc();
+    for (cache, names) in [
+        (b"x".as_slice(), b"bc".as_slice()),
+        (b"subunit-failing 1\n0\n".as_slice(), b"bc".as_slice()),
+        (b"subunit-failing 1\n1\na\0b\0".as_slice(), b"bc".as_slice()),
+        (b"subunit-failing 1\n1\na\0z\0".as_slice(), b"cz".as_slice()),
+        (b"subunit-failing 1\n2\nb\0c\0".as_slice(), b"bc".as_slice()),
+        (b"subunit-failing 1\n2\nz\0".as_slice(), b"z".as_slice()),
+        (b"subunit-failing 1\n02\nz\0".as_slice(), b"bc".as_slice()),
+        (b"subunit-failing 1\n3\nz\0".as_slice(), b"bc".as_slice()),
+    ] {
+        let Some(mut shelf) = two_runs(alloc)? else {
+            return Err(LedgerFault::NoMemory.into());
+        };
+        assert!(rt; fails(alloc, &mut shelf, cache, names)?);
+    }
+    Ok(())
+}
