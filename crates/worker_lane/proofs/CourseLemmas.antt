@@ -21,7 +21,7 @@ use Rattle.worker_lane.specs.Waiting.{IsShortNote}
 use Rattle.worker_lane.specs.Scribing.{Scribing, holding, TakesNote, IsAsBefore, GivesEvent, GivesPacket, HasNone}
 use Rattle.worker_lane.specs.Endings.{ending_of, ending_events, IsPacketOf}
 use Rattle.edge_io.specs.Children.{Output}
-use Rattle.worker_lane.specs.Rest.{Coursing, lots_of, events_left, lots, IsEventOf, IsSoundScribe, IsAtStage, IsMarked}
+use Rattle.worker_lane.specs.Rest.{AppendsNext, Coursing, lots_of, events_left, lots, IsEventOf, IsSoundScribe, IsAtStage, IsMarked}
 use Rattle.worker_lane.specs.declared.lot.Ending.{Ending}
 use Rattle.worker_lane.specs.declared.lot.Lot.TheVariants.{Packet, End}
 use Rattle.worker_lane.specs.declared.stage.Stage.{Stage}
@@ -130,6 +130,12 @@ module _ {E : Type 0} where
   next_under (Ok None) before after s gives = tt
   next_under (Err refused) before after s gives = tt
 
+-- a packet was appended, or not
+pub into_stays : {E : Type 0} (result : Result Bool E) (before after : Scribing) (old new : List ℕ) → IfOk result (λ given. given ≡ true → GivesPacket before old after new) → IfOk result (λ given. given ≡ false → HasNone before × (after ≡ before) × (new ≡ old)) → OnErr result ((after ≡ before) × (new ≡ old)) → StaysSound before after
+into_stays (Ok true) before after old new gives without refused = let g = gives refl in stays_given before after g.event g.given
+into_stays (Ok false) before after old new gives without refused = stays_as_before before after (inl (without refl).1)
+into_stays (Err e) before after old new gives without refused = stays_as_before before after (inl refused.0)
+
 -- ---- the lots
 
 packet_first : (lane other : ℕ) (event : Event) (events : List Event) (packet : List ℕ) (how : Ending) → other ≡ lane → packet ≡ canonical event → lots_of lane (event ∷ events) how ≡ Packet packet ∷ lots_of other events how
@@ -163,6 +169,24 @@ module _ {E : Type 0} where
   next_none (Ok (Some packet)) before after stage failed going_on without = tt
   next_none (Ok None) before after stage failed going_on without = (ap (λ (s : Scribing). record { scribe = s; stage = stage; failed = failed }) without.1, few_held before going_on without.0)
   next_none (Err refused) before after stage failed going_on without = tt
+
+-- a packet was appended, while the child is read
+pub into_appends : (given : Bool) (before after : Scribing) (stage : Stage) (failed : Bool) (old new : List ℕ) → stage ≡ Reading → IsSoundScribe before → before.held.ended ≡ false → (given ≡ true → GivesPacket before old after new)
+    → given ≡ true → AppendsNext (record { scribe = before; stage = stage; failed = failed }) old (record { scribe = after; stage = stage; failed = failed }) new
+into_appends given before after stage failed old new is s going_on gives so =
+    let g : GivesPacket before old after new = gives so in
+    let alone : GivesPacket before [] after (canonical g.event) = record { event = g.event; given = g.given; new_is = refl } in
+    record {
+      packet = canonical g.event;
+      appended = g.new_is;
+      under = rw (given_lane before after g.event g.given) at (packet_of after.lane g.event (canonical g.event) (sound_given before after g.event g.given s).first refl);
+      left = rw is (λ output are. given_lots before after (canonical g.event) output.bytes (ending_of output.finish) alone s are (not_ended before.held.ended output.bytes going_on));
+    }
+
+-- nothing has changed
+pub into_none : (given : Bool) (before after : Scribing) (stage : Stage) (failed : Bool) (old new : List ℕ) → (given ≡ false → HasNone before × (after ≡ before) × (new ≡ old))
+    → given ≡ false → (◌≡◌ {A = Coursing} (record { scribe = after; stage = stage; failed = failed }) (record { scribe = before; stage = stage; failed = failed })) × (new ≡ old)
+into_none given before after stage failed old new without so = (ap (λ (s : Scribing). record { scribe = s; stage = stage; failed = failed }) (without so).1, (without so).2)
 
 pub feed_left : (before after : Scribing) (piece : List ℕ) (stage : Stage) (failed : Bool) → stage ≡ Reading → after ≡ holding before (before.held.bytes ++ piece) false
     → (more : List ℕ) (finish : Finish) → lots (record { scribe = before; stage = stage; failed = failed }) (record { bytes = piece ++ more; finish = finish }) ≡ lots (record { scribe = after; stage = stage; failed = failed }) (record { bytes = more; finish = finish })

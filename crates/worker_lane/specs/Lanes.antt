@@ -1,12 +1,14 @@
 -- What contracts see of a lane (docs/FORMATS.md, "What a lane gives").
-use Rattle.std.specs.Prelude.{◌≡◌, ◌⊎◌, ℕ, ◌≤◌, Bool, true, Option, List, length}
+use Rattle.std.specs.Prelude.{◌≡◌, ◌⊎◌, ℕ, ◌≤◌, Bool, true, Option, List, [], ◌∷◌, ◌++◌, length}
 use Rattle.std.specs.Option.{option_map}
 use Rattle.edge_io.specs.Causes.{Rose}
 use Rattle.edge_io.specs.Children.{Output}
 use Rattle.edge_io.specs.Seen.{Seen}
-use Rattle.worker_lane.specs.Rest.{Coursing, lots}
+use Rattle.worker_lane.specs.Endings.{IsPacketOf}
+use Rattle.worker_lane.specs.Rest.{Coursing, Gives, lots}
 use Rattle.worker_lane.specs.declared.lane.Lane.{Lane}
 use Rattle.worker_lane.specs.declared.lot.Lot.{Lot}
+use Rattle.worker_lane.specs.declared.lot.Lot.TheVariants.{Packet}
 use Rattle.worker_lane.specs.declared.stage.Stage.TheVariants.{Over}
 
 -- the lots that are left, where the child tells what it has left and how it finishes
@@ -44,6 +46,13 @@ module _ {C : Type 0} where
   -- it has given its end
   abbrev pub IsPast : Lane C → Type 0
   IsPast lane = lane.course.stage ≡ Over
+
+  -- the packet at the front of what is left was appended, and the others are left
+  pub record AppendsPacket (seen : C → Seen Output) (before : Lane C) (old : List ℕ) (after : Lane C) (new : List ℕ) : Type 0 where
+    pub packet : List ℕ
+    pub appended : new ≡ old ++ packet
+    pub under : IsPacketOf (lane_number before) packet
+    pub left : Gives (rest seen before) (Packet packet ∷ []) (rest seen after)
 
   abbrev pub KeepsLane : (seen : C → Seen Output) → Lane C → Lane C → Type 0
   KeepsLane seen before after = Keeps before.course after.course (seen before.child).faults (seen after.child).faults

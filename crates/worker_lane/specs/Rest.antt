@@ -12,7 +12,7 @@ use Rattle.stream_reader.specs.Notes.{HasNotes}
 use Rattle.stream_reader.proofs.ExistLemmas.{some_notes}
 use Rattle.worker_lane.specs.Recorded.{recorded_events}
 use Rattle.worker_lane.specs.Scribing.{Scribing}
-use Rattle.worker_lane.specs.Endings.{ending_of, ending_events}
+use Rattle.worker_lane.specs.Endings.{ending_of, ending_events, IsPacketOf}
 use Rattle.worker_lane.specs.declared.stage.Stage.{Stage}
 use Rattle.worker_lane.specs.declared.stage.Stage.TheVariants.{Reading, Closing, Last, Over}
 use Rattle.worker_lane.specs.declared.lot.Ending.{Ending}
@@ -59,6 +59,13 @@ lots course = lots_left course.scribe course.stage
 -- the course of a new lane
 abbrev pub new_course : (lane : ℕ) → Coursing
 new_course lane = record { scribe = record { lane = lane; waiting = []; held = record { bytes = []; ended = false } }; stage = Reading; failed = false }
+
+-- a packet of the lane stood at the front of what is left, and was appended
+pub record AppendsNext (before : Coursing) (old : List ℕ) (after : Coursing) (new : List ℕ) : Type 0 where
+  pub packet : List ℕ
+  pub appended : new ≡ old ++ packet
+  pub under : IsPacketOf before.scribe.lane packet
+  pub left : (output : Output) → AreBytes output.bytes → lots before output ≡ Packet packet ∷ lots after output
 
 -- where it is told: these were given, and the others are left
 abbrev pub Gives : {X : Type 0} → Option (List X) → List X → Option (List X) → Type 0

@@ -1,13 +1,13 @@
 //! What is kept of a lane beside its child.
 
-ghost use Rattle.std.specs.Prelude.{◌≡◌, ◌⊎◌, ◌<◌, ◌≤◌, ◌+◌, ◌++◌, ◌∷◌, ◌↔◌, IsTrue, ℕ, List, [], true, None, IfOk, OnErr, IfSome, IfNone, length};
+ghost use Rattle.std.specs.Prelude.{◌≡◌, ◌⊎◌, ◌<◌, ◌≤◌, ◌+◌, ◌++◌, ◌∷◌, ◌↔◌, IsTrue, ℕ, List, [], true, false, None, IfOk, OnErr, IfSome, IfNone, length};
 ghost use Rattle.std.specs.Option.{option_to_list};
 ghost use Rattle.packet_codec.specs.Grammar.{AreBytes};
 ghost use Rattle.edge_io.specs.declared.child.Finish.{Finish};
 ghost use Rattle.worker_lane.specs.Endings.{ending_of, IsPacketOf, IsLotOf};
 ghost use Rattle.edge_io.specs.Children.{Output};
 ghost use Rattle.stream_reader.specs.Room.{room, most_held};
-ghost use Rattle.worker_lane.specs.Rest.{lots, new_course, IsMarkedLot, IsEnd};
+ghost use Rattle.worker_lane.specs.Rest.{lots, new_course, AppendsNext, IsMarkedLot, IsEnd};
 ghost use Rattle.worker_lane.specs.Courses.{KeepsCourse, GoesOn, EndsCourse};
 ghost use Rattle.worker_lane.specs.declared.lot.Lot.TheVariants.{Packet};
 ghost use Rattle.worker_lane.specs.declared.lot.Ending.TheVariants.{Fault, NoMemory as without_memory};
@@ -76,6 +76,20 @@ impl Course {
         ensures none { IfOk result (λ answer. IfNone answer ((self.new ≡ self.old) × (length self.old.scribe.held.bytes ≤ most_held))) }
     {
         self.scribe.next()
+    }
+
+    /// Appends the next packet, while the child is read. False where more bytes are needed, or memory for it, and then
+    /// nothing has changed.
+    pub(crate) fn next_into(&mut self, out: &mut Vec<u8>) -> bool
+        requires { self.old.stage ≡ Reading }
+        ensures keeps { KeepsCourse self.old self.new }
+        ensures appends { result ≡ true → AppendsNext self.old out.old.items self.new out.new.items }
+        ensures none { result ≡ false → (self.new ≡ self.old) × (out.new.items ≡ out.old.items) }
+    {
+        let Ok(given) = self.scribe.next_into(out) else {
+            return false;
+        };
+        given
     }
 
     /// What a read of the child gave.

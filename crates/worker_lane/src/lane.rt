@@ -29,7 +29,7 @@ impl<C: Child> Lane<C> {
     ghost use Rattle.worker_lane.specs.Endings.{IsPacketOf, IsLotOf};
     ghost use Rattle.worker_lane.specs.Rest.{Gives, IsOver, lots_for, IsMarkedLot, IsEnd};
     ghost use Rattle.stream_reader.specs.Room.{room, most_held};
-    ghost use Rattle.worker_lane.specs.Lanes.{rest, lane_number, lane_failed, lane_faults, lane_held, IsPast, KeepsLane};
+    ghost use Rattle.worker_lane.specs.Lanes.{rest, lane_number, lane_failed, lane_faults, lane_held, IsPast, AppendsPacket, KeepsLane};
     ghost use Rattle.worker_lane.specs.declared.lot.Lot.TheVariants.{Packet, End};
     ghost use Rattle.worker_lane.specs.declared.lot.Ending.TheVariants.{Fault, NoMemory as without_memory};
     ghost use Rattle.worker_lane.specs.declared.stage.Stage.TheVariants.{Reading, Over};
@@ -89,6 +89,21 @@ impl<C: Child> Lane<C> {
                 Some(Lot::End(Ending::NoMemory))
             }
         }
+    }
+
+    /// Appends the packet of the lot that stands next, where what was read of the child decides it already: it was given
+    /// then, as by `step`. False where it does not, or there is no memory for it, and then nothing has changed. It never
+    /// waits for the child.
+    pub fn more_into(&mut self, out: &mut Vec<u8>) -> bool
+        ensures keeps { KeepsLane C.seen self.old self.new }
+        ensures more { result ≡ true → AppendsPacket C.seen self.old out.old.items self.new out.new.items }
+        ensures none { result ≡ false → (self.new ≡ self.old) × (out.new.items ≡ out.old.items) }
+        ensures past { IsPast self.new ↔ IsPast self.old }
+    {
+        if !self.course.is_reading() {
+            return false;
+        }
+        self.course.next_into(out)
     }
 
     /// Stops the child and waits for it.

@@ -314,6 +314,30 @@ fn a_lane_gives_its_packets_and_its_end(rt: HostRuntime) {
     }
 }
 
+// Of a lane whose child gives `foo` twice in one read: its first packet with what is appended to it, and how often that was.
+fn first_and_more(alloc: Global) -> Option<(Vec<u8>, [bool; 2])> {
+    let mut stream = Vec::new(alloc);
+    stream.extend_from_slice(FOO).ok()?;
+    stream.extend_from_slice(FOO).ok()?;
+    let child = PlanChild::new(Bytes::from_vec(stream), 100, Finish::Exit(0));
+    let mut lane = Lane::new(alloc, 0, child).ok()?;
+    let Some(Lot::Packet(first)) = lane.step() else {
+        return None;
+    };
+    let mut packets = first.into_vec();
+    let more = [lane.more_into(&mut packets), lane.more_into(&mut packets)];
+    Some((packets, more))
+}
+
+#[test]
+fn packets_of_one_read_are_appended_without_another(rt: HostRuntime) -> Result<(), Fail> {
+    let (packets, more) = first_and_more(rt.alloc()).ok_or("no packet")?;
+    assert_eq!(rt; more, [true, false]);
+    assert!(rt; packets.starts_with(FOO_UNDER_0) && packets.ends_with(FOO_UNDER_0));
+    assert_eq!(rt; packets.len(), 2 * FOO_UNDER_0.len());
+    Ok(())
+}
+
 #[test]
 fn a_fault_comes_behind_the_bytes(rt: HostRuntime) {
     let alloc = rt.alloc();
