@@ -1,19 +1,24 @@
 -- How a work goes on, lot by lot.
-use Rattle.std.proofs.Common.{◌≡◌, ℕ, List, [], ◌∷◌, ◌++◌, Bool, false, ◌⊎◌, ⊎_elim, refl, sym, ◌∙◌, ap, subst, append_assoc}
+use Rattle.std.proofs.Common.{◌≡◌, ℕ, List, [], ◌∷◌, ◌++◌, Bool, false, ◌⊎◌, ⊎_elim, inl, inr, refl, sym, ◌∙◌, ap, subst, append_assoc}
 use Rattle.std.specs.Prelude.{Option, None, Some, IfSome}
 use Rattle.std.specs.Option.{option_map, option_to_list}
-use Rattle.std.specs.List.{AllByRecursion}
+use Rattle.std.specs.List.{AllByRecursion, flat_map}
 use Rattle.std.proofs.lemmas.List.{append-nil}
+use Rattle.std.proofs.lemmas.List.Concat.{flat_map-append}
+use Rattle.packet_codec.specs.Canonical.{canonical}
+use Rattle.packet_codec.specs.Routing.{under}
 use Rattle.edge_io.specs.Children.{Output}
 use Rattle.edge_io.specs.Seen.{Seen}
-use Rattle.worker_lane.specs.Lanes.{rest, lane_number}
-use Rattle.worker_lane.specs.Rest.{Gives, IsOver}
+use Rattle.worker_lane.specs.Endings.{IsPacketOf}
+use Rattle.worker_lane.specs.Lanes.{rest, lane_number, AppendsPacket}
+use Rattle.worker_lane.specs.Rest.{Gives, IsEventOf, IsOver}
 use Rattle.worker_lane.specs.declared.lane.Lane.{Lane}
 use Rattle.worker_lane.specs.declared.lot.Ending.TheVariants.{NoMemory}
 use Rattle.worker_lane.specs.declared.lot.Lot.{Lot}
-use Rattle.worker_lane.specs.declared.lot.Lot.TheVariants.{End}
+use Rattle.worker_lane.specs.declared.lot.Lot.TheVariants.{Packet, End}
 use Rattle.worker_mux.specs.Passes.{number_of, lots_put, entry_of, IsPassFor}
-use Rattle.worker_mux.specs.Works.{AllWell, IsOwn, IsReady, given, left, whole, KeepsWork, IsPut, Drives, Settles, Pairs, IsEntryOf}
+use Rattle.worker_mux.specs.Callers.{packet_of}
+use Rattle.worker_mux.specs.Works.{AllWell, ArePacketsUnder, bytes_of, bytes_left, IsOwn, IsReady, given, left, whole, KeepsWork, IsPut, Drives, Settles, Pairs, IsEntryOf}
 use Rattle.worker_mux.specs.declared.belt.Belt.{Belt}
 use Rattle.worker_mux.specs.declared.knowledge.Settled.{Settled}
 use Rattle.worker_mux.specs.declared.pass.LanePass.{LanePass}
@@ -35,18 +40,58 @@ well_before : (xs : List Lot) (lot : Lot) (kept : Option Lot) → IfSome kept (�
 well_before xs lot None first all = subst AllWell (sym (append-nil xs)) (well_front xs (lot ∷ []) all)
 well_before xs lot (Some k) first all = subst (λ (l : Lot). AllWell (xs ++ l ∷ [])) (let same : lot ≡ k = cc in same) all
 
--- all lots, before and after one went on
-whole_step : (P PA KA KM : List Lot) (lot : Lot) (before R : Option (List Lot)) → before ≡ option_map (λ l. (lot ∷ []) ++ l) (option_map (λ l. KM ++ l) R) → KM ≡ []
-    → ((l : List Lot) → PA ++ (KA ++ l) ≡ P ++ (lot ∷ l)) → option_map (λ l. PA ++ l) (option_map (λ l. KA ++ l) R) ≡ option_map (λ l. P ++ l) before
-whole_step P PA KA KM lot before None is empty all = ap (option_map (λ l. P ++ l)) (sym is)
-whole_step P PA KA KM lot before (Some r) is empty all =
-    ap Some (all r) ∙ ap (λ (k : List Lot). Some (P ++ (lot ∷ (k ++ r)))) (sym empty) ∙ ap (option_map (λ l. P ++ l)) (sym is)
+-- ---- packets that are joined
+
+-- one packet is the first of those that are joined
+pub own_first : (lane : ℕ) (packet : List ℕ) → IsPacketOf lane packet → ArePacketsUnder lane packet
+own_first lane packet is = record {
+  events = under lane is.event ∷ [];
+  packets_are = is.packet_is ∙ sym (append-nil (canonical (under lane is.event)));
+  under = (record { inner = is.event; event_is = refl; is_event = is.is_event; fits = is.fits }, tt);
+}
+
+-- and one is joined to them
+pub own_more : (lane : ℕ) (old packet new : List ℕ) → ArePacketsUnder lane old → IsPacketOf lane packet → new ≡ old ++ packet → ArePacketsUnder lane new
+own_more lane old packet new own is appended = record {
+  events = own.events ++ under lane is.event ∷ [];
+  packets_are =
+      appended
+      ∙ (λ i. own.packets_are i ++ is.packet_is i)
+      ∙ ap (λ (l : List ℕ). flat_map canonical own.events ++ l) (sym (append-nil (canonical (under lane is.event))))
+      ∙ sym (flat_map-append canonical own.events (under lane is.event ∷ []));
+  under = all_more (IsEventOf lane) own.events (under lane is.event) own.under (record { inner = is.event; event_is = refl; is_event = is.is_event; fits = is.fits });
+}
+
+-- what is left is so much less
+gives_packet : (start : Option (List ℕ)) (old packet new : List ℕ) (before after : Option (List Lot)) → new ≡ old ++ packet → before ≡ option_map (λ l. (Packet packet ∷ []) ++ l) after
+    → start ≡ option_map (λ l. old ++ l) (option_map bytes_of before) → start ≡ option_map (λ l. new ++ l) (option_map bytes_of after)
+gives_packet start old packet new before None appended is so_far = so_far ∙ ap (λ (o : Option (List Lot)). option_map (λ l. old ++ l) (option_map bytes_of o)) is
+gives_packet start old packet new before (Some r) appended is so_far =
+    so_far
+    ∙ ap (λ (o : Option (List Lot)). option_map (λ l. old ++ l) (option_map bytes_of o)) is
+    ∙ ap Some (sym (append_assoc old packet (bytes_of r)) ∙ ap (λ (l : List ℕ). l ++ bytes_of r) (sym appended))
+
+-- the same of lots that are not joined
+gives_bytes : (before after : Option (List Lot)) (given : List Lot) → Gives before given after → Gives (option_map bytes_of before) (bytes_of given) (option_map bytes_of after)
+gives_bytes before None given is = ap (option_map bytes_of) is
+gives_bytes before (Some r) given is = ap (option_map bytes_of) is ∙ ap Some (flat_map-append packet_of given r)
+
+over_bytes : (left : Option (List Lot)) → IsOver left → IsOver (option_map bytes_of left)
+over_bytes None over = tt
+over_bytes (Some l) over = ap bytes_of over
+
+-- the bytes of all lots, before and after one went on
+whole_step : (P PA KA KM L : List ℕ) (before R : Option (List ℕ)) → before ≡ option_map (λ l. L ++ l) (option_map (λ l. KM ++ l) R) → KM ≡ []
+    → ((l : List ℕ) → PA ++ (KA ++ l) ≡ P ++ (L ++ l)) → option_map (λ l. PA ++ l) (option_map (λ l. KA ++ l) R) ≡ option_map (λ l. P ++ l) before
+whole_step P PA KA KM L before None is empty all = ap (option_map (λ l. P ++ l)) (sym is)
+whole_step P PA KA KM L before (Some r) is empty all =
+    ap Some (all r) ∙ ap (λ (k : List ℕ). Some (P ++ (L ++ (k ++ r)))) (sym empty) ∙ ap (option_map (λ l. P ++ l)) (sym is)
 
 -- nothing is left
-whole_end : (P : List Lot) (before mid : Option (List Lot)) → before ≡ option_map (λ l. [] ++ l) mid → IsOver mid → IfSome (option_map (λ l. P ++ l) before) (λ l. P ≡ l)
-whole_end P before None is over = subst (λ (o : Option (List Lot)). IfSome (option_map (λ l. P ++ l) o) (λ l. P ≡ l)) (sym is) tt
+whole_end : (P : List ℕ) (before mid : Option (List ℕ)) → before ≡ option_map (λ l. [] ++ l) mid → IsOver mid → IfSome (option_map (λ l. P ++ l) before) (λ l. P ≡ l)
+whole_end P before None is over = subst (λ (o : Option (List ℕ)). IfSome (option_map (λ l. P ++ l) o) (λ l. P ≡ l)) (sym is) tt
 whole_end P before (Some r) is over =
-    subst (λ (o : Option (List Lot)). IfSome (option_map (λ l. P ++ l) o) (λ l. P ≡ l)) (sym is) (sym (append-nil P) ∙ ap (λ l. P ++ l) (sym over))
+    subst (λ (o : Option (List ℕ)). IfSome (option_map (λ l. P ++ l) o) (λ l. P ≡ l)) (sym is) (sym (append-nil P) ∙ ap (λ l. P ++ l) (sym over))
 
 more_own : (n m : ℕ) (xs ys : List Lot) (lot : Lot) → m ≡ n → ys ≡ xs ++ lot ∷ [] → AllByRecursion (IsOwn n) xs → IsOwn n lot → AllByRecursion (IsOwn m) ys
 more_own n m xs ys lot number more own last =
@@ -84,11 +129,34 @@ module _ {C : Type 0} where
       }
 
 module _ {C : Type 0} (seen : C → Seen Output) where
+  -- one packet more was joined
+  pub joins_more : (lane : ℕ) (before after : Lane C) (old new : List ℕ) → lane_number before ≡ lane → ArePacketsUnder lane old → AppendsPacket seen before old after new → ArePacketsUnder lane new
+  joins_more lane before after old new number own more = own_more lane old more.packet new own (subst (λ (n : ℕ). IsPacketOf n more.packet) number more.under) more.appended
+
+  pub gives_more : (before after : Lane C) (old new : List ℕ) (start : Option (List ℕ)) → AppendsPacket seen before old after new → Gives start old (bytes_left seen before) → Gives start new (bytes_left seen after)
+  gives_more before after old new start more so_far = gives_packet start old more.packet new (rest seen before) (rest seen after) more.appended more.left so_far
+
+  pub gives_same : (before after : Lane C) (old new : List ℕ) (start : Option (List ℕ)) → (after ≡ before) × (new ≡ old) → Gives start old (bytes_left seen before) → Gives start new (bytes_left seen after)
+  gives_same before after old new start same so_far =
+      subst (λ (l : List ℕ). Gives start l (bytes_left seen after)) (sym same.1) (subst (λ (lane : Lane C). Gives start old (bytes_left seen lane)) (sym same.0) so_far)
+
+  -- the lane's lot, and what was joined to it
+  pub step_gives : (start before : Lane C) (after : Lane C) (lot whole : Lot) → (Some lot ≡ Some (End NoMemory)) ⊎ Gives (rest seen start) (lot ∷ []) (rest seen before)
+      → ((o : Option (List ℕ)) → Gives o (packet_of lot) (bytes_left seen before) → Gives o (packet_of whole) (bytes_left seen after)) → (lot ≡ End NoMemory → whole ≡ End NoMemory)
+      → (Some whole ≡ Some (End NoMemory)) ⊎ Gives (bytes_left seen start) (bytes_of (whole ∷ [])) (bytes_left seen after)
+  step_gives start before after lot whole (inl out) joins lack = inl (ap Some (lack (let same : lot ≡ End NoMemory = cc in same)))
+  step_gives start before after lot whole (inr g) joins lack =
+      let one : Gives (bytes_left seen start) (packet_of lot) (bytes_left seen before) = subst (λ (l : List ℕ). Gives (bytes_left seen start) l (bytes_left seen before)) (append-nil (packet_of lot)) (gives_bytes (rest seen start) (rest seen before) (lot ∷ []) g) in
+      inr (subst (λ (l : List ℕ). Gives (bytes_left seen start) l (bytes_left seen after)) (sym (append-nil (packet_of whole))) (joins (bytes_left seen start) one))
+
+  pub step_over : (lane : Lane C) → IsOver (rest seen lane) → IsOver (bytes_left seen lane)
+  step_over lane over = over_bytes (rest seen lane) over
+
   -- a lot was put, or kept
   went_on : (start before mid after : Work C) (lot : Lot) → KeepsWork seen start before → mid.kept ≡ None → IfSome before.kept (λ k. Some lot ≡ Some k)
-      → (Some lot ≡ Some (End NoMemory)) ⊎ Gives (left seen before) (lot ∷ []) (left seen mid)
+      → (Some lot ≡ Some (End NoMemory)) ⊎ Gives (left seen before) (bytes_of (lot ∷ [])) (left seen mid)
       → after.lane ≡ mid.lane → number_of after.pass ≡ number_of before.pass → given after ≡ lots_put before.pass ++ lot ∷ []
-      → ((l : List Lot) → lots_put after.pass ++ (option_to_list after.kept ++ l) ≡ lots_put before.pass ++ (lot ∷ l))
+      → ((l : List ℕ) → bytes_of (lots_put after.pass) ++ (bytes_of (option_to_list after.kept) ++ l) ≡ bytes_of (lots_put before.pass) ++ (bytes_of (lot ∷ []) ++ l))
       → KeepsWork seen start after
   went_on start before mid after lot keeps empty first gives lane number all each =
       let well : AllWell (given after) → AllWell (given before) = λ so. well_before (lots_put before.pass) lot before.kept first (subst AllWell all so) in
@@ -97,16 +165,16 @@ module _ {C : Type 0} (seen : C → Seen Output) where
         well = λ so. keeps.well (well so);
         same = λ so. ⊎_elim
             (λ (out : Some lot ≡ Some (End NoMemory)). absurd (well_last (lots_put before.pass) lot (subst AllWell all so) (let same : lot ≡ End NoMemory = cc in same)))
-            (λ (g : Gives (left seen before) (lot ∷ []) (left seen mid)).
-            ap (λ (l : Lane C). option_map (λ x. lots_put after.pass ++ x) (option_map (λ x. option_to_list after.kept ++ x) (rest seen l))) lane
-            ∙ whole_step (lots_put before.pass) (lots_put after.pass) (option_to_list after.kept) (option_to_list mid.kept) lot (left seen before) (rest seen mid.lane) g (ap option_to_list empty) each
+            (λ (g : Gives (left seen before) (bytes_of (lot ∷ [])) (left seen mid)).
+            ap (λ (l : Lane C). option_map (λ x. bytes_of (lots_put after.pass) ++ x) (option_map (λ x. bytes_of (option_to_list after.kept) ++ x) (bytes_left seen l))) lane
+            ∙ whole_step (bytes_of (lots_put before.pass)) (bytes_of (lots_put after.pass)) (bytes_of (option_to_list after.kept)) (bytes_of (option_to_list mid.kept)) (bytes_of (lot ∷ [])) (left seen before) (bytes_left seen mid.lane) g (ap (λ (k : Option Lot). bytes_of (option_to_list k)) empty) each
             ∙ keeps.same (well so))
             gives;
       }
 
   -- the belt took the lot
   pub was_put : (start before mid : Work C) (after : LanePass) (lot : Lot) → KeepsWork seen start before → mid.pass ≡ before.pass → mid.kept ≡ None → IfSome before.kept (λ k. Some lot ≡ Some k)
-      → (Some lot ≡ Some (End NoMemory)) ⊎ Gives (left seen before) (lot ∷ []) (left seen mid)
+      → (Some lot ≡ Some (End NoMemory)) ⊎ Gives (left seen before) (bytes_of (lot ∷ [])) (left seen mid)
       → number_of after ≡ number_of mid.pass → lots_put after ≡ lots_put mid.pass ++ lot ∷ []
       → KeepsWork seen start (record { lane = mid.lane; pass = after; kept = mid.kept })
   was_put start before mid after lot keeps pass empty first gives number more =
@@ -114,11 +182,11 @@ module _ {C : Type 0} (seen : C → Seen Output) where
       went_on start before mid (record { lane = mid.lane; pass = after; kept = mid.kept }) lot keeps empty first gives refl
       (number ∙ ap number_of pass)
       (ap (λ (k : Option Lot). lots_put after ++ option_to_list k) empty ∙ append-nil (lots_put after) ∙ grown)
-      (λ l. ap (λ (k : Option Lot). lots_put after ++ (option_to_list k ++ l)) empty ∙ ap (λ x. x ++ l) grown ∙ append_assoc (lots_put before.pass) (lot ∷ []) l)
+      (λ l. ap (λ (k : Option Lot). bytes_of (lots_put after) ++ (bytes_of (option_to_list k) ++ l)) empty ∙ ap (λ x. bytes_of x ++ l) grown ∙ ap (λ (b : List ℕ). b ++ l) (flat_map-append packet_of (lots_put before.pass) (lot ∷ [])) ∙ append_assoc (bytes_of (lots_put before.pass)) (bytes_of (lot ∷ [])) l)
 
   -- the belt handed the lot back
   pub was_kept : (start before mid : Work C) (after : LanePass) (lot back : Lot) → KeepsWork seen start before → mid.pass ≡ before.pass → mid.kept ≡ None → IfSome before.kept (λ k. Some lot ≡ Some k)
-      → (Some lot ≡ Some (End NoMemory)) ⊎ Gives (left seen before) (lot ∷ []) (left seen mid)
+      → (Some lot ≡ Some (End NoMemory)) ⊎ Gives (left seen before) (bytes_of (lot ∷ [])) (left seen mid)
       → number_of after ≡ number_of mid.pass → lots_put after ≡ lots_put mid.pass → back ≡ lot
       → KeepsWork seen start (record { lane = mid.lane; pass = after; kept = Some back })
   was_kept start before mid after lot back keeps pass empty first gives number same is =
@@ -126,7 +194,7 @@ module _ {C : Type 0} (seen : C → Seen Output) where
       went_on start before mid (record { lane = mid.lane; pass = after; kept = Some back }) lot keeps empty first gives refl
       (number ∙ ap number_of pass)
       (ap (λ x. x ++ back ∷ []) stays ∙ ap (λ (b : Lot). lots_put before.pass ++ b ∷ []) is)
-      (λ l. ap (λ x. x ++ (back ∷ l)) stays ∙ ap (λ (b : Lot). lots_put before.pass ++ (b ∷ l)) is)
+      (λ l. ap (λ x. bytes_of x ++ (bytes_of (back ∷ []) ++ l)) stays ∙ ap (λ (b : Lot). bytes_of (lots_put before.pass) ++ (bytes_of (b ∷ []) ++ l)) is)
 
   -- the lane gave no lot more
   pub all_put : (start before mid : Work C) → KeepsWork seen start before → mid.pass ≡ before.pass → IfSome before.kept (λ k. None ≡ Some k)
@@ -140,9 +208,9 @@ module _ {C : Type 0} (seen : C → Seen Output) where
         all = λ so. ⊎_elim
             (λ (out : ◌≡◌ {A = Option Lot} None (Some (End NoMemory))). absurd (let never : ⊥ = cc in never))
             (λ (g : Gives (left seen before) [] (left seen mid)).
-            subst (λ (p : LanePass). IfSome (whole seen start) (λ l. lots_put p ≡ l)) (sym pass)
-            (subst (λ (o : Option (List Lot)). IfSome o (λ l. lots_put before.pass ≡ l)) (keeps.same (well so))
-            (whole_end (lots_put before.pass) (left seen before) (left seen mid) g over)))
+            subst (λ (p : LanePass). IfSome (whole seen start) (λ l. bytes_of (lots_put p) ≡ l)) (sym pass)
+            (subst (λ (o : Option (List ℕ)). IfSome o (λ l. bytes_of (lots_put before.pass) ≡ l)) (keeps.same (well so))
+            (whole_end (bytes_of (lots_put before.pass)) (left seen before) (left seen mid) g over)))
             gives;
       }
     where
@@ -160,7 +228,7 @@ module _ {C : Type 0} (seen : C → Seen Output) where
   drives_then a b (Put pass) first second = record {
     number = second.number ∙ first.number;
     well = λ so. first.well (second.well so);
-    all = λ so. subst (λ (o : Option (List Lot)). IfSome o (λ l. lots_put pass ≡ l)) (first.same (second.well so)) (second.all so);
+    all = λ so. subst (λ (o : Option (List ℕ)). IfSome o (λ l. bytes_of (lots_put pass) ≡ l)) (first.same (second.well so)) (second.all so);
   }
   drives_then a b (GivenUp pass) first second = second ∙ first.number
 

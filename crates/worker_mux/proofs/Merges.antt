@@ -2,11 +2,15 @@
 use Rattle.std.proofs.Common.{◌≡◌, ◌≢◌, ℕ, zero, suc, ◌+◌, ◌<◌, ◌≤◌, List, [], ◌∷◌, ◌++◌, map, length, cond, eqb, Bool, true, false, slice_index_or, inl, inr, refl, sym, ◌∙◌, ap, subst, arith}
 use Rattle.std.specs.Prelude.{Option, None, Some, IfSome, All, Result, IfOk}
 use Rattle.std.specs.List.{AllByRecursion, flat_map, range_with_len, filter}
+use Rattle.std.specs.Int.{w32, to_be_bytes}
+use Rattle.std.specs.Option.{option_map}
 use Rattle.std.proofs.lemmas.Bool.{cases_eq}
 use Rattle.std.proofs.lemmas.Bool.Decides.{nat_tests}
-use Rattle.std.proofs.lemmas.List.{append-nil, length-map}
+use Rattle.std.proofs.lemmas.List.{append-nil, append_cancel_left, length-map}
+use Rattle.std.proofs.lemmas.List.Concat.{flat_map-append}
+use Rattle.std.proofs.lemmas.List.Folds.{flat_map-map}
 use Rattle.std.proofs.lemmas.Result.{IfOk-weaker}
-use Rattle.std.proofs.lemmas.List.Elements.{All-nil, All-cons, All-head, All-tail}
+use Rattle.std.proofs.lemmas.List.Elements.{All-nil, All-cons, All-append, All-head, All-tail, filter-append}
 use Rattle.edge_io.specs.Children.{Output}
 use Rattle.edge_io.specs.Disk.{Folder}
 use Rattle.edge_io.specs.Seen.{Seen}
@@ -15,15 +19,18 @@ use Rattle.packet_codec.specs.declared.event.Event.{Event}
 use Rattle.packet_codec.specs.Canonical.{canonical, IsEvent, Fits}
 use Rattle.packet_codec.specs.Grammar.{AreBytes}
 use Rattle.packet_codec.specs.Lanes.{is_of_lane, of_lane, IsOfLaneBelow}
-use Rattle.packet_codec.specs.Packet.{SpellsEvent}
+use Rattle.packet_codec.specs.Flags.{first_flags, second_flags}
+use Rattle.packet_codec.specs.Packet.{signature, SpellsEvent}
 use Rattle.packet_codec.specs.Routing.{under}
 use Rattle.packet_codec.proofs.FilterLemmas.{not_true}
 use Rattle.packet_codec.proofs.GrammarLemmas.{fits_from_are}
 use Rattle.packet_codec.proofs.MergeLemmas.{under_is_in_lane, in_one_lane}
-use Rattle.packet_codec.proofs.PacketLemmas.{one_event}
+use Rattle.packet_codec.proofs.PacketLemmas.{no_front, one_event}
 use Rattle.packet_codec.proofs.SpellingLemmas.{canonical_spells}
 use Rattle.run_shelf.specs.declared.faults.ShelfCall.{ShelfCall}
-use Rattle.worker_lane.specs.Endings.{IsPacketOf}
+use Rattle.stream_reader.proofs.FrontLemmas.{are_before, are_behind}
+use Rattle.sub_number.specs.Checksum.{crc32}
+use Rattle.worker_lane.specs.Rest.{IsEventOf}
 use Rattle.worker_lane.specs.Lanes.{rest, lane_number}
 use Rattle.worker_lane.specs.declared.lane.Lane.{Lane}
 use Rattle.worker_lane.specs.declared.lot.Ending.TheVariants.{NoMemory}
@@ -33,7 +40,7 @@ use Rattle.worker_mux.specs.Callers.{GoesOn, HasAdded, Tape, packet_of, recorded
 use Rattle.worker_mux.specs.Passes.{lane_count, lots_taken, settled_lanes, HasAll, IsOfLanes}
 use Rattle.worker_mux.specs.Rule.{lots_of}
 use Rattle.worker_mux.specs.Runs.{packets_of, AreEventsOf, AddsMerge, HearsMerge, IsRecorded, share, first_share}
-use Rattle.worker_mux.specs.Works.{AllWell, IsOwn, Pairs, IsEntryOf, Settles}
+use Rattle.worker_mux.specs.Works.{AllWell, HasBytes, bytes_of, IsOwn, Pairs, IsEntryOf, Settles}
 use Rattle.worker_mux.specs.declared.caller.Caller.{Caller}
 use Rattle.worker_mux.specs.declared.knowledge.Parcel.{Parcel}
 use Rattle.worker_mux.specs.declared.knowledge.Settled.{Settled}
@@ -42,29 +49,34 @@ use Rattle.worker_mux.proofs.Adding.{goes_grown_none}
 
 -- ---- packets tell their events
 
-abbrev HasCanonicalBytes : Event → Type 0
-HasCanonicalBytes e = AreBytes (canonical e)
-
-first_event : (x y : Event) → IsEvent x → Fits x → HasCanonicalBytes x → IsEvent y → Fits y → canonical x ≡ canonical y → x ≡ y
-first_event x y x_is x_fits are y_is y_fits same =
-    one_event (canonical x) x y (fits_from_are (canonical x) are) (canonical_spells x x_is x_fits) (subst (λ (bytes : List ℕ). SpellsEvent bytes y) (sym same) (canonical_spells y y_is y_fits))
-
-heads : (x y : List ℕ) (xs ys : List (List ℕ)) → x ∷ xs ≡ y ∷ ys → x ≡ y
-heads x y xs ys same = cc
-
-tails : (x y : List ℕ) (xs ys : List (List ℕ)) → x ∷ xs ≡ y ∷ ys → xs ≡ ys
-tails x y xs ys same = cc
-
-not_empty : (x : List ℕ) (xs : List (List ℕ)) → x ∷ xs ≡ [] → ⊥
+not_empty : (x : ℕ) (xs : List ℕ) → x ∷ xs ≡ [] → ⊥
 not_empty x xs same = cc
 
-same_events : (xs ys : List Event) → All IsEvent xs → All Fits xs → All HasCanonicalBytes xs → All IsEvent ys → All Fits ys → map canonical xs ≡ map canonical ys → xs ≡ ys
-same_events [] [] x_are x_fit are y_are y_fit same = refl
-same_events [] (y ∷ ys) x_are x_fit are y_are y_fit same = absurd (not_empty (canonical y) (map canonical ys) (sym same))
-same_events (x ∷ xs) [] x_are x_fit are y_are y_fit same = absurd (not_empty (canonical x) (map canonical xs) same)
-same_events (x ∷ xs) (y ∷ ys) x_are x_fit are y_are y_fit same =
-    let first : x ≡ y = first_event x y (All-head IsEvent x xs x_are) (All-head Fits x xs x_fit) (All-head HasCanonicalBytes x xs are) (All-head IsEvent y ys y_are) (All-head Fits y ys y_fit) (heads (canonical x) (canonical y) (map canonical xs) (map canonical ys) same) in
-    let more : xs ≡ ys = same_events xs ys (All-tail IsEvent x xs x_are) (All-tail Fits x xs x_fit) (All-tail HasCanonicalBytes x xs are) (All-tail IsEvent y ys y_are) (All-tail Fits y ys y_fit) (tails (canonical x) (canonical y) (map canonical xs) (map canonical ys) same) in
+some_bytes : (e : Event) (rest : List ℕ) → IsEvent e → Fits e → canonical e ++ rest ≡ [] → ⊥
+some_bytes e rest is fits same = empty (canonical e) (canonical_spells e is fits) same
+  where
+    empty : (bytes : List ℕ) → SpellsEvent bytes e → bytes ++ rest ≡ [] → ⊥
+    empty bytes s none =
+        let begins : bytes ++ rest ≡ signature ∷ (((first_flags e ∷ second_flags e ∷ s.size ++ s.fields) ++ to_be_bytes w32 (crc32 s.body)) ++ rest) =
+        ap (λ (l : List ℕ). l ++ rest) (s.parts ∙ ap (λ (l : List ℕ). l ++ to_be_bytes w32 (crc32 s.body)) s.body_is) in
+        not_empty signature (((first_flags e ∷ second_flags e ∷ s.size ++ s.fields) ++ to_be_bytes w32 (crc32 s.body)) ++ rest) (sym begins ∙ none)
+
+-- events whose packets are the same bytes, one after another, are the same
+same_events : (xs ys : List Event) → AreBytes (flat_map canonical xs) → All IsEvent xs → All Fits xs → All IsEvent ys → All Fits ys → flat_map canonical xs ≡ flat_map canonical ys → xs ≡ ys
+same_events [] [] are x_are x_fit y_are y_fit same = refl
+same_events [] (y ∷ ys) are x_are x_fit y_are y_fit same = absurd (some_bytes y (flat_map canonical ys) (All-head IsEvent y ys y_are) (All-head Fits y ys y_fit) (sym same))
+same_events (x ∷ xs) [] are x_are x_fit y_are y_fit same = absurd (some_bytes x (flat_map canonical xs) (All-head IsEvent x xs x_are) (All-head Fits x xs x_fit) same)
+same_events (x ∷ xs) (y ∷ ys) are x_are x_fit y_are y_fit same =
+    let a : List ℕ = canonical x in
+    let b : List ℕ = canonical y in
+    let s : SpellsEvent a x = canonical_spells x (All-head IsEvent x xs x_are) (All-head Fits x xs x_fit) in
+    let t : SpellsEvent b y = canonical_spells y (All-head IsEvent y ys y_are) (All-head Fits y ys y_fit) in
+    let fits_a = fits_from_are a (are_before a (flat_map canonical xs) are) in
+    let fits_b = fits_from_are b (are_before b (flat_map canonical ys) (subst AreBytes same are)) in
+    let front : a ≡ b = no_front a b (flat_map canonical xs) (flat_map canonical ys) x y fits_a fits_b s t same in
+    let first : x ≡ y = one_event a x y fits_a s (subst (λ (bytes : List ℕ). SpellsEvent bytes y) (sym front) t) in
+    let behind : flat_map canonical xs ≡ flat_map canonical ys = append_cancel_left a (flat_map canonical xs) (flat_map canonical ys) (same ∙ ap (λ (l : List ℕ). l ++ flat_map canonical ys) (sym front)) in
+    let more : xs ≡ ys = same_events xs ys (are_behind a (flat_map canonical xs) are) (All-tail IsEvent x xs x_are) (All-tail Fits x xs x_fit) (All-tail IsEvent y ys y_are) (All-tail Fits y ys y_fit) behind in
     λ i. first i ∷ more i
 
 -- what passes a filter has what all have
@@ -97,7 +109,7 @@ abbrev AllOwn : List Parcel → Type 0
 AllOwn ps = AllByRecursion (λ p. IsOwn p.lane p.lot) ps
 
 abbrev event_of : (lane : ℕ) (lot : Lot) → IsOwn lane lot → List Event
-event_of lane (Packet packet) own = under lane own.0.event ∷ []
+event_of lane (Packet packets) own = own.0.events
 event_of lane (End how) own = []
 
 abbrev events_of : (ps : List Parcel) → AllOwn ps → List Event
@@ -109,65 +121,97 @@ bytes_of_events [] own = refl
 bytes_of_events (p ∷ ps) own = one p.lane p.lot own.0 (recorded ps) (events_of ps own.1) (bytes_of_events ps own.1)
   where
     one : (lane : ℕ) (lot : Lot) (is : IsOwn lane lot) (bytes : List ℕ) (events : List Event) → bytes ≡ flat_map canonical events → packet_of lot ++ bytes ≡ flat_map canonical (event_of lane lot is ++ events)
-    one lane (Packet packet) is bytes events same = ap (λ (l : List ℕ). l ++ bytes) is.0.packet_is ∙ ap (λ (l : List ℕ). canonical (under lane is.0.event) ++ l) same
+    one lane (Packet packets) is bytes events same = (λ i. is.0.packets_are i ++ same i) ∙ sym (flat_map-append canonical is.0.events events)
     one lane (End how) is bytes events same = same
 
--- each event in a group of its own
-abbrev alone : List Event → List (List Event)
-alone events = map (λ e. e ∷ []) events
+-- the events of each lot of packets are a group
+abbrev group_of : (lane : ℕ) (lot : Lot) → IsOwn lane lot → List (List Event)
+group_of lane (Packet packets) own = own.0.events ∷ []
+group_of lane (End how) own = []
 
-joined : (events : List Event) → flat_map (λ group. group) (alone events) ≡ events
-joined [] = refl
-joined (e ∷ events) = ap (λ l. e ∷ l) (joined events)
+abbrev groups_of : (ps : List Parcel) → AllOwn ps → List (List Event)
+groups_of [] own = []
+groups_of (p ∷ ps) own = group_of p.lane p.lot own.0 ++ groups_of ps own.1
 
--- what was heard are the packets of the events, one in each piece
-pieces_of_events : (ps : List Parcel) (own : AllOwn ps) → pieces_of ps ≡ map (flat_map canonical) (alone (events_of ps own))
+joined : (ps : List Parcel) (own : AllOwn ps) → flat_map (λ group. group) (groups_of ps own) ≡ events_of ps own
+joined [] own = refl
+joined (p ∷ ps) own = one p.lane p.lot own.0 (groups_of ps own.1) (events_of ps own.1) (joined ps own.1)
+  where
+    one : (lane : ℕ) (lot : Lot) (is : IsOwn lane lot) (groups : List (List Event)) (events : List Event) → flat_map (λ group. group) groups ≡ events → flat_map (λ group. group) (group_of lane lot is ++ groups) ≡ event_of lane lot is ++ events
+    one lane (Packet packets) is groups events same = ap (λ (l : List Event). is.0.events ++ l) same
+    one lane (End how) is groups events same = same
+
+-- what was heard are the packets of the groups
+pieces_of_events : (ps : List Parcel) (own : AllOwn ps) → pieces_of ps ≡ map (flat_map canonical) (groups_of ps own)
 pieces_of_events [] own = refl
-pieces_of_events (p ∷ ps) own = one p.lane p.lot own.0 (pieces_of ps) (events_of ps own.1) (pieces_of_events ps own.1)
+pieces_of_events (p ∷ ps) own = one p.lane p.lot own.0 (pieces_of ps) (groups_of ps own.1) (pieces_of_events ps own.1)
   where
-    one : (lane : ℕ) (lot : Lot) (is : IsOwn lane lot) (pieces : List (List ℕ)) (events : List Event) → pieces ≡ map (flat_map canonical) (alone events) → piece_of lot ++ pieces ≡ map (flat_map canonical) (alone (event_of lane lot is ++ events))
-    one lane (Packet packet) is pieces events same =
-        let first : packet ≡ canonical (under lane is.0.event) ++ [] = is.0.packet_is ∙ sym (append-nil (canonical (under lane is.0.event))) in
-        λ i. first i ∷ same i
-    one lane (End how) is pieces events same = same
+    one : (lane : ℕ) (lot : Lot) (is : IsOwn lane lot) (pieces : List (List ℕ)) (groups : List (List Event)) → pieces ≡ map (flat_map canonical) groups → piece_of lot ++ pieces ≡ map (flat_map canonical) (group_of lane lot is ++ groups)
+    one lane (Packet packets) is pieces groups same = λ i. is.0.packets_are i ∷ same i
+    one lane (End how) is pieces groups same = same
 
--- what holds of each event that is in a packet of its lane
-all_of_taken : (P : Event → Type 0) → ((lane : ℕ) (packet : List ℕ) (is : IsPacketOf lane packet) → AreBytes packet → P (under lane is.event)) → (ps : List Parcel) (own : AllOwn ps) → All P (events_of ps own)
-all_of_taken P each [] own = All-nil P
-all_of_taken P each (p ∷ ps) own = one p.lane p.lot own.0 (all_of_taken P each ps own.1)
-  where
-    one : (lane : ℕ) (lot : Lot) (is : IsOwn lane lot) → All P (events_of ps own.1) → All P (event_of lane lot is ++ events_of ps own.1)
-    one lane (Packet packet) is more = All-cons P (under lane is.0.event) (events_of ps own.1) (each lane packet is.0 is.1) more
-    one lane (End how) is more = more
+-- what holds of each event that is under its lane
+all_under : (P : Event → Type 0) (lane : ℕ) → ((e : Event) → IsEventOf lane e → P e) → (events : List Event) → AllByRecursion (IsEventOf lane) events → All P events
+all_under P lane each [] own = All-nil P
+all_under P lane each (e ∷ events) own = All-cons P e events (each e own.0) (all_under P lane each events own.1)
 
--- each is of a lane
-of_lanes_below : (count : ℕ) → count ≤ 64 → (ps : List Parcel) (own : AllOwn ps) → AllByRecursion (λ p. p.lane < count) ps → All (IsOfLaneBelow count) (events_of ps own)
-of_lanes_below count few [] own below = All-nil (IsOfLaneBelow count)
-of_lanes_below count few (p ∷ ps) own below = one p.lane p.lot own.0 below.0 (of_lanes_below count few ps own.1 below.1)
+all_of_taken : (P : Event → Type 0) (count : ℕ) → ((lane : ℕ) (e : Event) → lane < count → IsEventOf lane e → P e) → (ps : List Parcel) (own : AllOwn ps) → AllByRecursion (λ p. p.lane < count) ps → All P (events_of ps own)
+all_of_taken P count each [] own below = All-nil P
+all_of_taken P count each (p ∷ ps) own below = one p.lane p.lot own.0 below.0 (all_of_taken P count each ps own.1 below.1)
   where
-    one : (lane : ℕ) (lot : Lot) (is : IsOwn lane lot) → lane < count → All (IsOfLaneBelow count) (events_of ps own.1) → All (IsOfLaneBelow count) (event_of lane lot is ++ events_of ps own.1)
-    one lane (Packet packet) is within more =
-        All-cons (IsOfLaneBelow count) (under lane is.0.event) (events_of ps own.1) (lane, within, under_is_in_lane lane is.0.event.route (omega arith)) more
+    one : (lane : ℕ) (lot : Lot) (is : IsOwn lane lot) → lane < count → All P (events_of ps own.1) → All P (event_of lane lot is ++ events_of ps own.1)
+    one lane (Packet packets) is within more = All-append P is.0.events (events_of ps own.1) (all_under P lane (λ e under. each lane e within under) is.0.events is.0.under) more
     one lane (End how) is within more = more
 
+-- each is of a lane
+of_lane_below : (count : ℕ) → count ≤ 64 → (lane : ℕ) (e : Event) → lane < count → IsEventOf lane e → IsOfLaneBelow count e
+of_lane_below count few lane e within is = (lane, within, subst (λ (x : Event). is_of_lane lane x ≡ true) (sym is.event_is) (under_is_in_lane lane is.inner.route (omega (arith, few, within))))
+
+-- of the events of one lane all are in it, or none
+no_events : (b : Bool) → ◌≡◌ {A = List Event} [] (cond b [] [])
+no_events true = refl
+no_events false = refl
+
+one_more_event : (b : Bool) (e : Event) (events : List Event) → cond b (e ∷ cond b events []) (cond b events []) ≡ cond b (e ∷ events) []
+one_more_event true e events = refl
+one_more_event false e events = refl
+
+all_or_none : (n lane : ℕ) → n < 64 → lane < 64 → (events : List Event) → AllByRecursion (IsEventOf lane) events → of_lane n events ≡ cond (eqb lane n) events []
+all_or_none n lane small also [] own = no_events (eqb lane n)
+all_or_none n lane small also (e ∷ events) own =
+    let is : is_of_lane n e ≡ eqb lane n = ap (is_of_lane n) own.0.event_is ∙ own_lane n lane own.0.inner small also in
+    let more : of_lane n events ≡ cond (eqb lane n) events [] = all_or_none n lane small also events own.1 in
+    (λ i. cond (is i) (e ∷ more i) (more i)) ∙ one_more_event (eqb lane n) e events
+
 -- the packets of a lane's events are those among its lots
-lane_packets : (n count : ℕ) → n < 64 → count ≤ 64 → (ps : List Parcel) (own : AllOwn ps) → AllByRecursion (λ p. p.lane < count) ps → packets_of (lots_of n ps) ≡ map canonical (of_lane n (events_of ps own))
+lane_packets : (n count : ℕ) → n < 64 → count ≤ 64 → (ps : List Parcel) (own : AllOwn ps) → AllByRecursion (λ p. p.lane < count) ps → bytes_of (lots_of n ps) ≡ flat_map canonical (of_lane n (events_of ps own))
 lane_packets n count small few [] own below = refl
 lane_packets n count small few (p ∷ ps) own below = one p.lane p.lot own.0 below.0 (lots_of n ps) (events_of ps own.1) (lane_packets n count small few ps own.1 below.1)
   where
-    packet_at : (b : Bool) (lane : ℕ) (packet : List ℕ) (e : Event) (lots : List Lot) (events : List Event) → packet ≡ canonical (under lane e) → packets_of lots ≡ map canonical (of_lane n events) → packets_of (cond b (Packet packet ∷ lots) lots) ≡ map canonical (cond b (under lane e ∷ of_lane n events) (of_lane n events))
-    packet_at true lane packet e lots events is same = λ i. is i ∷ same i
-    packet_at false lane packet e lots events is same = same
+    packets_at : (b : Bool) (packets : List ℕ) (here : List Event) (lots : List Lot) (events : List Event) → packets ≡ flat_map canonical here → bytes_of lots ≡ flat_map canonical (of_lane n events) → bytes_of (cond b (Packet packets ∷ lots) lots) ≡ flat_map canonical (cond b here [] ++ of_lane n events)
+    packets_at true packets here lots events is same = (λ i. is i ++ same i) ∙ sym (flat_map-append canonical here (of_lane n events))
+    packets_at false packets here lots events is same = same
 
-    end_at : (b : Bool) (how : _) (lots : List Lot) (events : List Event) → packets_of lots ≡ map canonical (of_lane n events) → packets_of (cond b (End how ∷ lots) lots) ≡ map canonical (of_lane n events)
+    end_at : (b : Bool) (how : _) (lots : List Lot) (events : List Event) → bytes_of lots ≡ flat_map canonical (of_lane n events) → bytes_of (cond b (End how ∷ lots) lots) ≡ flat_map canonical (of_lane n events)
     end_at true how lots events same = same
     end_at false how lots events same = same
 
-    one : (lane : ℕ) (lot : Lot) (is : IsOwn lane lot) → lane < count → (lots : List Lot) (events : List Event) → packets_of lots ≡ map canonical (of_lane n events) → packets_of (cond (eqb lane n) (lot ∷ lots) lots) ≡ map canonical (of_lane n (event_of lane lot is ++ events))
-    one lane (Packet packet) is within lots events same =
-        packet_at (eqb lane n) lane packet is.0.event lots events is.0.packet_is same
-        ∙ ap (λ (b : Bool). map canonical (cond b (under lane is.0.event ∷ of_lane n events) (of_lane n events))) (sym (own_lane n lane is.0.event small (omega arith)))
+    one : (lane : ℕ) (lot : Lot) (is : IsOwn lane lot) → lane < count → (lots : List Lot) (events : List Event) → bytes_of lots ≡ flat_map canonical (of_lane n events) → bytes_of (cond (eqb lane n) (lot ∷ lots) lots) ≡ flat_map canonical (of_lane n (event_of lane lot is ++ events))
+    one lane (Packet packets) is within lots events same =
+        packets_at (eqb lane n) packets is.0.events lots events is.0.packets_are same
+        ∙ ap (λ (l : List Event). flat_map canonical (l ++ of_lane n events)) (sym (all_or_none n lane small (omega (arith, few, within)) is.0.events is.0.under))
+        ∙ ap (flat_map canonical) (sym (filter-append (is_of_lane n) is.0.events events))
     one lane (End how) is within lots events same = end_at (eqb lane n) how lots events same
+
+-- and have bytes
+lane_has_bytes : (n : ℕ) (ps : List Parcel) → AllOwn ps → AreBytes (bytes_of (lots_of n ps))
+lane_has_bytes n [] own = All-nil (λ byte. byte < 256)
+lane_has_bytes n (p ∷ ps) own = one (eqb p.lane n) p.lot own.0.1 (lane_has_bytes n ps own.1)
+  where
+    one : (b : Bool) (lot : Lot) → HasBytes lot → AreBytes (bytes_of (lots_of n ps)) → AreBytes (bytes_of (cond b (lot ∷ lots_of n ps) (lots_of n ps)))
+    one true (Packet packets) are more = All-append (λ byte. byte < 256) packets (bytes_of (lots_of n ps)) are more
+    one true (End how) are more = more
+    one false lot are more = more
 
 -- ---- the lots of the lanes
 
@@ -194,8 +238,8 @@ well_lots n (p ∷ ps) all = one (eqb p.lane n) (well_lots n ps all.1)
     one false others = others
 
 -- an entry of the table against a lane's number and lots
-abbrev IsOf : ℕ × Option (List Lot) → Settled → Type 0
-IsOf share entry = (entry.lane ≡ share.0) × AllByRecursion (IsOwn entry.lane) entry.list × (AllWell entry.list → IfSome share.1 (λ l. entry.list ≡ l))
+abbrev IsOf : ℕ × Option (List ℕ) → Settled → Type 0
+IsOf share entry = (entry.lane ≡ share.0) × AllByRecursion (IsOwn entry.lane) entry.list × (AllWell entry.list → IfSome share.1 (λ l. bytes_of entry.list ≡ l))
 
 first : (j k n m : ℕ) (xs ys : List ℕ) → j ≡ k + 0 → n ∷ xs ≡ k ∷ ys → m ≡ n → j ≡ m
 first j k n m xs ys is same other = let head : n ≡ k = cc in omega arith
@@ -203,13 +247,24 @@ first j k n m xs ys is same other = let head : n ≡ k = cc in omega arith
 others : (n k : ℕ) (xs ys : List ℕ) → n ∷ xs ≡ k ∷ ys → xs ≡ ys
 others n k xs ys same = cc
 
+-- the bytes of lots are those of their packets
+bytes_of_packets : (lots : List Lot) → bytes_of lots ≡ flat_map (λ packet. packet) (packets_of lots)
+bytes_of_packets [] = refl
+bytes_of_packets (Packet packet ∷ lots) = ap (λ (l : List ℕ). packet ++ l) (bytes_of_packets lots)
+bytes_of_packets (End how ∷ lots) = bytes_of_packets lots
+
+bytes_told : (bytes : List ℕ) (told : Option (List Lot)) → IfSome (option_map bytes_of told) (λ l. bytes ≡ l) → IfSome told (λ l. bytes ≡ bytes_of l)
+bytes_told bytes None same = tt
+bytes_told bytes (Some l) same = same
+
 -- where a lane's events are told, they are those that were taken of it
-told_events : (told : Option (List Lot)) (list : Option (List Event)) (lots : List Lot) (events : List Event) → IfSome told (λ l. lots ≡ l) → AreEventsOf told list → packets_of lots ≡ map canonical events
-    → All IsEvent events → All Fits events → All HasCanonicalBytes events → IfSome list (λ l. events ≡ l)
-told_events told None lots events same are packets is fit bytes = tt
-told_events None (Some list) lots events same are packets is fit bytes = absurd are
-told_events (Some l) (Some list) lots events same are packets is fit bytes =
-    same_events events list is fit bytes are.are_events are.fit (sym packets ∙ ap packets_of same ∙ are.packets)
+told_events : (told : Option (List Lot)) (list : Option (List Event)) (lots : List Lot) (events : List Event) → IfSome told (λ l. bytes_of lots ≡ bytes_of l) → AreEventsOf told list → bytes_of lots ≡ flat_map canonical events
+    → AreBytes (bytes_of lots) → All IsEvent events → All Fits events → IfSome list (λ l. events ≡ l)
+told_events told None lots events same are packets bytes is fit = tt
+told_events None (Some list) lots events same are packets bytes is fit = absurd are
+told_events (Some l) (Some list) lots events same are packets bytes is fit =
+    same_events events list (subst AreBytes packets bytes) is fit are.are_events are.fit
+    (sym packets ∙ same ∙ bytes_of_packets l ∙ ap (flat_map (λ packet. packet)) are.packets ∙ flat_map-map (λ packet. packet) canonical list)
 
 module _ {C : Type 0} (seen : C → Seen Output) where
   pairs_of : (works : List (Work C)) (table : List Settled) → Pairs (IsEntryOf seen) works table → Pairs IsOf (map (share seen) works) table
@@ -233,13 +288,13 @@ module _ {C : Type 0} (seen : C → Seen Output) where
   -- where a lane tells, what was taken of it is all that it had to give
   each_told : (taken : List Parcel) → AllByRecursion (λ p. p.lot ≡ End NoMemory → ⊥) taken → (lanes : List (Lane C)) (table : List Settled) (k : ℕ) → map lane_number lanes ≡ range_with_len k (length lanes)
       → Pairs IsOf (map (first_share seen) lanes) table → AllByRecursion (λ s. lots_of s.lane taken ≡ s.list) table
-      → (n j : ℕ) → n < length lanes → j ≡ k + n → IfSome (slice_index_or (map (rest seen) lanes) n None) (λ l. lots_of j taken ≡ l)
+      → (n j : ℕ) → n < length lanes → j ≡ k + n → IfSome (slice_index_or (map (rest seen) lanes) n None) (λ l. bytes_of (lots_of j taken) ≡ bytes_of l)
   each_told taken well [] table k numbers pairs accounts n j within is = absurd (omega arith)
   each_told taken well (lane ∷ lanes) [] k numbers pairs accounts n j within is = absurd pairs
   each_told taken well (lane ∷ lanes) (s ∷ table) k numbers pairs accounts zero j within is =
       let here : j ≡ s.lane = first j k (lane_number lane) s.lane (map lane_number lanes) (range_with_len (k + 1) (length lanes)) is numbers pairs.0.0 in
-      subst (λ (lots : List Lot). IfSome (rest seen lane) (λ l. lots ≡ l)) (sym accounts.0 ∙ ap (λ (i : ℕ). lots_of i taken) (sym here))
-      (pairs.0.2 (subst AllWell accounts.0 (well_lots s.lane taken well)))
+      subst (λ (lots : List Lot). IfSome (rest seen lane) (λ l. bytes_of lots ≡ bytes_of l)) (sym accounts.0 ∙ ap (λ (i : ℕ). lots_of i taken) (sym here))
+      (bytes_told (bytes_of s.list) (rest seen lane) (pairs.0.2 (subst AllWell accounts.0 (well_lots s.lane taken well))))
   each_told taken well (lane ∷ lanes) (s ∷ table) k numbers pairs accounts (suc n) j within is =
       each_told taken well lanes table (k + 1) (others (lane_number lane) k (map lane_number lanes) (range_with_len (k + 1) (length lanes)) numbers) pairs.1 accounts.1 n j (omega arith) (omega arith)
 
@@ -247,20 +302,19 @@ module _ {C : Type 0} (seen : C → Seen Output) where
   taken_own : (hears : List (List ℕ) → Type 0) (lanes : List (Lane C)) (works : List (Work C)) (count : ℕ) (old new : Option Folder) → map lane_number lanes ≡ range_with_len 0 (length lanes) → count ≡ length lanes
       → map (share seen) works ≡ map (first_share seen) lanes → (all : IsRecorded seen hears count works old new) → AllOwn all.taken
   taken_own hears lanes works count old new numbers counted shares all =
-      let pairs : Pairs IsOf (map (first_share seen) lanes) all.table = subst (λ (l : List (ℕ × Option (List Lot))). Pairs IsOf l all.table) shares (pairs_of works all.table all.entries) in
+      let pairs : Pairs IsOf (map (first_share seen) lanes) all.table = subst (λ (l : List (ℕ × Option (List ℕ))). Pairs IsOf l all.table) shares (pairs_of works all.table all.entries) in
       all_own count all.taken (λ n within. each_own all.taken lanes all.table 0 numbers pairs all.accounts n n (omega (arith, counted)) (omega arith)) all.of_lanes
 
   -- the events of what was taken are a merge of those of the lanes
   merged_of : (hears : List (List ℕ) → Type 0) (lanes : List (Lane C)) (works : List (Work C)) (count : ℕ) (old new : Option Folder) → length lanes ≤ 64 → map lane_number lanes ≡ range_with_len 0 (length lanes) → count ≡ length lanes
       → map (share seen) works ≡ map (first_share seen) lanes → (all : IsRecorded seen hears count works old new) → (own : AllOwn all.taken) → (merge : AddsMerge (map (rest seen) lanes) old new) × (events_of all.taken own ≡ merge.events)
   merged_of hears lanes works count old new few numbers counted shares all own =
-      let pairs : Pairs IsOf (map (first_share seen) lanes) all.table = subst (λ (l : List (ℕ × Option (List Lot))). Pairs IsOf l all.table) shares (pairs_of works all.table all.entries) in
+      let pairs : Pairs IsOf (map (first_share seen) lanes) all.table = subst (λ (l : List (ℕ × Option (List ℕ))). Pairs IsOf l all.table) shares (pairs_of works all.table all.entries) in
       let events : List Event = events_of all.taken own in
-      let is : All IsEvent events = all_of_taken IsEvent (λ lane packet is bytes. is.is_event) all.taken own in
-      let fit : All Fits events = all_of_taken Fits (λ lane packet is bytes. is.fits) all.taken own in
-      let bytes : All HasCanonicalBytes events = all_of_taken HasCanonicalBytes (λ lane packet is bytes. subst AreBytes is.packet_is bytes) all.taken own in
+      let is : All IsEvent events = all_of_taken IsEvent count (λ lane e within under. under.is_event) all.taken own all.of_lanes in
+      let fit : All Fits events = all_of_taken Fits count (λ lane e within under. under.fits) all.taken own all.of_lanes in
       let size : length (map (rest seen) lanes) ≡ length lanes = length-map lanes (rest seen) in
-      let below : All (IsOfLaneBelow (length (map (rest seen) lanes))) events = subst (λ (n : ℕ). All (IsOfLaneBelow n) events) (counted ∙ sym size) (of_lanes_below count (omega (arith, few, counted)) all.taken own all.of_lanes) in (
+      let below : All (IsOfLaneBelow (length (map (rest seen) lanes))) events = subst (λ (n : ℕ). All (IsOfLaneBelow n) events) (counted ∙ sym size) (all_of_taken (IsOfLaneBelow count) count (of_lane_below count (omega (arith, few, counted))) all.taken own all.of_lanes) in (
         record {
           events = events;
           added = subst (λ (l : List ℕ). Goes old new (Grown l)) (bytes_of_events all.taken own) all.added;
@@ -274,9 +328,9 @@ module _ {C : Type 0} (seen : C → Seen Output) where
                 (each_told all.taken all.well lanes all.table 0 numbers pairs all.accounts lane lane inside (omega arith))
                 (have.each lane (omega (arith, inside, size)))
                 (lane_packets lane count (omega (arith, inside, few)) (omega (arith, few, counted)) all.taken own all.of_lanes)
+                (lane_has_bytes lane all.taken own)
                 (filtered IsEvent (is_of_lane lane) events is)
-                (filtered Fits (is_of_lane lane) events fit)
-                (filtered HasCanonicalBytes (is_of_lane lane) events bytes);
+                (filtered Fits (is_of_lane lane) events fit);
             of_lanes = subst (λ (n : ℕ). All (IsOfLaneBelow n) events) (sym have.count) below;
           };
         },
@@ -291,8 +345,8 @@ module _ {C : Type 0} (seen : C → Seen Output) where
       let merged = merged_of hears lanes works count old new few numbers counted shares all own in
       record {
         merge = merged.0;
-        groups = alone (events_of all.taken own);
-        parts = joined (events_of all.taken own) ∙ merged.1;
+        groups = groups_of all.taken own;
+        parts = joined all.taken own ∙ merged.1;
         heard = subst hears (pieces_of_events all.taken own) all.heard;
       }
 

@@ -8,7 +8,7 @@ use Rattle.edge_io.specs.Steps.{Goes, Grown}
 use Rattle.packet_codec.specs.declared.event.Event.{Event}
 use Rattle.packet_codec.specs.Canonical.{canonical, IsEvent, Fits}
 use Rattle.packet_codec.specs.Lanes.{IsOfLaneBelow, IsMergeOfTold}
-use Rattle.worker_lane.specs.Lanes.{rest, lane_number}
+use Rattle.worker_lane.specs.Lanes.{lane_number}
 use Rattle.worker_lane.specs.declared.lane.Lane.{Lane}
 use Rattle.worker_lane.specs.declared.lot.Ending.TheVariants.{NoMemory}
 use Rattle.worker_lane.specs.declared.lot.Lot.{Lot}
@@ -16,7 +16,7 @@ use Rattle.worker_lane.specs.declared.lot.Lot.TheVariants.{Packet, End}
 use Rattle.worker_mux.specs.Callers.{recorded, pieces_of, IsNewTaker, IsOpen, Tape}
 use Rattle.worker_mux.specs.Passes.{number_of}
 use Rattle.worker_mux.specs.Rule.{lots_of}
-use Rattle.worker_mux.specs.Works.{whole, Pairs, IsEntryOf, IsReady}
+use Rattle.worker_mux.specs.Works.{bytes_left, whole, Pairs, IsEntryOf, IsReady}
 use Rattle.worker_mux.specs.declared.belt.Belt.{Belt}
 use Rattle.worker_mux.specs.declared.knowledge.Parcel.{Parcel}
 use Rattle.worker_mux.specs.declared.knowledge.Settled.{Settled}
@@ -71,13 +71,13 @@ pub record IsBegun {C : Type 0} (belt : Belt) (taker : Taker) (works : List (Wor
   pub is_open : IsOpen t
 
 module _ {C : Type 0} (seen : C → Seen Output) where
-  -- a lane's number, and all lots of its work
-  abbrev pub share : Work C → ℕ × Option (List Lot)
+  -- a lane's number, and the bytes of all lots of its work
+  abbrev pub share : Work C → ℕ × Option (List ℕ)
   share work = (number_of work.pass, whole seen work)
 
   -- the same of a lane whose work has not begun
-  abbrev pub first_share : Lane C → ℕ × Option (List Lot)
-  first_share lane = (lane_number lane, rest seen lane)
+  abbrev pub first_share : Lane C → ℕ × Option (List ℕ)
+  first_share lane = (lane_number lane, bytes_left seen lane)
 
   -- with no lack of memory: what was taken was heard and has been added, and the settled table, which has each work,
   -- accounts for it

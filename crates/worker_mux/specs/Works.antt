@@ -1,15 +1,19 @@
 -- The work of a lane: the lane, its pass, and at most one lot that the belt handed back.
 use Rattle.std.specs.Prelude.{◌≡◌, ℕ, List, [], ◌∷◌, ◌++◌, Option, IfSome, Bool, false, ⊤}
 use Rattle.std.specs.Option.{option_map, option_to_list}
-use Rattle.std.specs.List.{AllByRecursion}
+use Rattle.std.specs.List.{AllByRecursion, flat_map}
 use Rattle.packet_codec.specs.Grammar.{AreBytes}
 use Rattle.edge_io.specs.Children.{Output}
 use Rattle.edge_io.specs.Seen.{Seen}
-use Rattle.worker_lane.specs.Endings.{IsLotOf}
+use Rattle.packet_codec.specs.declared.event.Event.{Event}
+use Rattle.packet_codec.specs.Canonical.{canonical}
 use Rattle.worker_lane.specs.Lanes.{rest, lane_number}
+use Rattle.worker_lane.specs.Rest.{IsEventOf}
+use Rattle.worker_lane.specs.declared.lane.Lane.{Lane}
 use Rattle.worker_lane.specs.declared.lot.Ending.TheVariants.{NoMemory}
 use Rattle.worker_lane.specs.declared.lot.Lot.{Lot}
 use Rattle.worker_lane.specs.declared.lot.Lot.TheVariants.{Packet, End}
+use Rattle.worker_mux.specs.Callers.{packet_of}
 use Rattle.worker_mux.specs.Passes.{number_of, lots_put, IsPassFor}
 use Rattle.worker_mux.specs.declared.belt.Belt.{Belt}
 use Rattle.worker_mux.specs.declared.knowledge.Settled.{Settled}
@@ -18,14 +22,28 @@ use Rattle.worker_mux.specs.declared.work.Work.{Work}
 use Rattle.worker_mux.specs.declared.work.Outcome.{Outcome}
 use Rattle.worker_mux.specs.declared.work.Outcome.TheVariants.{Kept, Put, GivenUp}
 
--- a packet has bytes
+-- packets have bytes
 abbrev pub HasBytes : Lot → Type 0
-HasBytes (Packet packet) = AreBytes packet
+HasBytes (Packet packets) = AreBytes packets
 HasBytes (End how) = ⊤
 
--- each packet is under the lane
+-- these are the packets of events under the lane
+pub record ArePacketsUnder (lane : ℕ) (packets : List ℕ) : Type 0 where
+  pub events : List Event
+  pub packets_are : packets ≡ flat_map canonical events
+  pub under : AllByRecursion (IsEventOf lane) events
+
+-- the packets of a lot are under the lane
+abbrev pub AreOwn : (lane : ℕ) → Lot → Type 0
+AreOwn lane (Packet packets) = ArePacketsUnder lane packets
+AreOwn lane (End how) = ⊤
+
 abbrev pub IsOwn : (lane : ℕ) → Lot → Type 0
-IsOwn lane lot = IsLotOf lane lot × HasBytes lot
+IsOwn lane lot = AreOwn lane lot × HasBytes lot
+
+-- the packets among some lots, joined
+abbrev pub bytes_of : List Lot → List ℕ
+bytes_of lots = flat_map packet_of lots
 
 -- no lot says that there was no memory
 abbrev pub AllWell : List Lot → Type 0
@@ -60,21 +78,26 @@ Pairs R (x ∷ xs) [] = ⊥
 Pairs R (x ∷ xs) (y ∷ ys) = R x y × Pairs R xs ys
 
 module _ {C : Type 0} (seen : C → Seen Output) where
-  -- what has not been put: the lot that was handed back, and what the lane has still to give, where its child tells
-  abbrev pub left : Work C → Option (List Lot)
-  left work = option_map (λ l. option_to_list work.kept ++ l) (rest seen work.lane)
+  -- The packets of a lane are joined to larger lots as they come, so what is told of a work are their bytes.
+  -- The bytes of what the lane has still to give, where its child tells.
+  abbrev pub bytes_left : Lane C → Option (List ℕ)
+  bytes_left lane = option_map bytes_of (rest seen lane)
 
-  -- all lots of a work: what was put, and what was not
-  abbrev pub whole : Work C → Option (List Lot)
-  whole work = option_map (λ l. lots_put work.pass ++ l) (left work)
+  -- those of what has not been put: the lot that was handed back, and what the lane has still to give
+  abbrev pub left : Work C → Option (List ℕ)
+  left work = option_map (λ l. bytes_of (option_to_list work.kept) ++ l) (bytes_left work.lane)
 
-  -- all lots of a work are put, unless memory ran out in its lane
+  -- those of all lots of a work: what was put, and what was not
+  abbrev pub whole : Work C → Option (List ℕ)
+  whole work = option_map (λ l. bytes_of (lots_put work.pass) ++ l) (left work)
+
+  -- all packets of a work are put, unless memory ran out in its lane
   pub record IsPut (work : Work C) (pass : LanePass) : Type 0 where
     pub number : number_of pass ≡ number_of work.pass
     pub well : AllWell (lots_put pass) → AllWell (given work)
-    pub all : AllWell (lots_put pass) → IfSome (whole work) (λ l. lots_put pass ≡ l)
+    pub all : AllWell (lots_put pass) → IfSome (whole work) (λ l. bytes_of (lots_put pass) ≡ l)
 
-  -- the work goes on: unless memory ran out in its lane, its lots are what they were
+  -- the work goes on: unless memory ran out in its lane, its packets are what they were
   pub record KeepsWork (before after : Work C) : Type 0 where
     pub number : number_of after.pass ≡ number_of before.pass
     pub well : AllWell (given after) → AllWell (given before)
@@ -91,11 +114,11 @@ module _ {C : Type 0} (seen : C → Seen Output) where
     pub ready : (belt : Belt) → IsReady belt before → IsReadyOutcome belt outcome
     pub drives : Drives before outcome
 
-  -- what the taker's table has of a work: all its lots, unless memory ran out in its lane
+  -- what the taker's table has of a work: all its packets, unless memory ran out in its lane
   pub record IsEntryOf (work : Work C) (entry : Settled) : Type 0 where
     pub lane : entry.lane ≡ number_of work.pass
     pub own : AllByRecursion (IsOwn entry.lane) entry.list
-    pub list : AllWell entry.list → IfSome (whole work) (λ l. entry.list ≡ l)
+    pub list : AllWell entry.list → IfSome (whole work) (λ l. bytes_of entry.list ≡ l)
 
   -- The table is one entry longer for each work, in order. Where memory ran out, nothing is said of them.
   abbrev pub Settles : Bool → List (Work C) → List Settled → List Settled → Type 0

@@ -1,14 +1,16 @@
 //! The work of a lane, and how it is driven.
 
-ghost use Rattle.std.specs.Prelude.{◌≡◌, ◌⊎◌, Some, None, IfNone, IfSome};
+ghost use Rattle.std.specs.Prelude.{◌≡◌, ◌⊎◌, ℕ, List, Option, Some, None, IfNone, IfSome};
 ghost use Rattle.std.specs.Option.{option_to_list};
 ghost use Rattle.packet_codec.specs.Grammar.{AreBytes};
 ghost use Rattle.worker_lane.specs.Rest.{Gives, IsOver};
-ghost use Rattle.worker_lane.specs.Lanes.{rest, lane_number};
+ghost use Rattle.worker_lane.specs.Endings.{IsLotOf};
+ghost use Rattle.worker_lane.specs.Lanes.{lane_number};
 ghost use Rattle.worker_lane.specs.declared.lot.Lot.TheVariants.{End};
 ghost use Rattle.worker_lane.specs.declared.lot.Ending.TheVariants.{NoMemory as without_memory};
 ghost use Rattle.worker_mux.specs.Passes.{number_of};
-ghost use Rattle.worker_mux.specs.Works.{HasBytes, IsOwn, left, IsReady, IsReadyOutcome, Drives};
+ghost use Rattle.worker_mux.specs.Callers.{packet_of};
+ghost use Rattle.worker_mux.specs.Works.{ArePacketsUnder, AreOwn, HasBytes, IsOwn, bytes_of, bytes_left, left, IsReady, IsReadyOutcome, Drives};
 
 use crate::belt::Belt;
 use crate::gate::Gate;
@@ -16,6 +18,7 @@ use crate::pass::LanePass;
 use edge_io::Child;
 use std::sync::Wait;
 use std::sync::atomic::{AtomicBool, Ordering};
+use sub_number::Bytes;
 use worker_lane::{Lane, Lot};
 
 /// What all lanes share: the belt, the gate at which threads wait for its moves, and whether memory ran out.
@@ -60,17 +63,58 @@ fn has_bytes(lot: &Lot)
     }
 }
 
+// From so many bytes on no packet is joined to others, and not more than so many are.
+const FULL: usize = 65_536;
+
+const MOST: u32 = 65_536;
+
+// Joins to the packets those behind them that need no further read of the child.
+fn join_packets<C: Child>(lane: &mut Lane<C>, packets: &mut Vec<u8>)
+    requires own { ArePacketsUnder (lane_number lane.old) packets.old.items }
+    ensures number { lane_number lane.new ≡ lane_number lane.old }
+    ensures own { ArePacketsUnder (lane_number lane.old) packets.new.items }
+    ensures gives { (start : Option (List ℕ)) → Gives start packets.old.items (bytes_left C.seen lane.old) → Gives start packets.new.items (bytes_left C.seen lane.new) }
+{
+    for _ in 0..MOST {
+        if packets.len() >= FULL {
+            return;
+        }
+        if !lane.more_into(packets) {
+            return;
+        }
+    }
+}
+
+// A lot that the lane gave, with what is joined to it.
+fn join<C: Child>(lane: &mut Lane<C>, lot: Lot) -> Lot
+    requires under { IsLotOf (lane_number lane.old) lot }
+    ensures number { lane_number lane.new ≡ lane_number lane.old }
+    ensures own { AreOwn (lane_number lane.old) result }
+    ensures gives { (start : Option (List ℕ)) → Gives start (packet_of lot) (bytes_left C.seen lane.old) → Gives start (packet_of result) (bytes_left C.seen lane.new) }
+    ensures lack { lot ≡ End without_memory → result ≡ End without_memory }
+{
+    match lot {
+        Lot::Packet(packet) => {
+            let mut packets = packet.into_vec();
+            join_packets(lane, &mut packets);
+            Lot::Packet(Bytes::from_vec(packets))
+        }
+        Lot::End(how) => Lot::End(how),
+    }
+}
+
 impl<C: Child> Work<C> {
-    // The lane's next lot.
+    // The lane's next lot: of packets as many as need no further read of the child.
     fn step(&mut self) -> Option<Lot>
         ensures pass { self.new.pass ≡ self.old.pass }
         ensures kept { self.new.kept ≡ self.old.kept }
         ensures number { lane_number self.new.lane ≡ lane_number self.old.lane }
         ensures own { IfSome result (IsOwn (lane_number self.old.lane)) }
-        ensures gives { (result ≡ Some (End without_memory)) ⊎ Gives (rest C.seen self.old.lane) (option_to_list result) (rest C.seen self.new.lane) }
-        ensures none { IfNone result (IsOver (rest C.seen self.new.lane)) }
+        ensures gives { (result ≡ Some (End without_memory)) ⊎ Gives (bytes_left C.seen self.old.lane) (bytes_of (option_to_list result)) (bytes_left C.seen self.new.lane) }
+        ensures none { IfNone result (IsOver (bytes_left C.seen self.new.lane)) }
     {
         let lot = self.lane.step()?;
+        let lot = join(&mut self.lane, lot);
         has_bytes(&lot);
         Some(lot)
     }
@@ -83,7 +127,7 @@ impl<C: Child> Work<C> {
         ensures number { lane_number self.new.lane ≡ lane_number self.old.lane }
         ensures own { IfSome result (IsOwn (number_of self.old.pass)) }
         ensures kept { self.new.kept ≡ None }
-        ensures gives { (result ≡ Some (End without_memory)) ⊎ Gives (left C.seen self.old) (option_to_list result) (left C.seen self.new) }
+        ensures gives { (result ≡ Some (End without_memory)) ⊎ Gives (left C.seen self.old) (bytes_of (option_to_list result)) (left C.seen self.new) }
         ensures first { IfSome self.old.kept (λ lot. result ≡ Some lot) }
         ensures none { IfNone result (IsOver (left C.seen self.new)) }
     {
