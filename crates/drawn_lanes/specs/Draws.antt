@@ -1,0 +1,23 @@
+-- The draws of a linear congruence (docs/FORMATS.md, "Generated outputs").
+use Rattle.std.specs.Prelude.{ℕ, zero, suc, ◌+◌, ◌*◌, ◌/◌, ◌%◌, ◌^◌}
+
+-- the state that a seed begins with
+abbrev pub begun : (seed : ℕ) → ℕ
+begun seed = seed % 2 ^ 31
+
+-- a draw puts this state in the place of another
+abbrev pub next_state : ℕ → ℕ
+next_state state = (state * 1103515245 + 12345) % 2 ^ 31
+
+-- and gives this number, of the state that it leaves
+abbrev pub number_of : ℕ → ℕ
+number_of state = state / 65536
+
+-- the state after so many draws
+abbrev pub after : (draws : ℕ) → ℕ → ℕ
+after zero state = state
+after (suc draws) state = next_state (after draws state)
+
+-- the number of the draw before which there were so many
+abbrev pub drawn : (before : ℕ) → ℕ → ℕ
+drawn before state = number_of (after (suc before) state)

@@ -1,0 +1,22 @@
+//! What workers print whose tests are drawn from a seed.
+//!
+//! This room knows made-up tests and the packets that tell of them; it knows nothing of how workers are read. The rule
+//! stands in docs/FORMATS.md, "Generated outputs".
+//!
+//! - `draws`: numbers drawn from a seed
+//! - `packets`: the packets of a test for which a number was drawn
+//! - `lanes`: what each lane's worker prints
+//! - `laws`: what holds of the events of all lanes
+#![tactic(auto)]
+
+mod draws;
+mod lanes;
+mod laws;
+mod packets;
+
+pub use draws::Draws;
+pub use lanes::plans;
+pub use laws::drawn_events_have_packets;
+
+#[cfg(test)]
+mod tests;
