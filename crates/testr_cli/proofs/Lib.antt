@@ -34,6 +34,8 @@ pub mod SuiteLaws
 pub mod PromiseLemmas
 pub mod Performing
 pub mod SuitePromises
+pub mod SelfTestLaws
+pub mod SelfTestRows
 pub mod SelectLemmas
 pub mod PlanLemmas
 pub mod RunLemmas

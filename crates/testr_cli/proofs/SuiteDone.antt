@@ -215,20 +215,20 @@ plan_leaves settings selected a b jobs plans =
 
 -- ---- the workers
 
-record Worked (partial : Bool) (number : ℕ) (jobs : List Job) (rows : List Row) (a b : Work) : Type 0 where
-  outputs : List Output
-  started : Goes a.spawner.told b.spawner.told (StartsAll jobs outputs)
-  events : List Event
+pub record Worked (partial : Bool) (number : ℕ) (jobs : List Job) (rows : List Row) (a b : Work) : Type 0 where
+  pub outputs : List Output
+  pub started : Goes a.spawner.told b.spawner.told (StartsAll jobs outputs)
+  pub events : List Event
   are_events : All IsEvent events
   fit : All Fits events
   of_lanes : All (IsOfLaneBelow (length jobs)) events
-  of_workers : IfSome a.spawner.told (λ _. AreOfOutputs events outputs)
-  rows_are : rows ≡ rows_of events
+  pub of_workers : IfSome a.spawner.told (λ _. AreOfOutputs events outputs)
+  pub rows_are : rows ≡ rows_of events
   kept : Goes a.folder.told b.folder.told (KeepsRun number (run_of partial (run_bytes events)))
   input : b.input ≡ a.input
   out : b.out.told ≡ a.out.told
 
-work_did : (partial : Bool) (number : ℕ) (jobs : List Job) (a b : Work) (rows : List Row) → length jobs ≤ 64 → Works partial number jobs a b (Ok rows) → Worked partial number jobs rows a b
+pub work_did : (partial : Bool) (number : ℕ) (jobs : List Job) (a b : Work) (rows : List Row) → length jobs ≤ 64 → Works partial number jobs a b (Ok rows) → Worked partial number jobs rows a b
 work_did partial number jobs a b rows few works =
     let begun = then_did rows works in
     let started = then_did rows begun.next in

@@ -1,5 +1,5 @@
 -- What the options with a value say.
-use Rattle.std.proofs.Common.{◌≡◌, ◌≤◌, ℕ, Bool, true, false, List, [], ◌∷◌, ◌++◌, map, Option, None, Some, Result, Ok, refl, sym, ap, ◌∙◌, arith}
+use Rattle.std.proofs.Common.{◌≡◌, ◌<◌, ◌≤◌, ◌^◌, ℕ, Bool, true, false, List, [], ◌∷◌, ◌++◌, map, Option, None, Some, Result, Ok, refl, sym, ap, ◌∙◌, arith}
 use Rattle.std.specs.Prelude.{◌&&◌, nat_le}
 use Rattle.std.specs.Fmt.{decimal}
 use Rattle.std.specs.List.{list_all, flat_map}
@@ -12,25 +12,25 @@ use Rattle.std.proofs.lemmas.Slice.Eq.{bytes_eq-Decides}
 use Rattle.std.specs.Option.{option_to_list}
 use Rattle.command_words.specs.Code.{shown}
 use Rattle.command_words.specs.declared.item.Item as code
-use Rattle.suite_plan.specs.declared.sharing.TheConstants.{MOST_WORKERS}
-use Rattle.testr_cli.specs.Words.{concurrency_word, value_of, values_in, last_of, is_worker_count, worker_count, count_or_zero, workers_in}
+use Rattle.testr_cli.specs.Words.{concurrency_word, value_of, values_in, last_of, is_number, number_of, is_worker_count, count_or_zero, workers_in}
 
--- what is written as so small a number tells that number
-pub tells : (value : List ℕ) (number : ℕ) → number ≤ MOST_WORKERS → value ≡ decimal number → Some number ≡ worker_count value
-tells value number few is =
-    let same : digits_value 10 value ≡ number = ap (digits_value 10) is ∙ (decimal_is_IsNumeral number (omega (arith, few))).1 in
-    let written : bytes_eq value (decimal (digits_value 10 value)) ≡ true = (bytes_eq-Decides value (decimal (digits_value 10 value))).1 (is ∙ ap decimal (sym same)) in
-    let small : nat_le (digits_value 10 value) MOST_WORKERS ≡ true = le-leb (digits_value 10 value) MOST_WORKERS (omega (arith, same, few)) in
-    let counts : is_worker_count value ≡ true = and_from (bytes_eq value (decimal (digits_value 10 value))) (nat_le (digits_value 10 value) MOST_WORKERS) written small in
-    ap Some (sym same) ∙ sym (cond-true (is_worker_count value) (Some (digits_value 10 value)) None counts)
+module _ (most : ℕ) (small : most < 2 ^ 32) where
+  -- what is written as a number up to this tells that number
+  pub tells : (value : List ℕ) (number : ℕ) → number ≤ most → value ≡ decimal number → Some number ≡ number_of most value
+  tells value number few is =
+      let same : digits_value 10 value ≡ number = ap (digits_value 10) is ∙ (decimal_is_IsNumeral number (omega (arith, few, small))).1 in
+      let written : bytes_eq value (decimal (digits_value 10 value)) ≡ true = (bytes_eq-Decides value (decimal (digits_value 10 value))).1 (is ∙ ap decimal (sym same)) in
+      let fits : nat_le (digits_value 10 value) most ≡ true = le-leb (digits_value 10 value) most (omega (arith, same, few)) in
+      let counts : is_number most value ≡ true = and_from (bytes_eq value (decimal (digits_value 10 value))) (nat_le (digits_value 10 value) most) written fits in
+      ap Some (sym same) ∙ sym (cond-true (is_number most value) (Some (digits_value 10 value)) None counts)
 
--- and what is written as no such number tells none
-pub tells_none : (value : List ℕ) → ((number : ℕ) → number ≤ MOST_WORKERS → value ≡ decimal number → ⊥) → None ≡ worker_count value
-tells_none value other =
-    let counts_not : is_worker_count value ≡ false = false_from_ne_true (is_worker_count value) (λ counts.
-    let parts = and_parts (bytes_eq value (decimal (digits_value 10 value))) (nat_le (digits_value 10 value) MOST_WORKERS) counts in
-    other (digits_value 10 value) (leb-true (digits_value 10 value) MOST_WORKERS parts.1) ((bytes_eq-Decides value (decimal (digits_value 10 value))).0 parts.0)) in
-    sym (cond-false (is_worker_count value) (Some (digits_value 10 value)) None counts_not)
+  -- and what is written as no such number tells none
+  pub tells_none : (value : List ℕ) → ((number : ℕ) → number ≤ most → value ≡ decimal number → ⊥) → None ≡ number_of most value
+  tells_none value other =
+      let counts_not : is_number most value ≡ false = false_from_ne_true (is_number most value) (λ counts.
+      let parts = and_parts (bytes_eq value (decimal (digits_value 10 value))) (nat_le (digits_value 10 value) most) counts in
+      other (digits_value 10 value) (leb-true (digits_value 10 value) most parts.1) ((bytes_eq-Decides value (decimal (digits_value 10 value))).0 parts.0)) in
+      sym (cond-false (is_number most value) (Some (digits_value 10 value)) None counts_not)
 
 -- each of all is fit where those of each item are
 pub all_of_each : {A B C : Type 0} (p : C → Bool) (f : B → List C) (g : A → B) (xs : List A) → list_all p (flat_map f (map g xs)) ≡ list_all (λ x. list_all p (f (g x))) xs

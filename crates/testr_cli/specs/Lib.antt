@@ -2,6 +2,7 @@ pub mod Steps
 pub mod Outside
 pub mod Tasks
 pub mod Suites
+pub mod Drawings
 pub mod Words
 pub mod Runs
 pub mod Verdicts
@@ -19,12 +20,14 @@ pub mod SuiteTexts
 pub mod Answer
 pub mod Selecting
 pub mod RunSuite
+pub mod SelfTest
 pub mod Init
 pub mod Load
 pub mod Ask
 pub mod Stops
 pub mod Program
 pub mod SuiteStops
+pub mod SelfTestProgram
 pub mod SuiteProgram
 pub mod Exact
 pub mod ExactSuite

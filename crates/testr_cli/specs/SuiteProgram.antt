@@ -36,6 +36,7 @@ use Rattle.testr_cli.specs.Program.{GivesUp, KeepsRuns, AddsRun, Tells, Promises
 use Rattle.testr_cli.specs.RunSuite.{ListsSuite, RunsSuite}
 use Rattle.testr_cli.specs.Runs.{HasRuns}
 use Rattle.testr_cli.specs.Selecting.{Selects, Plans}
+use Rattle.testr_cli.specs.SelfTestProgram.{SelfTestPromises, drawing_asked_by}
 use Rattle.testr_cli.specs.Steps.{Step}
 use Rattle.testr_cli.specs.SuiteStops.{PassesSuite}
 use Rattle.testr_cli.specs.Suites.{Suite, list, run, RunOptions, is_partial, suite_of}
@@ -43,6 +44,7 @@ use Rattle.testr_cli.specs.Words.{testr_word, and_then, command_of, asked_by}
 use Rattle.testr_cli.specs.declared.answer.Refusal.{Refusal}
 use Rattle.testr_cli.specs.declared.answer.Refusal.TheVariants.{Keep, Report, Print, Call, Listing}
 use Rattle.testr_cli.specs.declared.answer.Verdict.{Verdict}
+use Rattle.testr_cli.specs.declared.drawing.Drawing.{Drawing}
 use Rattle.testr_cli.specs.declared.selecting.Selected.{Selected}
 use Rattle.testr_cli.specs.declared.words.UsageFault.TheVariants.{Words}
 
@@ -210,10 +212,11 @@ pub record SuitePromises (asked : Suite) (before after : Outside) (answer : ℕ)
 abbrev pub suite_asked_by : List (List ℕ) → Option Suite
 suite_asked_by words = and_then (command_of words) suite_of
 
--- What `testr` promises for all its words: those that start programs, and all others, which leave the spawner.
+-- What `testr` promises for all its words: those that start programs, `selftest`, and all others, which leave the spawner.
 pub record TestrPromises (words : List (List ℕ)) (before after : Outside) (answer : ℕ) : Type 0 where
   pub suite : (asked : Suite) → suite_asked_by words ≡ Some asked → SuitePromises asked before after answer
-  pub others : suite_asked_by words ≡ None → Promises true Words (asked_by words) before after answer × (after.spawner ≡ before.spawner)
+  pub selftest : (asked : Drawing) → drawing_asked_by words ≡ Some asked → SelfTestPromises asked before after answer
+  pub others : suite_asked_by words ≡ None → drawing_asked_by words ≡ None → Promises true Words (asked_by words) before after answer × (after.spawner ≡ before.spawner)
 
 -- What each call of the program promises for all its words: what `testr` does for those behind its name, and for others
 -- what the filters do, which also say where words are neither.

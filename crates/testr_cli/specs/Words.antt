@@ -2,7 +2,7 @@
 use Rattle.std.specs.Prelude.{Bool, true, false, ◌&&◌, ◌||◌, nat_le, Option, Some, None, List, [], ◌∷◌, ℕ, length, codes, if◌then◌else◌}
 use Rattle.std.specs.Fmt.{decimal}
 use Rattle.std.specs.List.{list_any, list_all, flat_map, fold}
-use Rattle.std.specs.Option.{option_to_list}
+use Rattle.std.specs.Option.{option_map, option_to_list}
 use Rattle.std.specs.Str.{bytes_eq}
 use Rattle.std.specs.Str.Parse.{digits_value}
 use Rattle.command_words.specs.declared.table.Kind.{Kind}
@@ -14,6 +14,8 @@ use Rattle.testr_cli.specs.declared.words.UsageFault.TheVariants.{Words}
 use Rattle.testr_cli.specs.declared.command.Verb.{Verb}
 use Rattle.testr_cli.specs.declared.command.Verb.TheVariants.{Init, Load, Run, Last, Failing, Slowest, Stats, ListTests, SelfTest}
 use Rattle.testr_cli.specs.declared.command.Command.{Command}
+use Rattle.testr_cli.specs.Drawings.{if_few}
+use Rattle.testr_cli.specs.declared.drawing.Drawing.{Drawing}
 use Rattle.testr_cli.specs.Tasks.{Task, task_of}
 
 abbrev pub testr_word : List ℕ
@@ -50,7 +52,8 @@ verb_of word =
     else (if bytes_eq word (codes "slowest") then Some Slowest
     else (if bytes_eq word (codes "stats") then Some Stats
     else (if bytes_eq word (codes "list-tests") then Some ListTests
-    else None)))))))
+    else (if bytes_eq word (codes "selftest") then Some SelfTest
+    else None))))))))
 
 -- this option is a flag, and there is no other
 abbrev pub only_flag : List ℕ → List ℕ → Option Kind
@@ -78,7 +81,7 @@ kinds_of Stats word = None
 kinds_of ListTests word = None
 kinds_of SelfTest word = None
 
--- how many names there may be; none where there is no end to them
+-- How many names there may be; none where there is no end to them. Those of `selftest` are numbers.
 abbrev pub most_names : Verb → Option ℕ
 most_names Load = Some 64
 most_names Run = None
@@ -139,13 +142,20 @@ last_behind before values = fold (λ stood value. Some value) before values
 abbrev pub last_of : List (List ℕ) → Option (List ℕ)
 last_of values = last_behind None values
 
--- The value is the decimal of a number of workers that a run may have, or of 0.
-abbrev pub is_worker_count : List ℕ → Bool
-is_worker_count value = bytes_eq value (decimal (digits_value 10 value)) && nat_le (digits_value 10 value) MOST_WORKERS
+-- The value is the decimal of a number up to this.
+abbrev pub is_number : (most : ℕ) → List ℕ → Bool
+is_number most value = bytes_eq value (decimal (digits_value 10 value)) && nat_le (digits_value 10 value) most
 
 -- that number
+abbrev pub number_of : (most : ℕ) → List ℕ → Option ℕ
+number_of most value = if is_number most value then Some (digits_value 10 value) else None
+
+-- a number of workers that a run may have, or 0
+abbrev pub is_worker_count : List ℕ → Bool
+is_worker_count value = is_number MOST_WORKERS value
+
 abbrev pub worker_count : List ℕ → Option ℕ
-worker_count value = if is_worker_count value then Some (digits_value 10 value) else None
+worker_count value = number_of MOST_WORKERS value
 
 -- the number that the last value tells, or 0 where there is none
 abbrev pub count_or_zero : Option (List ℕ) → Option ℕ
@@ -164,6 +174,49 @@ if_text (Some word) = if is_text word then Some (Some word) else None
 -- the file of the ids that are wanted; of several the last one stands
 abbrev pub load_list_in : List Item → Option (Option (List ℕ))
 load_list_in items = if_text (last_of (values_in load_list_word items))
+
+-- ---- what the names of `selftest` say
+
+-- the name that the item is
+abbrev pub name_of : Item → Option (List ℕ)
+name_of (flag word) = None
+name_of (valued word value) = None
+name_of (name word) = Some word
+
+-- the drawing of a seed, of nine digits at most, a number of lanes and a number of tests
+abbrev pub drawing_of_names : (seed lanes tests : List ℕ) → Option Drawing
+drawing_of_names seed lanes tests =
+    and_then (number_of 999999999 seed) (λ seed.
+    and_then (number_of 64 lanes) (λ lanes.
+    and_then (number_of 1000000 tests) (λ tests.
+    if_few (record { seed = seed; lanes = lanes; tests = tests }))))
+
+-- the three items are the names of a seed, lanes and tests
+abbrev pub drawing_in : List Item → Option Drawing
+drawing_in (seed ∷ lanes ∷ tests ∷ []) =
+    and_then (name_of seed) (λ seed.
+    and_then (name_of lanes) (λ lanes.
+    and_then (name_of tests) (λ tests.
+    drawing_of_names seed lanes tests)))
+drawing_in items = None
+
+-- the command of a drawing, which has no names of its own
+abbrev pub command_of_drawing : Drawing → Command
+command_of_drawing drawing = record {
+  verb = SelfTest;
+  partial = false;
+  failing = false;
+  parallel = false;
+  concurrency = 0;
+  load_list = None;
+  list = false;
+  all = false;
+  subunit = false;
+  names = [];
+  seed = drawing.seed;
+  lanes = drawing.lanes;
+  tests = drawing.tests;
+}
 
 -- ---- the command of options and names
 
@@ -185,12 +238,24 @@ command_with verb items names workers load_list = if may_have (most_names verb) 
   tests = 0;
 }) else None
 
-abbrev pub command_of_items : Verb → List Item → Option Command
-command_of_items verb items =
+-- a command whose names are files or patterns
+abbrev pub command_of_names : Verb → List Item → Option Command
+command_of_names verb items =
     and_then (if_texts (names_in items)) (λ names.
     and_then (workers_in items) (λ workers.
     and_then (load_list_in items) (λ load_list.
     command_with verb items names workers load_list)))
+
+abbrev pub command_of_items : Verb → List Item → Option Command
+command_of_items SelfTest items = option_map command_of_drawing (drawing_in items)
+command_of_items Init items = command_of_names Init items
+command_of_items Load items = command_of_names Load items
+command_of_items Run items = command_of_names Run items
+command_of_items Last items = command_of_names Last items
+command_of_items Failing items = command_of_names Failing items
+command_of_items Slowest items = command_of_names Slowest items
+command_of_items Stats items = command_of_names Stats items
+command_of_items ListTests items = command_of_names ListTests items
 
 -- ---- which command words are
 

@@ -4,11 +4,11 @@
 //! name, a spawner of programs, an input and two sinks. Its contract is the theorem of each command. It knows the words,
 //! the order of the steps and the refusals, and never a real file or process.
 //!
-//! - `command`, `words`, `values`: which words are a command
+//! - `command`, `drawing`, `words`, `values`: which words are a command
 //! - `store`, `recording`, `files`, `reporting`, `told`, `copying`, `asking`: the steps, each with why it refuses
 //! - `selecting`, `planning`, `working`: which tests run, what each worker is started with, and the workers themselves
 //! - `answer`, `suite_refusals`, `telling`: statuses and refusals by step, and the lines that tell of them
-//! - `init`, `load`, `ask`, `run`, `list`: the commands, each a chain of steps
+//! - `init`, `load`, `ask`, `run`, `list`, `selftest`: the commands, each a chain of steps
 //! - `top`: `program`, `testr` and `quiet`
 //! - `laws`, `suite_laws`: each named refusal comes exactly where its cause is
 #![tactic(auto)]
@@ -18,6 +18,7 @@ mod ask;
 mod asking;
 mod command;
 mod copying;
+mod drawing;
 mod files;
 mod init;
 mod laws;
@@ -28,6 +29,7 @@ mod recording;
 mod reporting;
 mod run;
 mod selecting;
+mod selftest;
 mod store;
 mod suite_laws;
 mod suite_refusals;
@@ -64,6 +66,8 @@ mod tests_list;
 mod tests_load;
 #[cfg(test)]
 mod tests_run;
+#[cfg(test)]
+mod tests_selftest;
 #[cfg(test)]
 mod tests_store;
 #[cfg(test)]

@@ -24,7 +24,7 @@ pub const SHELF_FAULT: &[u8] = b"testr: fault of the repository folder\n";
 
 pub const NOTHING: &[u8] = b"";
 
-const WRONG_USAGE: &[u8] = b"testr: wrong usage\n";
+pub const WRONG_USAGE: &[u8] = b"testr: wrong usage\n";
 
 const USAGE: &[u8] = b"usage: testr COMMAND or a subunit filter\n";
 

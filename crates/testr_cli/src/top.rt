@@ -1,12 +1,14 @@
 //! The top call.
 
 ghost use Rattle.std.specs.Prelude.{◌≡◌, ℕ, List, true, false, Some, None};
-ghost use Rattle.edge_io.specs.Disk.{Folder};
+ghost use Rattle.edge_io.specs.Disk.{Files, Folder};
 ghost use Rattle.edge_io.specs.Seen.{Seen};
 ghost use Rattle.edge_io.specs.Spawners.{Spawning};
 ghost use Rattle.command_words.specs.Items.{texts};
+ghost use Rattle.testr_cli.specs.Drawings.{are_few, drawing_of as drawing_asked_in};
 ghost use Rattle.testr_cli.specs.Outside.{outside, work};
 ghost use Rattle.testr_cli.specs.Program.{Promises, Performs, Tells};
+ghost use Rattle.testr_cli.specs.SelfTestProgram.{SelfTestAnswers};
 ghost use Rattle.testr_cli.specs.SuiteProgram.{ProgramPromises, TestrPromises, SuiteAnswers};
 ghost use Rattle.testr_cli.specs.Suites.{Suite, run as run_asked, list as list_asked, run_options, suite_of};
 ghost use Rattle.testr_cli.specs.Tasks.{task_of, task_with};
@@ -15,10 +17,12 @@ ghost use Rattle.testr_cli.specs.declared.words.UsageFault.TheVariants.{Words};
 
 use crate::ask::ask;
 use crate::command::{Command, Question, Verb};
+use crate::drawing::{Drawing, drawing_of};
 use crate::init::init;
 use crate::list::list;
 use crate::load::load;
 use crate::run::run;
+use crate::selftest::selftest;
 use crate::telling::tell;
 use crate::words::{MOST_FILES, UsageFault, is_testr, reads};
 use crate::{Refusal, Verdict};
@@ -35,7 +39,8 @@ use suite_plan::read_conf;
 /// [`filters`]; where the first one is no filter's name either, the usage line of the whole program is written to `err`,
 /// and the status is 2.
 ///
-/// The workers of `run` are read on threads of `rt`. `run` and `list-tests` may wait for the programs that they start.
+/// The workers of `run` and `selftest` are read on threads of `rt`. `run` and `list-tests` may wait for the programs that
+/// they start, and `selftest` for its threads.
 pub fn program<
     R: Threads + Wait + Sync,
     H: Shelf,
@@ -88,7 +93,8 @@ pub fn program<
 ///
 /// `run` reads `.testr.conf`, starts the project's tests in worker processes, reads these side by side, keeps what is
 /// recorded of them as the next run, and prints its report; `list-tests` prints the tests that the project lists. The two
-/// may wait for programs that they start. All other commands leave the spawner as it was.
+/// may wait for programs that they start. All other commands leave the spawner as it was. `selftest` runs made-up workers in
+/// memory, for whose threads it may wait, and prints the summary of their run; it touches the sinks alone.
 pub fn testr<R: Threads + Wait + Sync, H: Shelf, S: Spawner, F: Site, I: Source, O: Sink, E: Sink>(
     rt: &R,
     alloc: Global,
@@ -106,13 +112,63 @@ pub fn testr<R: Threads + Wait + Sync, H: Shelf, S: Spawner, F: Site, I: Source,
         result }
 {
     match reads(alloc, words) {
-        Ok(Some(command)) => obey(rt, alloc, &command, shelf, spawner, site, input, out, err),
+        Ok(Some(command)) => follow(rt, alloc, &command, shelf, spawner, site, input, out, err),
         Ok(None) => answer(Err(Refusal::Usage(UsageFault::Words)), err),
         Err(fault) => answer(Err(Refusal::Memory(fault)), err),
     }
 }
 
 // Does what the command says, and answers its status.
+fn follow<R: Threads + Wait + Sync, H: Shelf, S: Spawner, F: Site, I: Source, O: Sink, E: Sink>(
+    rt: &R,
+    alloc: Global,
+    command: &Command,
+    shelf: &mut H,
+    spawner: &mut S,
+    site: &mut F,
+    input: &mut I,
+    out: &mut O,
+    err: &mut E,
+) -> u8
+    ensures suite { (asked : Suite) → suite_of command.now ≡ Some asked → SuiteAnswers asked
+        (outside (H.seen shelf.old) (F.seen site.old) (S.seen spawner.old) (I.seen input.old) (O.seen out.old) (E.seen err.old))
+        (outside (H.seen shelf.new) (F.seen site.new) (S.seen spawner.new) (I.seen input.new) (O.seen out.new) (E.seen err.new))
+        result }
+    ensures selftest { (asked : Drawing) → drawing_asked_in command.now ≡ Some asked → SelfTestAnswers asked
+        (outside (H.seen shelf.old) (F.seen site.old) (S.seen spawner.old) (I.seen input.old) (O.seen out.old) (E.seen err.old))
+        (outside (H.seen shelf.new) (F.seen site.new) (S.seen spawner.new) (I.seen input.new) (O.seen out.new) (E.seen err.new))
+        result }
+    ensures others { suite_of command.now ≡ None → drawing_asked_in command.now ≡ None → Promises false Words (task_of command.now)
+        (outside (H.seen shelf.old) (F.seen site.old) (S.seen spawner.old) (I.seen input.old) (O.seen out.old) (E.seen err.old))
+        (outside (H.seen shelf.new) (F.seen site.new) (S.seen spawner.new) (I.seen input.new) (O.seen out.new) (E.seen err.new))
+        result }
+    ensures spawner { suite_of command.now ≡ None → S.seen spawner.new ≡ S.seen spawner.old }
+{
+    match drawing_of(command) {
+        Some(drawing) => test_itself(rt, alloc, drawing, out, err),
+        None => obey(rt, alloc, command, shelf, spawner, site, input, out, err),
+    }
+}
+
+// Runs the workers of the drawing, and sums them up.
+fn test_itself<R: Threads + Wait + Sync, O: Sink, E: Sink>(
+    rt: &R,
+    alloc: Global,
+    drawing: Drawing,
+    out: &mut O,
+    err: &mut E,
+) -> u8
+    requires few { are_few drawing.lanes drawing.tests ≡ true }
+    ensures { (folder : Seen Folder) → (site : Seen Files) → (spawner : Seen Spawning) → (input : Seen (List ℕ)) → SelfTestAnswers drawing
+        (outside folder site spawner input (O.seen out.old) (E.seen err.old))
+        (outside folder site spawner input (O.seen out.new) (E.seen err.new))
+        result }
+{
+    let outcome = selftest(rt, alloc, drawing, out);
+    answer(outcome, err)
+}
+
+// Does what the command says, where that is not to test itself, and answers its status.
 fn obey<R: Threads + Wait + Sync, H: Shelf, S: Spawner, F: Site, I: Source, O: Sink, E: Sink>(
     rt: &R,
     alloc: Global,

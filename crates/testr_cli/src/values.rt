@@ -89,11 +89,19 @@ fn is_fit(item: Item<'_>) -> bool
 fn worker_count(value: &str) -> Option<u32>
     ensures { result ≡ words.worker_count value.now }
 {
+    number(value, MOST_WORKERS)
+}
+
+/// The number, this one at most, that the value tells in decimal, without sign or leading zero. None comes exactly where it
+/// tells none.
+pub(crate) fn number(value: &str, most: u32) -> Option<u32>
+    ensures { result ≡ words.number_of most value.now }
+{
     let Ok(number) = value.parse::<u32>() else {
         return None;
     };
     let mut digits = Buffer::new();
-    if number <= MOST_WORKERS && digits.format(number) == value {
+    if number <= most && digits.format(number) == value {
         Some(number)
     } else {
         None

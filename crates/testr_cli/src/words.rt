@@ -1,13 +1,14 @@
 //! Reads the words of the command line.
 
-ghost use Rattle.std.specs.Prelude.{◌≡◌, ◌++◌, true, map, IfOk};
+ghost use Rattle.std.specs.Prelude.{◌≡◌, ◌++◌, true, map, option_map, IfOk};
 ghost use Rattle.command_words.specs.Code.{shown};
 ghost use Rattle.command_words.specs.Items.{texts, is_text};
 ghost use Rattle.std.specs.List.{list_any, list_all};
 ghost use Rattle.testr_cli.specs.Telling.{line_text};
-ghost use Rattle.testr_cli.specs.Words.{usage_text, names_testr, verb_of, kinds_of, only_flag, run_kind, is_run_flag as is_flag_of_run, most_names, may_have as may_have_these, has_flag, is_flag as is_this_flag, names_in, names_of, if_texts, command_of_items, command_of_verb, command_of};
+ghost use Rattle.testr_cli.specs.Words.{usage_text, names_testr, verb_of, kinds_of, only_flag, run_kind, is_run_flag as is_flag_of_run, most_names, may_have as may_have_these, has_flag, is_flag as is_this_flag, names_in, names_of, if_texts, command_of_names as command_of_these_names, command_of_drawing, drawing_in as drawing_of_items, command_of_items, command_of_verb, command_of};
 
 use crate::command::{Command, Verb};
+use crate::drawing::drawing_in;
 use crate::telling::Line;
 use crate::values::{load_list_in, workers_in};
 use command_words::{Item, Kind, OptionTable, read_items, text_of};
@@ -72,6 +73,7 @@ fn verb(word: &str) -> Option<Verb>
         "slowest" => Some(Verb::Slowest),
         "stats" => Some(Verb::Stats),
         "list-tests" => Some(Verb::ListTests),
+        "selftest" => Some(Verb::SelfTest),
         _ => None,
     }
 }
@@ -133,6 +135,38 @@ fn reads_behind(alloc: Global, verb: Verb, words: &[String]) -> Result<Option<Co
     }
 }
 
+// The command of this verb and these options and names.
+fn command(alloc: Global, verb: Verb, items: &[Item<'_>]) -> Result<Option<Command>, NoMemory>
+    ensures { IfOk result (λ command. command ≡ command_of_items verb (map shown items.now)) }
+{
+    match verb {
+        Verb::SelfTest => Ok(drawing_command(alloc, items)),
+        _ => command_of_names(alloc, verb, items),
+    }
+}
+
+// The command whose names are the numbers of a drawing. None comes exactly where they are none.
+fn drawing_command(alloc: Global, items: &[Item<'_>]) -> Option<Command>
+    ensures { result ≡ option_map command_of_drawing (drawing_of_items (map shown items.now)) }
+{
+    let drawing = drawing_in(items)?;
+    Some(Command {
+        verb: Verb::SelfTest,
+        partial: false,
+        failing: false,
+        parallel: false,
+        concurrency: 0,
+        load_list: None,
+        list: false,
+        all: false,
+        subunit: false,
+        names: IdList::new(alloc),
+        seed: drawing.seed,
+        lanes: drawing.lanes,
+        tests: drawing.tests,
+    })
+}
+
 // How many names the verb has at most. None where there is no such number.
 fn most(verb: Verb) -> Option<usize>
     ensures { result ≡ most_names verb }
@@ -155,9 +189,13 @@ fn may_have(verb: Verb, names: usize) -> bool
     }
 }
 
-// The command of this verb and these options and names.
-fn command(alloc: Global, verb: Verb, items: &[Item<'_>]) -> Result<Option<Command>, NoMemory>
-    ensures { IfOk result (λ command. command ≡ command_of_items verb (map shown items.now)) }
+// The command of this verb and these options, whose names are files or patterns.
+fn command_of_names(
+    alloc: Global,
+    verb: Verb,
+    items: &[Item<'_>],
+) -> Result<Option<Command>, NoMemory>
+    ensures { IfOk result (λ command. command ≡ command_of_these_names verb (map shown items.now)) }
 {
     let Some(names) = names(alloc, items)? else {
         return Ok(None);

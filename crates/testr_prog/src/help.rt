@@ -46,6 +46,7 @@ fn of_command(word: &str) -> Option<&'static str> {
         "failing" => Some(FAILING),
         "slowest" => Some(SLOWEST),
         "stats" => Some(STATS),
+        "selftest" => Some(SELFTEST),
         _ => None,
     }
 }
@@ -67,6 +68,8 @@ Keeps test results as numbered runs in the folder .testrepository of the current
   testr failing [--list]    prints the tests that fail by all runs, or their ids alone
   testr slowest [--all]     prints the slowest ten tests of the last run, or all
   testr stats               prints how many runs there are
+  testr selftest SEED LANES TESTS
+                            runs made-up workers in memory, and prints the summary of their run
 
 testr COMMAND --help tells more of a command, and testr --version which program this is.
 Statuses: 0 passed, 1 tests failed, 2 wrong usage, 3 refused, 4 a fault of the outside, 5 out of memory.
@@ -134,4 +137,14 @@ const STATS: &str = "\
 usage: testr stats
 Prints how many runs there are. Status 0.
 Example: testr stats
+";
+
+const SELFTEST: &str = "\
+usage: testr selftest SEED LANES TESTS
+Makes up workers, runs them in memory as testr run runs those of a project, and prints the summary of their run. The same
+numbers give the same lines. Status 0 where no test failed, 1 where one did. It needs no repository, and changes none.
+  SEED     what the tests are drawn from, a number of at most nine digits
+  LANES    how many workers there are, 1 to 64
+  TESTS    how many tests each of them has, at least 1; of all workers together 1,000,000 at most
+Example: testr selftest 7 2 2
 ";

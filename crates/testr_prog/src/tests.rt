@@ -428,6 +428,7 @@ fn help_is_for_its_words_alone(rt: HostRuntime) -> Result<(), Fail> {
         "failing",
         "slowest",
         "stats",
+        "selftest",
     ] {
         assert!(rt; has_help(&rt, &["testr", word, "--help"])?);
         assert!(rt; !has_help(&rt, &["testr", word])?);

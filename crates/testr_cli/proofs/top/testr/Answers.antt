@@ -1,9 +1,11 @@
 use Rattle.std.proofs.Common.{◌≡◌, inl, inr, Some, None, refl, sym, ap, subst, ◌∙◌}
+use Rattle.testr_cli.specs.Drawings.{drawing_of}
 use Rattle.testr_cli.specs.Suites.{suite_of}
 use Rattle.testr_cli.specs.Tasks.{task_of}
 use Rattle.testr_cli.specs.Words.{and_then}
 use Rattle.testr_cli.proofs.PromiseLemmas.{promises, read_for}
 use Rattle.testr_cli.proofs.Performing.{refuses, gives_up}
+use Rattle.testr_cli.proofs.SelfTestLaws.{selftest_promises, none_some}
 use Rattle.testr_cli.proofs.SuitePromises.{suite_promises, none_asked}
 use Rattle.testr_cli.proofs.top.testr.Goals as goal
 
@@ -12,8 +14,9 @@ returns-in-Ok-Some g c =
     let named = sym c.in-Ok-Some.field-0-is ∙ c.in-Ok-Some.ensures in
     record {
       promises = record {
-        suite = λ asked is. suite_promises asked _ _ _ (c.obey.ensures.suite asked (ap (λ o. and_then o suite_of) named ∙ is));
-        others = λ none. (read_for (ap (λ o. and_then o task_of) named) _ _ _ (c.obey.ensures.others (ap (λ o. and_then o suite_of) named ∙ none)), c.obey.ensures.spawner (ap (λ o. and_then o suite_of) named ∙ none));
+        suite = λ asked is. suite_promises asked _ _ _ (c.follow.ensures.suite asked (ap (λ o. and_then o suite_of) named ∙ is));
+        selftest = λ asked is. selftest_promises asked _ _ _ (c.follow.ensures.selftest asked (ap (λ o. and_then o drawing_of) named ∙ is));
+        others = λ none undrawn. (read_for (ap (λ o. and_then o task_of) named) _ _ _ (c.follow.ensures.others (ap (λ o. and_then o suite_of) named ∙ none) (ap (λ o. and_then o drawing_of) named ∙ undrawn)), c.follow.ensures.spawner (ap (λ o. and_then o suite_of) named ∙ none));
       };
     }
 
@@ -23,7 +26,8 @@ returns-in-Ok-None g c =
     record {
       promises = record {
         suite = λ asked is. absurd (none_asked asked (ap (λ o. and_then o suite_of) named ∙ is));
-        others = λ none. (promises _ _ _ _ _ _ (record { outcome = _; done = inl (refuses _ _ (sym (ap (λ o. and_then o task_of) named))); told = c.answer.ensures }), refl);
+        selftest = λ asked is. absurd (none_some (ap (λ o. and_then o drawing_of) named ∙ is));
+        others = λ none undrawn. (promises _ _ _ _ _ _ (record { outcome = _; done = inl (refuses _ _ (sym (ap (λ o. and_then o task_of) named))); told = c.answer.ensures }), refl);
       };
     }
 
@@ -31,6 +35,7 @@ pub returns-in-Err : goal.returns-in-Err
 returns-in-Err g c = record {
   promises = record {
     suite = λ asked is. suite_promises asked _ _ _ (record { outcome = _; done = inr (gives_up _ c.in-Err.fault); told = c.answer-in-Err.ensures });
-    others = λ none. (promises _ _ _ _ _ _ (record { outcome = _; done = inr (refl, gives_up _ c.in-Err.fault); told = c.answer-in-Err.ensures }), refl);
+    selftest = λ asked is. selftest_promises asked _ _ _ (record { outcome = _; done = inr (gives_up _ c.in-Err.fault); told = c.answer-in-Err.ensures });
+    others = λ none undrawn. (promises _ _ _ _ _ _ (record { outcome = _; done = inr (refl, gives_up _ c.in-Err.fault); told = c.answer-in-Err.ensures }), refl);
   };
 }

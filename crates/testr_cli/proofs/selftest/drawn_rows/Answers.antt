@@ -1,0 +1,20 @@
+use Rattle.std.proofs.Common.{length, ap, ◌∙◌}
+use Rattle.edge_io.specs.Planned.{spawning_of}
+use Rattle.edge_io.specs.Spawners.{Spawning}
+use Rattle.testr_cli.proofs.SelfTestRows.{few_parts, drawn_in_turn}
+use Rattle.testr_cli.proofs.selftest.drawn_rows.Goals as goal
+
+pub plans-requires : goal.plans-requires
+plans-requires g c =
+    let few = few_parts c.args.drawing.lanes c.args.drawing.tests c.requires.few in
+    record { some = few.some; few = few.few; most = few.most }
+
+pub lane_jobs-requires : goal.lane_jobs-requires
+lane_jobs-requires g c = (few_parts c.args.drawing.lanes c.args.drawing.tests c.requires.few).few
+
+pub returns-in-Ok : goal.returns-in-Ok
+returns-in-Ok g c =
+    drawn_in_turn c.args.drawing _ (spawning_of c.new-spawner.result) c.in-Ok.ran.rows c.requires.few
+    (ap (λ (s : Spawning). s.outputs) c.new-spawner.ensures.spawning ∙ c.in_ok-plans.ensures.outputs)
+    (ap length c.deref.ensures.value ∙ c.in_ok-jobs.ensures.count)
+    c.in-Ok.ensures

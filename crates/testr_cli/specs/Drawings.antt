@@ -1,0 +1,30 @@
+-- What `selftest` asks for (docs/COMMANDS.md, "Words").
+use Rattle.std.specs.Prelude.{Bool, ◌&&◌, nat_le, ◌*◌, Option, Some, None, ℕ, if◌then◌else◌}
+use Rattle.testr_cli.specs.declared.command.Verb.{Verb}
+use Rattle.testr_cli.specs.declared.command.Verb.TheVariants as verb
+use Rattle.testr_cli.specs.declared.command.Command.{Command}
+use Rattle.testr_cli.specs.declared.drawing.Drawing.{Drawing}
+
+-- there are 1 to 64 lanes, each has a test, and there are no more than 1,000,000 tests in all
+abbrev pub are_few : (lanes tests : ℕ) → Bool
+are_few lanes tests = nat_le 1 lanes && (nat_le lanes 64 && (nat_le 1 tests && nat_le (lanes * tests) 1000000))
+
+-- the drawing, where it is that small
+abbrev pub if_few : Drawing → Option Drawing
+if_few drawing = if are_few drawing.lanes drawing.tests then Some drawing else None
+
+-- the drawing that a command of this verb asks for
+abbrev pub drawing_with : Verb → Command → Option Drawing
+drawing_with verb.SelfTest command = if_few (record { seed = command.seed; lanes = command.lanes; tests = command.tests })
+drawing_with verb.Init command = None
+drawing_with verb.Load command = None
+drawing_with verb.Run command = None
+drawing_with verb.Last command = None
+drawing_with verb.Failing command = None
+drawing_with verb.Slowest command = None
+drawing_with verb.Stats command = None
+drawing_with verb.ListTests command = None
+
+-- the drawing that a command asks for; none where it asks for something else
+abbrev pub drawing_of : Command → Option Drawing
+drawing_of command = drawing_with command.verb command

@@ -1,0 +1,59 @@
+-- `testr selftest`: what its workers print, and the chain of its steps.
+use Rattle.std.specs.Prelude.{◌≡◌, ℕ, List, [], ◌++◌, length, map, Result, IfOk}
+use Rattle.std.specs.List.{AllByRecursion, flat_map, range_with_len}
+use Rattle.drawn_lanes.specs.Outputs.{events_of}
+use Rattle.edge_io.specs.Children.{Output}
+use Rattle.edge_io.specs.Spawners.{Spawning}
+use Rattle.edge_io.specs.declared.job.Job.{Job}
+use Rattle.outcome_fold.specs.Rows.{rows_of}
+use Rattle.outcome_fold.specs.declared.row.Row.{Row}
+use Rattle.packet_codec.specs.Lanes.{joined}
+use Rattle.packet_codec.specs.Routing.{under}
+use Rattle.packet_codec.specs.declared.event.Event.{Event}
+use Rattle.sub_number.specs.declared.memory.NoMemory.{NoMemory}
+use Rattle.sub_text.specs.Texts.{summary_of}
+use Rattle.worker_mux.specs.Outputs.{IsOutput, lists_from}
+use Rattle.testr_cli.specs.Outside.{Work, work_out}
+use Rattle.testr_cli.specs.Reporting.{Prints}
+use Rattle.testr_cli.specs.Steps.{Step, Then, Still, Gives, At}
+use Rattle.testr_cli.specs.Verdicts.{verdict_of}
+use Rattle.testr_cli.specs.declared.answer.Verdict.{Verdict}
+use Rattle.testr_cli.specs.declared.answer.Refusal.{Refusal}
+use Rattle.testr_cli.specs.declared.answer.Refusal.TheVariants.{Memory, Print}
+use Rattle.testr_cli.specs.declared.drawing.Drawing.{Drawing}
+use Rattle.testr_cli.specs.declared.told.Told.{Told}
+
+-- the events of one lane's worker, under the lane
+abbrev pub lane_of : Drawing → (lane : ℕ) → List Event
+lane_of drawing lane = map (under lane) (events_of drawing.seed drawing.tests lane)
+
+-- the events of the first worker, then those of the next, and so on, each under its lane
+abbrev pub events_in_turn : Drawing → List Event
+events_in_turn drawing = flat_map (lane_of drawing) (range_with_len 0 drawing.lanes)
+
+abbrev pub rows_in_turn : Drawing → List Row
+rows_in_turn drawing = rows_of (events_in_turn drawing)
+
+-- The jobs were started, and these are the rows of what is recorded of their outputs, one after another.
+pub record RunsInTurn (jobs : List Job) (s : Spawning) (rows : List Row) : Type 0 where
+  pub outputs : List Output
+  pub later : List Output
+  pub taken : s.outputs ≡ outputs ++ later
+  pub count : length outputs ≡ length jobs
+  pub in_turn : AllByRecursion IsOutput outputs → rows ≡ rows_of (joined (lists_from 0 outputs))
+
+-- the text is the summary of these rows as run 0, and the verdict is theirs
+pub record IsSummary (rows : List Row) (told : Told) : Type 0 where
+  pub text : told.text.items ≡ summary_of rows 0 []
+  pub verdict : told.verdict ≡ verdict_of rows
+
+-- The workers were run in memory, side by side, and summed up: whatever their threads did, the rows are those of the
+-- workers one after another.
+pub record SumsUp (drawing : Drawing) (result : Result Told NoMemory) : Type 0 where
+  pub told : IfOk result (IsSummary (rows_in_turn drawing))
+
+abbrev pub TestsItself : Drawing → Step Work Verdict Refusal
+TestsItself drawing =
+    Then Memory (Still (SumsUp drawing)) (λ told.
+    Then Print (At work_out (Prints told.text.items)) (λ _.
+    Gives told.verdict))
