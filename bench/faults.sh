@@ -295,14 +295,15 @@ def run_cannot_be_read():
 
 
 @case
-def run_has_another_length():
+def a_run_is_what_reads_find():
     """A file of which the system says that it is empty, and that is not."""
     need(os.path.exists("/proc/version") and os.path.getsize("/proc/version") == 0, "want of such a file")
     folder = new_repository()
     os.symlink("/proc/version", at(folder, "0"))
-    check_refused(run(folder, "last", "--subunit"), FOLDER_FAULT,
-                  b"read .testrepository/0: its length is another than reads find")
-    # A report asks for no length: it reads to the end, and finds no packet.
+    with open("/proc/version", "rb") as file:
+        found = file.read()
+    # Neither asks for a length: both read to the end. The report finds no packet.
+    check(run(folder, "last", "--subunit") == (0, found, b""), "last does not give what reads find")
     check(run(folder, "last") == (0, b"Ran 0 tests\nPASSED (id=0)\n", b""), "last does not read to the end")
 
 
