@@ -1,6 +1,14 @@
 -- The strings of the Subunit README, version 2: the number of bytes, in the number encoding, and then the bytes, which are UTF-8 without NUL.
-use Rattle.std.specs.Prelude.{◌≡◌, ◌≢◌, ℕ, ◌≤◌, ◌<◌, ◌^◌, List, ◌++◌, length, take, slice_range, All, IsUtf8}
+use Rattle.std.specs.Prelude.{◌≡◌, ◌≢◌, ℕ, ◌≤◌, ◌<◌, ◌^◌, List, ◌++◌, length, take, slice_index, slice_range, All, IsUtf8}
 use Rattle.sub_number.specs.Numbers.{SpellsNumber}
+
+-- ASCII without NUL
+abbrev pub IsPlain : ℕ → Type 0
+IsPlain byte = (1 ≤ byte) × (byte < 128)
+
+-- the bytes from one place up to another are
+abbrev pub ArePlain : List ℕ → ℕ → ℕ → Type 0
+ArePlain bytes start end = (k : ℕ) → start ≤ k → k < end → IsPlain (slice_index bytes k)
 
 -- UTF-8 without NUL
 pub record IsText (bytes : List ℕ) : Type 0 where

@@ -1,14 +1,15 @@
 //! zlib's CRC-32: a register of 32 bits, into which each byte goes by eight shifts.
 
-ghost use Rattle.std.specs.Prelude.{◌≡◌, ◌<◌, ◌+◌, ◌++◌, [], List, ℕ, fold};
+ghost use Rattle.std.specs.Prelude.{◌≡◌, ◌<◌, ◌≤◌, ◌+◌, ◌++◌, [], List, ℕ, length, fold};
 ghost use Rattle.sub_number.specs.Checksum.{shifted_times, crc_step, crc32, crc_register, inverted};
 
 use crate::tables::SHIFTED;
 use std::marker::Model;
 
 // The byte after `8 * (table + 1)` shifts.
+#[inline(always)]
 fn shifted_byte(table: usize, byte: u32) -> u32
-    requires few { table < 8 }
+    requires few { table < 16 }
     requires small { byte < 256 }
     ensures { result ≡ shifted_times (table + 1) byte }
 {
@@ -26,18 +27,39 @@ fn after_each(mut register: u32, bytes: &[u8]) -> u32
     register
 }
 
-// Eight bytes at a time: each of them is shifted alone, as far as those behind it shift it.
-fn after_eight(register: u32, bytes: &[u8; 8]) -> u32
+// Four bytes, and then `8 * table` shifts: each byte is shifted alone, as far as those behind it shift it.
+#[inline(always)]
+fn after_four(table: usize, register: u32, bytes: &[u8]) -> u32
+    requires few { table ≤ 12 }
+    requires four { length bytes.now ≡ 4 }
+    ensures { result ≡ shifted_times table (fold crc_step register bytes.now) }
+{
+    shifted_byte(table, ((register >> 24) ^ u32::from(bytes[3])) % 256)
+        ^ shifted_byte(table + 1, ((register >> 16) ^ u32::from(bytes[2])) % 256)
+        ^ shifted_byte(table + 2, ((register >> 8) ^ u32::from(bytes[1])) % 256)
+        ^ shifted_byte(table + 3, (register ^ u32::from(bytes[0])) % 256)
+}
+
+// Eight bytes, and then `8 * table` shifts. The front goes through the back by shifts alone. What waits for the register
+// stands last, so that the rest is done beside the turn before.
+#[inline(always)]
+fn after_eight(table: usize, register: u32, bytes: &[u8]) -> u32
+    requires few { table ≤ 8 }
+    requires eight { length bytes.now ≡ 8 }
+    ensures { result ≡ shifted_times table (fold crc_step register bytes.now) }
+{
+    let (front, back) = bytes.split_at(4);
+    after_four(table, 0, back) ^ after_four(table + 4, register, front)
+}
+
+// Sixteen bytes, by halves as well.
+#[inline(always)]
+fn after_sixteen(register: u32, bytes: &[u8]) -> u32
+    requires sixteen { length bytes.now ≡ 16 }
     ensures { result ≡ fold crc_step register bytes.now }
 {
-    shifted_byte(7, (register ^ u32::from(bytes[0])) % 256)
-        ^ shifted_byte(6, ((register >> 8) ^ u32::from(bytes[1])) % 256)
-        ^ shifted_byte(5, ((register >> 16) ^ u32::from(bytes[2])) % 256)
-        ^ shifted_byte(4, ((register >> 24) ^ u32::from(bytes[3])) % 256)
-        ^ shifted_byte(3, u32::from(bytes[4]))
-        ^ shifted_byte(2, u32::from(bytes[5]))
-        ^ shifted_byte(1, u32::from(bytes[6]))
-        ^ shifted_byte(0, u32::from(bytes[7]))
+    let (front, back) = bytes.split_at(8);
+    after_eight(0, 0, back) ^ after_eight(8, register, front)
 }
 
 /// The register behind the bytes, where it was this one before them.
@@ -45,8 +67,16 @@ pub fn register_after(mut register: u32, bytes: &[u8]) -> u32
     ensures { result ≡ fold crc_step register bytes.now }
 {
     let mut left = bytes;
-    while let Some((eight, behind)) = left.split_first_chunk::<8>() {
-        register = after_eight(register, eight);
+    while let Some((sixteen, behind)) = left.split_first_chunk::<16>() {
+        register = after_sixteen(register, sixteen);
+        left = behind;
+    }
+    if let Some((eight, behind)) = left.split_first_chunk::<8>() {
+        register = after_eight(0, register, eight);
+        left = behind;
+    }
+    if let Some((four, behind)) = left.split_first_chunk::<4>() {
+        register = after_four(0, register, four);
         left = behind;
     }
     after_each(register, left)

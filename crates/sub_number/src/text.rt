@@ -2,10 +2,12 @@
 //! then their bytes.
 
 ghost use Rattle.std.specs.Prelude.{◌≡◌, ◌↔◌, IfSome, IfNone, IfOk, IsTrue, IsUtf8};
+ghost use Rattle.std.specs.String.{string_bytes};
 ghost use Rattle.sub_number.specs.Texts.{IsText, IsShortText, BeginsWithText, BeginsWithNoText};
 
 use crate::NoMemory;
 use crate::number::{Width, read_number};
+use crate::plain::are_plain;
 use std::alloc::{AllocError, Global};
 use std::cmp::Ordering;
 use std::marker::Model;
@@ -20,18 +22,25 @@ pub struct Span {
     pub end: usize,
 }
 
-// Most texts are ASCII, which is the quicker test.
 fn is_utf8(bytes: &[u8]) -> bool
     ensures { IsTrue result ↔ IsUtf8 bytes.now }
 {
-    bytes.is_ascii() || str::from_utf8(bytes).is_ok()
+    str::from_utf8(bytes).is_ok()
 }
 
-/// Whether the bytes are UTF-8 without NUL.
-pub fn is_text(bytes: &[u8]) -> bool
+// The same by two passes, of any characters.
+#[inline(never)]
+fn is_text_by_rule(bytes: &[u8]) -> bool
     ensures { IsTrue result ↔ IsText bytes.now }
 {
     !bytes.contains(&0) && is_utf8(bytes)
+}
+
+/// Whether the bytes are UTF-8 without NUL. Most texts are ASCII, which is the quicker test.
+pub fn is_text(bytes: &[u8]) -> bool
+    ensures { IsTrue result ↔ IsText bytes.now }
+{
+    are_plain(bytes) || is_text_by_rule(bytes)
 }
 
 /// Where the text stands that the bytes begin with, and how many bytes spell it, its length included. The length may be
@@ -74,6 +83,14 @@ impl From<AllocError> for TextFault {
     }
 }
 
+// The string of these bytes, without a test. That they are UTF-8 is proved at each call.
+fn string_of(alloc: Global, bytes: &[u8]) -> Result<String, AllocError>
+    requires { IsUtf8 bytes.now }
+    ensures { IfOk result (λ string. string_bytes string ≡ bytes.now) }
+{
+    String::from_str(alloc, unsafe { str::from_utf8_unchecked(bytes) })
+}
+
 /// A text of fewer than 2^30 bytes, so that its length can be spelled: UTF-8 without NUL. Contracts see it as the list
 /// of its bytes, and its order is theirs.
 #[derive(Drop)]
@@ -102,15 +119,24 @@ impl Text {
         ensures not_text { result ≡ Err TextFault.NotText → ¬ (IsShortText bytes.now) }
         ensures no_memory { result ≡ Err TextFault.NoMemory → IsShortText bytes.now }
     {
-        if bytes.len() >= 1 << 30 || bytes.contains(&0) {
+        if bytes.len() >= 1 << 30 || !is_text(bytes) {
             return Err(TextFault::NotText);
         }
-        match str::from_utf8(bytes) {
-            Ok(text) => Ok(Text {
-                text: String::from_str(alloc, text)?,
-            }),
-            Err(_) => Err(TextFault::NotText),
-        }
+        Ok(Text {
+            text: string_of(alloc, bytes)?,
+        })
+    }
+
+    /// The text of these bytes, which are known to be one, so that they are not tested again.
+    ///
+    /// `NoMemory` comes only for want of memory.
+    pub fn from_tested(alloc: Global, bytes: &[u8]) -> Result<Self, NoMemory>
+        requires { IsShortText bytes.now }
+        ensures { IfOk result (λ text. text ≡ bytes.now) }
+    {
+        Ok(Text {
+            text: string_of(alloc, bytes)?,
+        })
     }
 
     /// Its bytes.
