@@ -4,8 +4,9 @@ use Rattle.std.specs.Prelude.{is_some, option_map, IfSome, IsTrue, IfOk, Result,
 use Rattle.std.specs.Int.{w32, to_be_bytes}
 use Rattle.std.proofs.lemmas.List.{take_at, drop_at, take-append-drop, take-take, length-append, length-take-le}
 use Rattle.std.proofs.lemmas.List.Elements.{All-nil, All-cons, All-head, All-tail}
-use Rattle.sub_number.specs.Texts.{IsText, SpellsText}
+use Rattle.sub_number.specs.Texts.{IsText, IsShortText, SpellsText}
 use Rattle.sub_number.specs.Checksum.{crc32}
+use Rattle.packet_codec.proofs.ShapeLemmas.{number_below}
 use Rattle.sub_number.proofs.NumberLemmas.{AreBytes}
 use Rattle.packet_codec.specs.declared.event.FilePart.{FilePart}
 use Rattle.packet_codec.specs.declared.event.Event.{Event}
@@ -14,7 +15,7 @@ use Rattle.packet_codec.specs.Flags.{first_flags, second_flags}
 use Rattle.packet_codec.specs.Fields.{SpellsOptional, SpellsStamp, SpellsTexts, SpellsTags, SpellsFile, SpellsFields}
 use Rattle.packet_codec.specs.Packet.{signature, SpellsEvent, IsPacket}
 use Rattle.packet_codec.specs.Grammar.{Found, NotFound, Flagged}
-use Rattle.packet_codec.specs.Shapes.{Run, Runs, CountedRuns, NamedRun, bit, Contents, FieldShapes, HeaderShape, HeaderStands, AreTexts, status_from, file_from, event_from, contents_of, fields_at, ShowsParts}
+use Rattle.packet_codec.specs.Shapes.{Run, Runs, CountedRuns, NamedRun, bit, Contents, FieldShapes, HeaderShape, HeaderStands, AreTexts, AreShortTexts, status_from, file_from, event_from, contents_of, fields_at, ShowsParts}
 use Rattle.packet_codec.specs.Told.{IsTold}
 use Rattle.packet_codec.specs.Grammar as grammar
 use Rattle.std.proofs.lemmas.List.{get_or_default}
@@ -178,6 +179,27 @@ fields_texts bytes e s = record {
   route = optional_good SpellsText IsText text_good s.route e.route s.route_spelled;
 }
 
+-- each is short enough, since its length is spelled
+short_text : (bytes text : List ℕ) → SpellsText bytes text → IsShortText text
+short_text bytes text s = record { text = s.is_text; short = number_below s.number (length text) s.length_spelled }
+
+short_texts : (bytes : List ℕ) (texts : List (List ℕ)) → SpellsTexts bytes texts → All IsShortText texts
+short_texts bytes [] s = All-nil IsShortText
+short_texts bytes (text ∷ texts) (front, rest, parts, first, others) = All-cons IsShortText text texts (short_text front text first) (short_texts rest texts others)
+
+optional_file_short : (bytes : List ℕ) (o : Option FilePart) → SpellsOptional SpellsFile bytes o → IfSome (parts_of_file o) (λ file. IsShortText file.0)
+optional_file_short bytes None s = tt
+optional_file_short bytes (Some file) s = short_text s.name file.name s.name_spelled
+
+fields_short_texts : (bytes : List ℕ) (e : Event) → SpellsFields bytes e → AreShortTexts (contents_of e)
+fields_short_texts bytes e s = record {
+  id = optional_good SpellsText IsShortText short_text s.id e.id s.id_spelled;
+  tags = optional_good SpellsTags (All IsShortText) (λ bytes tags t. short_texts t.texts tags t.texts_spelled) s.tags e.tags s.tags_spelled;
+  mime = optional_good SpellsText IsShortText short_text s.mime e.mime s.mime_spelled;
+  file = optional_file_short s.file e.file s.file_spelled;
+  route = optional_good SpellsText IsShortText short_text s.route e.route s.route_spelled;
+}
+
 fields_from_shape : (first second : ℕ) (bytes : List ℕ) (c : Contents) → FieldShapes first second bytes c → AreTexts c → SpellsFields bytes (event_from first second c)
 fields_from_shape first second bytes c s good =
     let from_id = s.second_spelled in
@@ -333,6 +355,10 @@ pub told_texts : (p body checksum fields : List ℕ) (header : Header) (e : Even
 told_texts p body checksum fields header e c t s shape =
     rw (told_contents p body checksum fields header e c t shape) (fields_texts s.fields e s.fields_spelled)
 
+told_short_texts : (p body checksum fields : List ℕ) (header : Header) (e : Event) (c : Contents) → Told p body checksum fields header e → SpellsEvent p e → FieldShapes header.first header.second fields c → AreShortTexts c
+told_short_texts p body checksum fields header e c t s shape =
+    rw (told_contents p body checksum fields header e c t shape) (fields_short_texts s.fields e s.fields_spelled)
+
 -- and the event is the one that they make
 pub told_event : (p body checksum fields : List ℕ) (header : Header) (e : Event) (c : Contents) → Told p body checksum fields header e → FieldShapes header.first header.second fields c → event_from header.first header.second c ≡ e
 told_event p body checksum fields header e c t shape =
@@ -405,6 +431,14 @@ told_event_of p header parts r is made e s = decoded p header is.contents e r (f
 pub told_spelled : {E : Type 0} (p : List ℕ) (header : Header) (parts : Parts) (r : Result Event E) → IsTold p header parts
     → ((c : Contents) → ShowsParts parts c → IfOk r (λ event. event ≡ event_from header.first header.second c)) → IfOk r (SpellsEvent p)
 told_spelled p header parts r is made = decoded_spelled p is.packet.0 r is.packet.1 (told_event_of p header parts r is made is.packet.0 is.packet.1)
+
+-- the texts that its parts show were tested
+pub parts_of_packet : (p : List ℕ) (header : Header) (parts : Parts) → AreBytes p → HeaderStands p header → IsPacket p → ((c : Contents) × FieldShapes header.first header.second (fields_at header p) c × ShowsParts parts c)
+    → (c : Contents) × ShowsParts parts c × AreShortTexts c
+parts_of_packet p header parts are stands (e, s) (c, shape, shown) = (c, shown, told_short_texts p _ _ _ header e c (told_at p header e are stands s) s shape)
+
+pub told_parts : (p : List ℕ) (header : Header) (parts : Parts) → IsTold p header parts → (c : Contents) × ShowsParts parts c × AreShortTexts c
+told_parts p header parts is = parts_of_packet p header parts (fits_from_are p is.are_bytes) is.stands is.packet (is.contents, is.shape, is.shown)
 
 -- ---- the checksum first
 

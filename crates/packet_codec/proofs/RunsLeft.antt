@@ -3,7 +3,7 @@ use Rattle.std.proofs.Common.{◌≡◌, ℕ, ◌+◌, ◌<◌, ◌≤◌, ◌�
 use Rattle.std.proofs.lemmas.List.{nil_from_length}
 use Rattle.std.proofs.lemmas.List.Elements.{All-cons, All-head, All-tail}
 use Rattle.std.specs.Prelude.{IfNone, IsSome, IsTrue}
-use Rattle.sub_number.specs.Texts.{IsText}
+use Rattle.sub_number.specs.Texts.{IsText, IsShortText}
 use Rattle.sub_number.proofs.NumberLemmas.{AreBytes}
 use Rattle.packet_codec.specs.Grammar.{Found, NotFound}
 use Rattle.packet_codec.specs.Shapes.{Run, Runs, ShowsRuns, ShowsTags}
@@ -70,6 +70,14 @@ no_texts bytes after run count i all are less l found other texts =
     let same = found_same Run run_free bytes next.2 after next.0 run are next.4 found in
     let left : All IsText (next.0 ∷ next.1) = rw (next.3) at (l.holds.1 texts) in
     other (rw (same.value) at (All-head IsText next.0 next.1 left))
+
+-- the next one of texts is one
+pub next_text : (bytes after run : List ℕ) (count i : ℕ) → AreBytes bytes → i < count → Left bytes count i (All IsShortText) → Found Run bytes run after → IsShortText run
+next_text bytes after run count i are less l found =
+    let next = next_found bytes count i (All IsShortText) less l in
+    let same = found_same Run run_free bytes next.2 after next.0 run are next.4 found in
+    let left : All IsShortText (next.0 ∷ next.1) = rw (next.3) at l.holds in
+    rw (same.value) at (All-head IsShortText next.0 next.1 left)
 
 -- ---- the tags that were copied of them
 

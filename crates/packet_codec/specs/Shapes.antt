@@ -11,7 +11,7 @@ use Rattle.packet_codec.specs.declared.status.Status.TheVariants.{Unset, Exists,
 use Rattle.packet_codec.specs.declared.parts.RunList.{RunList}
 use Rattle.packet_codec.specs.declared.parts.FileBytes.{FileBytes}
 use Rattle.packet_codec.specs.declared.parts.Parts.{Parts}
-use Rattle.sub_number.specs.Texts.{IsText}
+use Rattle.sub_number.specs.Texts.{IsText, IsShortText}
 use Rattle.packet_codec.specs.declared.stamp.Stamp.{Stamp}
 use Rattle.packet_codec.specs.declared.event.FilePart.{FilePart}
 use Rattle.packet_codec.specs.declared.event.Event.{Event}
@@ -115,6 +115,14 @@ pub record AreTexts (contents : Contents) : Type 0 where
   pub mime : IfSome contents.1.1.1.0 IsText
   pub file : IfSome contents.1.1.1.1.0 (λ file. IsText file.0)
   pub route : IfSome contents.1.1.1.1.1 IsText
+
+-- and short enough for their lengths to be spelled
+pub record AreShortTexts (contents : Contents) : Type 0 where
+  pub id : IfSome contents.1.0 IsShortText
+  pub tags : IfSome contents.1.1.0 (All IsShortText)
+  pub mime : IfSome contents.1.1.1.0 IsShortText
+  pub file : IfSome contents.1.1.1.1.0 (λ file. IsShortText file.0)
+  pub route : IfSome contents.1.1.1.1.1 IsShortText
 
 -- The front of a packet as it is, whatever follows: its flag bytes, and the size that it tells.
 pub record HeaderShape (bytes : List ℕ) (value : ℕ × (ℕ × ℕ)) : Type 0 where

@@ -1,9 +1,10 @@
 //! The event that a packet spells.
 
-ghost use Rattle.std.specs.Prelude.{◌≡◌, ◌%◌, Option, List, ℕ, option_map, IfOk};
+ghost use Rattle.std.specs.Prelude.{◌≡◌, ◌%◌, Option, List, ℕ, option_map, All, IfSome, IfOk};
+ghost use Rattle.sub_number.specs.Texts.{IsShortText};
 ghost use Rattle.packet_codec.specs.Canonical.{Fits};
 ghost use Rattle.packet_codec.specs.Packet.{SpellsEvent, IsPacket};
-ghost use Rattle.packet_codec.specs.Shapes.{Contents, ShowsRuns, ShowsTags, ShowsParts, bytes_of, file_of, file_from, status_from, event_from};
+ghost use Rattle.packet_codec.specs.Shapes.{Contents, ShowsRuns, ShowsTags, ShowsParts, AreShortTexts, bytes_of, file_of, file_from, status_from, event_from};
 ghost use Rattle.packet_codec.specs.declared.event.Event.{Event};
 
 use crate::event::{Event, FilePart};
@@ -15,37 +16,33 @@ use crate::tags::Tags;
 use std::alloc::Global;
 use sub_number::{Bytes, NoMemory, Text};
 
-fn text_of(alloc: Global, bytes: &[u8]) -> Result<Text, NoMemory>
-    ensures { IfOk result (λ text. text ≡ bytes.now) }
-{
-    Text::new(alloc, bytes).map_err(|_| NoMemory)
-}
-
 fn optional_text(alloc: Global, run: Option<&[u8]>) -> Result<Option<Text>, NoMemory>
+    requires { IfSome (bytes_of run) IsShortText }
     ensures { IfOk result (λ text. text ≡ bytes_of run.entry) }
 {
     match run {
         None => Ok(None),
-        Some(bytes) => Ok(Some(text_of(alloc, bytes)?)),
+        Some(bytes) => Ok(Some(Text::from_tested(alloc, bytes)?)),
     }
 }
 
 fn tags_of(alloc: Global, count: u32, bytes: &[u8]) -> Result<Tags, NoMemory>
-    requires { (runs : List (List ℕ)) × ShowsRuns count bytes.now runs }
+    requires { (runs : List (List ℕ)) × ShowsRuns count bytes.now runs × All IsShortText runs }
     ensures { (runs : List (List ℕ)) → ShowsRuns count bytes.now runs → IfOk result (λ tags. tags ≡ runs) }
 {
     let mut tags = Tags::new(alloc);
     let mut rest = bytes;
     for _ in 0..count {
         let (run, after) = run_at(rest).unwrap();
-        tags.push(text_of(alloc, run)?).map_err(|_| NoMemory)?;
+        tags.push(Text::from_tested(alloc, run)?)
+            .map_err(|_| NoMemory)?;
         rest = after;
     }
     Ok(tags)
 }
 
 fn optional_tags(alloc: Global, tags: Option<RunList<'_>>) -> Result<Option<Tags>, NoMemory>
-    requires { (runs : Option (List (List ℕ))) × ShowsTags tags runs }
+    requires { (runs : Option (List (List ℕ))) × ShowsTags tags runs × IfSome runs (All IsShortText) }
     ensures { (runs : Option (List (List ℕ))) → ShowsTags tags.entry runs → IfOk result (λ tags. tags ≡ runs) }
 {
     match tags {
@@ -55,12 +52,13 @@ fn optional_tags(alloc: Global, tags: Option<RunList<'_>>) -> Result<Option<Tags
 }
 
 fn optional_file(alloc: Global, file: Option<FileBytes<'_>>) -> Result<Option<FilePart>, NoMemory>
+    requires { IfSome (file_of file) (λ part. IsShortText part.0) }
     ensures { IfOk result (λ part. part ≡ option_map file_from (file_of file.entry)) }
 {
     let Some(FileBytes { name, bytes }) = file else {
         return Ok(None);
     };
-    let name = text_of(alloc, name)?;
+    let name = Text::from_tested(alloc, name)?;
     let bytes = Bytes::new(alloc, bytes)?;
     Ok(Some(FilePart { name, bytes }))
 }
@@ -81,9 +79,9 @@ fn status_of(second: u8) -> Status
     }
 }
 
-/// The event with these flag bytes and fields, each field copied once.
+/// The event with these flag bytes and fields, each field copied once. The texts among them were tested.
 fn event_of(alloc: Global, first: u8, second: u8, parts: &Parts<'_>) -> Result<Event, NoMemory>
-    requires { (contents : Contents) × ShowsParts parts.now contents }
+    requires { (contents : Contents) × ShowsParts parts.now contents × AreShortTexts contents }
     ensures { (contents : Contents) → ShowsParts parts.now contents → IfOk result (λ event. event ≡ event_from first second contents) }
 {
     Ok(Event {
@@ -100,9 +98,9 @@ fn event_of(alloc: Global, first: u8, second: u8, parts: &Parts<'_>) -> Result<E
 }
 
 impl<'a> Packet<'a> {
-    /// The event that the packet spells. Each part is copied once, from where it was found; its tags are walked again,
-    /// and texts are tested again as they become texts of their own. The error comes for want of memory. The event
-    /// fits, since its shortest spelling is no longer than the packet.
+    /// The event that the packet spells. Each part is copied once, from where it was found, and its tags are walked
+    /// again. No text is tested again. The error comes for want of memory. The event fits, since its shortest spelling
+    /// is no longer than the packet.
     #[inline(always)]
     pub fn event(&self, alloc: Global) -> Result<Event, NoMemory>
         ensures spelled { IfOk result (SpellsEvent self.now) }

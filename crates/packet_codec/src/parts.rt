@@ -1,4 +1,5 @@
-//! The fields of a packet, where they stand in its bytes.
+//! The fields of a packet, where they stand in its bytes. The readers are compiled into `parts_of`, so that what each finds
+//! and the rest behind it need not go through memory.
 
 use crate::stamp::Stamp;
 use sub_number::{Width, read_number};
@@ -35,6 +36,7 @@ ghost use Rattle.packet_codec.specs.Fields.{SpellsStamp};
 ghost use Rattle.packet_codec.specs.Shapes.{Run, CountedRuns, NamedRun, BeginsWithRuns, ShowsRuns, ShowsTags, ShowsParts, FieldShapes, Contents, bytes_of, file_of};
 
 /// A number, and the bytes behind it.
+#[inline(always)]
 fn number_at(bytes: &[u8]) -> Option<(u32, &[u8])>
     ensures found { IfSome result (λ r. Found SpellsNumber bytes.now r.0 r.1.now) }
     ensures none { IfNone result (NotFound SpellsNumber bytes.now) }
@@ -44,6 +46,7 @@ fn number_at(bytes: &[u8]) -> Option<(u32, &[u8])>
 }
 
 /// The run of bytes behind its length, and the bytes behind it.
+#[inline(always)]
 pub fn run_at(bytes: &[u8]) -> Option<(&[u8], &[u8])>
     ensures found { IfSome result (λ r. Found Run bytes.now r.0.now r.1.now) }
     ensures none { IfNone result (NotFound Run bytes.now) }
@@ -57,6 +60,7 @@ pub fn run_at(bytes: &[u8]) -> Option<(&[u8], &[u8])>
 }
 
 /// A file's name and its bytes, and the bytes behind them.
+#[inline(always)]
 fn file_at(bytes: &[u8]) -> Option<(FileBytes<'_>, &[u8])>
     ensures found { IfSome result (λ r. Found NamedRun bytes.now (r.0.name.now, r.0.bytes.now) r.1.now) }
     ensures none { IfNone result (NotFound NamedRun bytes.now) }
@@ -67,6 +71,7 @@ fn file_at(bytes: &[u8]) -> Option<(FileBytes<'_>, &[u8])>
 }
 
 /// The seconds in four bytes, the nanoseconds as a number, and the bytes behind them.
+#[inline(always)]
 fn stamp_at(bytes: &[u8]) -> Option<(Stamp, &[u8])>
     ensures found { IfSome result (λ r. Found SpellsStamp bytes.now r.0 r.1.now) }
     ensures none { IfNone result (NotFound SpellsStamp bytes.now) }
@@ -81,6 +86,7 @@ fn stamp_at(bytes: &[u8]) -> Option<(Stamp, &[u8])>
 }
 
 /// The bytes behind so many runs.
+#[inline(always)]
 fn after_runs(count: u32, bytes: &[u8]) -> Option<&[u8]>
     ensures found { IfSome result (λ rest. (runs : List (List ℕ)) × BeginsWithRuns bytes.now count runs rest.now) }
     ensures none { IfNone result ((runs : List (List ℕ)) (rest : List ℕ) → BeginsWithRuns bytes.now count runs rest → ⊥) }
@@ -94,6 +100,7 @@ fn after_runs(count: u32, bytes: &[u8]) -> Option<&[u8]>
 }
 
 /// The list of runs behind its count, and the bytes behind it.
+#[inline(always)]
 fn runs_at(bytes: &[u8]) -> Option<(RunList<'_>, &[u8])>
     ensures found { IfSome result (λ r. (runs : List (List ℕ)) × Found CountedRuns bytes.now runs r.1.now × ShowsRuns r.0.count r.0.bytes.now runs) }
     ensures none { IfNone result (NotFound CountedRuns bytes.now) }
@@ -104,6 +111,7 @@ fn runs_at(bytes: &[u8]) -> Option<(RunList<'_>, &[u8])>
 }
 
 /// The time where the flag is set, and the bytes behind it.
+#[inline(always)]
 fn optional_stamp(set: bool, bytes: &[u8]) -> Option<(Option<Stamp>, &[u8])>
     ensures found { IfSome result (λ r. Found (Flagged set SpellsStamp) bytes.now r.0 r.1.now) }
     ensures none { IfNone result (NotFound (Flagged set SpellsStamp) bytes.now) }
@@ -116,6 +124,7 @@ fn optional_stamp(set: bool, bytes: &[u8]) -> Option<(Option<Stamp>, &[u8])>
 }
 
 /// A run where the flag is set, and the bytes behind it.
+#[inline(always)]
 fn optional_run(set: bool, bytes: &[u8]) -> Option<(Option<&[u8]>, &[u8])>
     ensures found { IfSome result (λ r. Found (Flagged set Run) bytes.now (bytes_of r.0) r.1.now) }
     ensures none { IfNone result (NotFound (Flagged set Run) bytes.now) }
@@ -128,6 +137,7 @@ fn optional_run(set: bool, bytes: &[u8]) -> Option<(Option<&[u8]>, &[u8])>
 }
 
 /// A list of runs where the flag is set, and the bytes behind it.
+#[inline(always)]
 fn optional_runs(set: bool, bytes: &[u8]) -> Option<(Option<RunList<'_>>, &[u8])>
     ensures found { IfSome result (λ r. (runs : Option (List (List ℕ))) × Found (Flagged set CountedRuns) bytes.now runs r.1.now × ShowsTags r.0 runs) }
     ensures none { IfNone result (NotFound (Flagged set CountedRuns) bytes.now) }
@@ -140,6 +150,7 @@ fn optional_runs(set: bool, bytes: &[u8]) -> Option<(Option<RunList<'_>>, &[u8])
 }
 
 /// A file where the flag is set, and the bytes behind it.
+#[inline(always)]
 fn optional_file(set: bool, bytes: &[u8]) -> Option<(Option<FileBytes<'_>>, &[u8])>
     ensures found { IfSome result (λ r. Found (Flagged set NamedRun) bytes.now (file_of r.0) r.1.now) }
     ensures none { IfNone result (NotFound (Flagged set NamedRun) bytes.now) }

@@ -1,7 +1,6 @@
 -- Bytes that are ASCII without NUL: many in one step, and that they are a text.
-use Rattle.std.proofs.Common.{◌≡◌, ℕ, zero, suc, ◌+◌, ◌-◌, ◌%◌, ◌^◌, ◌<◌, ◌≤◌, List, Bool, false, cond, leb, length, get_or, map, replicate, Fits, w8, IsTrue, All, refl, inl, inr, ◌∙◌, ap, arith}
+use Rattle.std.proofs.Common.{◌≡◌, ℕ, ◌+◌, ◌-◌, ◌%◌, ◌^◌, ◌<◌, ◌≤◌, List, Bool, false, cond, leb, length, get_or, map, replicate, Fits, w8, IsTrue, All, inl, inr, ◌∙◌, ap, arith}
 use Rattle.std.specs.Prelude.{not, nat_eq}
-use Rattle.std.specs.Str.{IsAscii}
 use Rattle.std.specs.Simd.Lanes.{zip2, mask_l, top, chunk}
 use Rattle.std.proofs.lemmas.Bool.{cases_lt, leb-false}
 use Rattle.std.proofs.lemmas.Bool.Decides.{nat_tests}

@@ -1,7 +1,7 @@
 use Rattle.std.proofs.Common.{sym}
 use Rattle.packet_codec.proofs.LeastLemmas.{spelled_fit}
 use Rattle.packet_codec.proofs.RunsLeft.{some_of}
-use Rattle.packet_codec.proofs.PacketLemmas.{told_at, header_never, decoded, decoded_spelled}
+use Rattle.packet_codec.proofs.PacketLemmas.{told_at, header_never, parts_of_packet, decoded, decoded_spelled}
 use Rattle.packet_codec.proofs.decoding.decode.Goals as goal
 
 pub unwrap-header-requires : goal.unwrap-header-requires
@@ -16,6 +16,11 @@ pub packet_parts-requires-clause-size : goal.packet_parts-requires-clause-size
 packet_parts-requires-clause-size c =
     let stands = rw c.unwrap-header.ensures at c.header_at.ensures.found in
     sym (told_at _ _ c.requires.0 c.type_inv.bytes stands c.requires.1).size
+
+pub event_of-requires : goal.event_of-requires
+event_of-requires c =
+    let stands = rw c.unwrap-header.ensures at c.header_at.ensures.found in
+    parts_of_packet _ _ _ c.type_inv.bytes stands c.requires (rw c.unwrap-parts.ensures at c.packet_parts.ensures.found)
 
 pub returns-clause-only : goal.returns-clause-only
 returns-clause-only c = λ e s.
