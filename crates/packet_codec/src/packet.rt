@@ -41,6 +41,7 @@ impl<'a> Packet<'a> {
 }
 
 /// Whether a run is a text, where it is there.
+#[inline(always)]
 fn may_be_text(run: Option<&[u8]>) -> bool
     ensures { IsTrue result ↔ IfSome (bytes_of run.entry) IsText }
 {
@@ -68,6 +69,7 @@ fn are_texts(count: u32, bytes: &[u8]) -> bool
 }
 
 /// Whether each tag is a text, where there are tags.
+#[inline(always)]
 fn may_be_tags(tags: Option<RunList<'_>>) -> bool
     ensures { (runs : Option (List (List ℕ))) → ShowsTags tags.entry runs → IsTrue result ↔ IfSome runs (All IsText) }
 {
@@ -78,6 +80,7 @@ fn may_be_tags(tags: Option<RunList<'_>>) -> bool
 }
 
 /// Whether a file's name is a text, where there is a file.
+#[inline(always)]
 fn may_be_file(file: Option<FileBytes<'_>>) -> bool
     ensures { IsTrue result ↔ IfSome (file_of file.entry) (λ part. IsText part.0) }
 {
@@ -88,6 +91,7 @@ fn may_be_file(file: Option<FileBytes<'_>>) -> bool
 }
 
 /// Whether the texts among the fields are texts.
+#[inline(always)]
 fn have_texts(parts: &Parts<'_>) -> bool
     ensures { (contents : Contents) → ShowsParts parts.now contents → IsTrue result ↔ AreTexts contents }
 {
@@ -99,6 +103,7 @@ fn have_texts(parts: &Parts<'_>) -> bool
 }
 
 /// The fields of the bytes, which have this header and its size.
+#[inline(always)]
 pub fn packet_parts(header: Header, bytes: &[u8]) -> Option<Parts<'_>>
     requires stands { HeaderStands bytes.now header }
     requires size { length bytes.now ≡ header.size }
@@ -111,6 +116,7 @@ pub fn packet_parts(header: Header, bytes: &[u8]) -> Option<Parts<'_>>
 
 /// Whether the bytes, which have this header, its size and these fields, are a packet. The texts are tested first, and
 /// the checksum last.
+#[inline(always)]
 fn is_packet(header: Header, bytes: &[u8], parts: &Parts<'_>) -> bool
     requires stands { HeaderStands bytes.now header }
     requires size { length bytes.now ≡ header.size }
@@ -142,6 +148,7 @@ pub fn packet_of(header: Header, bytes: &[u8]) -> Option<Packet<'_>>
 }
 
 /// Whether the bytes end with this checksum.
+#[inline(always)]
 fn ends_with(bytes: &[u8], sum: u32) -> bool
     requires { 4 ≤ length bytes.now }
     ensures { IsTrue result ↔ drop (length bytes.now - 4) bytes.now ≡ to_be_bytes w32 sum }
@@ -151,6 +158,7 @@ fn ends_with(bytes: &[u8], sum: u32) -> bool
 }
 
 /// The same as `is_packet`, where the checksum of the bytes in front of the last four is known.
+#[inline(always)]
 fn is_packet_by(header: Header, bytes: &[u8], parts: &Parts<'_>, sum: u32) -> bool
     requires stands { HeaderStands bytes.now header }
     requires size { length bytes.now ≡ header.size }

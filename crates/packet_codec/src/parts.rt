@@ -1,5 +1,5 @@
-//! The fields of a packet, where they stand in its bytes. The readers are compiled into `parts_of`, so that what each finds
-//! and the rest behind it need not go through memory.
+//! The fields of a packet, where they stand in its bytes. The readers are compiled into their callers, so that what each
+//! finds and the rest behind it need not go through memory.
 
 use crate::stamp::Stamp;
 use sub_number::{Width, read_number};
@@ -163,6 +163,7 @@ fn optional_file(set: bool, bytes: &[u8]) -> Option<(Option<FileBytes<'_>>, &[u8
 }
 
 /// The fields that the flags tell of, where they are all of the bytes.
+#[inline(always)]
 pub fn parts_of(first: u8, second: u8, bytes: &[u8]) -> Option<Parts<'_>>
     ensures found { IfSome result (λ parts. (contents : Contents) × FieldShapes first second bytes.now contents × ShowsParts parts contents) }
     ensures none { IfNone result ((contents : Contents) → FieldShapes first second bytes.now contents → ⊥) }

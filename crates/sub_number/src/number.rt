@@ -31,6 +31,7 @@ impl Width {
 /// The number that the bytes begin with, and how many bytes spell it, of any width up to `max`.
 ///
 /// `None` comes exactly where no prefix of at most so many bytes spells a number.
+#[inline(always)]
 pub fn read_number(bytes: &[u8], max: Width) -> Option<(u32, usize)>
     ensures number { IfSome result (λ r. BeginsWithNumber bytes.now (widest_of max) r.0 r.1) }
     ensures none { IfNone result (BeginsWithNoNumber bytes.now (widest_of max)) }
@@ -40,11 +41,20 @@ pub fn read_number(bytes: &[u8], max: Width) -> Option<(u32, usize)>
     if extra >= max.bytes() || extra >= bytes.len() {
         return None;
     }
-    let mut value = u32::from(first % 64);
-    for byte in &bytes[1..=extra] {
-        value = value * 256 + u32::from(*byte);
+    let one = u32::from(first % 64);
+    if extra == 0 {
+        return Some((one, 1));
     }
-    Some((value, extra + 1))
+    let two = one * 256 + u32::from(bytes[1]);
+    if extra == 1 {
+        return Some((two, 2));
+    }
+    let three = two * 256 + u32::from(bytes[2]);
+    if extra == 2 {
+        return Some((three, 3));
+    }
+    let four = three * 256 + u32::from(bytes[3]);
+    Some((four, 4))
 }
 
 /// How many bytes the shortest spelling of the value takes, 1 to 4. A value of 2^30 or more has no spelling.
