@@ -11,7 +11,7 @@ use Rattle.packet_codec.specs.declared.event.Event.{Event}
 use Rattle.packet_codec.specs.Flags.{first_flags, second_flags}
 use Rattle.packet_codec.specs.Packet.{signature, SpellsEvent}
 use Rattle.packet_codec.specs.Grammar.{AreBytes, Found}
-use Rattle.packet_codec.specs.Header.{IsHeader, BeginsWithHeader, BeginsWithPacket, IsFrontOfHeader, NeedsMore}
+use Rattle.packet_codec.specs.Header.{BeginsWithHeader, BeginsWithPacket, IsFrontOfHeader, NeedsMore}
 use Rattle.packet_codec.proofs.FlagLemmas.{first_bits, second_bits}
 use Rattle.packet_codec.proofs.GrammarLemmas.{fits_from_are}
 use Rattle.packet_codec.proofs.AnswerLemmas.{packet_needs_no_more}

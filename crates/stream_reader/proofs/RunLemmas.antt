@@ -7,7 +7,14 @@ use Rattle.packet_codec.specs.Packet.{signature}
 use Rattle.packet_codec.specs.Grammar.{AreBytes}
 use Rattle.packet_codec.specs.Header.{BeginsWithPacket, NeedsMore, LooksLike}
 use Rattle.packet_codec.specs.declared.front.Front.TheVariants.{More, No}
-use Rattle.packet_codec.proofs.LookLemmas.{front_of_none}
+use Rattle.packet_codec.specs.Shapes.{HeaderStands}
+use Rattle.packet_codec.specs.Sight.{IsSeen}
+use Rattle.packet_codec.specs.declared.header.Header.{Header}
+use Rattle.packet_codec.specs.declared.looking.Sight.{Sight}
+use Rattle.packet_codec.specs.declared.looking.Sight.TheVariants as sight
+use Rattle.packet_codec.proofs.GrammarLemmas.{fits_from_are}
+use Rattle.packet_codec.proofs.SpelledLemmas.{read_packet}
+use Rattle.packet_codec.proofs.LookLemmas.{front_of_none, header_begins, is_no_packet}
 use Rattle.packet_codec.proofs.AnswerLemmas.{packet_needs_no_more}
 use Rattle.stream_reader.specs.Cut.{Piece, IsCut, IsOpenCut}
 use Rattle.stream_reader.specs.Run.{IsForeign, AreForeign, IsRun}
@@ -29,6 +36,19 @@ is_foreign ended b are some other = record {
 
 pub foreign_by_look : (ended : Bool) (b : List ℕ) → LooksLike b No → IsForeign ended b
 foreign_by_look ended b looks = record { none = looks.0; never = λ going_on. looks.1 }
+
+-- a whole header, with as many bytes as it tells of, asks for no more
+whole_needs_no_more : (b : List ℕ) (header : Header) → AreBytes b → HeaderStands b header → header.size ≤ length b → NeedsMore b → ⊥
+whole_needs_no_more b header are stands in_range more = elim (read_packet (take header.size b)) [
+  | inl packet ↦ packet_needs_no_more b header.size are (record { header = header_begins b header stands; in_range = in_range; packet = packet }) more
+  | inr never ↦ (is_no_packet b header (fits_from_are b are) stands in_range never).1 more
+]
+
+-- where such a header stands, what is seen to be no packet is foreign
+pub foreign_by_sight : (ended : Bool) (b : List ℕ) (header : Header) (seen : Sight) → AreBytes b → HeaderStands b header → header.size ≤ length b → IsSeen b seen → ((packet : List ℕ) → seen ≡ sight.Packet packet → ⊥) → IsForeign ended b
+foreign_by_sight ended b header (sight.Packet packet) are stands in_range sees other = absurd (other packet refl)
+foreign_by_sight ended b header sight.More are stands in_range sees other = absurd (whole_needs_no_more b header are stands in_range sees)
+foreign_by_sight ended b header sight.No are stands in_range sees other = foreign_by_look ended b sees
 
 pub foreign_at_end : (b : List ℕ) → AreBytes b → NeedsMore b → IsForeign true b
 foreign_at_end b are more = record { none = λ size p. packet_needs_no_more b size are p more; never = λ going_on. absurd cc }

@@ -8,6 +8,8 @@ use Rattle.stream_reader.specs.declared.note.Note.{Note}
 use Rattle.stream_reader.specs.declared.note.Note.TheVariants as note
 use Rattle.stream_reader.specs.declared.first.First.{First}
 use Rattle.stream_reader.specs.declared.first.First.TheVariants.{Packet, Foreign, Nothing}
+use Rattle.stream_reader.specs.declared.first.Made.{Made}
+use Rattle.stream_reader.specs.declared.first.Made.TheVariants as made
 use Rattle.stream_reader.specs.Run.{IsRun}
 use Rattle.stream_reader.specs.Stream.{Gives, IsMadeOf, IsSpent}
 
@@ -42,3 +44,15 @@ abbrev pub first_size : First → ℕ
 first_size (Packet size) = size
 first_size (Foreign size behind) = size
 first_size Nothing = 0
+
+-- what a note is made of, where its event may be made by now
+abbrev pub first_of : Made → First
+first_of (made.Event event size) = Packet size
+first_of (made.Foreign size behind) = Foreign size behind
+first_of made.Nothing = Nothing
+
+-- the event is that of the packet
+abbrev pub HasEvent : List ℕ → Made → Type 0
+HasEvent bytes (made.Event event size) = SpellsEvent (take size bytes) event
+HasEvent bytes (made.Foreign size behind) = Unit {0}
+HasEvent bytes made.Nothing = Unit {0}

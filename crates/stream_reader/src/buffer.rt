@@ -1,12 +1,13 @@
 //! The bytes held, in room that is taken once.
 
-ghost use Rattle.std.specs.Prelude.{◌≡◌, ◌≤◌, ◌+◌, ◌++◌, [], length, drop, slice_range, IfOk};
+ghost use Rattle.std.specs.Prelude.{◌≡◌, ◌≤◌, ◌+◌, ◌-◌, ◌++◌, [], length, take, drop, slice_range, IfOk};
 ghost use Rattle.sub_number.specs.Checksum.{crc32};
 ghost use Rattle.packet_codec.specs.Header.{LooksLike};
+ghost use Rattle.packet_codec.specs.Shapes.{HeaderStands};
 ghost use Rattle.stream_reader.specs.Room.{room};
 
 use crc_parts::Prefixes;
-use packet_codec::{Front, Heading, head_of, look_by};
+use packet_codec::{Front, Header, Heading, head_of, look_by};
 use std::alloc::Global;
 use std::marker::Model;
 use sub_number::{NoMemory, crc_of};
@@ -128,6 +129,16 @@ impl Buffer {
             Heading::More => Front::More,
             Heading::No => Front::No,
         }
+    }
+
+    /// The checksum that a packet with this header at the front would end with. As many bytes are held as it tells of.
+    pub(crate) fn front_sum(&mut self, header: Header) -> u32
+        requires stands { HeaderStands self.old header }
+        requires size { header.size ≤ length self.old }
+        ensures same { self.new ≡ self.old }
+        ensures sum { result ≡ crc32 (take (header.size - 4) self.old) }
+    {
+        self.sum_at(0, header.size - CHECKSUM)
     }
 
     // The checksum of a part of the bytes held.

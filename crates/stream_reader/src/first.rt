@@ -1,5 +1,10 @@
 //! What the first note is made of.
 
+ghost use Rattle.std.specs.Prelude.{◌≡◌};
+ghost use Rattle.stream_reader.specs.First.{first_of};
+
+use packet_codec::Event;
+
 /// What the first note of the bytes held is made of, before it is made.
 #[derive(Clone, Copy)]
 pub enum First {
@@ -9,4 +14,29 @@ pub enum First {
     Foreign(usize, Option<usize>),
     /// No further note can be told.
     Nothing,
+}
+
+/// What the first note of the bytes held is made of. A packet is its event by now, made from the parts that were found
+/// as it was tested; foreign bytes still stand where they are held.
+#[derive(Drop)]
+pub enum Made {
+    /// The event of a packet of this many bytes.
+    Event(Event, usize),
+    /// This many foreign bytes, and the size of the packet behind them, if one was seen there.
+    Foreign(usize, Option<usize>),
+    /// No further note can be told.
+    Nothing,
+}
+
+impl Made {
+    /// The same without the event.
+    pub fn first(&self) -> First
+        ensures { result ≡ first_of self.now }
+    {
+        match self {
+            Made::Event(_, size) => First::Packet(*size),
+            Made::Foreign(size, packet) => First::Foreign(*size, *packet),
+            Made::Nothing => First::Nothing,
+        }
+    }
 }

@@ -5,7 +5,7 @@
 //!
 //! - `note`: an event, or foreign bytes
 //! - `reader`: the bytes fed, and the notes that they decide; it stands on `buffer`, the bytes held
-//! - `first`: what a note is made of, before it is made
+//! - `first`: what the first note is made of, before it is let go of
 //! - `run`: the foreign bytes at the front of what is held
 //! - `whole`: the notes of a whole stream
 //! - `laws`: what holds of the notes of all streams
@@ -20,7 +20,7 @@ mod run;
 mod whole;
 
 pub use buffer::{MOST_HELD, ROOM};
-pub use first::First;
+pub use first::{First, Made};
 pub use laws::{notes_in_turn, notes_of_streams};
 pub use note::{Note, stdout_event};
 pub use reader::Reader;

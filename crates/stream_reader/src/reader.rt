@@ -2,19 +2,20 @@
 
 ghost use Rattle.std.specs.Prelude.{◌≡◌, ◌<◌, ◌≤◌, ◌+◌, ◌++◌, [], true, false, length, take, drop, IfOk, OnErr, IfSome, IfNone};
 ghost use Rattle.packet_codec.specs.Header.{BeginsWithPacket};
+ghost use Rattle.packet_codec.specs.Shapes.{HeaderStands};
 ghost use Rattle.stream_reader.specs.declared.note.Note.{Note};
 ghost use Rattle.stream_reader.specs.declared.first.First.TheVariants.{Nothing};
 ghost use Rattle.stream_reader.specs.Notes.{longest_foreign};
-ghost use Rattle.stream_reader.specs.First.{FirstIs, IsMadeBy};
+ghost use Rattle.stream_reader.specs.First.{FirstIs, HasEvent, IsMadeBy, first_of};
 ghost use Rattle.stream_reader.specs.Room.{room, most_held};
 ghost use Rattle.stream_reader.specs.Run.{AreForeign};
 ghost use Rattle.stream_reader.specs.Stream.{GivesNote, IsSpent};
 
 use crate::buffer::Buffer;
-use crate::first::First;
+use crate::first::{First, Made};
 use crate::note::Note;
 use crate::run::{are_bytes, foreign_run};
-use packet_codec::{Front, decode};
+use packet_codec::{Front, Header, Heading, Sight, decode, head_of, see_by};
 use std::alloc::Global;
 use std::marker::Model;
 use sub_number::{Bytes, NoMemory};
@@ -92,8 +93,9 @@ impl Reader {
         ensures err { OnErr result (self.new ≡ self.old) }
         ensures ended { self.new.ended ≡ self.old.ended }
     {
-        let first = self.first();
-        let Some(note) = self.note(first)? else {
+        let made = self.first_made()?;
+        let first = made.first();
+        let Some(note) = self.note(made)? else {
             return Ok(None);
         };
         self.pass(first);
@@ -118,28 +120,27 @@ impl Reader {
 
 /// The steps of `next`, for those who make something else of a note than a value.
 impl Reader {
-    /// What the first note of the bytes held is made of. It takes no memory, and is not looked for a second time.
-    pub fn first(&mut self) -> First
+    /// What the first note of the bytes held is made of; of a packet its event, made from the parts that were found as
+    /// the packet was tested. So neither is looked for a second time. For foreign bytes it takes no memory.
+    ///
+    /// `NoMemory` comes only for want of memory, and leaves the reader as before.
+    pub fn first_made(&mut self) -> Result<Made, NoMemory>
         ensures same { self.new ≡ self.old }
-        ensures first { FirstIs self.old.ended self.old.bytes result }
+        ensures first { IfOk result (λ made. FirstIs self.old.ended self.old.bytes (first_of made)) }
+        ensures event { IfOk result (HasEvent self.old.bytes) }
     {
         if let Some(size) = self.packet {
-            return First::Packet(size);
+            let event = decode(self.alloc, self.front(size))?;
+            return Ok(Made::Event(event, size));
         }
         let known = self.foreign;
         if known > 0 {
-            return self.first_run(known);
+            return Ok(self.first_run(known));
         }
         if self.held() == 0 {
-            return First::Nothing;
+            return Ok(Made::Nothing);
         }
-        are_bytes(self.buffer.held());
-        match self.buffer.look_at(0) {
-            Front::Packet(size) => self.first_packet(size),
-            Front::More if self.ended => self.first_run(1),
-            Front::More => First::Nothing,
-            Front::No => self.first_run(1),
-        }
+        self.first_unknown()
     }
 
     /// The first bytes held.
@@ -150,25 +151,26 @@ impl Reader {
         &self.buffer.held()[..size]
     }
 
-    /// The note of what `first` told. None where there is nothing.
+    /// The note of what `first_made` told. None where there is nothing.
     ///
     /// `NoMemory` comes only for want of memory.
-    pub fn note(&self, first: First) -> Result<Option<Note>, NoMemory>
-        requires { FirstIs self.now.ended self.now.bytes first }
-        ensures some { IfOk result (λ answer. IfSome answer (IsMadeBy self.now.bytes first)) }
-        ensures none { IfOk result (λ answer. IfNone answer (first ≡ Nothing)) }
+    pub fn note(&self, made: Made) -> Result<Option<Note>, NoMemory>
+        requires first { FirstIs self.now.ended self.now.bytes (first_of made) }
+        requires event { HasEvent self.now.bytes made }
+        ensures some { IfOk result (λ answer. IfSome answer (IsMadeBy self.now.bytes (first_of made))) }
+        ensures none { IfOk result (λ answer. IfNone answer (first_of made ≡ Nothing)) }
     {
-        match first {
-            First::Packet(size) => Ok(Some(Note::Event(decode(self.alloc, self.front(size))?))),
-            First::Foreign(size, _) => {
+        match made {
+            Made::Event(event, _) => Ok(Some(Note::Event(event))),
+            Made::Foreign(size, _) => {
                 let bytes = Bytes::new(self.alloc, self.front(size))?;
                 Ok(Some(Note::Foreign(bytes)))
             }
-            First::Nothing => Ok(None),
+            Made::Nothing => Ok(None),
         }
     }
 
-    /// The note of what `first` told was given: its bytes are let go of. Where there is nothing the reader is as before.
+    /// The note of this was given: its bytes are let go of. Where there is nothing the reader is as before.
     pub fn pass(&mut self, first: First)
         requires { FirstIs self.old.ended self.old.bytes first }
         ensures given { (note : Note) → IsMadeBy self.old.bytes first note → GivesNote self.old note self.new }
@@ -183,31 +185,56 @@ impl Reader {
         }
     }
 
-    // A packet of this size stands at the front. That is kept in mind.
-    fn first_packet(&mut self, size: usize) -> First
-        requires { BeginsWithPacket self.old.bytes size }
+    // What is first, where bytes are held and nothing is known of them.
+    fn first_unknown(&mut self) -> Result<Made, NoMemory>
+        requires { 0 < length self.old.bytes }
         ensures same { self.new ≡ self.old }
-        ensures first { FirstIs self.old.ended self.old.bytes result }
+        ensures first { IfOk result (λ made. FirstIs self.old.ended self.old.bytes (first_of made)) }
+        ensures event { IfOk result (HasEvent self.old.bytes) }
     {
-        self.packet = Some(size);
-        First::Packet(size)
+        are_bytes(self.buffer.held());
+        match head_of(self.buffer.held()) {
+            Heading::Whole(header) => self.first_whole(header),
+            Heading::More if self.ended => Ok(self.first_run(1)),
+            Heading::More => Ok(Made::Nothing),
+            Heading::No => Ok(self.first_run(1)),
+        }
+    }
+
+    // What is first, where this header stands at the front, and as many bytes as it tells of.
+    fn first_whole(&mut self, header: Header) -> Result<Made, NoMemory>
+        requires some { 0 < length self.old.bytes }
+        requires stands { HeaderStands self.old.bytes header }
+        requires size { header.size ≤ length self.old.bytes }
+        ensures same { self.new ≡ self.old }
+        ensures first { IfOk result (λ made. FirstIs self.old.ended self.old.bytes (first_of made)) }
+        ensures event { IfOk result (HasEvent self.old.bytes) }
+    {
+        are_bytes(self.buffer.held());
+        let sum = self.buffer.front_sum(header);
+        if let Sight::Packet(packet) = see_by(header, self.buffer.held(), sum) {
+            let event = packet.event(self.alloc)?;
+            return Ok(Made::Event(event, packet.size()));
+        }
+        Ok(self.first_run(1))
     }
 
     // The foreign bytes at the front, of which so many are known. How far they go is kept in mind.
-    fn first_run(&mut self, known: usize) -> First
+    fn first_run(&mut self, known: usize) -> Made
         requires some { 0 < known }
         requires in_range { known ≤ length self.old.bytes }
         requires short { known ≤ longest_foreign }
         requires are_foreign { AreForeign self.old.ended self.old.bytes known }
         ensures same { self.new ≡ self.old }
-        ensures first { FirstIs self.old.ended self.old.bytes result }
+        ensures first { FirstIs self.old.ended self.old.bytes (first_of result) }
+        ensures event { HasEvent self.old.bytes result }
     {
         let run = foreign_run(&mut self.buffer, known, self.ended);
         self.foreign = run.count;
         match run.front {
-            Front::More => First::Nothing,
-            Front::Packet(size) => First::Foreign(run.count, Some(size)),
-            Front::No => First::Foreign(run.count, None),
+            Front::More => Made::Nothing,
+            Front::Packet(size) => Made::Foreign(run.count, Some(size)),
+            Front::No => Made::Foreign(run.count, None),
         }
     }
 

@@ -1,6 +1,5 @@
-use Rattle.std.proofs.Common.{◌≡◌, ◌∙◌, false, ap, rules}
-use Rattle.std.proofs.lemmas.List.{take-append-drop}
-use Rattle.stream_reader.proofs.TurnLemmas.{read_none, read_more, read_all, split_parts}
+use Rattle.std.proofs.Common.{◌≡◌, ◌∙◌, false, ap}
+use Rattle.stream_reader.proofs.TurnLemmas.{read_more, split_parts}
 use Rattle.stream_reader.proofs.RoomLemmas.{spent_short}
 use Rattle.stream_reader.proofs.whole.read_piece.Goals as goal
 

@@ -1,4 +1,4 @@
-use Rattle.std.proofs.Common.{◌≡◌, ℕ, ◌*◌, ◌/◌, ◌-◌, ◌+◌, ◌≤◌, ◌++◌, length, take, drop, ap, arith, rules, length-append, length-drop}
+use Rattle.std.proofs.Common.{◌≡◌, ◌*◌, ◌/◌, ◌-◌, ◌+◌, ◌≤◌, ◌++◌, length, take, drop, ap, arith, rules, length-append, length-drop}
 use Rattle.std.specs.List.{copy_within}
 use Rattle.std.specs.Vec.{vec_capacity}
 use Rattle.crc_parts.specs.Prefixes.{HasPrefixes}

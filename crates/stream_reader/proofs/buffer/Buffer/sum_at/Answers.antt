@@ -1,4 +1,4 @@
-use Rattle.std.proofs.Common.{◌≡◌, take, ◌++◌, drop}
+use Rattle.std.proofs.Common.{take}
 use Rattle.std.proofs.lemmas.List.{take_rest}
 use Rattle.crc_parts.specs.Prefixes.{HasPrefixes}
 use Rattle.stream_reader.proofs.BufferLemmas.{all_along, whole_along}
