@@ -2,12 +2,13 @@
 use Rattle.std.proofs.Common.{◌≡◌, ℕ, Option, ◌<◌, length, length-append, Bool, true, false, List, [], ◌∷◌, ◌++◌, take, refl, sym, ap, subst, ◌∙◌, append_assoc, append-nil, arith}
 use Rattle.packet_codec.specs.Grammar.{AreBytes}
 use Rattle.packet_codec.specs.declared.event.Event.{Event}
-use Rattle.packet_codec.specs.Packet.{SpellsEvent}
 use Rattle.stream_reader.specs.declared.note.Note.{Note}
 use Rattle.stream_reader.specs.declared.note.Note.TheVariants as note
 use Rattle.stream_reader.specs.declared.first.First.{First}
 use Rattle.stream_reader.specs.declared.first.First.TheVariants as found
-use Rattle.stream_reader.specs.First.{FirstIs, IsMadeBy}
+use Rattle.stream_reader.specs.declared.first.Made.{Made}
+use Rattle.stream_reader.specs.declared.first.Made.TheVariants as there
+use Rattle.stream_reader.specs.First.{FirstIs, HasEvent, IsMadeBy, first_of}
 use Rattle.stream_reader.specs.Stream.{Held, GivesNote, IsSpent}
 use Rattle.stream_reader.proofs.TurnLemmas.{notes_none, notes_more, begin_more, whole_at_end, gives_none}
 use Rattle.stream_reader.proofs.GivingLemmas.{spent_empty}
@@ -91,8 +92,8 @@ filtered_all takes later plan now rest fed shown held after old mid new status s
 
 -- ---- what is first
 
-pub packet_made : (bytes packet : List ℕ) (first : First) (size : ℕ) (e : Event) → first ≡ found.Packet size → packet ≡ take size bytes → SpellsEvent packet e → IsMadeBy bytes first (note.Event e)
-packet_made bytes packet first size e form same spells = subst (λ (f : First). IsMadeBy bytes f (note.Event e)) (sym form) (subst (λ (l : List ℕ). SpellsEvent l e) same spells)
+pub event_made : (bytes : List ℕ) (made : Made) (event : Event) (size : ℕ) → made ≡ there.Event event size → HasEvent bytes made → IsMadeBy bytes (first_of made) (note.Event event)
+event_made bytes made event size form has = subst (λ (m : Made). IsMadeBy bytes (first_of m) (note.Event event)) (sym form) (subst (HasEvent bytes) form has)
 
 pub run_made : (bytes run : List ℕ) (first : First) (size : ℕ) (behind : Option ℕ) → first ≡ found.Foreign size behind → run ≡ take size bytes → IsMadeBy bytes first (note.Foreign run)
 run_made bytes run first size behind form same = subst (λ (f : First). IsMadeBy bytes f (note.Foreign run)) (sym form) same

@@ -3,42 +3,41 @@ ghost use Rattle.std.specs.Prelude.{◌≡◌, ◌≤◌, true, false, length, L
 ghost use Rattle.stream_reader.specs.Room.{most_held};
 ghost use Rattle.stream_reader.specs.declared.note.Note.{Note as ANote};
 ghost use Rattle.stream_reader.specs.declared.first.First.TheVariants.{Nothing};
-ghost use Rattle.stream_reader.specs.First.{FirstIs};
+ghost use Rattle.stream_reader.specs.First.{FirstIs, HasEvent, first_of};
 ghost use Rattle.stream_reader.specs.Stream.{IsSpent};
 ghost use Rattle.filter_cli.specs.Noted.{TakesFirst, TakesNotes};
 
 use crate::notes::NoteFilter;
-use packet_codec::decode;
-use stream_reader::{First, Reader};
+use stream_reader::{Made, Reader};
 use sub_number::NoMemory;
 
-// Takes the note that is made of this. Foreign bytes are taken where they stand. False comes exactly where there is none.
+// Takes the note that this is, or is made of. Foreign bytes are taken where they stand. False comes exactly where there
+// is none.
 fn take_first<F: NoteFilter>(
     reader: &Reader,
-    first: First,
+    made: Made,
     filter: &mut F,
     text: &mut Vec<u8>,
 ) -> Result<bool, NoMemory>
     requires ready { F.ready filter.old }
-    requires first { FirstIs reader.now.ended reader.now.bytes first }
+    requires first { FirstIs reader.now.ended reader.now.bytes (first_of made) }
+    requires event { HasEvent reader.now.bytes made }
     ensures ready { OnOk result (F.ready filter.new) }
-    ensures some { IfOk result (λ some. some ≡ true → TakesFirst (F.has filter.old) (F.has filter.new) (F.plan filter.old) reader.now.bytes first text.old.items text.new.items) }
-    ensures none { IfOk result (λ some. some ≡ false → (first ≡ Nothing) × (filter.new ≡ filter.old) × (text.new.items ≡ text.old.items)) }
+    ensures some { IfOk result (λ some. some ≡ true → TakesFirst (F.has filter.old) (F.has filter.new) (F.plan filter.old) reader.now.bytes (first_of made) text.old.items text.new.items) }
+    ensures none { IfOk result (λ some. some ≡ false → (first_of made ≡ Nothing) × (filter.new ≡ filter.old) × (text.new.items ≡ text.old.items)) }
     ensures plan { OnOk result (F.plan filter.new ≡ F.plan filter.old) }
 {
-    match first {
-        First::Packet(size) => {
-            let packet = reader.front(size);
-            let event = decode(*text.allocator(), packet)?;
+    match made {
+        Made::Event(event, _) => {
             filter.take(event, text)?;
             Ok(true)
         }
-        First::Foreign(size, _) => {
+        Made::Foreign(size, _) => {
             let run = reader.front(size);
             filter.take_foreign(run, text)?;
             Ok(true)
         }
-        First::Nothing => Ok(false),
+        Made::Nothing => Ok(false),
     }
 }
 
@@ -57,8 +56,9 @@ pub(crate) fn take_notes<F: NoteFilter>(
     ensures plan { OnOk result (F.plan filter.new ≡ F.plan filter.old) }
 {
     loop {
-        let first = reader.first();
-        let more = take_first(reader, first, filter, text)?;
+        let made = reader.first_made()?;
+        let first = made.first();
+        let more = take_first(reader, made, filter, text)?;
         if !more {
             return Ok(());
         }

@@ -170,8 +170,9 @@ impl Scribe {
         ensures none { IfOk result (λ answer. IfNone answer (HasNone self.old × (self.new ≡ self.old) × (out.new.items ≡ out.old.items))) }
         ensures err { OnErr result ((self.new ≡ self.old) × (out.new.items ≡ out.old.items)) }
     {
-        let first = self.reader.first();
-        let Some(note) = self.reader.note(first)? else {
+        let made = self.reader.first_made()?;
+        let first = made.first();
+        let Some(note) = self.reader.note(made)? else {
             return Ok(None);
         };
         let (event, left) = put_note(self.alloc, self.lane, note, out)?;
