@@ -3,6 +3,7 @@ pub mod FlagLemmas
 pub mod GrammarLemmas
 pub mod HeaderLemmas
 pub mod FilterLemmas
+pub mod KnownLemmas
 pub mod LaneLemmas
 pub mod LeastLemmas
 pub mod LookLemmas

@@ -253,7 +253,7 @@ event_again e =
 
 -- ---- a whole packet
 
-spelled_header : (p : List ℕ) (e : Event) → (s : SpellsEvent p e) → Found HeaderShape p (first_flags e, (second_flags e, length p)) (s.fields ++ to_be_bytes w32 (crc32 s.body))
+pub spelled_header : (p : List ℕ) (e : Event) → (s : SpellsEvent p e) → Found HeaderShape p (first_flags e, (second_flags e, length p)) (s.fields ++ to_be_bytes w32 (crc32 s.body))
 spelled_header p e s =
     let header : List ℕ = signature ∷ first_flags e ∷ second_flags e ∷ s.size in
     let whole : p ≡ header ++ (s.fields ++ to_be_bytes w32 (crc32 s.body)) = s.parts ∙ ap (λ (l : List ℕ). l ++ to_be_bytes w32 (crc32 s.body)) s.body_is ∙ append_assoc header s.fields (to_be_bytes w32 (crc32 s.body)) in

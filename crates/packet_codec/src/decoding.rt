@@ -80,7 +80,13 @@ fn status_of(second: u8) -> Status
 }
 
 /// The event with these flag bytes and fields, each field copied once. The texts among them were tested.
-fn event_of(alloc: Global, first: u8, second: u8, parts: &Parts<'_>) -> Result<Event, NoMemory>
+#[inline(always)]
+pub(crate) fn event_of(
+    alloc: Global,
+    first: u8,
+    second: u8,
+    parts: &Parts<'_>,
+) -> Result<Event, NoMemory>
     requires { (contents : Contents) × ShowsParts parts.now contents × AreShortTexts contents }
     ensures { (contents : Contents) → ShowsParts parts.now contents → IfOk result (λ event. event ≡ event_from first second contents) }
 {

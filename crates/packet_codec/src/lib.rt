@@ -7,6 +7,7 @@
 //! - `looking`: whether some bytes begin with a packet
 //! - `packet`: a packet of which all is tested; it stands on `header` and `parts`, which read from the front
 //! - `decoding`: the event of a packet
+//! - `known`: the event of a packet that is known to stand at the front of some bytes
 //! - `sizes`, `encoding`: the shortest spelling and its size
 //! - `routing`: an event under a lane's route
 //! - `laws`, `canonical_law`: what holds of all spellings
@@ -19,6 +20,7 @@ mod encoding;
 mod event;
 mod front;
 mod header;
+mod known;
 mod lane_laws;
 mod laws;
 mod looking;
@@ -36,6 +38,7 @@ pub use encoding::encode;
 pub use event::{Event, FilePart};
 pub use front::Front;
 pub use header::{Header, SIGNATURE};
+pub use known::decode_front;
 pub use lane_laws::lanes_are_apart;
 pub use laws::{fronts_are_one, packets_are_one_event};
 pub use looking::{Heading, Sight, head_of, look, look_by, see, see_by};

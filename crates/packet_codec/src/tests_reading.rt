@@ -1,4 +1,4 @@
-use crate::{Event, Front, Status, Tags, decode, look};
+use crate::{Event, Front, Status, Tags, decode, decode_front, look};
 use std::alloc::Global;
 use std::test::Fail;
 use sub_number::Text;
@@ -68,6 +68,26 @@ fn packets_of_the_format_are_read(rt: HostRuntime) -> Result<(), Fail> {
     assert!(rt; event.eof && event.id.is_none() && event.route.is_none());
     assert_eq!(rt; event.status, Status::Unset);
     assert!(rt; is_bare(&event));
+    Ok(())
+}
+
+// The event at the front, where a packet stands there, and its size.
+fn read_front(alloc: Global, bytes: &[u8]) -> Option<(Event, usize)> {
+    let Front::Packet(_) = look(bytes) else {
+        return None;
+    };
+    decode_front(alloc, bytes).ok()
+}
+
+#[test]
+fn the_packet_at_the_front_is_read_with_its_size(rt: HostRuntime) -> Result<(), Fail> {
+    let both =
+        b"\xb3\x29\x03\x80\x00\x0e\x03foo\x70\x37\x2c\x19\xb3\x29\x06\x0c\x03foo\x15\x50\x6f\xa3";
+    let (event, size) = read_front(rt.alloc(), both).ok_or("no packet")?;
+    assert_eq!(rt; (size, event.status), (14, Status::Success));
+    let behind = both.get(size..).ok_or("size")?;
+    let (event, size) = read_front(rt.alloc(), behind).ok_or("no packet behind")?;
+    assert_eq!(rt; (size, event.status), (12, Status::Fail));
     Ok(())
 }
 

@@ -1,9 +1,8 @@
 -- What a run that is heard in pieces has so far (docs/FORMATS.md, "Streams" and "The fold").
-use Rattle.std.specs.Prelude.{◌≡◌, ℕ, List, All, map}
+use Rattle.std.specs.Prelude.{◌≡◌, ℕ, List, All}
 use Rattle.std.specs.List.{flat_map}
 use Rattle.packet_codec.specs.declared.event.Event.{Event}
 use Rattle.packet_codec.specs.Canonical.{IsEvent, Fits, canonical}
-use Rattle.packet_codec.specs.Lanes.{joined}
 use Rattle.outcome_fold.specs.Outcome.{HasFolded}
 use Rattle.run_ledger.specs.declared.heard_run.HeardRun.{HeardRun}
 
@@ -13,12 +12,16 @@ pub record ArePacketsOf (events : List Event) (bytes : List ℕ) : Type 0 where
   pub fit : All Fits events
   pub packets : bytes ≡ flat_map canonical events
 
--- each piece is the packets of one of these groups of events
-pub record ArePieces (groups : List (List Event)) (pieces : List (List ℕ)) : Type 0 where
-  pub are_events : All IsEvent (joined groups)
-  pub fit : All Fits (joined groups)
-  pub packets : pieces ≡ map (flat_map canonical) groups
+-- the bytes are the packets of some events
+abbrev pub ArePackets : (bytes : List ℕ) → Type 0
+ArePackets bytes = (events : List Event) × ArePacketsOf events bytes
 
--- Where the pieces are the packets of events, these were folded. Of pieces that are not nothing is said.
-abbrev pub HasHeard : HeardRun → List (List ℕ) → Type 0
-HasHeard heard pieces = (groups : List (List Event)) → ArePieces groups pieces → HasFolded heard.outcomes (joined groups)
+-- the pieces one after another
+abbrev pub joined : List (List ℕ) → List ℕ
+joined pieces = flat_map (λ piece. piece) pieces
+
+-- the pieces heard, one after another, are the packets of events, and these were folded
+pub record HasHeard (heard : HeardRun) (pieces : List (List ℕ)) : Type 0 where
+  pub events : List Event
+  pub packets : ArePacketsOf events (joined pieces)
+  pub folded : HasFolded heard.outcomes events

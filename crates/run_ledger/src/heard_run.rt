@@ -1,16 +1,15 @@
 //! The rows of a run that is heard as it is written.
 
-ghost use Rattle.std.specs.Prelude.{◌≡◌, ◌≤◌, [], ◌∷◌, ◌++◌, ℕ, List, length, map, IfOk, OnOk};
-ghost use Rattle.std.specs.List.{flat_map};
-ghost use Rattle.packet_codec.specs.Canonical.{IsEvent, Fits, canonical};
-ghost use Rattle.packet_codec.specs.Lanes.{joined};
+ghost use Rattle.std.specs.Prelude.{◌≡◌, ◌≤◌, ◌<◌, [], ◌∷◌, ◌++◌, ℕ, List, length, IfOk, OnOk};
+ghost use Rattle.packet_codec.specs.Grammar.{Found};
+ghost use Rattle.packet_codec.specs.Packet.{SpellsEvent};
 ghost use Rattle.packet_codec.specs.declared.event.Event.{Event};
 ghost use Rattle.outcome_fold.specs.Outcome.{HasFolded};
-ghost use Rattle.run_ledger.specs.Hearing.{ArePacketsOf, ArePieces, HasHeard};
+ghost use Rattle.run_ledger.specs.Hearing.{ArePackets, ArePacketsOf, HasHeard, joined};
 ghost use Rattle.run_ledger.specs.Reading.{AreRowsOf};
 
 use outcome_fold::{Outcomes, Rows};
-use packet_codec::{Sight, see};
+use packet_codec::decode_front;
 use std::alloc::Global;
 use sub_number::NoMemory;
 
@@ -33,11 +32,12 @@ impl HeardRun {
         }
     }
 
-    /// Hears the next piece: the event of each of its packets is made once. What stands behind the first bytes that are no
-    /// packet is passed over, and nothing is known then of the rows.
+    /// Hears the next piece: the event of each of its packets is made once. That they are packets is known, so that none of
+    /// them is tested again.
     ///
     /// `NoMemory` comes only for want of memory. Nothing is known then of the rows.
     pub fn hear(&mut self, piece: &[u8]) -> Result<(), NoMemory>
+        requires packets { ArePackets piece.now }
         ensures { (pieces : List (List ℕ)) → HasHeard self.old pieces → OnOk result (HasHeard self.new (pieces ++ piece.now ∷ [])) }
     {
         fold_packets(self.alloc, piece, &mut self.outcomes)
@@ -47,35 +47,33 @@ impl HeardRun {
     ///
     /// `NoMemory` comes only for want of memory.
     pub fn close(self) -> Result<Rows, NoMemory>
-        ensures { (groups : List (List Event)) (pieces : List (List ℕ)) → ArePieces groups pieces → HasHeard self pieces → IfOk result (AreRowsOf (flat_map canonical (joined groups))) }
+        ensures { (pieces : List (List ℕ)) → HasHeard self pieces → IfOk result (AreRowsOf (joined pieces)) }
     {
         self.outcomes.close()
     }
 }
 
-// Folds the events of the packets that the bytes begin with, up to the first bytes that are no packet.
+// Folds the events of the packets that the bytes are.
 fn fold_packets(alloc: Global, bytes: &[u8], outcomes: &mut Outcomes) -> Result<(), NoMemory>
+    requires packets { ArePackets bytes.now }
     ensures { (seen events : List Event) → ArePacketsOf events bytes.now → HasFolded outcomes.old seen → OnOk result (HasFolded outcomes.new (seen ++ events)) }
 {
     let mut left = bytes;
     while !left.is_empty() {
         let size = fold_packet(alloc, left, outcomes)?;
-        if size == 0 {
-            return Ok(());
-        }
         left = &left[size..];
     }
     Ok(())
 }
 
-// Folds the event of the packet that the bytes begin with, and answers its size; 0 where no packet stands there.
+// Folds the event of the packet that the bytes begin with, and answers its size.
 fn fold_packet(alloc: Global, bytes: &[u8], outcomes: &mut Outcomes) -> Result<usize, NoMemory>
-    ensures size { IfOk result (λ size. size ≤ length bytes.now) }
-    ensures folded { (seen : List Event) (event : Event) (behind : List ℕ) → IsEvent event → Fits event → bytes.now ≡ canonical event ++ behind → HasFolded outcomes.old seen → IfOk result (λ size. (size ≡ length (canonical event)) × HasFolded outcomes.new (seen ++ event ∷ [])) }
+    requires packet { (event : Event) × (behind : List ℕ) × Found SpellsEvent bytes.now event behind }
+    ensures in_range { IfOk result (λ size. (0 < size) × (size ≤ length bytes.now)) }
+    ensures size { (event : Event) (behind : List ℕ) → (found : Found SpellsEvent bytes.now event behind) → IfOk result (λ size. size ≡ length found.front) }
+    ensures folded { (seen : List Event) (event : Event) (behind : List ℕ) → Found SpellsEvent bytes.now event behind → HasFolded outcomes.old seen → OnOk result (HasFolded outcomes.new (seen ++ event ∷ [])) }
 {
-    let Sight::Packet(packet) = see(bytes) else {
-        return Ok(0);
-    };
-    outcomes.take(packet.event(alloc)?)?;
-    Ok(packet.size())
+    let (event, size) = decode_front(alloc, bytes)?;
+    outcomes.take(event)?;
+    Ok(size)
 }

@@ -1,15 +1,15 @@
 -- The rows of what is recorded of a run's lanes, from what was heard.
-use Rattle.std.proofs.Common.{◌≡◌, ℕ, ◌≤◌, List, Option, None, Some, Result, Ok, Err, IfOk, IfErr, map, All, refl, sym, subst}
+use Rattle.std.proofs.Common.{◌≡◌, ℕ, ◌≤◌, List, [], ◌∷◌, ◌++◌, Option, None, Some, Result, Ok, Err, IfOk, IfErr, map, refl, sym, ap, ◌∙◌, subst}
 use Rattle.std.specs.List.{flat_map}
+use Rattle.std.proofs.lemmas.List.Concat.{flat_map-append}
 use Rattle.sub_number.specs.declared.memory.NoMemory as memory
 use Rattle.edge_io.specs.Causes.{Rose, RisesExactlyIf}
 use Rattle.edge_io.specs.Disk.{Folder}
 use Rattle.edge_io.specs.Seen.{Seen}
 use Rattle.outcome_fold.specs.declared.row.Row.{Row}
-use Rattle.packet_codec.specs.Canonical.{IsEvent, Fits, canonical}
-use Rattle.packet_codec.specs.Lanes.{joined}
+use Rattle.packet_codec.specs.Canonical.{canonical}
 use Rattle.packet_codec.specs.declared.event.Event.{Event}
-use Rattle.run_ledger.specs.Hearing.{ArePieces, HasHeard}
+use Rattle.run_ledger.specs.Hearing.{HasHeard, joined}
 use Rattle.run_ledger.specs.Reading.{AreRowsOf}
 use Rattle.run_ledger.proofs.FoldLemmas.{if_ok_then}
 use Rattle.run_shelf.specs.declared.faults.ShelfCall.{ShelfCall}
@@ -21,6 +21,11 @@ use Rattle.worker_lane.specs.declared.lot.Lot.{Lot}
 use Rattle.worker_mux.specs.Callers.{KeepsTape, tape}
 use Rattle.worker_mux.specs.Runs.{HearsMerge}
 
+-- the packets of groups of events, one group after another, are those of all events
+joined_packets : (groups : List (List Event)) → joined (map (flat_map canonical) groups) ≡ flat_map canonical (flat_map (λ group. group) groups)
+joined_packets [] = refl
+joined_packets (group ∷ groups) = ap (λ l. flat_map canonical group ++ l) (joined_packets groups) ∙ sym (flat_map-append canonical group (flat_map (λ g. g) groups))
+
 module _ (rests : List (Option (List Lot))) (old new : Option Folder) where
   -- the ear heard a merge as it was added
   abbrev HeardAll : Ear → Type 0
@@ -28,19 +33,16 @@ module _ (rests : List (Option (List Lot))) (old new : Option Folder) where
 
   -- the rows are those of all that was heard, in whatever pieces
   abbrev GivesRows : {E : Type 0} → Ear → Result (List Row) E → Type 0
-  GivesRows ear rows = (groups : List (List Event)) (pieces : List (List ℕ)) → ArePieces groups pieces → HasHeard ear.run pieces → IfOk rows (AreRowsOf (flat_map canonical (joined groups)))
+  GivesRows ear rows = (pieces : List (List ℕ)) → HasHeard ear.run pieces → IfOk rows (AreRowsOf (joined pieces))
 
   pub rows_of_heard : {E F : Type 0} (heard : Result Ear F) (ear : Ear) (rows : Result (List Row) E) → heard ≡ Ok ear → GivesRows ear rows → IfOk heard HeardAll → IfOk rows (AddsRows rests old new)
   rows_of_heard heard ear rows is gives all =
       let h : HeardAll ear = rw is at all in
-      let are : ArePieces h.groups (map (flat_map canonical) h.groups) = record {
-        are_events = subst (All IsEvent) (sym h.parts) h.merge.are_events;
-        fit = subst (All Fits) (sym h.parts) h.merge.fit;
-        packets = refl;
-      } in
-      if_ok_then (AreRowsOf (flat_map canonical (joined h.groups))) (AddsRows rests old new) rows (gives h.groups _ are h.heard) (λ list is. record {
+      let pieces : List (List ℕ) = map (flat_map canonical) h.groups in
+      let bytes : joined pieces ≡ flat_map canonical h.merge.events = joined_packets h.groups ∙ ap (flat_map canonical) h.parts in
+      if_ok_then (AreRowsOf (joined pieces)) (AddsRows rests old new) rows (gives pieces h.heard) (λ list is. record {
         merge = h.merge;
-        rows_are = subst (λ l. AreRowsOf (flat_map canonical l) list) h.parts is;
+        rows_are = subst (λ l. AreRowsOf l list) bytes is;
       })
 
   pub adds_rows : (fault : Option ShelfCall) (heard : Result Ear memory.NoMemory) (rows : Result (List Row) memory.NoMemory) (answer : Result (List Row) LanesRefusal) → answer ≡ lanes_answer fault rows → IfOk heard (λ ear. fault ≡ None → HeardAll ear) → (IfOk heard HeardAll → IfOk rows (AddsRows rests old new)) → IfOk answer (AddsRows rests old new)

@@ -1,11 +1,13 @@
 -- How a work goes on, lot by lot.
 use Rattle.std.proofs.Common.{◌≡◌, ℕ, List, [], ◌∷◌, ◌++◌, Bool, false, ◌⊎◌, ⊎_elim, inl, inr, refl, sym, ◌∙◌, ap, subst, append_assoc}
-use Rattle.std.specs.Prelude.{Option, None, Some, IfSome}
+use Rattle.std.specs.Prelude.{Option, None, Some, IfSome, All}
 use Rattle.std.specs.Option.{option_map, option_to_list}
 use Rattle.std.specs.List.{AllByRecursion, flat_map}
 use Rattle.std.proofs.lemmas.List.{append-nil}
 use Rattle.std.proofs.lemmas.List.Concat.{flat_map-append}
-use Rattle.packet_codec.specs.Canonical.{canonical}
+use Rattle.std.proofs.lemmas.List.Elements.{All-nil, All-cons}
+use Rattle.packet_codec.specs.declared.event.Event.{Event}
+use Rattle.packet_codec.specs.Canonical.{canonical, IsEvent, Fits}
 use Rattle.packet_codec.specs.Routing.{under}
 use Rattle.edge_io.specs.Children.{Output}
 use Rattle.edge_io.specs.Seen.{Seen}
@@ -18,6 +20,7 @@ use Rattle.worker_lane.specs.declared.lot.Lot.{Lot}
 use Rattle.worker_lane.specs.declared.lot.Lot.TheVariants.{Packet, End}
 use Rattle.worker_mux.specs.Passes.{number_of, lots_put, entry_of, IsPassFor}
 use Rattle.worker_mux.specs.Callers.{packet_of}
+use Rattle.worker_mux.specs.Packets.{IsWhole}
 use Rattle.worker_mux.specs.Works.{AllWell, ArePacketsUnder, bytes_of, bytes_left, IsOwn, IsReady, given, left, whole, KeepsWork, IsPut, Drives, Settles, Pairs, IsEntryOf}
 use Rattle.worker_mux.specs.declared.belt.Belt.{Belt}
 use Rattle.worker_mux.specs.declared.knowledge.Settled.{Settled}
@@ -61,6 +64,20 @@ own_more lane old packet new own is appended = record {
       ∙ sym (flat_map-append canonical own.events (under lane is.event ∷ []));
   under = all_more (IsEventOf lane) own.events (under lane is.event) own.under (record { inner = is.event; event_is = refl; is_event = is.is_event; fits = is.fits });
 }
+
+-- packets under a lane are whole
+pub own_whole : (lane : ℕ) (lot : Lot) → IsOwn lane lot → IsWhole lot
+own_whole lane (End how) own = tt
+own_whole lane (Packet packets) own = record {
+  events = own.0.events;
+  are_events = each IsEvent (λ e is. is.is_event) own.0.events own.0.under;
+  fit = each Fits (λ e is. is.fits) own.0.events own.0.under;
+  packets = own.0.packets_are;
+}
+  where
+    each : (P : Event → Type 0) → ((e : Event) → IsEventOf lane e → P e) → (events : List Event) → AllByRecursion (IsEventOf lane) events → All P events
+    each P one [] under = All-nil P
+    each P one (e ∷ events) under = All-cons P e events (one e under.0) (each P one events under.1)
 
 -- what is left is so much less
 gives_packet : (start : Option (List ℕ)) (old packet new : List ℕ) (before after : Option (List Lot)) → new ≡ old ++ packet → before ≡ option_map (λ l. (Packet packet ∷ []) ++ l) after

@@ -16,7 +16,8 @@ use Rattle.worker_mux.specs.declared.knowledge.Settled.{Settled}
 use Rattle.worker_mux.specs.declared.knowledge.Knowledge.{Knowledge}
 use Rattle.worker_mux.specs.declared.knowledge.Knowledge.TheVariants.{Spent, Lane, Taker}
 use Rattle.worker_mux.specs.Rule.{lots_of, HasHolder, Knows, IsSettled, Kept}
-use Rattle.worker_mux.proofs.Lists.{changed, changed_here, changed_else, below}
+use Rattle.worker_mux.specs.Packets.{IsWhole}
+use Rattle.worker_mux.proofs.Lists.{all_more, changed, changed_here, changed_else, below}
 
 -- the lots of a lane in two lists, one after the other
 pub lots_of-append : (n : ℕ) (ps qs : List Parcel) → lots_of n (ps ++ qs) ≡ lots_of n ps ++ lots_of n qs
@@ -92,8 +93,8 @@ others_know reader count taken settled seat sent n pass list seated j apart (Lan
 others_know reader count taken settled seat sent n pass list seated j apart (Taker c t s) knows = knows
 
 -- a lane puts a lot
-pub puts : (cap pass : ℕ) (list : List Lot) (parcel : Parcel) → Pushes Kept cap pass (Lane parcel.lane list) parcel (λ w. w ≡ Lane parcel.lane (list ++ parcel.lot ∷ []))
-puts cap pass list parcel items views room (reader, count, taken, settled, seat, sent, whole) at =
+pub puts : (cap pass : ℕ) (list : List Lot) (parcel : Parcel) → IsWhole parcel.lot → Pushes Kept cap pass (Lane parcel.lane list) parcel (λ w. w ≡ Lane parcel.lane (list ++ parcel.lot ∷ []))
+puts cap pass list parcel is_whole items views room (reader, count, taken, settled, seat, sent, whole) at =
     let n : ℕ = parcel.lane in
     let mine : (seat n ≡ some pass) × (list ≡ sent n) × (n < count) = whole.known pass (Lane n list) at in
     let after : Knowledge = Lane n (list ++ parcel.lot ∷ []) in
@@ -110,6 +111,7 @@ puts cap pass list parcel items views room (reader, count, taken, settled, seat,
         grown,
         record {
           each = put_each parcel taken items sent whole.each;
+          packets = all_more (λ (p : Parcel). IsWhole p.lot) items parcel whole.packets is_whole;
           reads = set_else views pass reader after (λ e. lane_and_taker views pass reader n count list taken settled at whole.reads (sym e)) ∙ whole.reads;
           holders = λ m is_lane. elim (cases_eq m n) [
             | inl same ↦ subst (λ k. HasHolder (set views pass after) settled k (grown k) (seat k)) (sym same) (inl (pass, mine.0, set_here views pass after (below views pass (Lane n list) at) ∙ ap (λ l. some (Lane n l)) same_list))
@@ -156,6 +158,7 @@ takes pass c t s parcel items views (reader, count, taken, settled, seat, sent, 
               ∙ append_assoc (lots_of m taken) (lots_of m (parcel ∷ [])) (lots_of m items)
               ∙ ap (λ rest. lots_of m taken ++ rest) (sym (lots_of-append m (parcel ∷ []) items))
               ∙ whole.each m;
+          packets = whole.packets.1;
           reads = reads_anew views pass reader (Taker c t s) after (Taker count more settled) at mine.0 (λ i. Taker (mine.1 i) (mine.2 i ++ parcel ∷ []) (mine.3 i));
           holders = λ m is_lane. holder_stays views settled m (sent m) (seat m) pass after (λ p here. lane_and_taker views p pass m c (sent m) t s here at) (whole.holders m is_lane);
           none_yet = whole.none_yet;
@@ -207,6 +210,7 @@ settles pass other n c list t s items views (reader, count, taken, settled, seat
       sent,
       record {
         each = whole.each;
+        packets = whole.packets;
         reads = set_else between other reader Spent (λ e. two (sym e ∙ sym mine.0)) ∙ reads_anew views pass reader (Taker c t s) both (Taker count taken (entry ∷ settled)) at mine.0 (λ i. Taker (mine.1 i) (mine.2 i) (entry ∷ mine.3 i));
         holders = λ m is_lane. elim (cases_eq m n) [
           | inl same ↦ subst (λ k. HasHolder after (entry ∷ settled) k (sent k) (seats k)) (sym same) (inr (changed_here seat n none, subst (λ (l : List Lot). Contains (entry ∷ settled) (record { lane = n; list = l })) theirs.1 (Contains-append_left (entry ∷ []) settled entry (Contains-push [] entry))))
@@ -257,6 +261,7 @@ begins = (
   (λ _. []),
   record {
     each = λ m. refl;
+    packets = tt;
     reads = refl;
     holders = λ m is_lane. absurd (omega arith);
     none_yet = λ m above. (refl, refl);
@@ -288,6 +293,7 @@ adds pass c t s items views (reader, count, taken, settled, seat, sent, whole) a
       sent,
       record {
         each = whole.each;
+        packets = whole.packets;
         reads = at_longer between (right ∷ []) reader (Taker (count + 1) taken settled) (reads_anew views pass reader (Taker c t s) left (Taker (count + 1) taken settled) at mine.0 (λ i. Taker (mine.1 i + 1) (mine.2 i) (mine.3 i)));
         holders = λ m is_lane. elim (cases_eq m c) [
           | inl same ↦ subst (λ k. HasHolder (between ++ right ∷ []) settled k (sent k) (seats k)) (sym same) (inl (port, changed_here seat c (some port), at_last between right port refl ∙ ap (λ l. some (Lane c l)) (sym fresh.1)))

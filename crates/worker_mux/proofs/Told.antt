@@ -13,6 +13,7 @@ use Rattle.worker_mux.specs.declared.knowledge.Settled.{Settled}
 use Rattle.worker_mux.specs.declared.knowledge.Knowledge.{Knowledge}
 use Rattle.worker_mux.specs.declared.knowledge.Knowledge.TheVariants.{Spent, Lane, Taker}
 use Rattle.worker_mux.specs.Rule.{lots_of, parcels_of, IsSettled, Kept, Rule, FirstPartsTaken, AllTaken, Stood, Tells, WasAdded, WasTaken, IsLane, IsTaker, put_of, taken_of, settled_of, count_of, with_settled, with_lane, new_lane}
+use Rattle.worker_mux.specs.Packets.{IsWhole}
 use Rattle.worker_mux.proofs.Lists.{below}
 use Rattle.worker_mux.proofs.Steps.{puts, takes, settles, adds}
 
@@ -60,14 +61,14 @@ tells : (pass : ℕ) (v : Knowledge) → IsTaker v → Learns Kept pass v (Tells
 tells pass v is = subst (λ (y : Knowledge). Learns Kept pass y (Tells y)) (sym is) (tells_taker pass (count_of v) (taken_of v) (settled_of v))
 
 -- a lane's lot comes onto the belt
-puts_at : (cap pass : ℕ) (v : Knowledge) (parcel : Parcel) → IsLane parcel.lane v → Pushes Kept cap pass v parcel (λ w. w ≡ Lane parcel.lane (put_of v ++ parcel.lot ∷ []))
-puts_at cap pass v parcel is =
-    subst (λ (y : Knowledge). Pushes Kept cap pass y parcel (λ w. w ≡ Lane parcel.lane (put_of y ++ parcel.lot ∷ []))) (sym is) (puts cap pass (put_of v) parcel)
+puts_at : (cap pass : ℕ) (v : Knowledge) (parcel : Parcel) → IsWhole parcel.lot → IsLane parcel.lane v → Pushes Kept cap pass v parcel (λ w. w ≡ Lane parcel.lane (put_of v ++ parcel.lot ∷ []))
+puts_at cap pass v parcel is_whole is =
+    subst (λ (y : Knowledge). Pushes Kept cap pass y parcel (λ w. w ≡ Lane parcel.lane (put_of y ++ parcel.lot ∷ []))) (sym is) (puts cap pass (put_of v) parcel is_whole)
 
-pub puts_as : (cap pass : ℕ) (v : Knowledge) (carried : Carried) → IsLane carried.parcel.lane v → carried.room ≡ cap → Pushes Rule cap pass v carried (WasAdded carried.room v carried.parcel)
-puts_as cap pass v carried is room items views short rule at =
+pub puts_as : (cap pass : ℕ) (v : Knowledge) (carried : Carried) → IsWhole carried.parcel.lot → IsLane carried.parcel.lane v → carried.room ≡ cap → Pushes Rule cap pass v carried (WasAdded carried.room v carried.parcel)
+puts_as cap pass v carried is_whole is room items views short rule at =
     let shorter : length (parcels_of items) < cap = rw (length-map items (λ (c : Carried). c.parcel)) short in
-    let step = puts_at cap pass v carried.parcel is (parcels_of items) views shorter rule at in (
+    let step = puts_at cap pass v carried.parcel is_whole is (parcels_of items) views shorter rule at in (
       step.0,
       subst (λ (ps : List Parcel). Kept ps (set views pass step.0)) (sym (map-append (λ (c : Carried). c.parcel) items (carried ∷ []))) step.1,
       (step.2, (parcels_of items, rw room shorter, (set views pass step.0, pass, step.1, set_here views pass step.0 (below views pass v at)))),
@@ -142,6 +143,13 @@ was_empty v held = empty held.0 held.1 held.2
     empty : (items : List Carried) → length items ≡ 0 → Tells v (parcels_of items) → Tells v []
     empty [] none_left told = told
     empty (x ∷ xs) none_left told = absurd (omega arith)
+
+-- what is at the front is of whole packets
+pub front_whole : (v : Knowledge) (parcel : Parcel) (items : List Parcel) → Tells v (parcel ∷ items) → IsWhole parcel.lot
+front_whole v parcel items told = whole_at told.stood
+  where
+    whole_at : Stood v (parcel ∷ items) → IsWhole parcel.lot
+    whole_at (views, pass, (reader, count, taken, settled, seat, sent, whole), at) = whole.packets.0
 
 -- what was taken of the settled lanes
 parts_of : (taken items : List Parcel) (settled : List Settled) → AllByRecursion (λ s. lots_of s.lane taken ++ lots_of s.lane items ≡ s.list) settled → AllByRecursion (λ s. (rest : List Lot) × (lots_of s.lane taken ++ rest ≡ s.list)) settled

@@ -13,6 +13,7 @@ use Rattle.std.specs.List.{AllByRecursion}
 use mathlib.Core.Option.{Option, some, none}
 use lib.ListN.{get_elem?}
 use Rattle.worker_lane.specs.declared.lot.Lot.{Lot}
+use Rattle.worker_mux.specs.Packets.{IsWhole}
 use Rattle.worker_mux.specs.declared.knowledge.Carried.{Carried}
 use Rattle.worker_mux.specs.declared.knowledge.Parcel.{Parcel}
 use Rattle.worker_mux.specs.declared.knowledge.Settled.{Settled}
@@ -53,6 +54,8 @@ Knows reader count taken settled seat sent pass (Taker c t s) = (pass ≡ reader
 pub record Whole (items : List Parcel) (views : List Knowledge) (reader count : ℕ) (taken : List Parcel) (settled : List Settled) (seat : ℕ → Option ℕ) (sent : ℕ → List Lot) : Type 0 where
   -- of each lane: what was taken, and then what the belt holds, is its list
   pub each : (n : ℕ) → lots_of n taken ++ lots_of n items ≡ sent n
+  -- each lot on the belt is of whole packets
+  pub packets : AllByRecursion (λ p. IsWhole p.lot) items
   -- one view is the taker's
   pub reads : get_elem? views reader ≡ some (Taker count taken settled)
   -- each lane has a holder

@@ -4,6 +4,7 @@ ghost use Rattle.std.specs.Prelude.{◌≡◌, ◌∷◌, ◌++◌, [], ◌≤�
 ghost use Rattle.std.specs.List.{AllByRecursion, range_with_len};
 ghost use Rattle.crossbeam_queue.specs.Passes.{view};
 ghost use Rattle.worker_mux.specs.declared.knowledge.Knowledge.TheVariants.{Taker as Seen};
+ghost use Rattle.worker_mux.specs.Packets.{IsWhole};
 ghost use Rattle.worker_mux.specs.Rule.{WasTaken};
 ghost use Rattle.worker_mux.specs.Passes.{room_of, number_of, lots_put, lane_count, lots_taken, settled_lanes, IsPassFor, IsTakerFor, IsFresh, entry_of, CameOn, WasFull, LeftFront, WasAtStep, WasEmpty, HasFirstParts, HasAll, IsOfLanes};
 
@@ -56,11 +57,13 @@ impl Belt {
         Ok((Belt { queue }, Taker { pass }, passes))
     }
 
-    /// Puts a lot behind all that is on the belt: it is then the last of the pass's list. The pass is one of this belt.
+    /// Puts a lot of whole packets, or an end, behind all that is on the belt: it is then the last of the pass's list. The
+    /// pass is one of this belt.
     ///
     /// The same lot comes back where the belt was full at a step of this call, and nothing has changed.
     pub fn put<R: Wait>(&self, rt: &R, pass: &mut LanePass, lot: Lot) -> Result<(), Lot>
         requires made_here { IsPassFor self.now pass.old }
+        requires packets { IsWhole lot }
         ensures made_here { IsPassFor self.now pass.new }
         ensures number { number_of pass.new ≡ number_of pass.old }
         ensures put { OnOk result (lots_put pass.new ≡ lots_put pass.old ++ lot ∷ []) }
@@ -83,7 +86,8 @@ impl Belt {
         }
     }
 
-    /// Takes the lot at the front, with its lane: it is then the last of what was taken. The taker is this belt's.
+    /// Takes the lot at the front, with its lane: it is of whole packets, or an end, and is then the last of what was taken.
+    /// The taker is this belt's.
     ///
     /// None comes where the belt was empty at a step of this call, and nothing has changed.
     pub fn take<R: Wait>(&self, rt: &R, taker: &mut Taker) -> Option<(u32, Lot)>
@@ -92,6 +96,7 @@ impl Belt {
         ensures lanes { lane_count taker.new ≡ lane_count taker.old }
         ensures settled { settled_lanes taker.new ≡ settled_lanes taker.old }
         ensures taken { IfSome result (λ lot. lots_taken taker.new ≡ lots_taken taker.old ++ record { lane = lot.0; lot = lot.1 } ∷ []) }
+        ensures packets { IfSome result (λ lot. IsWhole lot.1) }
         ensures left_front { IfSome result (λ lot. LeftFront taker.old (record { lane = lot.0; lot = lot.1 }) taker.new) }
         ensures unchanged { IfNone result (lots_taken taker.new ≡ lots_taken taker.old) }
         ensures empty { IfNone result (WasEmpty taker.old) }
@@ -124,6 +129,7 @@ impl Belt {
         requires taker { IsTakerFor self.now taker.old }
         ensures taker { IsTakerFor self.now taker.new }
         ensures some { IfSome result (λ parcel. WasTaken (view taker.old.pass) parcel (view taker.new.pass)) }
+        ensures packets { IfSome result (λ parcel. IsWhole parcel.lot) }
         ensures none { IfNone result ((view taker.new.pass ≡ view taker.old.pass) × WasEmpty taker.old) }
         ensures first_parts { HasFirstParts taker.new }
         ensures all { IfNone result (HasAll taker.new) }

@@ -5,6 +5,7 @@ ghost use Rattle.edge_io.specs.Steps.{Goes, Grown};
 ghost use Rattle.worker_lane.specs.declared.lot.Lot.TheVariants.{End};
 ghost use Rattle.worker_lane.specs.declared.lot.Ending.TheVariants.{NoMemory as without_memory};
 ghost use Rattle.worker_mux.specs.Callers.{IsCaller, GoesOn, KeepsTape, IsOpen, Tape, packet_of, piece_of, tape};
+ghost use Rattle.worker_mux.specs.Packets.{ArePackets, IsWhole};
 ghost use Rattle.worker_mux.specs.Passes.{number_of, settled_lanes, entry_of, HasAll, IsOfLanes};
 ghost use Rattle.worker_mux.specs.Works.{IsOwnPass, IsPut, Drives, IsReadyOutcome};
 
@@ -39,9 +40,10 @@ impl<L: Listener> Caller<L> {
         shared.gate.tell_stop();
     }
 
-    // Adds a packet, and lets it be heard, also where it could not be added.
+    // Adds packets, and lets them be heard, also where they could not be added.
     fn add<H: Shelf>(&mut self, shared: &Shared, pen: &mut Pen<'_, H>, packet: &[u8])
         requires is_open { IsOpen (tape pen.old.fault (H.seen pen.old.shelf.now)) }
+        requires packets { ArePackets packet.now }
         ensures taker { self.new.taker ≡ self.old.taker }
         ensures memory { self.new.no_memory ≡ false → self.old.no_memory ≡ false }
         ensures heard { (pieces : List (List ℕ)) → L.heard self.old.listener pieces → self.new.no_memory ≡ false → L.heard self.new.listener (pieces ++ packet.now ∷ []) }
@@ -59,6 +61,7 @@ impl<L: Listener> Caller<L> {
     // Adds a lot. At the end of a lane whose memory ran out, all lanes are told to stop.
     fn record<H: Shelf>(&mut self, shared: &Shared, pen: &mut Pen<'_, H>, lot: Lot)
         requires is_open { IsOpen (tape pen.old.fault (H.seen pen.old.shelf.now)) }
+        requires packets { IsWhole lot }
         ensures taker { self.new.taker ≡ self.old.taker }
         ensures memory { self.new.no_memory ≡ false → self.old.no_memory ≡ false }
         ensures well { self.new.no_memory ≡ false → lot ≡ End without_memory → ⊥ }

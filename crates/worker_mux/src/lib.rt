@@ -1,8 +1,9 @@
 //! The belt: a bounded queue of lots between the threads that read workers and the one that records.
 //!
-//! This room knows threads, and that each lane stays whole; it knows nothing of what is in a packet. Of each lane one
-//! thread puts lots by that lane's pass. One thread takes them by the taker. In any schedule, at each step, the lots that
-//! were taken of a lane and then those on the belt, from front to back, are the lots that its pass has put.
+//! This room knows threads, that each lane stays whole, and that a lot is whole packets; it knows nothing of what is in a
+//! packet. Of each lane one thread puts lots by that lane's pass. One thread takes them by the taker. In any schedule, at
+//! each step, the lots that were taken of a lane and then those on the belt, from front to back, are the lots that its pass
+//! has put.
 //!
 //! - `belt`: the queue, and its calls
 //! - `pass`: who puts and who takes

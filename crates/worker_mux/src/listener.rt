@@ -1,6 +1,7 @@
 //! Who hears what is added to a run.
 
 ghost use Rattle.std.specs.Prelude.{◌∷◌, ◌++◌, [], ℕ, List, OnOk};
+ghost use Rattle.worker_mux.specs.Packets.{ArePackets};
 
 use sub_number::NoMemory;
 
@@ -9,8 +10,9 @@ pub trait Listener {
     /// What it has heard: these pieces, each of which is whole packets.
     ghost heard: { Self → List (List ℕ) → Type 0 };
 
-    /// Hears the next piece. `NoMemory` comes only for want of memory; nothing is known then of what it has heard.
+    /// Hears the next piece, which is known to be whole packets and need not be tested. `NoMemory` comes only for want of memory; nothing is known then of what it has heard.
     fn hear(&mut self, piece: &[u8]) -> Result<(), NoMemory>
+        requires packets { ArePackets piece.now }
         ensures hears { (pieces : List (List ℕ)) → heard self.old pieces → OnOk result (heard self.new (pieces ++ piece.now ∷ [])) };
 }
 

@@ -1,23 +1,77 @@
 ghost use Rattle.std.specs.Prelude.{◌≤◌, IfSome, All};
 ghost use Rattle.std.specs.List.{AllByRecursion};
+ghost use Rattle.packet_codec.specs.Canonical.{IsEvent, Fits};
+ghost use Rattle.worker_mux.specs.Packets.{IsWhole};
 ghost use Rattle.worker_mux.specs.Passes.{IsPassFor, IsTakerFor, IsFresh};
 
 use crate::{Belt, LanePass, Taker};
+use packet_codec::{Event, FilePart, Status, encode, fits};
 use std::alloc::Global;
 use std::sync::Wait;
 use std::test::Fail;
 use std::thread;
 use std::thread::Threads;
-use sub_number::Bytes;
+use sub_number::{Bytes, Text};
 use worker_lane::{Ending, Lot};
 
-fn packet(alloc: Global, bytes: &[u8]) -> Option<Lot> {
-    Some(Lot::Packet(Bytes::new(alloc, bytes).ok()?))
+// An event of a file of these bytes, and of nothing else.
+fn file_event(alloc: Global, bytes: &[u8]) -> Option<Event> {
+    let file = FilePart {
+        name: Text::new(alloc, b"").ok()?,
+        bytes: Bytes::new(alloc, bytes).ok()?,
+    };
+    Some(Event {
+        stamp: None,
+        id: None,
+        tags: None,
+        runnable: false,
+        status: Status::Unset,
+        mime: None,
+        file: Some(file),
+        eof: false,
+        route: None,
+    })
 }
 
+fn lot_of(alloc: Global, event: &Event) -> Option<Lot>
+    requires { IsEvent event.now × Fits event.now }
+    ensures { IfSome result IsWhole }
+{
+    let mut packet = Vec::new(alloc);
+    let Ok(()) = encode(event, &mut packet) else {
+        return None;
+    };
+    Some(Lot::Packet(Bytes::from_vec(packet)))
+}
+
+// A packet with these bytes.
+fn packet(alloc: Global, bytes: &[u8]) -> Option<Lot>
+    ensures { IfSome result IsWhole }
+{
+    let event = file_event(alloc, bytes)?;
+    if !fits(&event) {
+        return None;
+    }
+    lot_of(alloc, &event)
+}
+
+// The same, or an end where there is no memory.
+fn packet_or_end(alloc: Global, bytes: &[u8]) -> Lot
+    ensures { IsWhole result }
+{
+    match packet(alloc, bytes) {
+        Some(lot) => lot,
+        None => Lot::End(Ending::NoMemory),
+    }
+}
+
+// Whether the lot is a packet with these bytes, behind which stand the four of its checksum.
 fn is_packet(lot: &Lot, bytes: &[u8]) -> bool {
     match lot {
-        Lot::Packet(packet) => packet.bytes() == bytes,
+        Lot::Packet(packet) => {
+            let packet = packet.bytes();
+            packet.len() >= 4 && packet[..packet.len() - 4].ends_with(bytes)
+        }
         Lot::End(_) => false,
     }
 }
@@ -35,7 +89,8 @@ fn first_two(belt: &Belt, passes: Vec<LanePass>) -> Option<(LanePass, LanePass)>
 }
 
 fn puts<R: Wait>(rt: &R, belt: &Belt, pass: &mut LanePass, lot: Lot) -> bool
-    requires { IsPassFor belt.now pass.old }
+    requires pass { IsPassFor belt.now pass.old }
+    requires packets { IsWhole lot }
     ensures { IsPassFor belt.now pass.new }
 {
     belt.put(rt, pass, lot).is_ok()
@@ -79,6 +134,7 @@ fn goes_over<R: Wait>(
 ) -> [bool; 5]
     requires taker { IsTakerFor belt.now taker }
     requires two { IsPassFor belt.now two.0 × IsPassFor belt.now two.1 }
+    requires packets { IsWhole lot }
 {
     let (mut first, mut second) = two;
     let put = puts(rt, belt, &mut first, lot);
@@ -100,7 +156,8 @@ fn a_full_belt_hands_the_lot_back_and_an_empty_one_gives_none(rt: HostRuntime) -
 
 // Puts a lot. Where the belt is full, another thread gets its turn first.
 fn put_at_last<R: Wait>(rt: &R, belt: &Belt, pass: &mut LanePass, lot: Lot)
-    requires { IsPassFor belt.now pass.old }
+    requires pass { IsPassFor belt.now pass.old }
+    requires packets { IsWhole lot }
     ensures { IsPassFor belt.now pass.new }
 {
     let mut lot = lot;
@@ -133,9 +190,7 @@ fn put_all<R: Wait>(rt: &R, alloc: Global, belt: &Belt, mut pass: LanePass, coun
     ensures { IsPassFor belt.now result }
 {
     for number in 0..count {
-        let lot = packet(alloc, number.to_be_bytes().as_slice()).unwrap_or(Lot::End(
-            Ending::NoMemory,
-        ));
+        let lot = packet_or_end(alloc, number.to_be_bytes().as_slice());
         put_at_last(rt, belt, &mut pass, lot);
     }
     pass

@@ -1,5 +1,5 @@
 use Rattle.std.proofs.Common.{rules}
-use Rattle.worker_mux.proofs.Going.{was_put, was_kept, all_put, ready_put, ready_kept}
+use Rattle.worker_mux.proofs.Going.{own_whole, was_put, was_kept, all_put, ready_put, ready_kept}
 use Rattle.worker_mux.proofs.work.drive.Goals as goal
 
 pub returns-in_default : goal.returns-in_default
@@ -25,3 +25,6 @@ loop-preserved g c = record {
   ready = ready_kept c.args.shared.now.belt c.loop.work c.next-in-loop.new.self c.put.new.pass c.in-Some-next.lot c.in-Err.back c.loop.invariant.ready c.in-Some-next.ensures.pass c.in-Some-next.ensures.number c.in-Some-next.ensures.own c.put.ensures.made_here c.put.ensures.number c.in-Err.ensures.unchanged c.in-Err.ensures.handed_back;
   keeps = was_kept g.C.Child.seen c.args.work c.loop.work c.next-in-loop.new.self c.put.new.pass c.in-Some-next.lot c.in-Err.back c.loop.invariant.keeps c.in-Some-next.ensures.pass c.in-Some-next.ensures.kept c.in-Some-next.ensures.first c.in-Some-next.ensures.gives c.put.ensures.number c.in-Err.ensures.unchanged c.in-Err.ensures.handed_back;
 }
+
+pub put-requires-clause-packets : goal.put-requires-clause-packets
+put-requires-clause-packets g c = own_whole _ _ c.in-Some-next.ensures.own

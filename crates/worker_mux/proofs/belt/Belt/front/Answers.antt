@@ -1,6 +1,6 @@
 use Rattle.std.proofs.Common.{subst, sym}
 use Rattle.worker_mux.specs.Rule.{FirstPartsTaken, AllTaken, OfLanes}
-use Rattle.worker_mux.proofs.Told.{takes_as, learns_as, first_parts, all_taken, was_empty}
+use Rattle.worker_mux.proofs.Told.{takes_as, learns_as, first_parts, front_whole, all_taken, was_empty}
 use Rattle.worker_mux.proofs.belt.Belt.front.Goals as goal
 
 pub pop_as-requires-clause-rule : goal.pop_as-requires-clause-rule
@@ -17,3 +17,6 @@ returns-in_err-carried-clause-of_lanes g c = subst OfLanes (sym c.in_err-carried
 
 pub returns-clause-first_parts : goal.returns-clause-first_parts
 returns-clause-first_parts g c = first_parts _ _ c.in_ok-carried.ensures.rule.1.2
+
+pub returns-clause-packets : goal.returns-clause-packets
+returns-clause-packets g c = front_whole _ _ _ c.in_ok-carried.ensures.rule.1.1
