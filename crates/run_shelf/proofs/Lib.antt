@@ -1,6 +1,7 @@
 pub mod Resting
 pub mod NameLemmas
 pub mod RunLemmas
+pub mod SameLemmas
 pub mod SideLemmas
 pub mod ShowsLemmas
 pub mod MarkLemmas

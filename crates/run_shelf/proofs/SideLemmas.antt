@@ -9,39 +9,21 @@ use Rattle.run_shelf.specs.Holds.{FitsFolder, FitsWhereTold}
 use Rattle.run_shelf.specs.Images.{KeepsFile, PassesFile}
 use Rattle.run_shelf.specs.Outcomes.{KeepFails}
 use Rattle.run_shelf.specs.Repository.{Run, run_of_files, run_at, full_name, partial_name, most_runs, Shows, HasKinds, IsRepository, format_name}
-use Rattle.run_shelf.specs.Sides.{side_name, HasSideBeside, PassesSide, KeepsSide}
+use Rattle.run_shelf.specs.Sides.{side_name, SameButSides, HasSideBeside, PassesSide, KeepsSide}
 use Rattle.run_shelf.specs.declared.faults.ShelfCall.{ShelfCall}
 use Rattle.run_shelf.specs.declared.side.Side.{Side}
 use Rattle.run_shelf.proofs.Joining.{rest_images, goes_with, some_after}
-use Rattle.run_shelf.proofs.NameLemmas.{side_differs, side_no_format}
-use Rattle.run_shelf.proofs.RunLemmas.{put_other}
+use Rattle.run_shelf.proofs.SameLemmas.{shows_still, kinds_still, repository_still, same_put}
 
 module _ (files : Files) (side : Side) (bytes : List ℕ) where
   abbrev image : Files
   image = put files (side_name side) bytes
 
-  pub run_stays : (k : ℕ) → k < most_runs → run_at image k ≡ run_at files k
-  run_stays k few =
-      ap (λ found. run_of_files found (image (partial_name k))) (put_other files (side_name side) bytes (full_name k) (side_differs side k false (omega (arith, few))))
-      ∙ ap (run_of_files (files (full_name k))) (put_other files (side_name side) bytes (partial_name k) (side_differs side k true (omega (arith, few))))
-
-  pub shows_still : (runs : List Run) → Shows files runs → Shows image runs
-  shows_still runs shows = record { few = shows.few; each = λ k few. run_stays k few ∙ shows.each k few }
-
-  pub kinds_still : (kinds : List Bool) → HasKinds files kinds → HasKinds image kinds
-  kinds_still kinds has = record { few = has.few; each = λ k few. ap (option_map (λ (r : Run). r.partial)) (run_stays k few) ∙ has.each k few }
-
-  pub repository_still : IsRepository files → IsRepository image
-  repository_still repository = record {
-    format = put_other files (side_name side) bytes format_name (side_no_format side) ∙ repository.format;
-    no_gap = λ k other less few some. subst IsSome (sym (run_stays k (omega (arith, less, few)))) (repository.no_gap k other less few (subst IsSome (run_stays other few) some));
-  }
-
   pub side_beside : (other : Files) → other ≡ image → HasSideBeside files side bytes other
   side_beside other is = record {
     is = is;
-    repository = λ repository. subst IsRepository (sym is) (repository_still repository);
-    shows = λ runs shows. subst (λ (f : Files). Shows f runs) (sym is) (shows_still runs shows);
+    repository = λ repository. subst IsRepository (sym is) (repository_still files image (same_put files side bytes) repository);
+    shows = λ runs shows. subst (λ (f : Files). Shows f runs) (sym is) (shows_still files image (same_put files side bytes) runs shows);
   }
 
 -- what was kept and what a stop leaves, for the name that the file has
@@ -79,11 +61,13 @@ module _ (side : Side) (name bytes : List ℕ) (named : name ≡ side_name side)
 module _ (kinds : List Bool) (side : Side) (bytes : List ℕ) where
   fits_after : (s t : Folder) → FitsFolder kinds s × KeepsSide side bytes s t → FitsFolder kinds t
   fits_after s t both =
-      let published : t.disk.published ≡ put s.disk.published (side_name side) bytes = ap (λ (d : Disk). d.published) both.1.disk in
+      let beside : Files = put s.disk.published (side_name side) bytes in
+      let same : SameButSides s.disk.published beside = same_put s.disk.published side bytes in
+      let published : t.disk.published ≡ beside = ap (λ (d : Disk). d.published) both.1.disk in
       record {
         rest = both.1.disk ∙ ap at_rest (sym published);
-        repository = subst IsRepository (sym published) (repository_still s.disk.published side bytes both.0.repository);
-        kinds_are = subst (λ (f : Files). HasKinds f kinds) (sym published) (kinds_still s.disk.published side bytes kinds both.0.kinds_are);
+        repository = subst IsRepository (sym published) (repository_still s.disk.published beside same both.0.repository);
+        kinds_are = subst (λ (f : Files). HasKinds f kinds) (sym published) (kinds_still s.disk.published beside same kinds both.0.kinds_are);
       }
 
   pub goes_fits_side : (a b : Option Folder) → FitsWhereTold kinds a → Goes a b (KeepsSide side bytes) → FitsWhereTold kinds b

@@ -1,5 +1,5 @@
 -- The files of the caches, which stand beside the runs (docs/DISK.md, "Files of a store").
-use Rattle.std.specs.Prelude.{◌≡◌, ◌↔◌, ◌⊎◌, ⊤, Bool, true, false, Option, Some, List, ℕ, codes, Result, Ok, Err}
+use Rattle.std.specs.Prelude.{◌≡◌, ◌≢◌, ◌↔◌, ◌⊎◌, ⊤, Bool, true, false, Option, Some, List, ℕ, codes, Result, Ok, Err}
 use Rattle.edge_io.specs.Disk.{Files, put, Folder, IsImage, at_rest}
 use Rattle.edge_io.specs.Moments.{LeavesOnly, Passes}
 use Rattle.edge_io.specs.Steps.{Stays}
@@ -18,6 +18,10 @@ use Rattle.run_shelf.specs.Stores.{StoreSeen, Reads}
 abbrev pub side_name : Side → List ℕ
 side_name Failing = codes "failing.set"
 side_name Times = codes "times.set"
+
+-- Equal but for the files of the caches. So the runs are the same.
+pub record SameButSides (files image : Files) : Type 0 where
+  pub each : (name : List ℕ) → name ≢ side_name Failing → name ≢ side_name Times → image name ≡ files name
 
 -- what the file holds, and none where it is not there
 abbrev pub HoldsSide : Side → Option (List ℕ) → Folder → Type 0

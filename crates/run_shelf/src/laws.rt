@@ -4,7 +4,7 @@ ghost use Rattle.std.specs.Prelude.{◌≡◌, ◌<◌, ◌++◌, ◌∷◌, [],
 ghost use Rattle.edge_io.specs.Disk.{Files, put};
 ghost use Rattle.run_shelf.specs.Images.{HasRunBeside};
 ghost use Rattle.run_shelf.specs.Repository.{Run, Shows, HasKinds, IsRepository};
-ghost use Rattle.run_shelf.specs.Sides.{side_name};
+ghost use Rattle.run_shelf.specs.Sides.{side_name, SameButSides};
 ghost use Rattle.run_shelf.specs.declared.side.Side.{Side as ASide};
 
 /// A repository shows one list of runs, and the kinds that a look at it finds are theirs, in the same order.
@@ -14,9 +14,13 @@ pub fn repositories_show_runs()
     ensures kinds { (files : Files) (runs : List Run) (kinds : List Bool) → Shows files runs → HasKinds files kinds → kinds ≡ map (λ run. run.partial) runs }
 {}
 
-/// Files with a file of a cache put beside them show the same runs, and are a repository where they were one.
+/// Files that differ in the files of the caches alone show the same runs, and are a repository where they were one. So it
+/// is with one such file put, with none, and with several, one after another.
 pub fn sides_keep_the_runs()
-    ensures runs { (files : Files) (side : ASide) (bytes : List ℕ) (runs : List Run) → Shows files runs → Shows (put files (side_name side) bytes) runs }
-    ensures repository { (files : Files) (side : ASide) (bytes : List ℕ) → IsRepository files → IsRepository (put files (side_name side) bytes) }
-    ensures kinds { (files : Files) (side : ASide) (bytes : List ℕ) (kinds : List Bool) → HasKinds files kinds → HasKinds (put files (side_name side) bytes) kinds }
+    ensures runs { (files image : Files) (runs : List Run) → SameButSides files image → Shows files runs → Shows image runs }
+    ensures repository { (files image : Files) → SameButSides files image → IsRepository files → IsRepository image }
+    ensures kinds { (files image : Files) (kinds : List Bool) → SameButSides files image → HasKinds files kinds → HasKinds image kinds }
+    ensures put { (files : Files) (side : ASide) (bytes : List ℕ) → SameButSides files (put files (side_name side) bytes) }
+    ensures same { (files : Files) → SameButSides files files }
+    ensures join { (files middle image : Files) → SameButSides files middle → SameButSides middle image → SameButSides files image }
 {}

@@ -1,0 +1,39 @@
+-- Files that differ in the files of the caches alone.
+use Rattle.std.proofs.Common.{◌≡◌, ℕ, ◌<◌, Option, IsSome, List, Bool, refl, sym, ap, ◌∙◌, subst, arith, true, false}
+use Rattle.std.specs.Option.{option_map}
+use Rattle.edge_io.specs.Disk.{Files, put}
+use Rattle.run_shelf.specs.Repository.{Run, run_of_files, run_at, run_name, full_name, partial_name, most_runs, Shows, HasKinds, IsRepository, format_name}
+use Rattle.run_shelf.specs.Sides.{side_name, SameButSides}
+use Rattle.run_shelf.specs.declared.side.Side.{Side}
+use Rattle.run_shelf.specs.declared.side.Side.TheVariants.{Failing, Times}
+use Rattle.run_shelf.proofs.NameLemmas.{side_differs, side_no_format}
+use Rattle.run_shelf.proofs.RunLemmas.{put_other}
+
+module _ (files image : Files) (same : SameButSides files image) where
+  file_stays : (k : ℕ) (partial : Bool) → k < most_runs → image (run_name k partial) ≡ files (run_name k partial)
+  file_stays k partial few = same.each (run_name k partial) (side_differs Failing k partial (omega (arith, few))) (side_differs Times k partial (omega (arith, few)))
+
+  pub run_stays : (k : ℕ) → k < most_runs → run_at image k ≡ run_at files k
+  run_stays k few = ap (λ found. run_of_files found (image (partial_name k))) (file_stays k false few) ∙ ap (run_of_files (files (full_name k))) (file_stays k true few)
+
+  pub shows_still : (runs : List Run) → Shows files runs → Shows image runs
+  shows_still runs shows = record { few = shows.few; each = λ k few. run_stays k few ∙ shows.each k few }
+
+  pub kinds_still : (kinds : List Bool) → HasKinds files kinds → HasKinds image kinds
+  kinds_still kinds has = record { few = has.few; each = λ k few. ap (option_map (λ (r : Run). r.partial)) (run_stays k few) ∙ has.each k few }
+
+  pub repository_still : IsRepository files → IsRepository image
+  repository_still repository = record {
+    format = same.each format_name (side_no_format Failing) (side_no_format Times) ∙ repository.format;
+    no_gap = λ k other less few some. subst IsSome (sym (run_stays k (omega (arith, less, few)))) (repository.no_gap k other less few (subst IsSome (run_stays other few) some));
+  }
+
+pub same_put : (files : Files) (side : Side) (bytes : List ℕ) → SameButSides files (put files (side_name side) bytes)
+same_put files Failing bytes = record { each = λ name failing times. put_other files (side_name Failing) bytes name failing }
+same_put files Times bytes = record { each = λ name failing times. put_other files (side_name Times) bytes name times }
+
+pub same_itself : (files : Files) → SameButSides files files
+same_itself files = record { each = λ name failing times. refl }
+
+pub same_then : (files middle image : Files) → SameButSides files middle → SameButSides middle image → SameButSides files image
+same_then files middle image first second = record { each = λ name failing times. second.each name failing times ∙ first.each name failing times }
