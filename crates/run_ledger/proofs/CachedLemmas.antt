@@ -1,5 +1,5 @@
 -- What is told with the help of a cache.
-use Rattle.std.proofs.Common.{◌≡◌, inl, inr, ℕ, zero, suc, ◌+◌, ◌<◌, ◌≤◌, Bool, true, false, true≢false, IsTrue, nat_lt, List, [], ◌∷◌, ◌++◌, take, drop, length, Option, Some, None, IfSome, IsSome, IsErrAnd, Result, Ok, Err, refl, sym, ap, ◌∙◌, subst, arith, ltb-true, lt-ltb}
+use Rattle.std.proofs.Common.{◌≡◌, inl, inr, ℕ, zero, suc, ◌+◌, ◌<◌, ◌≤◌, Bool, true, false, true≢false, IsTrue, nat_lt, List, [], ◌∷◌, ◌++◌, take, length, Option, Some, None, IfSome, IsSome, IsErrAnd, Result, Ok, Err, refl, sym, ap, ◌∙◌, subst, arith, ltb-true, lt-ltb}
 use Rattle.std.specs.Prelude.{slice_get, IfNone}
 use Rattle.std.specs.Option.{option_map}
 use Rattle.std.specs.FinMap.{FinMap}
@@ -27,13 +27,13 @@ use Rattle.run_ledger.specs.declared.fault.LedgerFault.TheVariants.{Store, NoMem
 use Rattle.run_ledger.specs.Outcomes.{LedgerCloses, LedgerReads, closed_by}
 use Rattle.run_ledger.specs.Cached.{ledger_fault, ReadsSound, HoldsFailing, HoldsNoFailing, HoldsTimes, HoldsNoTimes, Spares}
 use Rattle.run_ledger.specs.Caches.{IsFailingCache, IsTimesCache, SaidOfFirst}
-use Rattle.run_ledger.specs.Costs.{asked_for_each, ReadsFrom, ReadsBehindCache}
+use Rattle.run_ledger.specs.Costs.{ReadsTo, ReadsBehindCache, ReadsBehindCacheTo}
 use Rattle.run_ledger.specs.Ledger.{RunRows, AreRunRows, failing_after, times_after}
 use Rattle.run_ledger.specs.Starts.{IsStart}
 use Rattle.run_ledger.proofs.CacheLemmas.{one_failing}
-use Rattle.run_ledger.proofs.CostLemmas.{one_start}
+use Rattle.run_ledger.proofs.CostLemmas.{one_start, asked_less}
 use Rattle.run_ledger.proofs.TimedLemmas.{one_times}
-use Rattle.run_ledger.proofs.LedgerLemmas.{SaysTo}
+use Rattle.run_ledger.specs.SoFar.{SaysTo}
 
 -- ---- the faults of a file of a cache are handed on
 
@@ -169,32 +169,14 @@ held_is_said (Some s) covers ids sound holds = sound.failing holds.bytes covers 
 
 -- ---- how many calls it takes
 
-asked_less : (runs : List Run) (a b : ℕ) → a ≤ b → asked_for_each (drop b runs) ≤ asked_for_each (drop a runs)
-asked_less [] zero zero less = omega arith
-asked_less [] zero (suc b) less = omega arith
-asked_less [] (suc a) zero less = omega arith
-asked_less [] (suc a) (suc b) less = omega arith
-asked_less (run ∷ runs) zero zero less = omega arith
-asked_less (run ∷ runs) zero (suc b) less = omega (arith, asked_less runs zero b (omega arith), drop_zero runs)
-  where
-    drop_zero : (runs : List Run) → asked_for_each (drop 0 runs) ≡ asked_for_each runs
-    drop_zero runs = refl
-asked_less (run ∷ runs) (suc a) zero less = absurd (omega (arith, less))
-asked_less (run ∷ runs) (suc a) (suc b) less = asked_less runs a b (omega (arith, less))
-
--- the file was read, and no run
-pub cache_alone : (state : Option Folder) (start before now : ℕ) → now ≤ before + 2 → IfSome state (ReadsBehindCache start before now)
-cache_alone None start before now ticks = tt
-cache_alone (Some s) start before now ticks = λ runs shows. omega (arith, ticks)
-
--- and the runs from this number on
-pub cache_and_runs : (state : Option Folder) (start less before middle now : ℕ) → less ≤ start → middle ≤ before + 2 → IfSome state (ReadsFrom start middle now) → IfSome state (ReadsBehindCache less before now)
-cache_and_runs None start less before middle now most ticks reads = tt
-cache_and_runs (Some s) start less before middle now most ticks reads = λ runs shows. omega (arith, ticks, reads runs shows, asked_less runs less start most)
+-- the file was read, and the runs from this number on, up to the one before `end`
+pub cache_and_runs : (state : Option Folder) (start less end before middle now : ℕ) → less ≤ start → middle ≤ before + 2 → IfSome state (ReadsTo start end middle now) → IfSome state (ReadsBehindCacheTo less end before now)
+cache_and_runs None start less end before middle now most ticks reads = tt
+cache_and_runs (Some s) start less end before middle now most ticks reads = λ runs shows. omega (arith, ticks, reads runs shows, asked_less runs less start most)
 
 -- whether a cache saves reads
-pub spares_by : (kinds : List Bool) (covers first start : ℕ) → covers ≤ length kinds → IsStart kinds first → start ≡ first → (IsTrue (nat_lt start covers) → Spares kinds covers) × (Spares kinds covers → IsTrue (nat_lt start covers))
-spares_by kinds covers first start few begins is = (
+pub spares_by : (kinds : List Bool) (end covers first start : ℕ) → covers ≤ end → IsStart kinds first → start ≡ first → (IsTrue (nat_lt start covers) → Spares kinds end covers) × (Spares kinds end covers → IsTrue (nat_lt start covers))
+spares_by kinds end covers first start few begins is = (
   λ less. record {
     few = few;
     behind = λ other also. (let same : other ≡ first = one_start kinds other first also begins in omega (arith, same, is, ltb-true start covers less));
@@ -203,21 +185,28 @@ spares_by kinds covers first start few begins is = (
 )
 
 -- a cache that saves none
-pub spares_none : (kinds : List Bool) (covers start : ℕ) → (Spares kinds covers → ⊥) → covers ≤ length kinds → IsStart kinds start → covers ≤ start
-spares_none kinds covers start none few begins = elim (cases_lt start covers) [
+pub spares_none : (kinds : List Bool) (end covers start : ℕ) → (Spares kinds end covers → ⊥) → covers ≤ end → IsStart kinds start → covers ≤ start
+spares_none kinds end covers start none few begins = elim (cases_lt start covers) [
   | inl less ↦ absurd (none (record { few = few; behind = λ other also. (let same : other ≡ start = one_start kinds other start also begins in omega (arith, same, less)) }))
   | inr most ↦ most
 ]
 
--- the reads where the cache is not used, or lacks
-module _ (kinds : List Bool) (before middle now : ℕ) (ticks : middle ≤ before + 2) where
-  pub reads_without : (state : Option Folder) → IfSome state (λ s. (start : ℕ) → IsStart kinds start → ReadsFrom start middle now s) → IfSome state (λ s. (start : ℕ) → IsStart kinds start → ReadsBehindCache start before now s)
-  reads_without None reads = tt
-  reads_without (Some s) reads = λ start begins. cache_and_runs (Some s) start start before middle now (omega arith) ticks (reads start begins)
+-- the reads that a cache saves, where it covers no run from `end` on
+abbrev pub SparesFailing : Type 0 → ℕ → ℕ → ℕ → Folder → Type 0
+SparesFailing Open end before now s = (covers : ℕ) (ids : List (List ℕ)) → HoldsFailing covers ids s → (Open → covers ≤ end) → ReadsBehindCacheTo covers end before now s
 
-  pub lacks_cache : (state : Option Folder) → IfSome state HoldsNoFailing → IfSome state (λ s. (covers : ℕ) (ids : List (List ℕ)) → HoldsFailing covers ids s → ReadsBehindCache covers before now s)
-  lacks_cache None none = tt
-  lacks_cache (Some s) none = λ covers ids holds. absurd (none covers ids holds)
+abbrev pub FromStart : List Bool → (ℕ → Folder → Type 0) → Folder → Type 0
+FromStart kinds Costs s = (start : ℕ) → IsStart kinds start → Costs start s
+
+-- the reads where the cache is not used, or lacks
+module _ (kinds : List Bool) (end before middle now : ℕ) (ticks : middle ≤ before + 2) where
+  pub reads_without : (state : Option Folder) → IfSome state (FromStart kinds (λ start. ReadsTo start end middle now)) → IfSome state (FromStart kinds (λ start. ReadsBehindCacheTo start end before now))
+  reads_without None reads = tt
+  reads_without (Some s) reads = λ start begins. cache_and_runs (Some s) start start end before middle now (omega arith) ticks (reads start begins)
+
+  pub lacks_cache : (Open : Type 0) (state : Option Folder) → IfSome state HoldsNoFailing → IfSome state (SparesFailing Open end before now)
+  lacks_cache Open None none = tt
+  lacks_cache Open (Some s) none = λ covers ids holds few. absurd (none covers ids holds)
 
 -- there is one cache in a file
 module _ (covers : ℕ) (ids : List (List ℕ)) (s : Folder) (holds : HoldsFailing covers ids s) where
@@ -227,35 +216,45 @@ module _ (covers : ℕ) (ids : List (List ℕ)) (s : Folder) (holds : HoldsFaili
       (one_failing holds.bytes covers also ids others holds.form (subst (λ (l : List ℕ). IsFailingCache l also others) same other.form)).0
 
 -- the reads where the cache is used
-module _ (state : Option Folder) (covers : ℕ) (ids : List (List ℕ)) (before middle now : ℕ) (holds : IfSome state (HoldsFailing covers ids)) (ticks : middle ≤ before + 2) where
-  pub with_cache : IfSome state (ReadsFrom covers middle now) → IfSome state (λ s. (also : ℕ) (others : List (List ℕ)) → HoldsFailing also others s → ReadsBehindCache also before now s)
-  with_cache reads = there state holds reads
+module _ (state : Option Folder) (covers : ℕ) (ids : List (List ℕ)) (end before middle now : ℕ) (holds : IfSome state (HoldsFailing covers ids)) (ticks : middle ≤ before + 2) where
+  pub with_cache : (Open : Type 0) → IfSome state (ReadsTo covers end middle now) → IfSome state (SparesFailing Open end before now)
+  with_cache Open reads = there state holds reads
     where
-      there : (state : Option Folder) → IfSome state (HoldsFailing covers ids) → IfSome state (ReadsFrom covers middle now) → IfSome state (λ s. (also : ℕ) (others : List (List ℕ)) → HoldsFailing also others s → ReadsBehindCache also before now s)
+      there : (state : Option Folder) → IfSome state (HoldsFailing covers ids) → IfSome state (ReadsTo covers end middle now) → IfSome state (SparesFailing Open end before now)
       there None h r = tt
-      there (Some s) h r = λ also others other.
+      there (Some s) h r = λ also others other few.
           let same : also ≡ covers = one_cache covers ids s h also others other in
-          cache_and_runs (Some s) covers also before middle now (omega (arith, same)) ticks r
+          cache_and_runs (Some s) covers also end before middle now (omega (arith, same)) ticks r
 
-  pub with_cache_start : (kinds : List Bool) → Spares kinds covers → IfSome state (ReadsFrom covers middle now) → IfSome state (λ s. (start : ℕ) → IsStart kinds start → ReadsBehindCache start before now s)
+  pub with_cache_start : (kinds : List Bool) → Spares kinds end covers → IfSome state (ReadsTo covers end middle now) → IfSome state (FromStart kinds (λ start. ReadsBehindCacheTo start end before now))
   with_cache_start kinds spares reads = there state reads
     where
-      there : (state : Option Folder) → IfSome state (ReadsFrom covers middle now) → IfSome state (λ s. (start : ℕ) → IsStart kinds start → ReadsBehindCache start before now s)
+      there : (state : Option Folder) → IfSome state (ReadsTo covers end middle now) → IfSome state (FromStart kinds (λ start. ReadsBehindCacheTo start end before now))
       there None r = tt
-      there (Some s) r = λ start begins. cache_and_runs (Some s) covers start before middle now (omega (arith, spares.behind start begins)) ticks r
+      there (Some s) r = λ start begins. cache_and_runs (Some s) covers start end before middle now (omega (arith, spares.behind start begins)) ticks r
 
   -- or is not used, since a later run is full
-  pub unused_cache : (kinds : List Bool) (first : ℕ) → IsStart kinds first → IfSome state (FitsFolder kinds) → IfSome state ReadsSound → (Spares kinds covers → ⊥)
-      → IfSome state (λ s. (start : ℕ) → IsStart kinds start → ReadsFrom start middle now s) → IfSome state (λ s. (also : ℕ) (others : List (List ℕ)) → HoldsFailing also others s → ReadsBehindCache also before now s)
-  unused_cache kinds first begins fits sound none reads = there state holds fits sound reads
+  pub unused_cache : (Open : Type 0) → Open → (kinds : List Bool) (first : ℕ) → IsStart kinds first → (Spares kinds end covers → ⊥)
+      → IfSome state (FromStart kinds (λ start. ReadsTo start end middle now)) → IfSome state (SparesFailing Open end before now)
+  unused_cache Open open_still kinds first begins none reads = there state holds reads
     where
-      there : (state : Option Folder) → IfSome state (HoldsFailing covers ids) → IfSome state (FitsFolder kinds) → IfSome state ReadsSound → IfSome state (λ s. (start : ℕ) → IsStart kinds start → ReadsFrom start middle now s)
-          → IfSome state (λ s. (also : ℕ) (others : List (List ℕ)) → HoldsFailing also others s → ReadsBehindCache also before now s)
-      there None h f d r = tt
-      there (Some s) h f d r = λ also others other.
+      there : (state : Option Folder) → IfSome state (HoldsFailing covers ids) → IfSome state (FromStart kinds (λ start. ReadsTo start end middle now)) → IfSome state (SparesFailing Open end before now)
+      there None h r = tt
+      there (Some s) h r = λ also others other few.
           let same : also ≡ covers = one_cache covers ids s h also others other in
-          let few : covers ≤ length kinds = first_few failing_after s kinds f covers ids (d.failing h.bytes covers ids h.file h.form) in
-          cache_and_runs (Some s) first also before middle now (omega (arith, same, spares_none kinds covers first none few begins)) ticks (r first begins)
+          cache_and_runs (Some s) first also end before middle now (omega (arith, same, spares_none kinds end covers first none (omega (arith, same, few open_still)) begins)) ticks (r first begins)
+
+-- a sound folder has no cache of more runs than there are
+pub all_spared : (state : Option Folder) (kinds : List Bool) (Open : Type 0) (before now : ℕ) → (Open → IfSome state (FitsFolder kinds)) → IfSome state ReadsSound → IfSome state (SparesFailing Open (length kinds) before now)
+    → IfSome state (λ s. (covers : ℕ) (ids : List (List ℕ)) → HoldsFailing covers ids s → ReadsBehindCache covers before now s)
+all_spared None kinds Open before now fits sound spares = tt
+all_spared (Some s) kinds Open before now fits sound spares = λ covers ids holds runs shows.
+    let few : Open → covers ≤ length kinds = λ open_still. first_few failing_after s kinds (fits open_still) covers ids (sound.failing holds.bytes covers ids holds.file holds.form) in
+    omega (arith, spares covers ids holds few runs shows)
+
+pub all_behind : (state : Option Folder) (kinds : List Bool) (end before now : ℕ) → IfSome state (FromStart kinds (λ start. ReadsBehindCacheTo start end before now)) → IfSome state (FromStart kinds (λ start. ReadsBehindCache start before now))
+all_behind None kinds end before now reads = tt
+all_behind (Some s) kinds end before now reads = λ start begins runs shows. omega (arith, reads start begins runs shows)
 
 -- each list of kinds has a run from which on is read
 StartUpTo : List Bool → ℕ → Type 0
@@ -300,20 +299,35 @@ one_times_cache covers also times others s holds other =
     let same : other.bytes ≡ holds.bytes = some_bytes other.bytes holds.bytes (sym other.file ∙ holds.file) in
     (one_times holds.bytes covers also times others holds.form (subst (λ (l : List ℕ). IsTimesCache l also others) same other.form)).0
 
-module _ (before middle now : ℕ) (ticks : middle ≤ before + 2) where
-  pub lacks_times : (state : Option Folder) → IfSome state HoldsNoTimes → IfSome state (λ s. (covers : ℕ) (times : FinMap text_cmp ℕ) → HoldsTimes covers times s → ReadsBehindCache covers before now s)
+abbrev pub SparesTimes : Type 0 → ℕ → ℕ → ℕ → Folder → Type 0
+SparesTimes Open end before now s = (covers : ℕ) (times : FinMap text_cmp ℕ) → HoldsTimes covers times s → (Open → covers ≤ end) → ReadsBehindCacheTo covers end before now s
+
+module _ (Open : Type 0) (end before middle now : ℕ) (ticks : middle ≤ before + 2) where
+  pub lacks_times : (state : Option Folder) → IfSome state HoldsNoTimes → IfSome state (SparesTimes Open end before now)
   lacks_times None none = tt
-  lacks_times (Some s) none = λ covers times holds. absurd (none covers times holds)
+  lacks_times (Some s) none = λ covers times holds few. absurd (none covers times holds)
 
-  pub with_times : (state : Option Folder) (covers : ℕ) (times : FinMap text_cmp ℕ) → IfSome state (HoldsTimes covers times) → IfSome state (ReadsFrom covers middle now)
-      → IfSome state (λ s. (also : ℕ) (others : FinMap text_cmp ℕ) → HoldsTimes also others s → ReadsBehindCache also before now s)
+  pub with_times : (state : Option Folder) (covers : ℕ) (times : FinMap text_cmp ℕ) → IfSome state (HoldsTimes covers times) → IfSome state (ReadsTo covers end middle now) → IfSome state (SparesTimes Open end before now)
   with_times None covers times holds reads = tt
-  with_times (Some s) covers times holds reads = λ also others other.
+  with_times (Some s) covers times holds reads = λ also others other few.
       let same : also ≡ covers = one_times_cache covers also times others s holds other in
-      cache_and_runs (Some s) covers also before middle now (omega (arith, same)) ticks reads
+      cache_and_runs (Some s) covers also end before middle now (omega (arith, same)) ticks reads
 
-  -- a sound folder has no cache of more runs than there are
-  pub too_many_times : (state : Option Folder) (kinds : List Bool) (covers : ℕ) (times : FinMap text_cmp ℕ) → IfSome state (FitsFolder kinds) → IfSome state ReadsSound → IfSome state (HoldsTimes covers times) → (covers ≤ length kinds → ⊥)
-      → IfSome state (λ s. (also : ℕ) (others : FinMap text_cmp ℕ) → HoldsTimes also others s → ReadsBehindCache also before now s)
-  too_many_times None kinds covers times fits sound holds more = tt
-  too_many_times (Some s) kinds covers times fits sound holds more = absurd (more (first_few times_after s kinds fits covers times (sound.times holds.bytes covers times holds.file holds.form)))
+  -- a cache of more runs is not used
+  pub too_many_times : Open → (state : Option Folder) (covers : ℕ) (times : FinMap text_cmp ℕ) → IfSome state (HoldsTimes covers times) → (covers ≤ end → ⊥) → IfSome state (SparesTimes Open end before now)
+  too_many_times open_still None covers times holds more = tt
+  too_many_times open_still (Some s) covers times holds more = λ also others other few.
+      let same : also ≡ covers = one_times_cache covers also times others s holds other in
+      absurd (more (omega (arith, same, few open_still)))
+
+-- a sound folder has no cache of more runs than there are
+pub all_times_spared : (state : Option Folder) (kinds : List Bool) (Open : Type 0) (before now : ℕ) → (Open → IfSome state (FitsFolder kinds)) → IfSome state ReadsSound → IfSome state (SparesTimes Open (length kinds) before now)
+    → IfSome state (λ s. (covers : ℕ) (times : FinMap text_cmp ℕ) → HoldsTimes covers times s → ReadsBehindCache covers before now s)
+all_times_spared None kinds Open before now fits sound spares = tt
+all_times_spared (Some s) kinds Open before now fits sound spares = λ covers times holds runs shows.
+    let few : Open → covers ≤ length kinds = λ open_still. first_few times_after s kinds (fits open_still) covers times (sound.times holds.bytes covers times holds.file holds.form) in
+    omega (arith, spares covers times holds few runs shows)
+
+pub all_times_behind : (state : Option Folder) (end before now : ℕ) → IfSome state (ReadsBehindCacheTo 0 end before now) → IfSome state (ReadsBehindCache 0 before now)
+all_times_behind None end before now reads = tt
+all_times_behind (Some s) end before now reads = λ runs shows. omega (arith, reads runs shows)

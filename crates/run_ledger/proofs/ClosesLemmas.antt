@@ -1,5 +1,5 @@
 -- When a store is closed, by what the calls on it answered.
-use Rattle.std.proofs.Common.{◌≡◌, Option, Some, None, Result, Ok, Err, IsErrAnd, true, false, refl, sym, ap, ◌∙◌, subst, true≢false, arith}
+use Rattle.std.proofs.Common.{◌≡◌, Option, Some, None, Result, Ok, Err, IfOk, IsErrAnd, true, false, refl, sym, ap, ◌∙◌, subst, true≢false, arith}
 use Rattle.std.specs.Prelude.{is_some}
 use Rattle.std.specs.Result.{is_err}
 use Rattle.edge_io.specs.Disk.{Folder}
@@ -57,6 +57,10 @@ refused {T = T} {U = U} before after e closes = record {
   kept = closes.kept ∙ kept_by T U before e;
 }
 
+pub refused_by : {T U : Type 0} (r : Result U LedgerFault) (before after : Option ShelfCall) (e : StoreFault) → Closes {T = T} before after (Err e) → IsErrAnd r (λ fault. fault ≡ Store e) → LedgerCloses before after r
+refused_by (Ok x) before after e closes is = absurd is
+refused_by {T = T} {U = U} (Err fault) before after e closes is = subst (λ (f : LedgerFault). LedgerCloses before after (refusal U f)) (sym is) (refused {T = T} before after e closes)
+
 kept_again : (T U : Type 0) (before : Option ShelfCall) (e : LedgerFault) → closed_by before (refusal T e) ≡ closed_by before (refusal U e)
 kept_again T U before (Store (Shelf call)) = refl
 kept_again T U before (Store (Closed call)) = refl
@@ -90,6 +94,11 @@ done before after x none same = record {
 open_at_done : {T : Type 0} (before after : Option ShelfCall) (x : T) → LedgerCloses before after (Ok x) → before ≡ None
 open_at_done None after x closes = refl
 open_at_done (Some call) after x closes = absurd (ok_is_no_err x (Store (Closed call)) ((closes.closed call).1 refl))
+
+-- what is known of a value, in a store that was open
+pub if_done : {T : Type 0} (P Q : T → Type 0) (r : Result T LedgerFault) (before after : Option ShelfCall) → LedgerCloses before after r → IfOk r P → (before ≡ None → (x : T) → P x → Q x) → IfOk r Q
+if_done P Q (Ok x) before after closes p f = f (open_at_done before after x closes) x p
+if_done P Q (Err e) before after closes p f = tt
 
 goes_nowhere : (state : Option Folder) → Goes state state Stays
 goes_nowhere None = tt

@@ -1,5 +1,5 @@
 -- How many calls it takes to read several runs.
-use Rattle.std.proofs.Common.{◌≡◌, inl, inr, ℕ, zero, suc, ◌+◌, ◌*◌, ◌<◌, ◌≤◌, Bool, List, [], ◌∷◌, drop, length, Option, Some, None, IfSome, IsSome, refl, ap, ◌∙◌, subst, arith}
+use Rattle.std.proofs.Common.{◌≡◌, inl, inr, ℕ, zero, suc, ◌+◌, ◌*◌, ◌<◌, ◌≤◌, Bool, List, [], ◌∷◌, drop, length, Option, Some, None, IfSome, IsSome, refl, sym, ap, ◌∙◌, subst, arith}
 use Rattle.std.specs.Prelude.{slice_get}
 use Rattle.std.proofs.lemmas.Bool.{cases_lt}
 use Rattle.std.proofs.lemmas.List.{length-map}
@@ -8,7 +8,7 @@ use Rattle.edge_io.specs.Steps.{Goes, Stays}
 use Rattle.run_shelf.specs.Holds.{FitsFolder}
 use Rattle.run_shelf.specs.Repository.{Run, run_at, most_runs}
 use Rattle.run_shelf.proofs.ReadingLemmas.{same_state}
-use Rattle.run_shelf.proofs.RunLemmas.{within_items}
+use Rattle.run_shelf.proofs.RunLemmas.{past_items, within_items, none_is_not_some}
 use Rattle.run_shelf.proofs.ShowsLemmas.{kinds_of_runs}
 use Rattle.run_ledger.specs.Costs.{asked_for, asked_for_each, ReadsOnce, ReadsFrom, ReadsTo}
 use Rattle.run_ledger.specs.Starts.{IsStart}
@@ -26,6 +26,20 @@ here_of : (o : Option Run) (run : Run) (P : Run → Type 0) → o ≡ Some run �
 here_of None run P is at = cc
 here_of (Some r) run P is at = let same : r ≡ run = cc in subst P same at
 
+-- fewer runs ask for less
+pub asked_less : (runs : List Run) (a b : ℕ) → a ≤ b → asked_for_each (drop b runs) ≤ asked_for_each (drop a runs)
+asked_less [] zero zero less = omega arith
+asked_less [] zero (suc b) less = omega arith
+asked_less [] (suc a) zero less = omega arith
+asked_less [] (suc a) (suc b) less = omega arith
+asked_less (run ∷ runs) zero zero less = omega arith
+asked_less (run ∷ runs) zero (suc b) less = omega (arith, asked_less runs zero b (omega arith), drop_zero runs)
+  where
+    drop_zero : (runs : List Run) → asked_for_each (drop 0 runs) ≡ asked_for_each runs
+    drop_zero runs = refl
+asked_less (run ∷ runs) (suc a) zero less = absurd (omega (arith, less))
+asked_less (run ∷ runs) (suc a) (suc b) less = asked_less runs a b (omega (arith, less))
+
 -- no call was made
 pub costs_nothing : (state : Option Folder) (start number before now : ℕ) → now ≡ before → number ≡ start → IfSome state (ReadsTo start number before now)
 costs_nothing None start number before now same begin = tt
@@ -35,6 +49,11 @@ costs_nothing (Some s) start number before now same begin = λ runs shown. omega
 pub costs_so_far : (state : Option Folder) (start number before now : ℕ) → IfSome state (ReadsTo start number before now) → IfSome state (ReadsFrom start before now)
 costs_so_far None start number before now so_far = tt
 costs_so_far (Some s) start number before now so_far = λ runs shown. omega (arith, so_far runs shown)
+
+-- the runs from a later number on were not read either
+pub costs_up_to : (state : Option Folder) (start number end before now : ℕ) → number ≤ end → IfSome state (ReadsTo start number before now) → IfSome state (ReadsTo start end before now)
+costs_up_to None start number end before now least so_far = tt
+costs_up_to (Some s) start number end before now least so_far = λ runs shown. omega (arith, so_far runs shown, asked_less runs number end least)
 
 -- one run more
 module _ (first before : Option Folder) (kinds : List Bool) (start number began old now : ℕ) (fits : IfSome first (FitsFolder kinds)) (known : number < length kinds)
@@ -72,20 +91,20 @@ one_start kinds a b first second = elim (cases_lt a b) [
     ]
 
 -- the same from the first run that is to be read
-abbrev pub FromStart : List Bool → (ℕ → Folder → Type 0) → Folder → Type 0
-FromStart kinds Costs s = (start : ℕ) → IsStart kinds start → Costs start s
+pub from_start : (state : Option Folder) (kinds : List Bool) (number end before now : ℕ) → IsStart kinds number → IfSome state (ReadsTo number end before now) → IfSome state (λ s. (start : ℕ) → IsStart kinds start → ReadsTo start end before now s)
+from_start None kinds number end before now is reads = tt
+from_start (Some s) kinds number end before now is reads = λ start begin runs shown. omega (arith, reads runs shown, ap (λ (n : ℕ). asked_for_each (drop n runs)) (one_start kinds number start is begin))
 
-pub start_nothing : (state : Option Folder) (kinds : List Bool) (number before now : ℕ) → now ≡ before → IsStart kinds number → IfSome state (FromStart kinds (λ start. ReadsTo start number before now))
-start_nothing None kinds number before now same begin = tt
-start_nothing (Some s) kinds number before now same begin = λ start is. costs_nothing (Some s) start number before now same (one_start kinds number start begin is)
+pub from_start_all : (state : Option Folder) (kinds : List Bool) (end before now : ℕ) → IfSome state (λ s. (start : ℕ) → IsStart kinds start → ReadsTo start end before now s) → IfSome state (λ s. (start : ℕ) → IsStart kinds start → ReadsFrom start before now s)
+from_start_all None kinds end before now reads = tt
+from_start_all (Some s) kinds end before now reads = λ start begin. costs_so_far (Some s) start end before now (reads start begin)
 
-pub start_so_far : (state : Option Folder) (kinds : List Bool) (number before now : ℕ) → IfSome state (FromStart kinds (λ start. ReadsTo start number before now)) → IfSome state (FromStart kinds (λ start. ReadsFrom start before now))
-start_so_far None kinds number before now so_far = tt
-start_so_far (Some s) kinds number before now so_far = λ start is. costs_so_far (Some s) start number before now (so_far start is)
-
-pub start_more : (first before : Option Folder) (kinds : List Bool) (number began old now : ℕ) → IfSome first (FitsFolder kinds) → number < length kinds
-    → IfSome first (FromStart kinds (λ start. ReadsTo start number began old)) → Goes first before Stays → IfSome before (ReadsOnce number old now)
-    → (next : ℕ) → next ≡ number + 1 → IfSome first (FromStart kinds (λ start. ReadsTo start next began now))
-start_more None before kinds number began old now fits known so_far same step next is = tt
-start_more (Some s) before kinds number began old now fits known so_far same step next is =
-    λ start begin. costs_more (Some s) before kinds start number began old now fits known (so_far start begin) same step next is
+-- it is one of the runs, or there is none
+pub starts_within : (kinds : List Bool) (start : ℕ) → IsStart kinds start → start ≤ length kinds
+starts_within kinds start begin = elim begin.full [
+  | inl first ↦ omega (arith, first)
+  | inr full ↦ elim (cases_lt (length kinds) start) [
+    | inl past ↦ absurd (none_is_not_some (slice_get kinds start) (past_items kinds start (omega (arith, past))) (subst IsSome (sym full) refl))
+    | inr within ↦ within
+  ]
+]

@@ -11,23 +11,14 @@ use Rattle.outcome_fold.specs.declared.row.Row.{Row}
 use Rattle.outcome_fold.specs.Order.{text_cmp}
 use Rattle.outcome_fold.specs.Answers.{times_of}
 use Rattle.run_shelf.specs.Holds.{FitsFolder}
-use Rattle.run_shelf.specs.Repository.{Run, run_at, most_runs, Shows, HasKinds}
+use Rattle.run_shelf.specs.Repository.{Run, run_at, most_runs, HasKinds}
 use Rattle.run_shelf.proofs.ShowsLemmas.{shown, kinds_of_runs}
 use Rattle.run_ledger.specs.Reading.{AreRowsOf}
 use Rattle.run_shelf.proofs.RunLemmas.{past_items}
 use Rattle.run_ledger.specs.Starts.{IsStart}
+use Rattle.run_ledger.specs.SoFar.{ShowRowsTo, SaysTo, FailsTo}
 use Rattle.run_ledger.specs.Ledger.{RunRows, IsRunRows, AreRunRows, ShowRows, HasRowsAt, failing_behind, failing_from, failing_after, IsFailingSet, replaced, times_from, times_after}
 use Rattle.run_ledger.proofs.ExistLemmas.{some_each}
-
--- the rows of as many runs of the files, from the first
-pub record ShowRowsTo (files : Files) (count : ℕ) (entries : List RunRows) : Type 0 where
-  pub runs : List Run
-  pub shown : Shows files runs
-  pub are : AreRunRows (take count runs) entries
-
--- what is said of all lists of rows, of the first runs of the folder
-abbrev pub SaysTo : {X : Type 0} → (List RunRows → X) → ℕ → X → Folder → Type 0
-SaysTo says count x s = (entries : List RunRows) × ShowRowsTo s.disk.published count entries × (x ≡ says entries)
 
 pub says_none : {X : Type 0} (says : List RunRows → X) (state : Option Folder) (kinds : List Bool) (count : ℕ) (x : X) → count ≡ 0 → x ≡ says [] → IfSome state (FitsFolder kinds) → IfSome state (SaysTo says count x)
 says_none says None kinds count x begin is fits = tt
@@ -102,6 +93,10 @@ module _ {X : Type 0} (says : List RunRows → X) (step : X → RunRows → X) (
         new-is ∙ ap (λ x. step x entry) so_far.2 ∙ sym (folds so_far.0 entry),
       )
 
+-- another name of the number
+pub says_at : {X : Type 0} (says : List RunRows → X) (state : Option Folder) (count end : ℕ) (x : X) → count ≡ end → IfSome state (SaysTo says count x) → IfSome state (SaysTo says end x)
+says_at says state count end x same so_far = subst (λ (n : ℕ). IfSome state (SaysTo says n x)) same so_far
+
 -- all runs
 pub says_all : {X : Type 0} (says : List RunRows → X) (state : Option Folder) (kinds : List Bool) (count : ℕ) (x : X) → length kinds ≤ count → IfSome state (FitsFolder kinds)
     → IfSome state (SaysTo says count x) → IfSome state (λ s. (entries : List RunRows) × ShowRows s.disk.published entries × (x ≡ says entries))
@@ -115,10 +110,6 @@ failing_more earlier (e ∷ entries) entry = failing_more (failing_behind earlie
 pub failing_folds : (entries : List RunRows) (entry : RunRows) → failing_after (entries ++ entry ∷ []) ≡ failing_behind (failing_after entries) entry
 failing_folds entries entry = failing_more [] entries entry
 
--- The ids are the failing set of the first runs, or the next run is full: then what is said of those before it does not count.
-abbrev pub FailsTo : List Bool → ℕ → List (List ℕ) → Folder → Type 0
-FailsTo kinds count ids s = (entries : List RunRows) × ShowRowsTo s.disk.published count entries × ((ids ≡ failing_after entries) ⊎ (slice_get kinds count ≡ Some false))
-
 -- at the first run that is read
 pub fails_none : (state : Option Folder) (kinds : List Bool) (count : ℕ) (ids : List (List ℕ)) → IsStart kinds count → ids ≡ [] → IfSome state (FitsFolder kinds) → IfSome state (FailsTo kinds count ids)
 fails_none None kinds count ids start none fits = tt
@@ -130,6 +121,11 @@ fails_none (Some s) kinds count ids start none fits = elim start.full [
       (entries.0, record { runs = all.0; shown = all.1; are = entries.1 }, inr full)
       )
 ]
+
+-- what is said of all of them
+pub says_fails : (state : Option Folder) (kinds : List Bool) (count : ℕ) (ids : List (List ℕ)) → IfSome state (SaysTo failing_after count ids) → IfSome state (FailsTo kinds count ids)
+says_fails None kinds count ids said = tt
+says_fails (Some s) kinds count ids said = (said.0, said.1, inl said.2)
 
 full_replaces : (partial : Bool) (rows : List Row) (ids others : List (List ℕ)) → partial ≡ false → failing_behind ids (record { partial = partial; rows = rows }) ≡ failing_behind others (record { partial = partial; rows = rows })
 full_replaces true rows ids others full = absurd (true≢false full)
@@ -151,6 +147,10 @@ fails_more (Some s) before kinds kinds_now count next partial rows old new is be
     let next_is = failing_next kinds count partial rows so_far.0 old new kind_is new-is so_far.2 in
     let all = says_more failing_after failing_behind failing_folds (Some s) before kinds kinds_now count next partial rows (failing_after so_far.0) new is below same_kinds kind fits same are next_is (so_far.0, so_far.1, refl) in
     (all.0, all.1, inl all.2)
+
+-- another name of the number
+pub fails_at : (state : Option Folder) (kinds : List Bool) (count end : ℕ) (ids : List (List ℕ)) → count ≡ end → IfSome state (FailsTo kinds count ids) → IfSome state (FailsTo kinds end ids)
+fails_at state kinds count end ids same so_far = subst (λ (n : ℕ). IfSome state (FailsTo kinds n ids)) same so_far
 
 -- all runs
 pub fails_all : (state : Option Folder) (kinds : List Bool) (count : ℕ) (ids : List (List ℕ)) → length kinds ≤ count → IfSome state (FitsFolder kinds) → IfSome state (FailsTo kinds count ids) → IfSome state (IsFailingSet ids)

@@ -16,3 +16,5 @@ pub mod CacheLemmas
 pub mod OrderedLemmas
 pub mod TimedLemmas
 pub mod CachedLemmas
+pub mod SoundLemmas
+pub mod RefreshLemmas

@@ -1,7 +1,7 @@
 -- The cache of the times, both ways.
 use Rattle.std.proofs.Common.{◌≡◌, ℕ, Bool, true, false, T, ◌&&◌, List, [], ◌∷◌, ◌++◌, Option, Some, None, IfSome, map, length, refl, sym, ap, ◌∙◌, subst, append_assoc, arith}
 use Rattle.std.specs.Fmt.{decimal}
-use Rattle.std.specs.List.{All, AllByRecursion, flat_map}
+use Rattle.std.specs.List.{All, AllByRecursion, filter, flat_map}
 use Rattle.std.specs.List.Sorted.{IsStrictlySortedBy}
 use Rattle.std.specs.Ordering.{is_lt, ordering_reverse}
 use Rattle.std.specs.FinMap as fin
@@ -14,11 +14,14 @@ use Rattle.std.proofs.lemmas.Fmt.{decimal_injective}
 use Rattle.std.proofs.lemmas.List.{append-nil}
 use Rattle.std.proofs.lemmas.List.Elements.{All-nil, All-cons, All-head, All-tail, All-push, All-weaker}
 use Rattle.sub_number.specs.Texts.{IsShortText}
-use Rattle.outcome_fold.specs.Order.{text_cmp}
+use Rattle.outcome_fold.specs.declared.row.Row.{Row}
+use Rattle.outcome_fold.specs.Order.{text_cmp, text_table, in_byte_order, without}
+use Rattle.outcome_fold.specs.Answers.{ids_of, row_fails, failing_of, passed_of}
 use Rattle.outcome_fold.proofs.OrderLemmas.{texts_total, exact_texts}
 use Rattle.outcome_fold.proofs.TableLemmas.{entries_in_order}
 use Rattle.run_ledger.specs.Caches.{line, entry, heading, time_entry, times_title, IsTimed, IsTimesCache}
-use Rattle.run_ledger.specs.Cuts.{Lacks, IsCut, SpellsNumber, BeginsWithHeading, BeginsWithTime, AreTimeEntries, HasTimed, last_id, entry_of, entry_at}
+use Rattle.run_ledger.specs.Cuts.{Lacks, IsCut, SpellsNumber, BeginsWithHeading, BeginsWithTime, AreTimeEntries, HasTimed, last_id, IsTimedAt, entry_of, entry_at}
+use Rattle.run_ledger.specs.Ledger.{RunRows, failing_behind, failing_from, failing_after}
 use Rattle.run_ledger.proofs.FormLemmas.{cut_same, has_mark, decimal_digits, no_zero, sorted_front}
 use Rattle.run_ledger.proofs.CacheLemmas.{begins, same_heading}
 use Rattle.run_ledger.proofs.OrderedLemmas.{last_of, empty_of, sorted_push, sorted_last}
@@ -105,12 +108,12 @@ right_of : (a b : Bool) → T (a && b) → T b
 right_of true b t = t
 right_of false b t = absurd t
 
-pub keys_sorted : (es : List Timed) → T (is_sorted text_cmp es) → IsStrictlySortedBy text_cmp (keys es)
+pub keys_sorted : {V : Type 0} (es : List (List ℕ × V)) → T (is_sorted text_cmp es) → IsStrictlySortedBy text_cmp (map (λ e. e.0) es)
 unfolding IsStrictlySortedBy
 keys_sorted [] sorted = tt
-keys_sorted (e ∷ es) sorted = (below es (left_of _ _ sorted), keys_sorted es (right_of _ _ sorted))
+keys_sorted {V = V} (e ∷ es) sorted = (below es (left_of _ _ sorted), keys_sorted es (right_of _ _ sorted))
   where
-    below : (es : List Timed) → T (below_all text_cmp e.0 es) → AllByRecursion (λ y. text_cmp e.0 y ≡ Less) (keys es)
+    below : (es : List (List ℕ × V)) → T (below_all text_cmp e.0 es) → AllByRecursion (λ y. text_cmp e.0 y ≡ Less) (map (λ f. f.0) es)
     below [] all = tt
     below (f ∷ es) all = (less_of (text_cmp e.0 f.0) (left_of _ _ all), below es (right_of _ _ all))
 
@@ -279,6 +282,21 @@ entries_by_id times =
     (All-weaker (λ f. find text_cmp f.0 (fin.entries times) ≡ Some f.1) (λ f. fin.get times f.0 ≡ Some f.1) (λ f is. get-entries times f.0 ∙ is) (fin.entries times)
     (finds_each (fin.entries times) (keys_sorted (fin.entries times) (entries_sorted times))))
 
+-- the ids in order, which are texts with their times
+timed_each : (times : FinMap text_cmp ℕ) (es : List Timed) → All (λ f. fin.get times f.0 ≡ Some f.1) es → All (IsTimedAt times) (keys es) → All IsTimed es
+timed_each times [] finds each = All-nil IsTimed
+timed_each times (e ∷ es) finds each =
+    All-cons IsTimed e es
+    (subst (λ (o : Option ℕ). IfSome o (λ nanos. IsTimed (e.0, nanos))) (All-head (λ f. fin.get times f.0 ≡ Some f.1) e es finds) (All-head (IsTimedAt times) e.0 (keys es) each))
+    (timed_each times es (All-tail (λ f. fin.get times f.0 ≡ Some f.1) e es finds) (All-tail (IsTimedAt times) e.0 (keys es) each))
+
+pub all_are_timed : (times : FinMap text_cmp ℕ) → All (IsTimedAt times) (fin.keys times) → All IsTimed (fin.entries times)
+all_are_timed times each =
+    timed_each times (fin.entries times)
+    (All-weaker (λ f. find text_cmp f.0 (fin.entries times) ≡ Some f.1) (λ f. fin.get times f.0 ≡ Some f.1) (λ f is. get-entries times f.0 ∙ is) (fin.entries times)
+    (finds_each (fin.entries times) (keys_sorted (fin.entries times) (entries_sorted times))))
+    each
+
 -- it holds one thing
 pub one_times : (bytes : List ℕ) (covers also : ℕ) (times others : FinMap text_cmp ℕ) → IsTimesCache bytes covers times → IsTimesCache bytes also others → (also ≡ covers) × (others ≡ times)
 one_times bytes covers also times others cache other =
@@ -289,3 +307,20 @@ one_times bytes covers also times others cache other =
     none : (more : List Timed) → [] ≡ flat_map time_entry more → more ≡ []
     none [] is = refl
     none (e ∷ more) is = absurd (marked e.0 (decimal e.1 ++ 0 ∷ (flat_map time_entry more ++ [])) (is ∙ sym (append-nil (flat_map time_entry (e ∷ more))) ∙ many_times e more []))
+
+-- ---- the failing set is in order
+
+set_in_order : (texts : List (List ℕ)) → IsStrictlySortedBy text_cmp (in_byte_order texts)
+set_in_order texts = keys_sorted (fin.entries (text_table texts)) (entries_sorted (text_table texts))
+
+behind_in_order : (earlier : List (List ℕ)) (partial : Bool) (rows : List Row) → IsStrictlySortedBy text_cmp (failing_behind earlier (record { partial = partial; rows = rows }))
+behind_in_order earlier true rows = set_in_order (without earlier (passed_of rows) ++ failing_of rows)
+behind_in_order earlier false rows = set_in_order (ids_of (filter row_fails rows))
+
+from_in_order : (earlier : List (List ℕ)) (entries : List RunRows) → IsStrictlySortedBy text_cmp earlier → IsStrictlySortedBy text_cmp (failing_from earlier entries)
+from_in_order earlier [] ordered = ordered
+from_in_order earlier (e ∷ entries) ordered = from_in_order (failing_behind earlier e) entries (behind_in_order earlier e.partial e.rows)
+
+pub in_order : (entries : List RunRows) → IsStrictlySortedBy text_cmp (failing_after entries)
+unfolding IsStrictlySortedBy
+in_order entries = from_in_order [] entries tt

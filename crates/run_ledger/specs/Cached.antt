@@ -1,5 +1,5 @@
 -- What is told with the help of a cache.
-use Rattle.std.specs.Prelude.{◌≡◌, ℕ, ◌<◌, ◌≤◌, Bool, Some, List, length}
+use Rattle.std.specs.Prelude.{◌≡◌, ℕ, ◌<◌, ◌≤◌, Bool, Some, List}
 use Rattle.std.specs.FinMap.{FinMap}
 use Rattle.edge_io.specs.Disk.{Folder}
 use Rattle.outcome_fold.specs.Order.{text_cmp}
@@ -30,9 +30,10 @@ pub record HoldsFailing (covers : ℕ) (ids : List (List ℕ)) (s : Folder) : Ty
 abbrev pub HoldsNoFailing : Folder → Type 0
 HoldsNoFailing s = (covers : ℕ) (ids : List (List ℕ)) → HoldsFailing covers ids s → ⊥
 
--- A cache of so many runs covers no more than there are, and the run from which on is read without it.
-pub record Spares (kinds : List Bool) (covers : ℕ) : Type 0 where
-  pub few : covers ≤ length kinds
+-- A cache of so many runs covers no more than the first `number` ones, and among them the one from which on they are read
+-- without it.
+pub record Spares (kinds : List Bool) (number covers : ℕ) : Type 0 where
+  pub few : covers ≤ number
   pub behind : (start : ℕ) → IsStart kinds start → start < covers
 
 -- the file of the cache holds these times

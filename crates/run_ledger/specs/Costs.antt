@@ -1,6 +1,6 @@
 -- How many calls of the folder it takes to read runs in pieces of 65,536 bytes. A clock counts the calls, and stands still
 -- at its last value.
-use Rattle.std.specs.Prelude.{ℕ, ◌+◌, ◌*◌, ◌≤◌, List, [], ◌∷◌, drop, length, IfSome}
+use Rattle.std.specs.Prelude.{ℕ, ◌+◌, ◌-◌, ◌*◌, ◌≤◌, List, [], ◌∷◌, drop, length, IfSome}
 use Rattle.edge_io.specs.Disk.{Folder}
 use Rattle.run_shelf.specs.Repository.{Run, run_at, Shows}
 
@@ -29,3 +29,8 @@ ReadsTo start number before now s =
 -- at most two calls that read the file of a cache, and then the reads of the runs from this number on, each once
 abbrev pub ReadsBehindCache : ℕ → ℕ → ℕ → Folder → Type 0
 ReadsBehindCache start before now s = (runs : List Run) → Shows s.disk.published runs → now * 65536 ≤ before * 65536 + (131072 + asked_for_each (drop start runs))
+
+-- the same, but for the runs from `number` on, which are not read
+abbrev pub ReadsBehindCacheTo : ℕ → ℕ → ℕ → ℕ → Folder → Type 0
+ReadsBehindCacheTo start number before now s =
+    (runs : List Run) → Shows s.disk.published runs → now * 65536 ≤ before * 65536 + (131072 + (asked_for_each (drop start runs) - asked_for_each (drop number runs)))

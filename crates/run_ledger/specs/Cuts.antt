@@ -1,5 +1,5 @@
 -- Pieces of a cache's file (docs/FORMATS.md, "Caches").
-use Rattle.std.specs.Prelude.{◌≡◌, ◌≢◌, ℕ, ◌<◌, ◌^◌, Option, Some, None, List, [], ◌∷◌, ◌++◌, map, All}
+use Rattle.std.specs.Prelude.{◌≡◌, ◌≢◌, ℕ, ◌<◌, ◌^◌, Option, Some, None, IfSome, List, [], ◌∷◌, ◌++◌, map, All}
 use Rattle.std.specs.List.{flat_map}
 use Rattle.std.specs.List.Sorted.{IsStrictlySortedBy}
 use Rattle.std.specs.Fmt.{decimal}
@@ -70,3 +70,7 @@ entry_of id (Some nanos) = time_entry (id, nanos)
 
 abbrev pub entry_at : FinMap text_cmp ℕ → List ℕ → List ℕ
 entry_at times id = entry_of id (fin.get times id)
+
+-- the id is a text, and its time, where it has one, is small enough
+abbrev pub IsTimedAt : FinMap text_cmp ℕ → List ℕ → Type 0
+IsTimedAt times id = IfSome (fin.get times id) (λ nanos. IsTimed (id, nanos))

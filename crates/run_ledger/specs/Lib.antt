@@ -5,9 +5,11 @@ pub mod Costs
 pub mod Ledger
 pub mod Replacing
 pub mod Starts
+pub mod SoFar
 pub mod Writing
 pub mod Hearing
 pub mod Behind
 pub mod Caches
 pub mod Cuts
 pub mod Cached
+pub mod Refreshing

@@ -1,39 +1,36 @@
 //! The failing set of the runs of a store, told with the help of its cache.
 
-ghost use Rattle.std.specs.Prelude.{◌≡◌, ◌≤◌, ◌<◌, ◌↔◌, None, ℕ, List, length, IsTrue, IfSome, IfNone, IfOk};
+ghost use Rattle.std.specs.Prelude.{◌≡◌, ◌≤◌, ◌↔◌, None, ℕ, List, length, IsTrue, IfSome, IfNone, IfOk};
 ghost use Rattle.std.specs.List.Sorted.{IsStrictlySortedBy};
 ghost use Rattle.outcome_fold.specs.Order.{text_cmp};
 ghost use Rattle.run_shelf.specs.Outcomes.{TicksUpTo};
 ghost use Rattle.run_shelf.specs.Stores.{store_kinds, store_fault, FitsUnlessBroken, seen_store};
 ghost use Rattle.run_ledger.specs.Cached.{ReadsSound, HoldsFailing, HoldsNoFailing, Spares};
 ghost use Rattle.run_ledger.specs.Caches.{SaidOfFirst};
-ghost use Rattle.run_ledger.specs.Costs.{ReadsFrom, ReadsBehindCache};
+ghost use Rattle.run_ledger.specs.Costs.{ReadsTo, ReadsBehindCache, ReadsBehindCacheTo};
 ghost use Rattle.run_ledger.specs.Ledger.{failing_after, IsFailingSet};
 ghost use Rattle.run_ledger.specs.Outcomes.{LedgerReads};
 ghost use Rattle.run_ledger.specs.Starts.{IsStart};
+ghost use Rattle.run_ledger.specs.SoFar.{FailsTo};
 
 use crate::failing_cache::{FailingCache, read_failing_cache};
-use crate::failing_set::{failing, first_to_read};
+use crate::failing_set::{failing_afresh, first_to_read, take_runs};
 use crate::fault::LedgerFault;
-use crate::rows::rows_of;
-use crate::taking::take_run;
 use edge_io::Shelf;
 use outcome_fold::TextSet;
 use run_shelf::{Side, Store};
 use std::alloc::Global;
 use sub_number::IdList;
 
-/// The ids of the failing set, as `failing` tells them, in a folder that is sound: each cache of its form in it covers at
-/// most the runs that there are and holds what these say. A cache is taken for what the runs say that it covers, and the
-/// later ones are read and folded on, each once. Without a cache, where it covers more runs than there are, and where the
-/// last full run is one that it does not cover, it reads as `failing` does. Nothing changes in the folder.
+/// The ids of the failing set of all runs, in the order of their bytes, each once, in a folder that is sound: each cache of
+/// its form in it covers at most the runs that there are and holds what these say. A cache is taken for what the runs say
+/// that it covers, and the later ones are read and folded on, each once. Without a cache, where it covers more runs than
+/// there are, and where the last full run is one that it does not cover, that run and those behind it are read, each once.
+/// Nothing changes in the folder.
 ///
 /// `Store` comes only where a call of the folder failed, and where one had failed before, which comes first. `NoMemory`
 /// comes for want of memory, or of a run without an end in a folder that tells nothing, and leaves the store open.
-pub fn failing_by_cache<H: Shelf>(
-    alloc: Global,
-    store: &mut Store<'_, H>,
-) -> Result<IdList, LedgerFault>
+pub fn failing<H: Shelf>(alloc: Global, store: &mut Store<'_, H>) -> Result<IdList, LedgerFault>
     requires fits { FitsUnlessBroken (store_kinds store.old) (store_fault store.old) (H.seen store.old.shelf.now).told }
     ensures same_reference { store.new.shelf.ghost_name ≡ store.old.shelf.ghost_name }
     ensures ids { IfSome (H.seen store.old.shelf.now).told ReadsSound → IfOk result (λ ids. IfSome (H.seen store.old.shelf.now).told (IsFailingSet ids)) }
@@ -41,12 +38,32 @@ pub fn failing_by_cache<H: Shelf>(
     ensures spares { IfSome (H.seen store.old.shelf.now).told ReadsSound → IfSome (H.seen store.old.shelf.now).told (λ s. (covers : ℕ) (ids : List (List ℕ)) → HoldsFailing covers ids s → ReadsBehindCache covers (H.clock store.old.shelf.now) (H.clock store.new.shelf.now) s) }
     ensures time { IfSome (H.seen store.old.shelf.now).told (λ s. (start : ℕ) → IsStart (store_kinds store.old) start → ReadsBehindCache start (H.clock store.old.shelf.now) (H.clock store.new.shelf.now) s) }
 {
+    let end = store.runs();
+    failing_to(alloc, store, end)
+}
+
+// The failing set of the runs before `end`, from which on no run is full. A cache is taken where it covers none of those,
+// and saves reads.
+pub(crate) fn failing_to<H: Shelf>(
+    alloc: Global,
+    store: &mut Store<'_, H>,
+    end: u32,
+) -> Result<IdList, LedgerFault>
+    requires fits { FitsUnlessBroken (store_kinds store.old) (store_fault store.old) (H.seen store.old.shelf.now).told }
+    requires few { end ≤ length (store_kinds store.old) }
+    requires begun { (start : ℕ) → IsStart (store_kinds store.old) start → start ≤ end }
+    ensures same_reference { store.new.shelf.ghost_name ≡ store.old.shelf.ghost_name }
+    ensures ids { IfSome (H.seen store.old.shelf.now).told ReadsSound → IfOk result (λ ids. IfSome (H.seen store.old.shelf.now).told (FailsTo (store_kinds store.old) end ids)) }
+    ensures reads { LedgerReads (seen_store store.old (H.seen store.old.shelf.now)) (seen_store store.new (H.seen store.new.shelf.now)) result }
+    ensures spares { IfSome (H.seen store.old.shelf.now).told (λ s. (covers : ℕ) (ids : List (List ℕ)) → HoldsFailing covers ids s → (store_fault store.old ≡ None → covers ≤ end) → ReadsBehindCacheTo covers end (H.clock store.old.shelf.now) (H.clock store.new.shelf.now) s) }
+    ensures time { IfSome (H.seen store.old.shelf.now).told (λ s. (start : ℕ) → IsStart (store_kinds store.old) start → ReadsBehindCacheTo start end (H.clock store.old.shelf.now) (H.clock store.new.shelf.now) s) }
+{
     if let Some(cache) = read_cache(alloc, store)? {
-        if spares(store, cache.covers) {
-            return go_on(alloc, store, cache);
+        if spares(store, cache.covers, end) {
+            return go_on(alloc, store, cache, end);
         }
     }
-    failing(alloc, store)
+    failing_afresh(alloc, store, end)
 }
 
 // What the file of the cache holds.
@@ -68,37 +85,36 @@ fn read_cache<H: Shelf>(
     Ok(read_failing_cache(alloc, bytes.bytes())?)
 }
 
-// Whether a cache that covers so many runs covers no more than there are, and saves reads.
-fn spares<H: Shelf>(store: &Store<'_, H>, covers: u64) -> bool
-    ensures { IsTrue result ↔ Spares (store_kinds store.now) covers }
+// Whether a cache that covers so many runs covers none from `end` on, and saves reads.
+fn spares<H: Shelf>(store: &Store<'_, H>, covers: u64, end: u32) -> bool
+    ensures { IsTrue result ↔ Spares (store_kinds store.now) end covers }
 {
-    covers <= u64::from(store.runs()) && u64::from(first_to_read(store)) < covers
+    covers <= u64::from(end) && u64::from(first_to_read(store)) < covers
 }
 
-// Folds the runs on that the cache does not cover.
+// Takes the runs that the cache does not cover, up to the one before `end`.
 fn go_on<H: Shelf>(
     alloc: Global,
     store: &mut Store<'_, H>,
     cache: FailingCache,
+    end: u32,
 ) -> Result<IdList, LedgerFault>
     requires fits { FitsUnlessBroken (store_kinds store.old) (store_fault store.old) (H.seen store.old.shelf.now).told }
     requires open { store_fault store.old ≡ None }
-    requires few { cache.covers ≤ length (store_kinds store.old) }
+    requires order { cache.covers ≤ end }
+    requires few { end ≤ length (store_kinds store.old) }
     requires ordered { IsStrictlySortedBy text_cmp cache.ids }
     ensures same_reference { store.new.shelf.ghost_name ≡ store.old.shelf.ghost_name }
-    ensures ids { IfSome (H.seen store.old.shelf.now).told (λ s. SaidOfFirst failing_after s.disk.published cache.covers cache.ids) → IfOk result (λ ids. IfSome (H.seen store.old.shelf.now).told (IsFailingSet ids)) }
+    ensures ids { IfSome (H.seen store.old.shelf.now).told (λ s. SaidOfFirst failing_after s.disk.published cache.covers cache.ids) → IfOk result (λ ids. IfSome (H.seen store.old.shelf.now).told (FailsTo (store_kinds store.old) end ids)) }
     ensures reads { LedgerReads (seen_store store.old (H.seen store.old.shelf.now)) (seen_store store.new (H.seen store.new.shelf.now)) result }
-    ensures time { IfSome (H.seen store.old.shelf.now).told (ReadsFrom cache.covers (H.clock store.old.shelf.now) (H.clock store.new.shelf.now)) }
+    ensures time { IfSome (H.seen store.old.shelf.now).told (ReadsTo cache.covers end (H.clock store.old.shelf.now) (H.clock store.new.shelf.now)) }
 {
     let FailingCache { covers, ids } = cache;
-    if covers == u64::from(store.runs()) {
+    if covers == u64::from(end) {
         return Ok(ids);
     }
     let mut failed = TextSet::new(alloc);
     failed.insert_all(ids.list())?;
-    for number in covers as u32..store.runs() {
-        let rows = rows_of(alloc, store, number)?;
-        take_run(alloc, &mut failed, store.partial(number), &rows)?;
-    }
+    take_runs(alloc, store, &mut failed, covers as u32, end)?;
     Ok(failed.into_ids(alloc)?)
 }

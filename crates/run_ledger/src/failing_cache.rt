@@ -1,6 +1,6 @@
 //! The cache of the failing set, written and read.
 
-ghost use Rattle.std.specs.Prelude.{◌≡◌, ◌++◌, ◌∷◌, [], ℕ, List, true, false, IsTrue, ◌↔◌, IfSome, IfNone, IfOk, OnOk};
+ghost use Rattle.std.specs.Prelude.{◌≡◌, ◌++◌, ◌∷◌, [], ℕ, List, All, true, false, IsTrue, ◌↔◌, IfSome, IfNone, IfOk, OnOk};
 ghost use Rattle.std.specs.List.{flat_map};
 ghost use Rattle.std.specs.List.Sorted.{IsStrictlySortedBy};
 ghost use Rattle.sub_number.specs.Texts.{IsShortText};
@@ -23,11 +23,12 @@ pub struct FailingCache {
     pub ids: IdList,
 }
 
-/// The bytes of the cache of these ids, of so many runs.
+/// The bytes of the cache of these ids, of so many runs. Where the ids are in order, they are read again as that.
 ///
 /// `NoMemory` comes only for want of memory.
 pub fn write_failing_cache(alloc: Global, covers: u64, ids: &IdList) -> Result<Bytes, NoMemory>
-    ensures { IfOk result (λ bytes. bytes ≡ failing_cache covers ids.now) }
+    ensures bytes { IfOk result (λ bytes. bytes ≡ failing_cache covers ids.now) }
+    ensures form { IfOk result (λ bytes. IsStrictlySortedBy text_cmp ids.now → IsFailingCache bytes covers ids.now) }
 {
     let mut bytes = Vec::new(alloc);
     bytes.extend_from_slice(TITLE)?;
@@ -39,7 +40,8 @@ pub fn write_failing_cache(alloc: Global, covers: u64, ids: &IdList) -> Result<B
 
 // Each id, and a zero byte behind it.
 fn write_entries(ids: &[Text], bytes: &mut Vec<u8>) -> Result<(), NoMemory>
-    ensures { OnOk result (bytes.new.items ≡ bytes.old.items ++ flat_map entry ids.now) }
+    ensures bytes { OnOk result (bytes.new.items ≡ bytes.old.items ++ flat_map entry ids.now) }
+    ensures texts { OnOk result (All IsShortText ids.now) }
 {
     for id in ids {
         bytes.extend_from_slice(id.bytes())?;

@@ -1,13 +1,13 @@
-//! The failing set of the runs of a store.
+//! The failing set of the runs of a store, told without its cache.
 
-ghost use Rattle.std.specs.Prelude.{◌≡◌, ℕ, IfSome, IfOk};
+ghost use Rattle.std.specs.Prelude.{◌≡◌, ◌≤◌, None, ℕ, length, IfSome, IfOk, OnOk};
 ghost use Rattle.run_shelf.specs.Stores.{store_kinds, store_fault, FitsUnlessBroken, seen_store};
-ghost use Rattle.run_ledger.specs.Ledger.{IsFailingSet};
 ghost use Rattle.run_ledger.specs.Starts.{IsStart};
+ghost use Rattle.run_ledger.specs.SoFar.{FailsTo};
 ghost use Rattle.run_ledger.specs.Outcomes.{LedgerReads};
-ghost use Rattle.run_ledger.specs.Costs.{ReadsFrom};
+ghost use Rattle.run_ledger.specs.Costs.{ReadsTo};
 
-use crate::fault::{LedgerFault, check_open};
+use crate::fault::LedgerFault;
 use crate::rows::rows_of;
 use crate::taking::take_run;
 use edge_io::Shelf;
@@ -16,26 +16,51 @@ use run_shelf::Store;
 use std::alloc::Global;
 use sub_number::IdList;
 
-/// The ids of the failing set, in the order of their bytes, each once. A full run replaces the set by the ids that fail
-/// in it; a partial run takes the ids out that passed in it, and adds those that fail. So the last full run is read and
-/// those behind it, each once, and all runs where none is full. Nothing changes in the folder.
-///
-/// `Store` comes only where a call of the folder failed, and where one had failed before, which comes first. `NoMemory`
-/// comes for want of memory, or of a run without an end in a folder that tells nothing, and leaves the store open.
-pub fn failing<H: Shelf>(alloc: Global, store: &mut Store<'_, H>) -> Result<IdList, LedgerFault>
+// The failing set of the runs before this number, in the order of its bytes, each id once. A full run replaces the set by
+// the ids that fail in it; a partial run takes the ids out that passed in it, and adds those that fail. So the last full
+// run is read and those behind it, each once, and all runs where none is full. No run behind `end` is full.
+pub(crate) fn failing_afresh<H: Shelf>(
+    alloc: Global,
+    store: &mut Store<'_, H>,
+    end: u32,
+) -> Result<IdList, LedgerFault>
     requires fits { FitsUnlessBroken (store_kinds store.old) (store_fault store.old) (H.seen store.old.shelf.now).told }
+    requires open { store_fault store.old ≡ None }
+    requires few { end ≤ length (store_kinds store.old) }
+    requires begun { (start : ℕ) → IsStart (store_kinds store.old) start → start ≤ end }
     ensures same_reference { store.new.shelf.ghost_name ≡ store.old.shelf.ghost_name }
-    ensures ids { IfOk result (λ ids. IfSome (H.seen store.old.shelf.now).told (IsFailingSet ids)) }
+    ensures ids { IfOk result (λ ids. IfSome (H.seen store.old.shelf.now).told (FailsTo (store_kinds store.old) end ids)) }
     ensures reads { LedgerReads (seen_store store.old (H.seen store.old.shelf.now)) (seen_store store.new (H.seen store.new.shelf.now)) result }
-    ensures time { IfSome (H.seen store.old.shelf.now).told (λ s. (start : ℕ) → IsStart (store_kinds store.old) start → ReadsFrom start (H.clock store.old.shelf.now) (H.clock store.new.shelf.now) s) }
+    ensures time { IfSome (H.seen store.old.shelf.now).told (λ s. (start : ℕ) → IsStart (store_kinds store.old) start → ReadsTo start end (H.clock store.old.shelf.now) (H.clock store.new.shelf.now) s) }
 {
-    check_open(store)?;
+    let start = first_to_read(store);
     let mut failed = TextSet::new(alloc);
-    for number in first_to_read(store)..store.runs() {
-        let rows = rows_of(alloc, store, number)?;
-        take_run(alloc, &mut failed, store.partial(number), &rows)?;
-    }
+    take_runs(alloc, store, &mut failed, start, end)?;
     Ok(failed.into_ids(alloc)?)
+}
+
+// Takes the runs from `start` on into the set, up to the one before `end`. Each is read once.
+pub(crate) fn take_runs<H: Shelf>(
+    alloc: Global,
+    store: &mut Store<'_, H>,
+    failed: &mut TextSet,
+    start: u32,
+    end: u32,
+) -> Result<(), LedgerFault>
+    requires fits { FitsUnlessBroken (store_kinds store.old) (store_fault store.old) (H.seen store.old.shelf.now).told }
+    requires open { store_fault store.old ≡ None }
+    requires order { start ≤ end }
+    requires few { end ≤ length (store_kinds store.old) }
+    ensures same_reference { store.new.shelf.ghost_name ≡ store.old.shelf.ghost_name }
+    ensures ids { IfSome (H.seen store.old.shelf.now).told (FailsTo (store_kinds store.old) start failed.old) → OnOk result (IfSome (H.seen store.old.shelf.now).told (FailsTo (store_kinds store.old) end failed.new)) }
+    ensures reads { LedgerReads (seen_store store.old (H.seen store.old.shelf.now)) (seen_store store.new (H.seen store.new.shelf.now)) result }
+    ensures time { IfSome (H.seen store.old.shelf.now).told (ReadsTo start end (H.clock store.old.shelf.now) (H.clock store.new.shelf.now)) }
+{
+    for number in start..end {
+        let rows = rows_of(alloc, store, number)?;
+        take_run(alloc, failed, store.partial(number), &rows)?;
+    }
+    Ok(())
 }
 
 // The number of the last full run, which replaces what the runs before it say, or 0 where no run is full.

@@ -7,11 +7,12 @@
 //! - `written_run`, `heard_run`: the rows of one run, told while it is written
 //! - `fault`: why nothing is said of the runs of a store
 //! - `rows`: the rows of one run of a store
-//! - `failing_set`, `taking`: the ids that fail after all runs of a store, told from the last full run on
+//! - `failing_set`, `taking`: the ids that fail after the runs of a store, told from the last full run on
+//! - `latest_times`: the times of the ids in the runs of a store, told from the first one on
 //! - `cutting`, `failing_cache`, `times_cache`: the two caches, written and read
 //! - `cached_failing`, `cached_times`: the failing set and the times, told with the help of their caches
-//! - `latest_times`: the times of the ids after all runs of a store
-//! - `laws`, `cache_laws`: each run has one list of rows, and each cache holds one thing
+//! - `refreshing`: both caches, written anew for the runs as they are
+//! - `laws`, `cache_laws`: each run has one list of rows, each cache holds one thing, and what keeps files sound
 //! - `lane_laws`: a run of several lanes has the rows of the lanes one after another
 #![tactic(auto)]
 
@@ -27,22 +28,22 @@ mod heard_run;
 mod lane_laws;
 mod latest_times;
 mod laws;
+mod refreshing;
 mod rows;
 mod run_reader;
 mod taking;
 mod times_cache;
 mod written_run;
 
-pub use cache_laws::caches_hold_one_thing;
-pub use cached_failing::failing_by_cache;
-pub use cached_times::times_by_cache;
+pub use cache_laws::{caches_hold_one_thing, what_keeps_files_sound};
+pub use cached_failing::failing;
+pub use cached_times::times;
 pub use failing_cache::{FailingCache, read_failing_cache, write_failing_cache};
-pub use failing_set::failing;
 pub use fault::LedgerFault;
 pub use heard_run::HeardRun;
 pub use lane_laws::lanes_are_read_in_turn;
-pub use latest_times::times;
 pub use laws::runs_have_one_list_of_rows;
+pub use refreshing::{refresh, refresh_behind};
 pub use rows::rows_of;
 pub use run_reader::RunReader;
 pub use times_cache::{TimesCache, read_times_cache, write_times_cache};
@@ -52,5 +53,7 @@ pub use written_run::WrittenRun;
 mod tests;
 #[cfg(test)]
 mod tests_caches;
+#[cfg(test)]
+mod tests_refresh;
 #[cfg(test)]
 mod tests_times;

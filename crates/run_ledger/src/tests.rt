@@ -1,5 +1,9 @@
 //! Runs of a few events in folders in memory: which rows they give, and what the runs say together.
 
+ghost use Rattle.std.specs.Prelude.{IfSome};
+ghost use Rattle.packet_codec.specs.Canonical.{IsEvent, Fits};
+ghost use Rattle.run_ledger.specs.Hearing.{ArePackets};
+
 use super::*;
 use edge_io::{Failed, MemShelf, Shelf};
 use packet_codec::{Event, Stamp, Status, encode, fits};
@@ -27,8 +31,20 @@ fn repository(alloc: Global, fails: &[u64]) -> Result<MemShelf, Fail> {
     Ok(shelf)
 }
 
+fn write(event: &Event, run: &mut Vec<u8>) -> Option<()>
+    requires { IsEvent event.now × Fits event.now }
+    ensures { ArePackets run.old.items → IfSome result (λ _. ArePackets run.new.items) }
+{
+    let Ok(()) = encode(event, run) else {
+        return None;
+    };
+    Some(())
+}
+
 // Appends the packet of an event of the test, at this second.
-fn says(alloc: Global, run: &mut Vec<u8>, id: u8, status: Status, second: u32) -> Option<()> {
+fn says(alloc: Global, run: &mut Vec<u8>, id: u8, status: Status, second: u32) -> Option<()>
+    ensures { ArePackets run.old.items → IfSome result (λ _. ArePackets run.new.items) }
+{
     let event = Event {
         stamp: Some(Stamp {
             seconds: second,
@@ -46,11 +62,14 @@ fn says(alloc: Global, run: &mut Vec<u8>, id: u8, status: Status, second: u32) -
     if !fits(&event) {
         return None;
     }
-    encode(&event, run).ok()
+    write(&event, run)
 }
 
 // A run in which two tests end so.
-fn ended(alloc: Global, a: u8, first: Status, b: u8, second: Status) -> Option<Vec<u8>> {
+#[tactic(auto, using(crate::proofs::HeardLemmas::no_packets))]
+fn ended(alloc: Global, a: u8, first: Status, b: u8, second: Status) -> Option<Vec<u8>>
+    ensures { IfSome result (λ run. ArePackets run.items) }
+{
     let mut run = Vec::new(alloc);
     says(alloc, &mut run, a, first, 0)?;
     says(alloc, &mut run, b, second, 0)?;
@@ -145,8 +164,8 @@ fn runs_before_the_last_full_one_do_not_count(rt: HostRuntime) -> Result<(), Fai
 
 // Whether b and c fail behind two full runs, where the folder fails after the calls that read one of them.
 fn reads_one(alloc: Global) -> Result<Option<bool>, Fail> {
-    // Eighteen calls keep three files, four look at the folder, and one reads a run.
-    let mut shelf = repository(alloc, &[23])?;
+    // Eighteen calls keep three files, four look at the folder, one looks for the cache, and one reads a run.
+    let mut shelf = repository(alloc, &[24])?;
     let kept = keep_ended(
         alloc,
         &mut shelf,
@@ -239,8 +258,8 @@ fn refused<H: Shelf>(
 #[test]
 fn a_closed_store_is_not_read(rt: HostRuntime) -> Result<(), Fail> {
     let alloc = rt.alloc();
-    // Twelve calls keep two files, four look at the folder, and then one reads the run.
-    let mut shelf = repository(alloc, &[16])?;
+    // Twelve calls keep two files, four look at the folder, one looks for the cache, and then one reads the run.
+    let mut shelf = repository(alloc, &[17])?;
     keep(&mut shelf, "0", b"x")?;
     let (first, second) = refused(alloc, &mut shelf)?;
     let shelf_failed = LedgerFault::Store(StoreFault::Shelf(ShelfCall::ReadAt));
@@ -251,7 +270,10 @@ fn a_closed_store_is_not_read(rt: HostRuntime) -> Result<(), Fail> {
 }
 
 // The ids that fail in a run that is heard in these two pieces.
-fn fail_when_heard(alloc: Global, first: &[u8], second: &[u8]) -> Option<IdList> {
+fn fail_when_heard(alloc: Global, first: &[u8], second: &[u8]) -> Option<IdList>
+    requires first { ArePackets first.now }
+    requires second { ArePackets second.now }
+{
     let mut run = HeardRun::new(alloc);
     run.hear(first).ok()?;
     run.hear(second).ok()?;

@@ -102,15 +102,16 @@ fn ended(alloc: Global, a: u8, first: Status, b: u8, second: Status) -> Option<V
     Some(run)
 }
 
-// A repository in which a and b fail in a full run, and then a passes and c fails in a partial one.
-fn two_runs(alloc: Global) -> Result<Option<MemShelf>, Fail> {
+// A repository in which a and b fail in a full run, and then a passes and c fails in a partial one. It is made in eighteen
+// calls. These calls of all are to fail.
+pub(crate) fn two_runs(alloc: Global, fails: &[u64]) -> Result<Option<MemShelf>, Fail> {
     let Some(first) = ended(alloc, b'b', Status::Fail, b'a', Status::Fail) else {
         return Ok(None);
     };
     let Some(second) = ended(alloc, b'a', Status::Success, b'c', Status::Fail) else {
         return Ok(None);
     };
-    let mut shelf = MemShelf::new(alloc, Vec::new(alloc));
+    let mut shelf = MemShelf::new(alloc, fails.to_vec(alloc)?);
     keep(&mut shelf, "format", b"subunit-store 1\n")?;
     keep(&mut shelf, "0", &first)?;
     keep(&mut shelf, "1.part", &second)?;
@@ -121,7 +122,7 @@ fn two_runs(alloc: Global) -> Result<Option<MemShelf>, Fail> {
 fn fails<H: Shelf>(alloc: Global, shelf: &mut H, cache: &[u8], names: &[u8]) -> Result<bool, Fail> {
     let mut store = Store::open(alloc, shelf)?;
     store.put_side(Side::Failing, cache)?;
-    let ids = failing_by_cache(alloc, &mut store)?;
+    let ids = failing(alloc, &mut store)?;
     let texts = ids.list();
     Ok(
         texts.len() == names.len()
@@ -145,7 +146,7 @@ fn a_cache_is_taken_for_the_runs_that_it_covers(rt: HostRuntime) -> Result<(), F
         (b"subunit-failing 1\n02\nz\0".as_slice(), b"bc".as_slice()),
         (b"subunit-failing 1\n3\nz\0".as_slice(), b"bc".as_slice()),
     ] {
-        let Some(mut shelf) = two_runs(alloc)? else {
+        let Some(mut shelf) = two_runs(alloc, &[])? else {
             return Err(LedgerFault::NoMemory.into());
         };
         assert!(rt; fails(alloc, &mut shelf, cache, names)?);

@@ -1,6 +1,6 @@
 //! The cache of the times, written and read.
 
-ghost use Rattle.std.specs.Prelude.{◌≡◌, ◌↔◌, ◌++◌, ℕ, List, true, false, IsTrue, IfSome, IfNone, IfOk, OnOk, Ok};
+ghost use Rattle.std.specs.Prelude.{◌≡◌, ◌↔◌, ◌++◌, ℕ, List, All, true, false, IsTrue, IfSome, IfNone, IfOk, OnOk, Ok};
 ghost use Rattle.std.specs.List.{flat_map};
 ghost use Rattle.std.specs.Option.{option_copied};
 ghost use Rattle.std.specs.FinMap as fin;
@@ -8,8 +8,8 @@ ghost use Rattle.std.specs.FinMap.{FinMap};
 ghost use Rattle.std.specs.declared.cmp.Ordering.TheVariants.{Less};
 ghost use Rattle.sub_number.specs.Texts.{IsShortText};
 ghost use Rattle.outcome_fold.specs.Order.{text_cmp};
-ghost use Rattle.run_ledger.specs.Caches.{times_cache, IsTimesCache};
-ghost use Rattle.run_ledger.specs.Cuts.{BeginsWithTime, AreTimeEntries, entry_of, entry_at};
+ghost use Rattle.run_ledger.specs.Caches.{times_cache, IsTimed, IsTimesCache};
+ghost use Rattle.run_ledger.specs.Cuts.{BeginsWithTime, AreTimeEntries, IsTimedAt, entry_of, entry_at};
 
 use crate::cutting::{cut, read_decimal, read_heading};
 use itoa::Buffer;
@@ -26,12 +26,13 @@ pub struct TimesCache {
     pub times: TimeMap,
 }
 
-/// The bytes of the cache of these times, of so many runs.
+/// The bytes of the cache of these times, of so many runs. They are read again as that.
 ///
 /// `NoMemory` comes only for want of memory.
 #[tactic(auto, using(crate::proofs::TimedLemmas::entries_by_id))]
 pub fn write_times_cache(alloc: Global, covers: u64, times: &TimeMap) -> Result<Bytes, NoMemory>
-    ensures { IfOk result (λ bytes. bytes ≡ times_cache covers times.now) }
+    ensures bytes { IfOk result (λ bytes. bytes ≡ times_cache covers times.now) }
+    ensures form { IfOk result (λ bytes. IsTimesCache bytes covers times.now) }
 {
     let ids = times.ids(alloc)?;
     let mut bytes = Vec::new(alloc);
@@ -44,7 +45,8 @@ pub fn write_times_cache(alloc: Global, covers: u64, times: &TimeMap) -> Result<
 
 // Each id that has a time, and its time.
 fn write_times(ids: &[Text], times: &TimeMap, bytes: &mut Vec<u8>) -> Result<(), NoMemory>
-    ensures { OnOk result (bytes.new.items ≡ bytes.old.items ++ flat_map (entry_at times.now) ids.now) }
+    ensures bytes { OnOk result (bytes.new.items ≡ bytes.old.items ++ flat_map (entry_at times.now) ids.now) }
+    ensures timed { OnOk result (All (IsTimedAt times.now) ids.now) }
 {
     for id in ids {
         write_time(id, times.get(id), bytes)?;
@@ -54,7 +56,8 @@ fn write_times(ids: &[Text], times: &TimeMap, bytes: &mut Vec<u8>) -> Result<(),
 
 // The id and this time, and a zero byte behind each.
 fn write_time(id: &Text, time: Option<u64>, bytes: &mut Vec<u8>) -> Result<(), NoMemory>
-    ensures { OnOk result (bytes.new.items ≡ bytes.old.items ++ entry_of id.now time) }
+    ensures bytes { OnOk result (bytes.new.items ≡ bytes.old.items ++ entry_of id.now time) }
+    ensures timed { OnOk result (IfSome time (λ nanos. IsTimed (id.now, nanos))) }
 {
     let Some(nanos) = time else {
         return Ok(());

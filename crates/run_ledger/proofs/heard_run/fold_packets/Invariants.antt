@@ -1,11 +1,13 @@
 use Rattle.std.proofs.Common.{length}
+use Rattle.run_ledger.specs.Hearing.{ArePackets}
 use Rattle.run_ledger.proofs.HeardLemmas.{IsFoldedTo}
 use Rattle.run_ledger.proofs.heard_run.fold_packets.Given as goal
 
--- the packets so far were folded
+-- the packets so far were folded, and packets are left
 abbrev pub invariant-loop-left : goal.invariant-loop-left
 invariant-loop-left l = record {
   folded : IsFoldedTo l.bytes l.left l.fn.outcomes l.outcomes;
+  packets : ArePackets l.left;
 }
 
 abbrev pub decreases-loop-left : goal.decreases-loop-left

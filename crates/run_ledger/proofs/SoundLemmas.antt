@@ -1,0 +1,125 @@
+-- What keeps files sound.
+use Rattle.std.proofs.Common.{◌≡◌, inl, inr, ℕ, ◌<◌, ◌≤◌, true, false, List, length, Some, None, IsSome, refl, sym, ap, ◌∙◌, subst, arith, get_or}
+use Rattle.std.specs.FinMap.{FinMap}
+use Rattle.std.proofs.lemmas.Bool.{cases_lt}
+use Rattle.edge_io.specs.Disk.{Files, put}
+use Rattle.outcome_fold.specs.Order.{text_cmp}
+use Rattle.run_shelf.specs.Images.{HasRunBeside, HasFormatBeside}
+use Rattle.run_shelf.specs.Repository.{Run, run_of_files, run_at, run_name, full_name, partial_name, most_runs, format_name, format_bytes, Shows, IsRepository}
+use Rattle.run_shelf.specs.Sides.{side_name}
+use Rattle.run_shelf.specs.declared.side.Side.{Side}
+use Rattle.run_shelf.specs.declared.side.Side.TheVariants.{Failing, Times}
+use Rattle.run_shelf.proofs.NameLemmas.{side_differs, side_no_format, format_differs}
+use Rattle.run_shelf.proofs.RunLemmas.{put_here, put_other, other_item, past_items, within_items, none_is_not_some}
+use Rattle.run_shelf.proofs.SameLemmas.{run_stays, same_put}
+use Rattle.run_shelf.proofs.ShowsLemmas.{shown}
+use Rattle.run_ledger.specs.Caches.{IsFailingCache, IsTimesCache, SaidOfFirst, IsSound}
+use Rattle.run_ledger.specs.Ledger.{RunRows, failing_after, times_after}
+
+-- each run that the files have is the same in the image
+abbrev KeepsRuns : Files → Files → Type 0
+KeepsRuns files image = (number : ℕ) → number < most_runs → IsSome (run_at files number) → run_at image number ≡ run_at files number
+
+said_still : {X : Type 0} (says : List RunRows → X) (files image : Files) (covers : ℕ) (x : X) → KeepsRuns files image → SaidOfFirst says files covers x → SaidOfFirst says image covers x
+said_still says files image covers x keeps said = record {
+  runs = said.runs;
+  first = record {
+    few = said.first.few;
+    each = λ number less. keeps number (omega (arith, less, said.first.few)) (subst IsSome (sym (said.first.each number less)) (within_items said.runs number less)) ∙ said.first.each number less;
+  };
+  count = said.count;
+  entries = said.entries;
+  rows = said.rows;
+  said = said.said;
+}
+
+sound_still : (files image : Files) → KeepsRuns files image → image (side_name Failing) ≡ files (side_name Failing) → image (side_name Times) ≡ files (side_name Times) → IsSound files → IsSound image
+sound_still files image keeps failing times sound = record {
+  failing = λ bytes covers ids file form. said_still failing_after files image covers ids keeps (sound.failing bytes covers ids (sym failing ∙ file) form);
+  times = λ bytes covers latest file form. said_still times_after files image covers latest keeps (sound.times bytes covers latest (sym times ∙ file) form);
+}
+
+-- no caches
+pub sound_without : (files : Files) → files (side_name Failing) ≡ None → files (side_name Times) ≡ None → IsSound files
+sound_without files failing times = record {
+  failing = λ bytes covers ids file form. absurd (none_is_not_some (files (side_name Failing)) failing (subst IsSome (sym file) refl));
+  times = λ bytes covers latest file form. absurd (none_is_not_some (files (side_name Times)) times (subst IsSome (sym file) refl));
+}
+
+-- one run more
+module _ (files image : Files) (number : ℕ) (run : Run) (beside : HasRunBeside files number run image) (repository : IsRepository files) where
+  runs_before : (runs : List Run) × Shows files runs
+  runs_before = shown files repository
+
+  small : number ≤ most_runs
+  small = omega (arith, beside.counts runs_before.0 runs_before.1, runs_before.1.few)
+
+  side_still : (side : Side) → image (side_name side) ≡ files (side_name side)
+  side_still side =
+      ap (λ (f : Files). f (side_name side)) beside.is
+      ∙ put_other files (run_name number run.partial) run.bytes (side_name side) (λ e. side_differs side number run.partial (omega (arith, small)) (sym e))
+
+  keeps_before : KeepsRuns files image
+  keeps_before k few some = elim (cases_lt k (length runs_before.0)) [
+    | inl less ↦
+        (beside.shows runs_before.0 runs_before.1).each k few
+        ∙ other_item runs_before.0 run k (λ e. omega (arith, e, less))
+        ∙ sym (runs_before.1.each k few)
+    | inr past ↦ absurd (none_is_not_some (run_at files k) (runs_before.1.each k few ∙ past_items runs_before.0 k past) some)
+  ]
+
+  pub sound_beside : IsSound files → IsSound image
+  sound_beside sound = sound_still files image keeps_before (side_still Failing) (side_still Times) sound
+
+-- `format`
+pub sound_format : (files image : Files) → HasFormatBeside files image → IsSound files → IsSound image
+sound_format files image beside sound = sound_still files image keeps (side Failing) (side Times) sound
+  where
+    at : (name : List ℕ) → (name ≡ format_name → ⊥) → image name ≡ files name
+    at name differs = ap (λ (f : Files). f name) beside.is ∙ put_other files format_name format_bytes name differs
+
+    side : (s : Side) → image (side_name s) ≡ files (side_name s)
+    side s = at (side_name s) (λ e. side_no_format s (sym e))
+
+    keeps : KeepsRuns files image
+    keeps k few some =
+        ap (λ found. run_of_files found (image (partial_name k))) (at (full_name k) (λ e. format_differs k false (omega (arith, few)) (sym e)))
+        ∙ ap (run_of_files (files (full_name k))) (at (partial_name k) (λ e. format_differs k true (omega (arith, few)) (sym e)))
+
+-- the file of a cache
+sides_differ : side_name Times ≡ side_name Failing → ⊥
+sides_differ same = omega (arith, ap (λ (l : List ℕ). get_or l 0 0) same)
+
+some_file : (a b : List ℕ) → Some a ≡ Some b → a ≡ b
+some_file a b e = cc
+
+put_is : (files : Files) (name bytes other : List ℕ) → put files name bytes name ≡ Some other → other ≡ bytes
+put_is files name bytes other is = some_file other bytes (sym is ∙ put_here files name bytes name refl)
+
+side_keeps : (files : Files) (side : Side) (bytes : List ℕ) → KeepsRuns files (put files (side_name side) bytes)
+side_keeps files side bytes k few some = run_stays files (put files (side_name side) bytes) (same_put files side bytes) k few
+
+pub said_beside : {X : Type 0} (says : List RunRows → X) (files : Files) (side : Side) (bytes : List ℕ) (covers : ℕ) (x : X) → SaidOfFirst says files covers x → SaidOfFirst says (put files (side_name side) bytes) covers x
+said_beside says files side bytes covers x said = said_still says files (put files (side_name side) bytes) covers x (side_keeps files side bytes) said
+
+pub sound_failing : (files : Files) (bytes : List ℕ) → ((covers : ℕ) (ids : List (List ℕ)) → IsFailingCache bytes covers ids → SaidOfFirst failing_after files covers ids) → IsSound files → IsSound (put files (side_name Failing) bytes)
+sound_failing files bytes said sound =
+    let image : Files = put files (side_name Failing) bytes in
+    let keeps : KeepsRuns files image = side_keeps files Failing bytes in
+    record {
+      failing = λ found covers ids file form.
+          said_still failing_after files image covers ids keeps (said covers ids (subst (λ (l : List ℕ). IsFailingCache l covers ids) (put_is files (side_name Failing) bytes found file) form));
+      times = λ found covers latest file form.
+          said_still times_after files image covers latest keeps (sound.times found covers latest (sym (put_other files (side_name Failing) bytes (side_name Times) sides_differ) ∙ file) form);
+    }
+
+pub sound_times : (files : Files) (bytes : List ℕ) → ((covers : ℕ) (times : FinMap text_cmp ℕ) → IsTimesCache bytes covers times → SaidOfFirst times_after files covers times) → IsSound files → IsSound (put files (side_name Times) bytes)
+sound_times files bytes said sound =
+    let image : Files = put files (side_name Times) bytes in
+    let keeps : KeepsRuns files image = side_keeps files Times bytes in
+    record {
+      failing = λ found covers ids file form.
+          said_still failing_after files image covers ids keeps (sound.failing found covers ids (sym (put_other files (side_name Times) bytes (side_name Failing) (λ e. sides_differ (sym e))) ∙ file) form);
+      times = λ found covers latest file form.
+          said_still times_after files image covers latest keeps (said covers latest (subst (λ (l : List ℕ). IsTimesCache l covers latest) (put_is files (side_name Times) bytes found file) form));
+    }

@@ -1,0 +1,33 @@
+use Rattle.std.proofs.Common.{◌≡◌, ◌≤◌, None, ℕ, List, length, IfSome, arith, subst}
+use Rattle.run_shelf.specs.Stores.{store_kinds, store_fault}
+use Rattle.run_ledger.specs.Ledger.{IsFailingSet}
+use Rattle.run_ledger.specs.SoFar.{FailsTo}
+use Rattle.run_ledger.proofs.CachedLemmas.{SparesFailing, all_spared, all_behind}
+use Rattle.run_ledger.proofs.ClosesLemmas.{if_done}
+use Rattle.run_ledger.proofs.CostLemmas.{starts_within}
+use Rattle.run_ledger.proofs.LedgerLemmas.{fails_all}
+use Rattle.run_ledger.proofs.cached_failing.failing.Goals as goal
+
+pub failing_to-requires-clause-begun : goal.failing_to-requires-clause-begun
+failing_to-requires-clause-begun g c start begin = omega (arith, c.runs-end.ensures, starts_within _ start begin)
+
+pub returns-clause-ids : goal.returns-clause-ids
+returns-clause-ids g c sound =
+    let state = (g.H.Shelf.seen c.args.store.now.shelf.now).told in
+    let kinds = store_kinds c.args.store.now in
+    let all : length kinds ≤ c.runs-end.result = omega (arith, c.runs-end.ensures) in
+    if_done (λ (ids : List (List ℕ)). IfSome state (FailsTo kinds c.runs-end.result ids)) (λ (ids : List (List ℕ)). IfSome state (IsFailingSet ids)) c.failing_to.result _ _ c.failing_to.ensures.reads.closes (c.failing_to.ensures.ids sound)
+    (λ open_still ids fails. fails_all state kinds c.runs-end.result ids all (c.requires.fits open_still) fails)
+
+pub returns-clause-spares : goal.returns-clause-spares
+returns-clause-spares g c sound =
+    let state = (g.H.Shelf.seen c.args.store.now.shelf.now).told in
+    let kinds = store_kinds c.args.store.now in
+    let before = g.H.Shelf.clock c.args.store.now.shelf.now in
+    let now = g.H.Shelf.clock c.failing_to.new.store.shelf.now in
+    let end : c.runs-end.result ≡ length kinds = omega (arith, c.runs-end.ensures) in
+    all_spared state kinds (store_fault c.args.store.now ≡ None) before now c.requires.fits sound
+    (subst (λ (n : ℕ). IfSome state (SparesFailing (store_fault c.args.store.now ≡ None) n before now)) end c.failing_to.ensures.spares)
+
+pub returns-clause-time : goal.returns-clause-time
+returns-clause-time g c = all_behind _ _ c.runs-end.result _ _ c.failing_to.ensures.time

@@ -1,0 +1,100 @@
+//! Both caches are written anew: with which bytes, in how many calls, and what a fault leaves.
+
+use super::*;
+use crate::tests_caches::two_runs;
+use edge_io::Shelf;
+use run_shelf::{Side, Store, read_side};
+use std::alloc::Global;
+use std::test::Fail;
+use sub_number::Text;
+
+// Whether the file of the cache has these bytes.
+fn holds<H: Shelf>(alloc: Global, shelf: &mut H, side: Side, bytes: &[u8]) -> bool {
+    match read_side(alloc, shelf, side) {
+        Ok(Some(found)) => found.bytes() == bytes,
+        _ => false,
+    }
+}
+
+// Whether the files hold the caches of both runs.
+fn hold_both<H: Shelf>(alloc: Global, shelf: &mut H) -> bool {
+    holds(alloc, shelf, Side::Failing, b"subunit-failing 1\n2\nb\0c\0")
+        && holds(alloc, shelf, Side::Times, b"subunit-times 1\n2\n")
+}
+
+// Whether both caches were written, with the rows of the second run at hand, where there are no caches yet.
+fn refreshes<H: Shelf>(alloc: Global, shelf: &mut H) -> Result<bool, Fail> {
+    let mut store = Store::open(alloc, shelf)?;
+    if store.runs() != 2 {
+        return Ok(false);
+    }
+    let rows = rows_of(alloc, &mut store, 1)?;
+    Ok(refresh_behind(alloc, &mut store, &rows).is_ok())
+}
+
+// The same, where there are caches of the first run. These are put in ten calls; before that four look at the folder, and
+// one reads the second run.
+fn refreshes_on<H: Shelf>(alloc: Global, shelf: &mut H) -> Result<bool, Fail> {
+    let mut store = Store::open(alloc, shelf)?;
+    if store.runs() != 2 {
+        return Ok(false);
+    }
+    let rows = rows_of(alloc, &mut store, 1)?;
+    store.put_side(Side::Failing, b"subunit-failing 1\n1\na\0b\0")?;
+    store.put_side(Side::Times, b"subunit-times 1\n1\n")?;
+    Ok(refresh_behind(alloc, &mut store, &rows).is_ok())
+}
+
+// Whether the texts are these, of one byte each.
+fn are(texts: &[Text], names: &[u8]) -> bool {
+    texts.len() == names.len()
+        && texts
+            .iter()
+            .zip(names.iter())
+            .all(|(text, name)| text.bytes() == [*name].as_slice())
+}
+
+// Whether b and c fail behind both runs.
+fn still_fail<H: Shelf>(alloc: Global, shelf: &mut H) -> Result<bool, Fail> {
+    let mut store = Store::open(alloc, shelf)?;
+    let ids = failing(alloc, &mut store)?;
+    Ok(store.runs() == 2 && are(ids.list(), b"bc"))
+}
+
+#[test]
+fn both_caches_are_written_by_their_forms(rt: HostRuntime) -> Result<(), Fail> {
+    let alloc = rt.alloc();
+    let Some(mut shelf) = two_runs(alloc, &[])? else {
+        return Err(LedgerFault::NoMemory.into());
+    };
+    assert!(rt; refreshes(alloc, &mut shelf)?);
+    assert!(rt; hold_both(alloc, &mut shelf));
+    assert!(rt; still_fail(alloc, &mut shelf)?);
+    Ok(())
+}
+
+// Calls 33 to 36 read the caches, and 37 to 46 put them. The next one fails.
+#[test]
+fn a_refresh_behind_caches_reads_no_run(rt: HostRuntime) -> Result<(), Fail> {
+    let alloc = rt.alloc();
+    let Some(mut shelf) = two_runs(alloc, &[47])? else {
+        return Err(LedgerFault::NoMemory.into());
+    };
+    assert!(rt; refreshes_on(alloc, &mut shelf)?);
+    assert!(rt; shelf.length("0").is_err());
+    assert!(rt; hold_both(alloc, &mut shelf));
+    Ok(())
+}
+
+#[test]
+fn a_fault_at_each_call_leaves_the_runs(rt: HostRuntime) -> Result<(), Fail> {
+    let alloc = rt.alloc();
+    for number in 33..47u64 {
+        let Some(mut shelf) = two_runs(alloc, &[number])? else {
+            return Err(LedgerFault::NoMemory.into());
+        };
+        assert!(rt; !refreshes_on(alloc, &mut shelf)?);
+        assert!(rt; still_fail(alloc, &mut shelf)?);
+    }
+    Ok(())
+}
