@@ -158,8 +158,10 @@ load_never partial names a b r (goes_on found m opened (goes_on _ m2 took (goes_
     record_never names m3 b fault step (sources_still names a m3 input site can.short) (sym (ap refusal_code same) ∙ three)
 load_never partial names a b r (goes_on found m opened (goes_on _ m2 took (goes_on _ m3 begun (goes_on rows m4 recorded (stops fault is step))))) can three = other (refusal.Memory fault) r is (λ s. omega arith) three
 load_never partial names a b r (goes_on found m opened (goes_on _ m2 took (goes_on _ m3 begun (goes_on rows m4 recorded (goes_on report m5 told (stops fault is step)))))) can three = other (refusal.Keep fault) r is (λ s. omega arith) three
-load_never partial names a b r (goes_on found m opened (goes_on _ m2 took (goes_on _ m3 begun (goes_on rows m4 recorded (goes_on report m5 told (goes_on _ m6 kept (stops fault is step))))))) can three = other (refusal.Print fault) r is (λ s. omega arith) three
-load_never partial names a b r (goes_on found m opened (goes_on _ m2 took (goes_on _ m3 begun (goes_on rows m4 recorded (goes_on report m5 told (goes_on _ m6 kept (goes_on _ m7 printed gives))))))) can three = gives_not m7 b r gives
+load_never partial names a b r (goes_on found m opened (goes_on _ m2 took (goes_on _ m3 begun (goes_on rows m4 recorded (goes_on report m5 told (goes_on _ m6 kept (stops tell_fault.Shelf is step))))))) can three = other (refusal.Refresh tell_fault.Shelf) r is (λ s. omega arith) three
+load_never partial names a b r (goes_on found m opened (goes_on _ m2 took (goes_on _ m3 begun (goes_on rows m4 recorded (goes_on report m5 told (goes_on _ m6 kept (stops tell_fault.NoMemory is step))))))) can three = other (refusal.Refresh tell_fault.NoMemory) r is (λ s. omega arith) three
+load_never partial names a b r (goes_on found m opened (goes_on _ m2 took (goes_on _ m3 begun (goes_on rows m4 recorded (goes_on report m5 told (goes_on _ m6 kept (goes_on _ m7 refreshed (stops fault is step)))))))) can three = other (refusal.Print fault) r is (λ s. omega arith) three
+load_never partial names a b r (goes_on found m opened (goes_on _ m2 took (goes_on _ m3 begun (goes_on rows m4 recorded (goes_on report m5 told (goes_on _ m6 kept (goes_on _ m7 refreshed (goes_on _ m8 printed gives)))))))) can three = gives_not m8 b r gives
 
 -- ---- questions
 

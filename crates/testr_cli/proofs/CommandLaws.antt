@@ -13,7 +13,7 @@ use Rattle.testr_cli.specs.declared.command.Question.{Question}
 use Rattle.testr_cli.proofs.AskLemmas.{either}
 use Rattle.testr_cli.proofs.CopyLaws.{copy_counts, copy_quiet, copy_refuses}
 use Rattle.testr_cli.proofs.ChainLemmas.{Counts, Quiet, Refuses, is_fault, then_quiet, then_counts, then_refuses, then_late, then_last, gives_not}
-use Rattle.testr_cli.proofs.StepLaws.{still_counts, still_quiet, runs_refuse, memory_refuses, make_counts, make_refuses, open_counts, open_quiet, open_refuses, find_counts, find_quiet, find_refuses, begin_counts, begin_refuses, keep_counts, keep_faults, record_counts, record_refuses, print_counts, print_quiet, print_faults, gives_quiet, gives_counts}
+use Rattle.testr_cli.proofs.StepLaws.{still_counts, still_quiet, runs_refuse, memory_refuses, make_counts, make_refuses, open_counts, open_quiet, open_refuses, find_counts, find_quiet, find_refuses, begin_counts, begin_refuses, keep_counts, keep_faults, refresh_counts, refresh_refuses, record_counts, record_refuses, print_counts, print_quiet, print_faults, gives_quiet, gives_counts}
 
 abbrev all : Work → Work
 all w = w
@@ -25,8 +25,9 @@ load_refuses partial names =
     then_refuses all (λ a b v s. begin_counts a b v s.at s.rest) (λ a b e s. begin_refuses a b e s.at s.rest) (λ _.
     then_refuses all (λ a b v s. record_counts a b names v s) (λ a b e s. record_refuses a b names e s) (λ rows.
     then_refuses all (λ a b v s. still_counts a b s.same) (λ a b e s. memory_refuses a b e s.same) (λ report.
-    then_late all (λ a b v s. keep_counts a b _ _ v s.at s.rest) (λ a b e s. is_fault _ a b (keep_faults a b _ _ e s.at s.rest)) (λ _.
-    then_last all (λ a b e s. print_faults a b _ e s.at s.rest) (λ _. gives_not)))))))
+    then_refuses all (λ a b v s. keep_counts a b _ _ v s.at s.rest) (λ a b e s. is_fault _ a b (keep_faults a b _ _ e s.at s.rest)) (λ _.
+    then_late all (λ a b v s. refresh_counts a b _ rows v s.at s.rest) (λ a b e s. refresh_refuses a b _ rows e s.at s.rest) (λ _.
+    then_last all (λ a b e s. print_faults a b _ e s.at s.rest) (λ _. gives_not))))))))
 
 pub load_counts : (partial : Bool) (names : List (List ℕ)) → Counts all (Loads partial names)
 load_counts partial names =
@@ -36,8 +37,9 @@ load_counts partial names =
     then_counts all (λ a b v s. record_counts a b names v s) (λ rows.
     then_counts all (λ a b v s. still_counts a b s.same) (λ report.
     then_counts all (λ a b v s. keep_counts a b _ _ v s.at s.rest) (λ _.
+    then_counts all (λ a b v s. refresh_counts a b _ rows v s.at s.rest) (λ _.
     then_counts all (λ a b v s. print_counts a b _ v s.at s.rest) (λ _.
-    gives_counts all)))))))
+    gives_counts all))))))))
 
 module _ (site : Seen Files) (spawner : Seen Spawning) (input : Seen (List ℕ)) where
   abbrev pub of_shown : Shown → Work

@@ -103,7 +103,7 @@ module _ (state : Option Folder) (number : ℕ) where
 -- what is copied is what is told of the last run
 pub bytes_said : (kinds : List Bool) (bytes : List ℕ) (state : Option Folder) → 0 < length kinds → IfSome state (FitsFolder kinds) → IfSome state (HasBytesAt (length kinds - 1) bytes) → IfSome state (SaysOfFolder (Last true) bytes Passed)
 bytes_said kinds bytes None some fits has = tt
-bytes_said kinds bytes (Some s) some fits has = record { repository = fits.repository; says = at (run_at s.disk.published (length kinds - 1)) refl has }
+bytes_said kinds bytes (Some s) some fits has = record { repository = fits.repository; says = λ _. at (run_at s.disk.published (length kinds - 1)) refl has }
   where
     at : (found : Option Run) → run_at s.disk.published (length kinds - 1) ≡ found → IsSomeAnd found (λ run. bytes ≡ run.bytes) → SaysBytes s bytes Passed
     at None there has = absurd has

@@ -1,8 +1,8 @@
 -- What a command has done, from its chain.
-use Rattle.std.proofs.Common.{◌≡◌, inl, inr, ℕ, ◌<◌, Bool, true, false, Option, None, Some, IfSome, Result, Ok, List, [], ◌∷◌, length, refl, sym, ap, subst, ◌∙◌, if◌then◌else◌}
+use Rattle.std.proofs.Common.{◌≡◌, inl, inr, ℕ, ◌<◌, Bool, true, false, Option, None, Some, IfSome, Result, Ok, List, [], ◌∷◌, ◌++◌, length, refl, sym, ap, subst, ◌∙◌, if◌then◌else◌}
 use Rattle.std.specs.Io.KnownBytes.{Appends, IsAtEnd}
 use Rattle.std.specs.List.{list_any}
-use Rattle.edge_io.specs.Disk.{Files, Disk, Folder, IsImage, at_rest, put}
+use Rattle.edge_io.specs.Disk.{Files, Folder, IsImage}
 use Rattle.edge_io.specs.Seen.{Seen}
 use Rattle.edge_io.specs.Spawners.{Spawning}
 use Rattle.edge_io.specs.Steps.{Goes, Opened, Grown}
@@ -11,15 +11,17 @@ use Rattle.packet_codec.specs.declared.event.Event.{Event}
 use Rattle.outcome_fold.specs.declared.row.Row.{Row}
 use Rattle.outcome_fold.specs.Rows.{rows_of}
 use Rattle.outcome_fold.specs.Answers.{row_fails, status_of}
-use Rattle.run_shelf.specs.Repository.{Run, run_of, run_name, Shows}
+use Rattle.run_ledger.specs.Caches.{IsSound}
+use Rattle.run_shelf.specs.Repository.{Run, run_of, Shows}
 use Rattle.run_shelf.specs.declared.found.Found.{Found}
 use Rattle.run_shelf.specs.Holds.{kinds_of, FitsFolder}
-use Rattle.run_shelf.specs.Images.{KeepsRun, HasRunBeside, MakesRepository}
+use Rattle.run_shelf.specs.Images.{MakesRepository}
 use Rattle.run_shelf.proofs.DraftLemmas.{goes_writes, run_kept}
 use Rattle.run_shelf.proofs.Joining.{stays_some}
+use Rattle.run_shelf.proofs.SameLemmas.{shows_still}
 use Rattle.sub_text.specs.Texts.{report_of}
 use Rattle.testr_cli.specs.Outside.{Work, Shown}
-use Rattle.testr_cli.specs.Runs.{run_bytes, KeepsFiles}
+use Rattle.testr_cli.specs.Runs.{run_bytes, HasRunAndCaches, KeepsFiles}
 use Rattle.testr_cli.specs.Verdicts.{verdict_of, verdict_code}
 use Rattle.testr_cli.specs.Says.{SaysOfFolder, OfLastRun}
 use Rattle.testr_cli.specs.Files.{RecordsSources}
@@ -39,6 +41,7 @@ use Rattle.testr_cli.proofs.RowsLemmas.{have_in_turn, rows_of_written}
 use Rattle.testr_cli.proofs.AskLemmas.{either}
 use Rattle.testr_cli.proofs.CopyLemmas.{bytes_said}
 use Rattle.testr_cli.proofs.Resting.{Rests, surveyed_fits}
+use Rattle.testr_cli.proofs.SoundLemmas.{KeepsRunAndCaches, rests_calm, surveyed_calm, goes_cached, fresh_through}
 use Rattle.testr_cli.proofs.ChainLemmas.{then_did}
 use Rattle.testr_cli.proofs.StepLaws.{open_quiet}
 use Rattle.testr_cli.proofs.CommandLaws.{of_shown, ask_quiet}
@@ -71,27 +74,27 @@ status_is rows = by (list_any row_fails rows)
     by false = refl
 
 -- a run that is kept behind a quiet part is kept beside the files of before
-pub kept_through : (number : ℕ) (run : Run) (a b c : Option Folder) → Goes a b Rests → Goes b c (KeepsRun number run) → Goes a c (KeepsRun number run)
-kept_through number run a b c quiet kept = goes_then a b c Rests (KeepsRun number run) (KeepsRun number run) quiet kept (λ s m t rests keeps. record {
-  disk = subst (λ (files : Files). t.disk ≡ at_rest (put files (run_name number run.partial) run.bytes)) rests.files keeps.disk;
-  lasts = subst (λ (files : Files). (image : Files) → IsImage t.disk image → HasRunBeside files number run image) rests.files keeps.lasts;
+pub kept_through : (number : ℕ) (run : Run) (a b c : Option Folder) → Goes a b Rests → Goes b c (KeepsRunAndCaches number run) → Goes a c (KeepsRunAndCaches number run)
+kept_through number run a b c quiet kept = goes_then a b c Rests (KeepsRunAndCaches number run) (KeepsRunAndCaches number run) quiet kept (λ s m t rests keeps. record {
+  reads = subst (λ (files : Files). HasRunAndCaches files number run t.disk.published) rests.files keeps.reads;
+  lasts = subst (λ (files : Files). (image : Files) → IsImage t.disk image → HasRunAndCaches files number run image) rests.files keeps.lasts;
+  fresh = λ calm sound. keeps.fresh (rests_calm s m calm rests) (subst IsSound (sym rests.files) sound);
 })
 
-pub kept_beside : (number : ℕ) (run : Run) (s t : Folder) → KeepsRun number run s t → HasRunBeside s.disk.published number run t.disk.published
-kept_beside number run s t kept =
-    let published : t.disk.published ≡ _ = ap (λ (d : Disk). d.published) kept.disk in
-    let stable : t.disk.stable ≡ _ = ap (λ (d : Disk). d.stable) kept.disk in
-    kept.lasts t.disk.published (inl (published ∙ sym stable))
+shows_more : (files image : Files) (number : ℕ) (run : Run) (runs : List Run) → HasRunAndCaches files number run image → Shows files runs → Shows image (runs ++ run ∷ [])
+shows_more files image number run runs has shows = shows_still has.between image has.but (runs ++ run ∷ []) (has.beside.shows runs shows)
 
-pub adds_run : (partial : Bool) (number : ℕ) (events : List Event) (s t : Folder) → KeepsRun number (run_of partial (run_bytes events)) s t → AddsRun partial events s t
-adds_run partial number events s t kept runs shows = ((kept_beside number (run_of partial (run_bytes events)) s t kept).shows runs shows, λ image left. (kept.lasts image left).shows runs shows)
+pub adds_run : (partial : Bool) (number : ℕ) (events : List Event) (s t : Folder) → KeepsRunAndCaches number (run_of partial (run_bytes events)) s t → AddsRun partial events s t
+adds_run partial number events s t kept runs shows =
+    let run = run_of partial (run_bytes events) in
+    (shows_more s.disk.published t.disk.published number run runs kept.reads shows, λ image left. shows_more s.disk.published image number run runs (kept.lasts image left) shows)
 
-reports : (partial : Bool) (folder folder' : Option Folder) (printed new : Option (List ℕ)) (number : ℕ) (events : List Event) → Goes folder folder' (KeepsRun number (run_of partial (run_bytes events))) → Appends printed new (report_of (rows_of events) number [])
+reports : (partial : Bool) (folder folder' : Option Folder) (printed new : Option (List ℕ)) (number : ℕ) (events : List Event) → Goes folder folder' (KeepsRunAndCaches number (run_of partial (run_bytes events))) → Appends printed new (report_of (rows_of events) number [])
     → IfSome folder (λ s. (runs : List Run) → Shows s.disk.published runs → Appends printed new (report_of (rows_of events) (length runs) []))
 reports partial None folder' printed new number events kept appends = tt
 reports partial (Some s) None printed new number events kept appends = absurd kept
 reports partial (Some s) (Some t) printed new number events kept appends = λ runs shows.
-    subst (λ n. Appends printed new (report_of (rows_of events) n [])) ((kept_beside number (run_of partial (run_bytes events)) s t kept).counts runs shows) appends
+    subst (λ n. Appends printed new (report_of (rows_of events) n [])) (kept.reads.beside.counts runs shows) appends
 
 out_stays : (names : List (List ℕ)) (result : Result (List Row) RecordFault) (a b : Work) → RecordsSources names a b result → b.out.told ≡ a.out.told
 out_stays [] result a b step = λ i. (step.rest i).out.told
@@ -105,27 +108,30 @@ load_did partial names a b v loads =
     let read = then_did v begun.next in
     let told = then_did v read.next in
     let kept = then_did v told.next in
-    let printed = then_did v kept.next in
+    let refreshed = then_did v kept.next in
+    let printed = then_did v refreshed.next in
     let gives = printed.next in
     let number = length (kinds_of opened.value) in
     let input : begun.between.input ≡ a.input = (λ i. (begun.done.rest i).input) ∙ (λ i. (took.done.same i).input) ∙ (λ i. (opened.done.rest i).input) in
-    let input_left : b.input ≡ read.between.input = (λ i. (gives.same i).input) ∙ (λ i. (printed.done.rest i).input) ∙ (λ i. (kept.done.rest i).input) ∙ (λ i. (told.done.same i).input) in
+    let input_left : b.input ≡ read.between.input = (λ i. (gives.same i).input) ∙ (λ i. (printed.done.rest i).input) ∙ (λ i. (refreshed.done.rest i).input) ∙ (λ i. (kept.done.rest i).input) ∙ (λ i. (told.done.same i).input) in
     let all = writes_run names read.value begun.between read.between read.done in
     let begins : Goes opened.between.folder.told begun.between.folder.told Opened = subst (λ (o : Option Folder). Goes o begun.between.folder.told Opened) (λ i. (took.done.same i).folder.told) begun.done.at.begun in
     let grows : Goes begun.between.folder.told told.between.folder.told (Grown all.run) = subst (λ (o : Option Folder). Goes begun.between.folder.told o (Grown all.run)) (λ i. (sym told.done.same i).folder.told) all.written in
-    let folder_left : b.folder.told ≡ kept.between.folder.told = (λ i. (gives.same i).folder.told) ∙ (λ i. (printed.done.rest i).folder.told) in
-    let out : kept.between.out.told ≡ a.out.told = (λ i. (kept.done.rest i).out.told) ∙ (λ i. (told.done.same i).out.told) ∙ out_stays names (Ok read.value) begun.between read.between read.done ∙ (λ i. (begun.done.rest i).out.told) ∙ (λ i. (took.done.same i).out.told) ∙ (λ i. (opened.done.rest i).out.told) in
+    let folder_left : b.folder.told ≡ refreshed.between.folder.told = (λ i. (gives.same i).folder.told) ∙ (λ i. (printed.done.rest i).folder.told) in
+    let out : refreshed.between.out.told ≡ a.out.told = (λ i. (refreshed.done.rest i).out.told) ∙ (λ i. (kept.done.rest i).out.told) ∙ (λ i. (told.done.same i).out.told) ∙ out_stays names (Ok read.value) begun.between read.between read.done ∙ (λ i. (begun.done.rest i).out.told) ∙ (λ i. (took.done.same i).out.told) ∙ (λ i. (opened.done.rest i).out.told) in
     let site : begun.between.site ≡ a.site = (λ i. (begun.done.rest i).site) ∙ (λ i. (took.done.same i).site) ∙ (λ i. (opened.done.rest i).site) in
     let recorded : IsRunOf names a.site.told a.input.told all.run = subst (λ (s : Seen Files). IsRunOf names s.told a.input.told all.run) site (subst (λ (s : Seen (List ℕ)). IsRunOf names begun.between.site.told s.told all.run) input all.is) in
     let packets = have_in_turn 0 recorded.sources recorded.events recorded.few recorded.are_bytes recorded.recorded in
     let rows : read.value ≡ rows_of recorded.events = rows_of_written all.run recorded.events read.value all.run_is packets.are_events packets.fit recorded.packets all.rows_are in
     let report : IsReport number [] (rows_of recorded.events) told.value = subst (λ (list : List Row). IsReport number [] list told.value) rows told.done.says.told in
     let run_is : all.run ≡ run_bytes recorded.events = recorded.packets in
-    let keeps : Goes opened.between.folder.told b.folder.told (KeepsRun number (run_of partial (run_bytes recorded.events))) =
-    subst (λ (l : List ℕ). Goes opened.between.folder.told b.folder.told (KeepsRun number (run_of partial l))) run_is
-    (subst (λ (o : Option Folder). Goes opened.between.folder.told o (KeepsRun number (run_of partial all.run))) (sym folder_left)
-    (run_kept number partial all.run opened.between.folder.told told.between.folder.told kept.between.folder.told (goes_writes opened.between.folder.told begun.between.folder.told told.between.folder.told all.run begins grows) kept.done.at.kept)) in
-    let stored = kept_through number (run_of partial (run_bytes recorded.events)) a.folder.told opened.between.folder.told b.folder.told (open_quiet a opened.between (Ok opened.value) opened.done.at) keeps in
+    let keeps : Goes opened.between.folder.told b.folder.told (KeepsRunAndCaches number (run_of partial (run_bytes recorded.events))) =
+    subst (λ (l : List ℕ). Goes opened.between.folder.told b.folder.told (KeepsRunAndCaches number (run_of partial l))) run_is
+    (subst (λ (o : Option Folder). Goes opened.between.folder.told o (KeepsRunAndCaches number (run_of partial all.run))) (sym folder_left)
+    (goes_cached number (run_of partial all.run) read.value opened.between.folder.told kept.between.folder refreshed.between.folder refreshed.done.at all.rows_are
+    (run_kept number partial all.run opened.between.folder.told told.between.folder.told kept.between.folder.told (goes_writes opened.between.folder.told begun.between.folder.told told.between.folder.told all.run begins grows) kept.done.at.kept))) in
+    let quiet : Goes a.folder.told opened.between.folder.told Rests = open_quiet a opened.between (Ok opened.value) opened.done.at in
+    let stored = kept_through number (run_of partial (run_bytes recorded.events)) a.folder.told opened.between.folder.told b.folder.told quiet keeps in
     let prints : Appends a.out.told b.out.told (report_of (rows_of recorded.events) number []) = appended {z = printed.between.out.told} out (λ i. (sym gives.same i).out.told) report.text printed.done.at.whole in
     record {
       sources = recorded.sources;
@@ -134,7 +140,8 @@ load_did partial names a b v loads =
       events = recorded.events;
       recorded = recorded.recorded;
       at_end = subst (λ (s : Seen (List ℕ)). ReadsInputFor names a.input s) (sym input_left) (subst (λ (s : Seen (List ℕ)). ReadsInputFor names s read.between.input) input all.at_end);
-      stored = goes_weaker a.folder.told b.folder.told (KeepsRun number (run_of partial (run_bytes recorded.events))) (AddsRun partial recorded.events) stored (adds_run partial number recorded.events);
+      cached = fresh_through number (run_of partial (run_bytes recorded.events)) a.folder.told opened.between.folder.told b.folder.told quiet (surveyed_calm (kinds_of opened.value) a.folder.told opened.between.folder.told opened.done.at.found) keeps;
+      stored = goes_weaker a.folder.told b.folder.told (KeepsRunAndCaches number (run_of partial (run_bytes recorded.events))) (AddsRun partial recorded.events) stored (adds_run partial number recorded.events);
       printed = reports partial a.folder.told b.folder.told a.out.told b.out.told number recorded.events stored prints;
       status = ap verdict_code (same_verdict gives.answer ∙ report.verdict) ∙ status_is (rows_of recorded.events);
     }

@@ -1,6 +1,6 @@
 -- Where the cause of a named refusal is there, it comes.
 use Rattle.std.proofs.Common.{◌≡◌, ◌<◌, ℕ, Bool, ◌⊎◌, inl, inr, Option, None, Some, Result, Ok, Err, List, length, ◌++◌, append-nil, refl, sym, ap, subst, ◌∙◌, arith}
-use Rattle.std.specs.Prelude.{⊤, IsSome, IsSomeAnd}
+use Rattle.std.specs.Prelude.{⊤, ◌≢◌, IsSome, IsSomeAnd}
 use Rattle.std.specs.Io.KnownBytes.{Consumes, IsAtEnd}
 use Rattle.edge_io.specs.Disk.{Folder, Files}
 use Rattle.edge_io.specs.Seen.{Seen}
@@ -18,9 +18,12 @@ use Rattle.testr_cli.specs.declared.recording.RecordFault.{RecordFault}
 use Rattle.testr_cli.specs.declared.recording.RecordFault.TheVariants as record_fault
 use Rattle.testr_cli.specs.declared.store.RunsFault.{RunsFault}
 use Rattle.testr_cli.specs.declared.store.RunsFault.TheVariants.{Full, NoRuns}
+use Rattle.testr_cli.specs.declared.told.TellFault.{TellFault}
+use Rattle.testr_cli.specs.declared.told.TellFault.TheVariants as tell_fault
 use Rattle.testr_cli.specs.Exact.{InitEnds, OpenEnds, RecordEnds}
 use Rattle.testr_cli.specs.Outside.{Fed}
 use Rattle.testr_cli.specs.Recording.{Records, RecordsAll, most_bytes}
+use Rattle.testr_cli.specs.Refreshing.{Refreshes}
 use Rattle.testr_cli.specs.Says.{OfLastRun}
 use Rattle.testr_cli.specs.Store.{Makes, Opens, TakesRun, HasRunFor}
 use Rattle.testr_cli.proofs.FolderLemmas.{none_or_some}
@@ -161,3 +164,10 @@ too_long before after (Err record_fault.Site) records holds = inr tt
 too_long before after (Err (record_fault.NoFile name)) records holds = absurd records.refused
 too_long before after (Err (record_fault.FileTooLong name)) records holds = absurd records.refused
 too_long before after (Err record_fault.NoMemory) records holds = inr tt
+
+-- ---- the caches
+
+pub caches_not_kept : (number : ℕ) (rows : List Row) (before after : Seen Folder) (result : Result (Unit {0}) TellFault) → Refreshes number rows before after result → after.faults ≢ before.faults → result ≡ Err tell_fault.Shelf
+caches_not_kept number rows before after (Ok done) refreshes differ = absurd (differ (refreshes.count.stands refl))
+caches_not_kept number rows before after (Err tell_fault.Shelf) refreshes differ = refl
+caches_not_kept number rows before after (Err tell_fault.NoMemory) refreshes differ = absurd (differ (refreshes.count.stands refl))

@@ -4,6 +4,7 @@ use Rattle.edge_io.specs.Disk.{Files, Disk, Folder, put}
 use Rattle.edge_io.specs.Seen.{Seen}
 use Rattle.edge_io.specs.Steps.{Goes, Settled}
 use Rattle.edge_io.proofs.Going.{goes_then, goes_weaker}
+use Rattle.outcome_fold.specs.declared.row.Row.{Row}
 use Rattle.run_shelf.specs.declared.faults.ShelfCall.{ShelfCall}
 use Rattle.run_shelf.specs.declared.faults.ShelfCall.TheVariants.{Names, Length, ReadAt, StartDraft, Append, SyncDraft, Publish, SyncFolder}
 use Rattle.run_shelf.specs.declared.faults.InitFault.{InitFault}
@@ -19,6 +20,7 @@ use Rattle.testr_cli.specs.Outside.{Work, work_folder, work_out}
 use Rattle.testr_cli.specs.Tasks.{load}
 use Rattle.testr_cli.specs.Runs.{KeepsFiles}
 use Rattle.testr_cli.specs.Store.{Makes, Keeps}
+use Rattle.testr_cli.specs.Refreshing.{Refreshes}
 use Rattle.testr_cli.specs.Reporting.{Prints}
 use Rattle.testr_cli.specs.Init.{Inits}
 use Rattle.testr_cli.specs.Load.{Loads}
@@ -26,7 +28,7 @@ use Rattle.testr_cli.specs.Answer.{may_have_placed, may_have_kept}
 use Rattle.testr_cli.specs.Program.{KeepsRuns}
 use Rattle.testr_cli.specs.declared.answer.Verdict.{Verdict}
 use Rattle.testr_cli.specs.declared.answer.Refusal.{Refusal}
-use Rattle.testr_cli.specs.declared.answer.Refusal.TheVariants.{Keep, Print}
+use Rattle.testr_cli.specs.declared.answer.Refusal.TheVariants.{Keep, Refresh, Print}
 use Rattle.testr_cli.proofs.Resting.{Rests}
 use Rattle.testr_cli.proofs.ChainLemmas.{Quiet, gives_not}
 use Rattle.testr_cli.proofs.StepLaws.{still_quiet, open_quiet, begin_quiet, record_quiet}
@@ -114,14 +116,17 @@ module _ (partial : Bool) (names : List (List ℕ)) where
       let same : r ≡ named = cc in
       sym (ap may_have same) ∙ not
 
-  kept_last : (number : ℕ) (text : List ℕ) (verdict : Verdict) → KeepsUnless (Then Keep (At work_folder (Keeps partial number)) (λ _. Then Print (At work_out (Prints text)) (λ _. Gives verdict)))
-  kept_last number text verdict a b r (stops fault is step) not =
+  kept_last : (number : ℕ) (rows : List Row) (text : List ℕ) (verdict : Verdict) → KeepsUnless (Then Keep (At work_folder (Keeps partial number)) (λ _. Then Refresh (At work_folder (Refreshes number rows)) (λ _. Then Print (At work_out (Prints text)) (λ _. Gives verdict))))
+  kept_last number rows text verdict a b r (stops fault is step) not =
       let before = refused_as (Keep fault) r is not in
       goes_weaker a.folder.told b.folder.told (OfDraft (λ bytes. PlaceFails (run_name number partial) bytes fault.call)) KeepsFiles step.at.failed (λ s t of. place_keeps (run_name number partial) of.bytes fault.call s t of.does before)
-  kept_last number text verdict a b r (goes_on _ m step (stops fault is printed)) not =
+  kept_last number rows text verdict a b r (goes_on _ m step (stops fault is refreshed)) not =
+      let never : true ≡ false = refused_as (Refresh fault) r is not in
+      cc
+  kept_last number rows text verdict a b r (goes_on _ m step (goes_on _ m2 refreshed (stops fault is printed))) not =
       let never : true ≡ false = refused_as (Print fault) r is not in
       cc
-  kept_last number text verdict a b r (goes_on _ m step (goes_on _ m2 printed gives)) not = absurd (gives_not m2 b r gives)
+  kept_last number rows text verdict a b r (goes_on _ m step (goes_on _ m2 refreshed (goes_on _ m3 printed gives))) not = absurd (gives_not m3 b r gives)
 
   pub load_keeps : KeepsUnless (Loads partial names)
   load_keeps =
@@ -130,4 +135,4 @@ module _ (partial : Bool) (names : List (List ℕ)) where
       then_keeps (λ a b r s. begin_quiet a b r s.at) (λ _.
       then_keeps (λ a b r s. record_quiet a b names r s) (λ rows.
       then_keeps (λ a b r s. still_quiet a b s.same) (λ report.
-      kept_last _ _ _)))))
+      kept_last _ rows _ _)))))

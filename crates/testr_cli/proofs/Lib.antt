@@ -10,8 +10,11 @@ pub mod SourcesLemmas
 pub mod TellLemmas
 pub mod CopyLemmas
 pub mod AskLemmas
+pub mod SparingLemmas
 pub mod FolderLemmas
 pub mod Resting
+pub mod SoundLemmas
+pub mod KeepingLaws
 pub mod ChainLemmas
 pub mod StepLaws
 pub mod CopyLaws

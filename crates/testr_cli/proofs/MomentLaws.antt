@@ -1,21 +1,28 @@
 -- What a stop at each moment of a load leaves, and of the making of a repository, at each of its exits.
-use Rattle.std.proofs.Common.{◌≡◌, ◌⊎◌, inl, inr, ℕ, Bool, Option, Result, Ok, Err, List, [], length, refl, sym, subst, ◌∙◌}
+use Rattle.std.proofs.Common.{◌≡◌, ◌⊎◌, inl, inr, ℕ, Bool, Option, IfSome, Result, Ok, Err, List, [], length, sym, subst, ◌∙◌}
 use Rattle.edge_io.specs.Disk.{Files, Folder, IsImage}
 use Rattle.edge_io.specs.Seen.{Seen}
 use Rattle.edge_io.specs.Steps.{Goes}
-use Rattle.edge_io.proofs.Going.{goes_then, goes_weaker}
+use Rattle.edge_io.proofs.Going.{goes_from, goes_then, goes_weaker}
 use Rattle.edge_io.proofs.Passing.{passes_then, passes_weaker}
 use Rattle.outcome_fold.specs.declared.row.Row.{Row}
+use Rattle.run_ledger.specs.Caches.{IsSound}
+use Rattle.run_ledger.specs.Reading.{AreRowsOf}
+use Rattle.run_ledger.specs.Refreshing.{KeepsSound}
+use Rattle.run_ledger.proofs.SoundLemmas.{sound_format}
 use Rattle.run_shelf.specs.declared.found.Found.{Found}
-use Rattle.run_shelf.specs.Drafts.{OfDraft, Writes}
-use Rattle.run_shelf.proofs.DraftLemmas.{goes_writes, run_passes}
+use Rattle.run_shelf.specs.declared.faults.InitFault.{InitFault}
+use Rattle.run_shelf.specs.Drafts.{Writes}
+use Rattle.run_shelf.proofs.DraftLemmas.{goes_writes}
 use Rattle.run_shelf.specs.Repository.{run_of}
 use Rattle.run_shelf.specs.Holds.{kinds_of}
-use Rattle.run_shelf.specs.Images.{HasRunBeside, PassesRun, PassesFormat}
+use Rattle.run_shelf.specs.Images.{HasFormatBeside, PassesFormat}
 use Rattle.testr_cli.specs.Steps.{Step, Then, stops, goes_on, Still, Gives, At}
 use Rattle.testr_cli.specs.Outside.{Work, work_folder, work_out}
-use Rattle.testr_cli.specs.Store.{Opens, TakesRun, Keeps}
+use Rattle.testr_cli.specs.Runs.{HasRunAndCaches}
+use Rattle.testr_cli.specs.Store.{Makes, Opens, TakesRun, Keeps}
 use Rattle.testr_cli.specs.declared.store.RunsFault.{RunsFault}
+use Rattle.testr_cli.specs.Refreshing.{Refreshes}
 use Rattle.testr_cli.specs.Reporting.{Reports, Prints}
 use Rattle.testr_cli.specs.Stops.{HasLoadedRun, PassesLoad}
 use Rattle.testr_cli.specs.Init.{Inits}
@@ -23,46 +30,46 @@ use Rattle.testr_cli.specs.Load.{Loads}
 use Rattle.testr_cli.specs.declared.told.Told.{Told}
 use Rattle.testr_cli.specs.declared.answer.Verdict.{Verdict}
 use Rattle.testr_cli.specs.declared.answer.Refusal.{Refusal}
-use Rattle.testr_cli.specs.declared.answer.Refusal.TheVariants.{Memory, Keep, Print}
+use Rattle.testr_cli.specs.declared.answer.Refusal.TheVariants.{Memory, Keep, Refresh, Print}
 use Rattle.testr_cli.proofs.SourcesLemmas.{IsRunOf, writes_run}
-use Rattle.testr_cli.proofs.Resting.{Rests, rests_same, rests_then, rests_images}
+use Rattle.testr_cli.proofs.Resting.{Rests, rests_then, rests_images}
+use Rattle.testr_cli.proofs.SoundLemmas.{IsCalm, PassesAll, rests_sound, sound_then, surveyed_calm, goes_rested}
+use Rattle.testr_cli.proofs.KeepingLaws.{keeps_moves}
 use Rattle.testr_cli.proofs.ChainLemmas.{IsQuiet}
 use Rattle.testr_cli.proofs.StepLaws.{still_quiet, open_quiet, begin_quiet, record_quiet}
 
 abbrev LeftBy : Bool → List (List ℕ) → Option Files → Option (List ℕ) → Folder → Files → Type 0
 LeftBy partial names told left s image = IsImage s.disk image ⊎ HasLoadedRun partial names told left s.disk.published image
 
-pub quiet_moves : (partial : Bool) (names : List (List ℕ)) (told : Option Files) (left : Option (List ℕ)) (a b : Option Folder) → Goes a b Rests → Goes a b (PassesLoad partial names told left)
-quiet_moves partial names told left a b quiet = goes_weaker a b Rests (PassesLoad partial names told left) quiet (λ s t rests. passes_weaker (IsImage s.disk) (LeftBy partial names told left s) (λ image left. inl left) s t rests.old)
+-- what a stop at each moment leaves, and that it is sound where it was
+pub record LoadMoves (partial : Bool) (names : List (List ℕ)) (told : Option Files) (left : Option (List ℕ)) (s t : Folder) : Type 0 where
+  pub stops : PassesLoad partial names told left s t
+  pub sound : KeepsSound s t
+
+pub quiet_moves : (partial : Bool) (names : List (List ℕ)) (told : Option Files) (left : Option (List ℕ)) (a b : Option Folder) → Goes a b Rests → Goes a b (LoadMoves partial names told left)
+quiet_moves partial names told left a b quiet = goes_weaker a b Rests (LoadMoves partial names told left) quiet (λ s t rests. record {
+  stops = passes_weaker (IsImage s.disk) (LeftBy partial names told left s) (λ image left. inl left) s t rests.old;
+  sound = rests_sound s t rests;
+})
 
 module _ (partial : Bool) (number : ℕ) (run : List ℕ) where
   abbrev Runs : Folder → Folder → Type 0
-  Runs = PassesRun number (run_of partial run)
-
-  abbrev Drafted : Folder → Folder → Type 0
-  Drafted = OfDraft (λ bytes. PassesRun number (run_of partial bytes))
-
-  rests_run : (a b : Option Folder) → Goes a b Rests → Goes a b Runs
-  rests_run a b quiet = goes_weaker a b Rests Runs quiet (λ s t rests. passes_weaker (IsImage s.disk) (λ image. IsImage s.disk image ⊎ HasRunBeside s.disk.published number (run_of partial run) image) (λ image left. inl left) s t rests.old)
+  Runs = PassesAll number (run_of partial run)
 
   printed_or_not : (text : List ℕ) (verdict : Verdict) (a b : Work) (result : Result Verdict Refusal) → Then Print (At work_out (Prints text)) (λ _. Gives verdict) a b result → b.folder ≡ a.folder
   printed_or_not text verdict a b result (stops fault is step) = λ i. (step.rest i).folder
   printed_or_not text verdict a b result (goes_on _ m step gives) = (λ i. (gives.same i).folder) ∙ (λ i. (step.rest i).folder)
 
   -- behind a run that was begun at s and written up to a
-  module _ (s : Option Folder) (a b : Work) (written : Goes s a.folder.told (Writes run)) (quiet : Goes s a.folder.told Rests) where
-    kept_or_not : (text : List ℕ) (verdict : Verdict) (m : Work) (result : Result Verdict Refusal) → m.folder ≡ a.folder → Then Keep (At work_folder (Keeps partial number)) (λ _. Then Print (At work_out (Prints text)) (λ _. Gives verdict)) m b result → Goes s b.folder.told Runs
-    kept_or_not text verdict m result same (stops fault is step) = run_passes number partial run s a.folder.told b.folder.told written (subst (λ (f : Seen Folder). Goes f.told b.folder.told Drafted) same step.at.any_moment)
-    kept_or_not text verdict m result same (goes_on _ k step next) =
-        subst (λ (f : Seen Folder). Goes s f.told Runs) (sym (printed_or_not text verdict k b result next))
-        (run_passes number partial run s a.folder.told k.folder.told written (subst (λ (f : Seen Folder). Goes f.told k.folder.told Drafted) same step.at.any_moment))
-
-    reported_or_not : (rows : List Row) (result : Result Verdict Refusal) → Then Memory (Still (Reports number [] rows)) (λ (report : Told). Then Keep (At work_folder (Keeps partial number)) (λ _. Then Print (At work_out (Prints report.text.items)) (λ _. Gives report.verdict))) a b result → Goes s b.folder.told Runs
-    reported_or_not rows result (stops fault is step) = rests_run s b.folder.told (subst (λ (w : Work). Goes s w.folder.told Rests) (sym step.same) quiet)
-    reported_or_not rows result (goes_on report m step next) = kept_or_not report.text.items report.verdict m result (λ i. (step.same i).folder) next
+  module _ (s : Option Folder) (a b : Work) (calm : IfSome s IsCalm) (written : Goes s a.folder.told (Writes run)) (quiet : Goes s a.folder.told Rests) where
+    reported_or_not : (rows : List Row) (result : Result Verdict Refusal) → AreRowsOf run rows → Then Memory (Still (Reports number [] rows)) (λ (report : Told). Then Keep (At work_folder (Keeps partial number)) (λ _. Then Refresh (At work_folder (Refreshes number rows)) (λ _. Then Print (At work_out (Prints report.text.items)) (λ _. Gives report.verdict)))) a b result → Goes s b.folder.told Runs
+    reported_or_not rows result are (stops fault is step) = goes_rested number (run_of partial run) s b.folder.told (subst (λ (w : Work). Goes s w.folder.told Rests) (sym step.same) quiet)
+    reported_or_not rows result are (goes_on report m step next) =
+        keeps_moves partial number run rows (Then Print (At work_out (Prints report.text.items)) (λ _. Gives report.verdict)) (printed_or_not report.text.items report.verdict) s are calm m b result
+        (subst (λ (w : Work). Goes s w.folder.told (Writes run)) (sym step.same) written) next
 
   module _ (names : List (List ℕ)) (told : Option Files) (left : Option (List ℕ)) (records : IsRunOf names told left run) where
-    loaded_run : (files image : Files) → HasRunBeside files number (run_of partial run) image → HasLoadedRun partial names told left files image
+    loaded_run : (files image : Files) → HasRunAndCaches files number (run_of partial run) image → HasLoadedRun partial names told left files image
     loaded_run files image beside = record {
       number = number;
       sources = records.sources;
@@ -70,23 +77,26 @@ module _ (partial : Bool) (number : ℕ) (run : List ℕ) where
       are_bytes = records.are_bytes;
       events = records.events;
       recorded = records.recorded;
-      beside = subst (λ (l : List ℕ). HasRunBeside files number (run_of partial l) image) records.packets beside;
+      beside = subst (λ (l : List ℕ). HasRunAndCaches files number (run_of partial l) image) records.packets beside;
     }
 
-    left_by : (s m : Folder) → Rests s m → (image : Files) → IsImage m.disk image ⊎ HasRunBeside m.disk.published number (run_of partial run) image → LeftBy partial names told left s image
+    left_by : (s m : Folder) → Rests s m → (image : Files) → IsImage m.disk image ⊎ HasRunAndCaches m.disk.published number (run_of partial run) image → LeftBy partial names told left s image
     left_by s m rests image (inl before) = inl (rests_images s m rests image before)
-    left_by s m rests image (inr beside) = inr (loaded_run s.disk.published image (subst (λ (files : Files). HasRunBeside files number (run_of partial run) image) rests.files beside))
+    left_by s m rests image (inr beside) = inr (loaded_run s.disk.published image (subst (λ (files : Files). HasRunAndCaches files number (run_of partial run) image) rests.files beside))
 
-    run_moves : (a m b : Option Folder) → Goes a m Rests → Goes m b Runs → Goes a b (PassesLoad partial names told left)
-    run_moves a m b quiet runs = goes_then a m b Rests Runs (PassesLoad partial names told left) quiet runs (λ s m t rests passes.
-        passes_then (LeftBy partial names told left s) s m t
-        (passes_weaker (IsImage s.disk) (LeftBy partial names told left s) (λ image left. inl left) s m rests.old)
-        (passes_weaker (λ image. IsImage m.disk image ⊎ HasRunBeside m.disk.published number (run_of partial run) image) (LeftBy partial names told left s) (left_by s m rests) m t passes))
+    run_moves : (a m b : Option Folder) → Goes a m Rests → Goes m b Runs → Goes a b (LoadMoves partial names told left)
+    run_moves a m b quiet runs = goes_then a m b Rests Runs (LoadMoves partial names told left) quiet runs (λ s m t rests passes. record {
+      stops =
+          passes_then (LeftBy partial names told left s) s m t
+          (passes_weaker (IsImage s.disk) (LeftBy partial names told left s) (λ image left. inl left) s m rests.old)
+          (passes_weaker (λ image. IsImage m.disk image ⊎ HasRunAndCaches m.disk.published number (run_of partial run) image) (LeftBy partial names told left s) (left_by s m rests) m t passes.stops);
+      sound = sound_then s m t (rests_sound s m rests) passes.sound;
+    })
 
 taken : (a m m2 : Work) (found : Found) → At work_folder Opens a m (Ok found) → Still {E = RunsFault} (TakesRun (length (kinds_of found))) m m2 (Ok tt) → IsQuiet a m2
 taken a m m2 found opened took = rests_then a.folder.told m.folder.told m2.folder.told (open_quiet a m (Ok found) opened.at) (still_quiet m m2 took.same)
 
-pub load_moves : (partial : Bool) (names : List (List ℕ)) (a b : Work) (result : Result Verdict Refusal) → Loads partial names a b result → Goes a.folder.told b.folder.told (PassesLoad partial names a.site.told a.input.told)
+pub load_moves : (partial : Bool) (names : List (List ℕ)) (a b : Work) (result : Result Verdict Refusal) → Loads partial names a b result → Goes a.folder.told b.folder.told (LoadMoves partial names a.site.told a.input.told)
 load_moves partial names a b result (stops fault is step) = quiet_moves partial names a.site.told a.input.told a.folder.told b.folder.told (open_quiet a b (Err fault) step.at)
 load_moves partial names a b result (goes_on found m opened (stops fault is step)) = quiet_moves partial names a.site.told a.input.told a.folder.told b.folder.told (rests_then a.folder.told m.folder.told b.folder.told (open_quiet a m (Ok found) opened.at) (still_quiet m b step.same))
 load_moves partial names a b result (goes_on found m opened (goes_on _ m2 took (stops fault is step))) = quiet_moves partial names a.site.told a.input.told a.folder.told b.folder.told (rests_then a.folder.told m2.folder.told b.folder.told (taken a m m2 found opened took) (begin_quiet m2 b (Err fault) step.at))
@@ -98,8 +108,24 @@ load_moves partial names a b result (goes_on found m opened (goes_on _ m2 took (
     let records : IsRunOf names a.site.told a.input.told all.run = subst (λ (s : Seen Files). IsRunOf names s.told a.input.told all.run) site (subst (λ (s : Seen (List ℕ)). IsRunOf names m3.site.told s.told all.run) input all.is) in
     let written : Goes m2.folder.told m4.folder.told (Writes all.run) = goes_writes m2.folder.told m3.folder.told m4.folder.told all.run begun.at.begun all.written in
     let quiet : IsQuiet m2 m4 = rests_then m2.folder.told m3.folder.told m4.folder.told (begin_quiet m2 m3 (Ok tt) begun.at) (record_quiet m3 m4 names (Ok rows) recorded) in
-    run_moves partial (length (kinds_of found)) all.run names a.site.told a.input.told records a.folder.told m2.folder.told b.folder.told (taken a m m2 found opened took) (reported_or_not partial (length (kinds_of found)) all.run m2.folder.told m4 b written quiet rows result next)
+    let calm : IfSome m2.folder.told IsCalm = subst (λ (w : Work). IfSome w.folder.told IsCalm) (sym took.same) (surveyed_calm (kinds_of found) a.folder.told m.folder.told opened.at.found) in
+    run_moves partial (length (kinds_of found)) all.run names a.site.told a.input.told records a.folder.told m2.folder.told b.folder.told (taken a m m2 found opened took) (reported_or_not partial (length (kinds_of found)) all.run m2.folder.told m4 b calm written quiet rows result all.rows_are next)
 
 pub init_moves : (a b : Seen Folder) (result : Result Verdict Refusal) → Inits a b result → Goes a.told b.told PassesFormat
 init_moves a b result (stops fault is step) = step.any_moment
 init_moves a b result (goes_on _ m step gives) = subst (λ (f : Seen Folder). Goes a.told f.told PassesFormat) (sym gives.same) step.any_moment
+
+-- the files as read before are what a stop may leave then
+make_sound : (a b : Seen Folder) (result : Result (Unit {0}) InitFault) → Makes a b result → Goes a.told b.told KeepsSound
+make_sound a b result makes = goes_from a.told b.told (λ s. IsImage s.disk s.disk.published) PassesFormat KeepsSound makes.reads makes.any_moment at
+  where
+    at : (s t : Folder) → IsImage s.disk s.disk.published → PassesFormat s t → KeepsSound s t
+    at s t counts passes sound = passes_weaker (λ image. IsImage s.disk image ⊎ HasFormatBeside s.disk.published image) IsSound by s t passes
+      where
+        by : (image : Files) → IsImage s.disk image ⊎ HasFormatBeside s.disk.published image → IsSound image
+        by image (inl left) = sound image left
+        by image (inr beside) = sound_format s.disk.published image beside (sound s.disk.published counts)
+
+pub init_sound : (a b : Seen Folder) (result : Result Verdict Refusal) → Inits a b result → Goes a.told b.told KeepsSound
+init_sound a b result (stops fault is step) = make_sound a b (Err fault) step
+init_sound a b result (goes_on v m step gives) = subst (λ (f : Seen Folder). Goes a.told f.told KeepsSound) (sym gives.same) (make_sound a m (Ok v) step)

@@ -4,6 +4,7 @@ use Rattle.edge_io.specs.Disk.{Folder, IsImage}
 use Rattle.edge_io.specs.Steps.{Goes, Stays}
 use Rattle.edge_io.proofs.Going.{goes_weaker}
 use Rattle.edge_io.proofs.Passing.{passes_weaker}
+use Rattle.run_ledger.specs.Refreshing.{KeepsSound}
 use Rattle.run_shelf.specs.Images.{MakesRepository, PassesOld, PassesFormat, HasFormatBeside}
 use Rattle.testr_cli.specs.Outside.{Outside, Work, work_of, shown, SomeRose, SameCounts, RisesAt}
 use Rattle.testr_cli.specs.Tasks.{Task, init, load, ask}
@@ -11,7 +12,7 @@ use Rattle.testr_cli.specs.Words.{testr_word, asked_by}
 use Rattle.testr_cli.specs.Verdicts.{verdict_code}
 use Rattle.testr_cli.specs.Runs.{KeepsFiles}
 use Rattle.testr_cli.specs.Answer.{refusal_code, code_of, place_in, may_have_kept}
-use Rattle.testr_cli.specs.Stops.{PassesCommand}
+use Rattle.testr_cli.specs.Stops.{PassesCommand, PassesLoad}
 use Rattle.testr_cli.specs.Program.{Performs, GivesUp, Answers, Promises, KeepsRuns, LoadsAll, AnswersQuestion, CanPerform, IsPerformed}
 use Rattle.testr_cli.specs.declared.words.UsageFault.{UsageFault}
 use Rattle.testr_cli.specs.declared.words.UsageFault.TheVariants.{Words}
@@ -20,10 +21,11 @@ use Rattle.testr_cli.specs.declared.answer.Verdict.{Verdict}
 use Rattle.testr_cli.specs.declared.answer.Verdict.TheVariants.{Passed, Failed}
 use Rattle.testr_cli.specs.declared.answer.Refusal.{Refusal}
 use Rattle.testr_cli.proofs.Resting.{Rests, rests_same}
+use Rattle.testr_cli.proofs.SoundLemmas.{rests_sound}
 use Rattle.testr_cli.proofs.ChainLemmas.{IsRefused}
 use Rattle.testr_cli.proofs.StepLaws.{still_counts}
 use Rattle.testr_cli.proofs.CommandLaws.{load_refuses, load_counts, ask_refuses, ask_counts, ask_quiet, init_refuses, init_counts}
-use Rattle.testr_cli.proofs.MomentLaws.{quiet_moves, init_moves, load_moves}
+use Rattle.testr_cli.proofs.MomentLaws.{LoadMoves, quiet_moves, init_moves, init_sound, load_moves}
 use Rattle.testr_cli.proofs.DoneLaws.{init_made, init_passed, load_did, ask_did}
 use Rattle.testr_cli.proofs.CauseLaws.{init_never, load_never, ask_never}
 use Rattle.testr_cli.proofs.KeepLemmas.{files_keep, keeps_runs, init_keeps, load_keeps}
@@ -57,8 +59,17 @@ module _ (fault : UsageFault) (a b : Work) where
   moments_of : (command : Option Task) (outcome : Result Verdict Refusal) → Performs fault command a b outcome → Goes a.folder.told b.folder.told (PassesCommand command a.site.told a.input.told)
   moments_of None outcome done = stays a.folder.told b.folder.told (λ i. (done.same i).folder.told)
   moments_of (Some init) outcome done = init_moves a.folder b.folder outcome done.at
-  moments_of (Some (load partial names)) outcome done = load_moves partial names a b outcome done
+  moments_of (Some (load partial names)) outcome done = goes_weaker a.folder.told b.folder.told (LoadMoves partial names a.site.told a.input.told) (PassesLoad partial names a.site.told a.input.told) (load_moves partial names a b outcome done) (λ s t moves. moves.stops)
   moments_of (Some (ask question)) outcome done = goes_weaker a.folder.told b.folder.told Rests PassesOld (ask_quiet a.site a.spawner a.input question (shown a.folder a.out) (shown b.folder b.out) outcome done.at) (λ s t rests. rests.old)
+
+  quiet_sound : Goes a.folder.told b.folder.told Rests → Goes a.folder.told b.folder.told KeepsSound
+  quiet_sound quiet = goes_weaker a.folder.told b.folder.told Rests KeepsSound quiet rests_sound
+
+  sound_of : (command : Option Task) (outcome : Result Verdict Refusal) → Performs fault command a b outcome → Goes a.folder.told b.folder.told KeepsSound
+  sound_of None outcome done = quiet_sound (rests_same a.folder.told b.folder.told (λ i. (done.same i).folder.told))
+  sound_of (Some init) outcome done = init_sound a.folder b.folder outcome done.at
+  sound_of (Some (load partial names)) outcome done = goes_weaker a.folder.told b.folder.told (LoadMoves partial names a.site.told a.input.told) KeepsSound (load_moves partial names a b outcome done) (λ s t moves. moves.sound)
+  sound_of (Some (ask question)) outcome done = quiet_sound (ask_quiet a.site a.spawner a.input question (shown a.folder a.out) (shown b.folder b.out) outcome done.at)
 
   kept_of : (command : Option Task) (outcome : Result Verdict Refusal) → Performs fault command a b outcome → may_have_kept command outcome ≡ false → Goes a.folder.told b.folder.told KeepsRuns
   kept_of None outcome done not = goes_weaker a.folder.told b.folder.told Rests KeepsRuns (rests_same a.folder.told b.folder.told (λ i. (done.same i).folder.told)) keeps_runs
@@ -115,13 +126,16 @@ module _ (a b : Work) (outcome : Result Verdict Refusal) (gives : GivesUp a b ou
   pub gave_up_quiet : Goes a.folder.told b.folder.told Rests
   gave_up_quiet = rests_same a.folder.told b.folder.told (λ i. (gives.same i).folder.told)
 
+  pub gave_up_sound : Goes a.folder.told b.folder.told KeepsSound
+  gave_up_sound = goes_weaker a.folder.told b.folder.told Rests KeepsSound gave_up_quiet rests_sound
+
   pub gave_up_counts : RisesAt (place_in outcome) a b
   gave_up_counts = subst (λ (r : Result Verdict Refusal). RisesAt (place_in r) a b) (sym gives.memory) (still_counts a b gives.same)
 
   gave_up_moments : (asked : Option Task) → Goes a.folder.told b.folder.told (PassesCommand asked a.site.told a.input.told)
   gave_up_moments None = stays a.folder.told b.folder.told (λ i. (gives.same i).folder.told)
   gave_up_moments (Some init) = goes_weaker a.folder.told b.folder.told Rests PassesFormat gave_up_quiet (λ s t rests. passes_weaker (IsImage s.disk) (λ image. IsImage s.disk image ⊎ HasFormatBeside s.disk.published image) (λ image left. inl left) s t rests.old)
-  gave_up_moments (Some (load partial names)) = quiet_moves partial names a.site.told a.input.told a.folder.told b.folder.told gave_up_quiet
+  gave_up_moments (Some (load partial names)) = goes_weaker a.folder.told b.folder.told (LoadMoves partial names a.site.told a.input.told) (PassesLoad partial names a.site.told a.input.told) (quiet_moves partial names a.site.told a.input.told a.folder.told b.folder.told gave_up_quiet) (λ s t moves. moves.stops)
   gave_up_moments (Some (ask question)) = goes_weaker a.folder.told b.folder.told Rests PassesOld gave_up_quiet (λ s t rests. rests.old)
 
 module _ (reading : Bool) (wrong : UsageFault) (asked : Option Task) (before after : Outside) (answer : ℕ) where
@@ -146,6 +160,7 @@ module _ (reading : Bool) (wrong : UsageFault) (asked : Option Task) (before aft
         fault = fault_of wrong a b answer asked outcome done code;
         kept = kept_of wrong a b asked outcome done;
         any_moment = moments_of wrong a b asked outcome done;
+        sound = sound_of wrong a b asked outcome done;
         made = λ is. made_of wrong a b answer outcome (as_named outcome is done) code;
         loaded = λ partial names is. loaded_of wrong a b answer partial names outcome (as_named outcome is done) code;
         answered = λ question is. asked_of wrong a b answer question outcome (as_named outcome is done) code;
@@ -163,6 +178,7 @@ module _ (reading : Bool) (wrong : UsageFault) (asked : Option Task) (before aft
         fault = λ four. absurd (omega (arith, five, four));
         kept = λ not. goes_weaker a.folder.told b.folder.told Rests KeepsRuns (gave_up_quiet a b answers.outcome gives) keeps_runs;
         any_moment = gave_up_moments a b answers.outcome gives asked;
+        sound = gave_up_sound a b answers.outcome gives;
         made = λ is zero. absurd (omega (arith, five, zero));
         loaded = λ partial names is less. absurd (omega (arith, five, less));
         answered = λ question is less. absurd (omega (arith, five, less));

@@ -43,7 +43,7 @@ final_leaves P [] first leaves each = leaves
 final_leaves P (disk ∷ disks) first leaves each = final_leaves P disks disk (All-head (LeavesOnly P) disk disks each) (All-tail (LeavesOnly P) disk disks each)
 
 -- what a stop at the last moment leaves has P, where what one at the first leaves has it
-passes_leaves : (P : Files → Type 0) (s t : Folder) → Passes P s t → LeavesOnly P s.disk → LeavesOnly P t.disk
+pub passes_leaves : (P : Files → Type 0) (s t : Folder) → Passes P s t → LeavesOnly P s.disk → LeavesOnly P t.disk
 passes_leaves P s t passes leaves =
     let last : t.disk ≡ final passes.later s.disk = sym (final_end t.past t.disk t.disk) ∙ ap (λ disks. final disks t.disk) passes.grows ∙ final_behind s.past s.disk passes.later t.disk in
     subst (LeavesOnly P) (sym last) (final_leaves P passes.later s.disk leaves passes.each)

@@ -33,11 +33,10 @@ use Rattle.worker_lane.specs.Rest.{notes_of_stream, notes_are}
 use Rattle.worker_mux.specs.Outputs.{IsOutput, events_for, lists_from}
 use Rattle.testr_cli.specs.Drawings.{are_few}
 use Rattle.testr_cli.specs.Outside.{Work, work}
-use Rattle.testr_cli.specs.RunSuite.{Works, rows_in}
+use Rattle.testr_cli.specs.RunSuite.{Works}
 use Rattle.testr_cli.specs.SelfTest.{RunsInTurn, lane_of, rows_in_turn}
 use Rattle.testr_cli.specs.declared.answer.Refusal.{Refusal}
 use Rattle.testr_cli.specs.declared.drawing.Drawing.{Drawing}
-use Rattle.testr_cli.specs.declared.working.Ran.{Ran}
 use Rattle.testr_cli.proofs.MergeLaws.{AreOfOutputs}
 use Rattle.testr_cli.proofs.PacketBytes.{packets_bytes}
 use Rattle.testr_cli.proofs.SuiteDone.{work_did}
@@ -60,11 +59,11 @@ works_in_turn number jobs a b rows few works =
     let worked = work_did false number jobs a b rows few works in
     in_turn jobs worked.outputs worked.events rows a.spawner.told b.spawner.told worked.started worked.of_workers worked.rows_are
 
-pub ran_in_turn : (number : ℕ) (jobs : List Job) (folder left : Seen Folder) (spawner after : Seen Spawning) (result : Result Ran Refusal) → length jobs ≤ 64 → ((site : Seen Files) (input out : Seen (List ℕ)) → Works false number jobs (work folder site spawner input out) (work left site after input out) (rows_in result)) → IfOk result (λ ran. IfSome spawner.told (λ s. RunsInTurn jobs s ran.rows))
-ran_in_turn number jobs folder left spawner after (Ok ran) few works =
+pub ran_in_turn : (number : ℕ) (jobs : List Job) (folder left : Seen Folder) (spawner after : Seen Spawning) (result : Result (List Row) Refusal) → length jobs ≤ 64 → ((site : Seen Files) (input out : Seen (List ℕ)) → Works false number jobs (work folder site spawner input out) (work left site after input out) result) → IfOk result (λ rows. IfSome spawner.told (λ s. RunsInTurn jobs s rows))
+ran_in_turn number jobs folder left spawner after (Ok rows) few works =
     let site : Seen Files = record { told = None; faults = 0 } in
     let none : Seen (List ℕ) = record { told = None; faults = 0 } in
-    works_in_turn number jobs (work folder site spawner none none) (work left site after none none) ran.rows few (works site none none)
+    works_in_turn number jobs (work folder site spawner none none) (work left site after none none) rows few (works site none none)
 ran_in_turn number jobs folder left spawner after (Err refusal) few works = tt
 
 -- ---- one drawn worker

@@ -15,6 +15,7 @@ use Rattle.testr_cli.specs.Answer.{refusal_code, place_of}
 use Rattle.testr_cli.specs.Steps.{Gives}
 use Rattle.testr_cli.specs.Store.{Makes, Opens, Begins, Keeps}
 use Rattle.testr_cli.specs.Recording.{Records, NoneFailed}
+use Rattle.testr_cli.specs.Refreshing.{Refreshes}
 use Rattle.testr_cli.specs.Reporting.{Prints}
 use Rattle.testr_cli.specs.Told.{Finds}
 use Rattle.testr_cli.specs.declared.command.Question.{Question}
@@ -114,6 +115,13 @@ module _ (a b : Work) where
 
   pub keep_faults : (partial : Bool) (number : ℕ) (fault : KeepFault) → Keeps partial number a.folder b.folder (Err fault) → b ≡ work_folder.put a b.folder → IsFault (refusal.Keep fault) a b
   keep_faults partial number fault keeps rest = folder_fault (refusal.Keep fault) refl refl rest keeps.count.failed
+
+  pub refresh_counts : (number : ℕ) (rows : List Row) (done : Unit {0}) → Refreshes number rows a.folder b.folder (Ok done) → b ≡ work_folder.put a b.folder → SameCounts a b
+  refresh_counts number rows done refreshes rest = folder_same rest (refreshes.count.stands refl)
+
+  pub refresh_refuses : (number : ℕ) (rows : List Row) (fault : TellFault) → Refreshes number rows a.folder b.folder (Err fault) → b ≡ work_folder.put a b.folder → IsRefused (refusal.Refresh fault) a b
+  refresh_refuses number rows tell_fault.Shelf refreshes rest = is_fault (refusal.Refresh tell_fault.Shelf) a b (folder_fault (refusal.Refresh tell_fault.Shelf) refl refl rest (refreshes.count.rose refl))
+  refresh_refuses number rows tell_fault.NoMemory refreshes rest = named (refusal.Refresh tell_fault.NoMemory) (omega arith) (omega arith) (λ four. omega arith) (folder_same rest (refreshes.count.stands refl))
 
   -- ---- the step of the sources and the draft
 

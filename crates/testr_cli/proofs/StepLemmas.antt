@@ -1,14 +1,17 @@
 -- How a chain goes on, and how it stops.
-use Rattle.std.proofs.Common.{◌≡◌, ℕ, List, Result, Ok, Err, refl, sym, ap, subst, ◌∙◌}
+use Rattle.std.proofs.Common.{◌≡◌, ℕ, ◌-◌, Bool, List, [], ◌∷◌, ◌++◌, length, length-append, Result, Ok, Err, refl, sym, ap, subst, ◌∙◌, arith}
 use Rattle.std.specs.Prelude.{IsErrAnd}
 use Rattle.std.proofs.lemmas.Result.{err_from_is_err_and}
 use Rattle.outcome_fold.specs.declared.row.Row.{Row}
+use Rattle.edge_io.specs.Disk.{Folder}
 use Rattle.edge_io.specs.Seen.{Seen}
 use Rattle.sub_number.specs.declared.memory.NoMemory.{NoMemory}
 use Rattle.testr_cli.specs.Steps.{Step, Then, stops, goes_on, Still, Gives, Part, At}
+use Rattle.testr_cli.specs.Refreshing.{Refreshes}
 use Rattle.testr_cli.specs.Reporting.{Reports, Prints}
 use Rattle.testr_cli.specs.declared.reporting.PrintFault.{PrintFault}
 use Rattle.testr_cli.specs.declared.told.Told.{Told}
+use Rattle.testr_cli.specs.declared.told.TellFault.{TellFault}
 
 module _ {W A B E R : Type 0} {name : E → R} {second : A → Step W B R} {before after : W} {result : Result B R} where
   -- an exit by `?`
@@ -54,3 +57,9 @@ prints_as {before = before} {after = after} {result = result} same prints = subs
 pub reports_as : {given number : ℕ} {given_tags tags : List (List ℕ)} {rows : List Row} {result : Result Told NoMemory} → given ≡ number → given_tags ≡ tags → Reports given given_tags rows result → Reports number tags rows result
 reports_as {number = number} {given_tags = given_tags} {rows = rows} {result = result} same tags_are reports =
     subst (λ (t : List (List ℕ)). Reports number t rows result) tags_are (subst (λ (n : ℕ). Reports n given_tags rows result) same reports)
+
+-- the run behind others has the number of these
+pub refreshes_as : (given kinds : List Bool) (partial : Bool) {rows : List Row} {before after : Seen Folder} {result : Result (Unit {0}) TellFault} → given ≡ kinds ++ partial ∷ [] → Refreshes (length given - 1) rows before after result → Refreshes (length kinds) rows before after result
+refreshes_as given kinds partial {rows = rows} {before = before} {after = after} {result = result} is refreshes =
+    let number : length given - 1 ≡ length kinds = omega (arith, ap length is, length-append kinds (partial ∷ [])) in
+    subst (λ (n : ℕ). Refreshes n rows before after result) number refreshes

@@ -16,7 +16,6 @@ use Rattle.packet_codec.specs.Canonical.{IsEvent, Fits}
 use Rattle.packet_codec.specs.Lanes.{IsOfLaneBelow}
 use Rattle.packet_codec.specs.declared.event.Event.{Event}
 use Rattle.run_shelf.specs.Holds.{kinds_of}
-use Rattle.run_shelf.specs.Images.{KeepsRun}
 use Rattle.run_shelf.specs.Repository.{Run, run_of, Shows}
 use Rattle.run_shelf.proofs.DraftLemmas.{goes_writes, run_kept}
 use Rattle.sub_text.specs.Texts.{report_of}
@@ -33,7 +32,7 @@ use Rattle.testr_cli.specs.Perhaps.{Perhaps, not_asked, did, refused, when}
 use Rattle.testr_cli.specs.Program.{AddsRun}
 use Rattle.testr_cli.specs.Reporting.{IsReport}
 use Rattle.testr_cli.specs.RunSuite.{ListsSuite, RunsSuite, Works, TellsRun}
-use Rattle.testr_cli.specs.Runs.{run_bytes}
+use Rattle.testr_cli.specs.Runs.{run_bytes, KeepsFiles}
 use Rattle.testr_cli.specs.Selecting.{UsesCalled, CountsWorkers, Selects, Plans}
 use Rattle.testr_cli.specs.Steps.{Step, Then, Gives, At}
 use Rattle.testr_cli.specs.SuiteProgram.{ListsAll, RunsAll}
@@ -45,10 +44,11 @@ use Rattle.testr_cli.specs.declared.answer.Verdict.{Verdict}
 use Rattle.testr_cli.specs.declared.selecting.Selected.{Selected}
 use Rattle.testr_cli.specs.declared.told.Told.{Told}
 use Rattle.testr_cli.proofs.ChainLemmas.{then_did}
-use Rattle.testr_cli.proofs.DoneLaws.{appended, same_verdict, status_is, kept_through, kept_beside, adds_run}
+use Rattle.testr_cli.proofs.DoneLaws.{appended, same_verdict, status_is, kept_through, adds_run}
 use Rattle.testr_cli.proofs.MergeLaws.{AreOfOutputs, have_outputs, of_outputs}
 use Rattle.testr_cli.proofs.PacketBytes.{packets_bytes}
 use Rattle.testr_cli.proofs.Resting.{Rests}
+use Rattle.testr_cli.proofs.SoundLemmas.{IsCalm, KeepsRunAndCaches, surveyed_calm, goes_cached, fresh_through}
 use Rattle.testr_cli.proofs.RowsLemmas.{rows_of_written}
 use Rattle.testr_cli.proofs.StepLaws.{open_quiet}
 use Rattle.testr_cli.proofs.SuiteJobs.{selected_range, few_jobs}
@@ -224,7 +224,7 @@ pub record Worked (partial : Bool) (number : ℕ) (jobs : List Job) (rows : List
   of_lanes : All (IsOfLaneBelow (length jobs)) events
   pub of_workers : IfSome a.spawner.told (λ _. AreOfOutputs events outputs)
   pub rows_are : rows ≡ rows_of events
-  kept : Goes a.folder.told b.folder.told (KeepsRun number (run_of partial (run_bytes events)))
+  kept : Goes a.folder.told b.folder.told (KeepsRunAndCaches number (run_of partial (run_bytes events)))
   input : b.input ≡ a.input
   out : b.out.told ≡ a.out.told
 
@@ -234,10 +234,11 @@ work_did partial number jobs a b rows few works =
     let started = then_did rows begun.next in
     let recorded = then_did rows started.next in
     let kept = then_did rows recorded.next in
-    let gives = kept.next in
+    let refreshed = then_did rows kept.next in
+    let gives = refreshed.next in
     let adds : AddsMerge started.value started.between.folder.told recorded.between.folder.told = recorded.done.at.recorded.merge in
     let begin : begun.between.spawner.told ≡ a.spawner.told = λ i. (begun.done.rest i).spawner.told in
-    let ended : started.between.spawner.told ≡ b.spawner.told = sym ((λ i. (gives.same i).spawner.told) ∙ (λ i. (kept.done.rest i).spawner.told) ∙ (λ i. (recorded.done.rest i).spawner.told)) in
+    let ended : started.between.spawner.told ≡ b.spawner.told = sym ((λ i. (gives.same i).spawner.told) ∙ (λ i. (refreshed.done.rest i).spawner.told) ∙ (λ i. (kept.done.rest i).spawner.told) ∙ (λ i. (recorded.done.rest i).spawner.told)) in
     let told = have_outputs jobs started.value begun.between.spawner.told started.between.spawner.told started.done.at.started in
     let run : List ℕ = run_bytes adds.events in
     let grows : Goes begun.between.folder.told recorded.between.folder.told (Grown run) = goes_ends (Grown run) (λ i. (started.done.rest i).folder.told) refl adds.added in
@@ -251,9 +252,11 @@ work_did partial number jobs a b rows few works =
       of_lanes = subst (λ (n : ℕ). All (IsOfLaneBelow n) adds.events) started.done.at.count adds.of_lanes;
       of_workers = subst (λ (o : Option Spawning). IfSome o (λ _. AreOfOutputs adds.events told.outputs)) begin (of_outputs jobs started.value told.outputs begun.between.spawner.told started.between.folder.told recorded.between.folder.told adds few told.count told.rests_are);
       rows_are = same_value gives.answer ∙ rows_of_written run adds.events recorded.value (packets_bytes adds.events adds.are_events) adds.are_events adds.fit refl recorded.done.at.recorded.rows_are;
-      kept = goes_ends (KeepsRun number (run_of partial run)) refl (λ i. (sym gives.same i).folder.told) (run_kept number partial run a.folder.told recorded.between.folder.told kept.between.folder.told written kept.done.at.kept);
-      input = (λ i. (gives.same i).input) ∙ (λ i. (kept.done.rest i).input) ∙ (λ i. (recorded.done.rest i).input) ∙ (λ i. (started.done.rest i).input) ∙ (λ i. (begun.done.rest i).input);
-      out = (λ i. (gives.same i).out.told) ∙ (λ i. (kept.done.rest i).out.told) ∙ (λ i. (recorded.done.rest i).out.told) ∙ (λ i. (started.done.rest i).out.told) ∙ (λ i. (begun.done.rest i).out.told);
+      kept = goes_ends (KeepsRunAndCaches number (run_of partial run)) refl (λ i. (sym gives.same i).folder.told)
+          (goes_cached number (run_of partial run) recorded.value a.folder.told kept.between.folder refreshed.between.folder refreshed.done.at recorded.done.at.recorded.rows_are
+          (run_kept number partial run a.folder.told recorded.between.folder.told kept.between.folder.told written kept.done.at.kept));
+      input = (λ i. (gives.same i).input) ∙ (λ i. (refreshed.done.rest i).input) ∙ (λ i. (kept.done.rest i).input) ∙ (λ i. (recorded.done.rest i).input) ∙ (λ i. (started.done.rest i).input) ∙ (λ i. (begun.done.rest i).input);
+      out = (λ i. (gives.same i).out.told) ∙ (λ i. (refreshed.done.rest i).out.told) ∙ (λ i. (kept.done.rest i).out.told) ∙ (λ i. (recorded.done.rest i).out.told) ∙ (λ i. (started.done.rest i).out.told) ∙ (λ i. (begun.done.rest i).out.told);
     }
 
 -- ---- the report
@@ -282,12 +285,12 @@ tell_did number filter_tags rows a b v tells =
       verdict = same_verdict gives.answer;
     }
 
-prints_rows : (partial : Bool) (number : ℕ) (filter_tags : Ids) (events : List Event) (report : Told) (a b : Option Folder) (printed new : Option (List ℕ)) → Goes a b (KeepsRun number (run_of partial (run_bytes events))) → IsReport number filter_tags (rows_of events) report → Appends printed new report.text.items
+prints_rows : (partial : Bool) (number : ℕ) (filter_tags : Ids) (events : List Event) (report : Told) (a b : Option Folder) (printed new : Option (List ℕ)) → Goes a b (KeepsRunAndCaches number (run_of partial (run_bytes events))) → IsReport number filter_tags (rows_of events) report → Appends printed new report.text.items
     → IfSome a (λ s. (runs : List Run) → Shows s.disk.published runs → Appends printed new (report_of (rows_of events) (length runs) filter_tags))
 prints_rows partial number filter_tags events report None b printed new kept says appends = tt
 prints_rows partial number filter_tags events report (Some s) None printed new kept says appends = absurd kept
 prints_rows partial number filter_tags events report (Some s) (Some t) printed new kept says appends = λ runs shows.
-    subst (λ n. Appends printed new (report_of (rows_of events) n filter_tags)) ((kept_beside number (run_of partial (run_bytes events)) s t kept).counts runs shows) (subst (Appends printed new) says.text appends)
+    subst (λ n. Appends printed new (report_of (rows_of events) n filter_tags)) (kept.reads.beside.counts runs shows) (subst (Appends printed new) says.text appends)
 
 -- what is so is so where this is told
 so_where_told : {S : Type 0} (a : Option S) (X : Type 0) → X → IfSome a (λ _. X)
@@ -321,8 +324,10 @@ run_did options a b v runs =
     let first : conf.between ≡ a = conf.done.rest ∙ ap (work_site.put a) site in
     let opened : begin ≡ work_folder.put a begin.folder = calm ∙ found.done.rest ∙ (λ i. work_folder.put (first i) found.between.folder) ∙ (λ i. work_folder.put a (sym calm i).folder) in
     let quiet : Goes a.folder.told begin.folder.told Rests = goes_ends Rests (λ i. (first i).folder.told) (λ i. (sym calm i).folder.told) (open_quiet conf.between found.between (Ok found.value) found.done.at) in
-    let kept : Goes begin.folder.told worked.between.folder.told (KeepsRun (length kinds) run) = goes_ends (KeepsRun (length kinds) run) before.folder refl work.kept in
-    let stored : Goes a.folder.told b.folder.told (KeepsRun (length kinds) run) = kept_through (length kinds) run a.folder.told begin.folder.told b.folder.told quiet (goes_ends (KeepsRun (length kinds) run) refl (sym tell.folder) kept) in
+    let kept : Goes begin.folder.told worked.between.folder.told (KeepsRunAndCaches (length kinds) run) = goes_ends (KeepsRunAndCaches (length kinds) run) before.folder refl work.kept in
+    let keeps : Goes begin.folder.told b.folder.told (KeepsRunAndCaches (length kinds) run) = goes_ends (KeepsRunAndCaches (length kinds) run) refl (sym tell.folder) kept in
+    let stored : Goes a.folder.told b.folder.told (KeepsRunAndCaches (length kinds) run) = kept_through (length kinds) run a.folder.told begin.folder.told b.folder.told quiet keeps in
+    let at_rest : IfSome begin.folder.told IsCalm = subst (λ (w : Work). IfSome w.folder.told IsCalm) (sym calm) (surveyed_calm kinds conf.between.folder.told found.between.folder.told found.done.at.found) in
     let says : IsReport (length kinds) conf.value.filter_tags (rows_of work.events) tell.report = subst (λ (l : List Row). IsReport (length kinds) conf.value.filter_tags l tell.report) work.rows_are tell.says in
     let workers_here = told_before begin.spawner.told planned.between.spawner.told (λ s t. ⊤) (AreOfOutputs work.events work.outputs) before.told work.of_workers in
     let workers : IfSome a.spawner.told (λ _. AreOfOutputs work.events work.outputs) = subst (λ (o : Option Spawning). IfSome o (λ _. AreOfOutputs work.events work.outputs)) (λ i. (opened i).spawner.told) workers_here in
@@ -332,6 +337,7 @@ run_did options a b v runs =
       conf = conf.done.at.conf;
       opened = begin;
       opened_is = opened;
+      opened_files = goes_weaker a.folder.told begin.folder.told Rests KeepsFiles quiet (λ s t rests. rests.files);
       selected = selected.value;
       selecting = selected.between;
       selects = selected.done;
@@ -347,7 +353,8 @@ run_did options a b v runs =
       of_lanes = work.of_lanes;
       merged = where_told a.spawner.told (AreOfOutputs work.events work.outputs) _ (λ are. are.merged) workers;
       in_turn = where_told a.spawner.told (AreOfOutputs work.events work.outputs) _ (λ are. are.in_turn) workers;
-      stored = goes_weaker a.folder.told b.folder.told (KeepsRun (length kinds) run) (AddsRun partial work.events) stored (adds_run partial (length kinds) work.events);
+      cached = fresh_through (length kinds) run a.folder.told begin.folder.told b.folder.told quiet at_rest keeps;
+      stored = goes_weaker a.folder.told b.folder.told (KeepsRunAndCaches (length kinds) run) (AddsRun partial work.events) stored (adds_run partial (length kinds) work.events);
       printed = prints_rows partial (length kinds) conf.value.filter_tags work.events tell.report a.folder.told b.folder.told a.out.told b.out.told stored says (subst (λ (o : Option (List ℕ)). Appends o b.out.told tell.report.text.items) out tell.printed);
       status = so_where_told a.folder.told (verdict_code v ≡ status_of (rows_of work.events)) (ap verdict_code (tell.verdict ∙ says.verdict) ∙ status_is (rows_of work.events));
       input = tell.input ∙ work.input ∙ before.input ∙ (λ i. (opened i).input);

@@ -8,6 +8,7 @@ use Rattle.run_shelf.specs.Drafts.{OfDraft, PlaceFails}
 use Rattle.run_shelf.specs.Repository.{run_name}
 use Rattle.testr_cli.specs.Outside.{Work, work_folder}
 use Rattle.testr_cli.specs.Program.{KeepsRuns}
+use Rattle.testr_cli.specs.Refreshing.{Refreshes}
 use Rattle.testr_cli.specs.RunSuite.{Works, TellsRun, RunsSuite}
 use Rattle.testr_cli.specs.Runs.{KeepsFiles}
 use Rattle.testr_cli.specs.Steps.{Step, Then, stops, goes_on, Gives, At}
@@ -16,7 +17,7 @@ use Rattle.testr_cli.specs.SuiteProgram.{PerformsSuite, may_have_run}
 use Rattle.testr_cli.specs.Suites.{Suite, list, run, RunOptions, is_partial}
 use Rattle.testr_cli.specs.declared.answer.Verdict.{Verdict}
 use Rattle.testr_cli.specs.declared.answer.Refusal.{Refusal}
-use Rattle.testr_cli.specs.declared.answer.Refusal.TheVariants.{Keep, Report, Print}
+use Rattle.testr_cli.specs.declared.answer.Refusal.TheVariants.{Keep, Refresh, Report, Print}
 use Rattle.testr_cli.proofs.Resting.{Rests, rests_of_same}
 use Rattle.testr_cli.proofs.ChainLemmas.{Quiet, gives_not}
 use Rattle.testr_cli.proofs.KeepLemmas.{place_keeps, files_keep, keeps_runs}
@@ -45,12 +46,16 @@ module _ (options : RunOptions) where
   gives_keeps : {A : Type 0} (value : A) → KeepsUnless (Gives value)
   gives_keeps value a b r gives not = absurd (gives_not a b r gives)
 
-  -- the step that names the run
-  named_last : (number : ℕ) (rows : List Row) → KeepsUnless (Then Keep (At work_folder (Keeps (is_partial options) number)) (λ _. Gives rows))
+  never : (r : Refusal) → may_have r ≡ true → may_have r ≡ false → ⊥
+  never r is not = cc
+
+  -- the step that names the run, and that of the caches
+  named_last : (number : ℕ) (rows : List Row) → KeepsUnless (Then Keep (At work_folder (Keeps (is_partial options) number)) (λ _. Then Refresh (At work_folder (Refreshes number rows)) (λ _. Gives rows)))
   named_last number rows a b r (stops fault is step) not =
       let before = refused_as (Keep fault) r is not in
       goes_weaker a.folder.told b.folder.told (OfDraft (λ bytes. PlaceFails (run_name number (is_partial options)) bytes fault.call)) KeepsFiles step.at.failed (λ s t of. place_keeps (run_name number (is_partial options)) of.bytes fault.call s t of.does before)
-  named_last number rows a b r (goes_on _ m step gives) not = absurd (gives_not m b r gives)
+  named_last number rows a b r (goes_on _ m step (stops fault is refreshed)) not = absurd (never r (ap may_have (same_refusal (Refresh fault) r is)) not)
+  named_last number rows a b r (goes_on _ m step (goes_on _ m2 refreshed gives)) not = absurd (gives_not m2 b r gives)
 
   works_keep : (number : ℕ) (jobs : List Job) → KeepsUnless (Works (is_partial options) number jobs)
   works_keep number jobs =
@@ -64,9 +69,6 @@ module _ (options : RunOptions) where
   told_late number tags rows a b r (stops fault is step) = ap may_have (same_refusal (Report fault) r is)
   told_late number tags rows a b r (goes_on report m step (stops fault is printed)) = ap may_have (same_refusal (Print fault) r is)
   told_late number tags rows a b r (goes_on report m step (goes_on _ m2 printed gives)) = absurd (gives_not m2 b r gives)
-
-  never : (r : Refusal) → may_have r ≡ true → may_have r ≡ false → ⊥
-  never r is not = cc
 
   works_last : (number : ℕ) (jobs : List Job) (tags : List (List ℕ)) → KeepsUnless (Then (λ refusal. refusal) (Works (is_partial options) number jobs) (λ rows. TellsRun number tags rows))
   works_last number jobs tags a b r (stops fault is step) not = works_keep number jobs a b fault step (refused_as fault r is not)

@@ -49,7 +49,7 @@ use Rattle.testr_cli.specs.declared.selecting.Selected.{Selected}
 use Rattle.testr_cli.specs.declared.told.TellFault.{TellFault}
 use Rattle.testr_cli.specs.declared.told.TellFault.TheVariants as tell_fault
 use Rattle.testr_cli.proofs.ChainLemmas.{IsRefused, IsFault, is_fault, Counts, counts_after, rose_after, then_counts, gives_not}
-use Rattle.testr_cli.proofs.StepLaws.{still_counts, runs_refuse, memory_refuses, open_counts, open_refuses, begin_counts, begin_refuses, keep_counts, keep_faults, print_counts, print_faults}
+use Rattle.testr_cli.proofs.StepLaws.{still_counts, runs_refuse, memory_refuses, open_counts, open_refuses, begin_counts, begin_refuses, keep_counts, keep_faults, refresh_counts, refresh_refuses, print_counts, print_faults}
 
 -- what is true where it refuses
 pub record SuiteRefused (r : Refusal) (a b : Work) : Type 0 where
@@ -278,17 +278,19 @@ work_refuses : (partial : Bool) (number : ℕ) (jobs : List Job) → SuiteRefuse
 work_refuses partial number jobs =
     then_suite (λ a b v s. begin_counts a b v s.at s.rest) (λ a b e s. of_refused a b (refusal.Keep e) (begin_refuses a b e s.at s.rest)) (λ _.
     then_suite (λ a b v s. spawner_same a b s.rest (s.at.sum.stands refl)) (λ a b e s. start_refuses a b s.rest jobs e s.at) (λ rests.
-    then_suite (λ a b v s. folder_same a b s.rest (s.at.sum.stands refl)) (λ a b e s. lanes_refuse a b s.rest rests e s.at) (λ _.
+    then_suite (λ a b v s. folder_same a b s.rest (s.at.sum.stands refl)) (λ a b e s. lanes_refuse a b s.rest rests e s.at) (λ rows.
     then_suite (λ a b v s. keep_counts a b partial number v s.at s.rest) (λ a b e s. of_fault a b (refusal.Keep e) (keep_faults a b partial number e s.at s.rest)) (λ _.
-    value_refuses))))
+    then_suite (λ a b v s. refresh_counts a b number rows v s.at s.rest) (λ a b e s. of_refused a b (refusal.Refresh e) (refresh_refuses a b number rows e s.at s.rest)) (λ _.
+    value_refuses)))))
 
 work_counts : (partial : Bool) (number : ℕ) (jobs : List Job) → Counts all (Works partial number jobs)
 work_counts partial number jobs =
     then_counts all (λ a b v s. begin_counts a b v s.at s.rest) (λ _.
     then_counts all (λ a b v s. spawner_same a b s.rest (s.at.sum.stands refl)) (λ rests.
-    then_counts all (λ a b v s. folder_same a b s.rest (s.at.sum.stands refl)) (λ _.
+    then_counts all (λ a b v s. folder_same a b s.rest (s.at.sum.stands refl)) (λ rows.
     then_counts all (λ a b v s. keep_counts a b partial number v s.at s.rest) (λ _.
-    value_counts))))
+    then_counts all (λ a b v s. refresh_counts a b number rows v s.at s.rest) (λ _.
+    value_counts)))))
 
 report_refuses : (number : ℕ) (filter_tags : List (List ℕ)) (rows : List Row) → SuiteRefuses (λ r. r) (TellsRun number filter_tags rows)
 report_refuses number filter_tags rows =

@@ -397,7 +397,8 @@ work_never partial number jobs a b r (stops fault is step) = same_cause (refusal
 work_never partial number jobs a b r (goes_on _ m begun (stops fault is step)) = same_cause (refusal.Start fault) r is ((λ three. start_never fault three), (λ child. child))
 work_never partial number jobs a b r (goes_on _ m begun (goes_on rests m2 started (stops fault is step))) = same_cause (refusal.Lanes fault) r is ((λ three. lanes_never fault three), (λ child. child))
 work_never partial number jobs a b r (goes_on _ m begun (goes_on rests m2 started (goes_on _ m3 recorded (stops fault is step)))) = same_cause (refusal.Keep fault) r is ((λ three. omega arith), (λ child. child))
-work_never partial number jobs a b r (goes_on _ m begun (goes_on rests m2 started (goes_on _ m3 recorded (goes_on _ m4 kept gives)))) = absurd (gives_not m4 b r gives)
+work_never partial number jobs a b r (goes_on _ m begun (goes_on rests m2 started (goes_on _ m3 recorded (goes_on _ m4 kept (stops fault is step))))) = same_cause (refusal.Refresh fault) r is ((λ three. tell_never fault three), (λ child. child))
+work_never partial number jobs a b r (goes_on _ m begun (goes_on rests m2 started (goes_on _ m3 recorded (goes_on _ m4 kept (goes_on _ m5 refreshed gives))))) = absurd (gives_not m5 b r gives)
 
 told_never : (number : ℕ) (tags : Ids) (rows : List Row) (a b : Work) (r : Refusal) → TellsRun number tags rows a b (Err r) → NoCause r
 told_never number tags rows a b r (stops fault is step) = same_cause (refusal.Report fault) r is ((λ three. omega arith), (λ child. child))

@@ -16,11 +16,11 @@ use Rattle.testr_cli.specs.declared.answer.Verdict.{Verdict}
 use Rattle.testr_cli.specs.declared.answer.Refusal.{Refusal}
 use Rattle.testr_cli.proofs.Resting.{Rests}
 use Rattle.testr_cli.proofs.KeepLemmas.{keeps_runs}
-use Rattle.testr_cli.proofs.PromiseLemmas.{gave_up_quiet, gave_up_counts, verdicts, stays}
+use Rattle.testr_cli.proofs.PromiseLemmas.{gave_up_quiet, gave_up_sound, gave_up_counts, verdicts, stays}
 use Rattle.testr_cli.proofs.SuiteLaws.{suite_refused, suite_counted}
 use Rattle.testr_cli.proofs.SuiteDone.{list_did, run_did}
 use Rattle.testr_cli.proofs.SuiteKeeps.{suite_keeps}
-use Rattle.testr_cli.proofs.SuiteMoves.{suite_moves}
+use Rattle.testr_cli.proofs.SuiteMoves.{suite_moves, suite_sound}
 use Rattle.testr_cli.proofs.SuiteNever.{suite_never}
 
 module _ (asked : Suite) (before after : Outside) (answer : ℕ) (answers : SuiteAnswers asked before after answer) where
@@ -77,6 +77,7 @@ module _ (asked : Suite) (before after : Outside) (answer : ℕ) (answers : Suit
           fault = faulted outcome done code;
           kept = suite_keeps asked a b outcome done;
           any_moment = suite_moves asked a b outcome done;
+          sound = suite_sound asked a b outcome done;
           listed = λ patterns is. listed_of patterns is outcome done code;
           ran = λ options is. ran_of options is outcome done code;
           completeness = complete_of outcome done code;
@@ -98,6 +99,7 @@ module _ (asked : Suite) (before after : Outside) (answer : ℕ) (answers : Suit
       fault = λ four. absurd (omega (arith, five, four));
       kept = λ not. goes_weaker before.folder.told after.folder.told Rests KeepsRuns (gave_up_quiet a b answers.outcome gives) keeps_runs;
       any_moment = moments asked;
+      sound = gave_up_sound a b answers.outcome gives;
       listed = λ patterns is few. absurd (omega (arith, five, few));
       ran = λ options is few. absurd (omega (arith, five, few));
       completeness = λ can none. inr five;

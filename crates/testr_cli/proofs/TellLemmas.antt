@@ -13,13 +13,14 @@ use Rattle.run_ledger.specs.Outcomes.{LedgerCloses, ledger_failed}
 use Rattle.run_shelf.specs.Repository.{Run, run_at}
 use Rattle.outcome_fold.specs.declared.row.Row.{Row}
 use Rattle.run_ledger.specs.Reading.{AreRowsOf}
+use Rattle.run_ledger.specs.Cached.{ReadsSound}
 use Rattle.run_ledger.specs.Ledger.{HasRowsAt}
 use Rattle.sub_text.specs.Texts.{report_of}
 use Rattle.testr_cli.specs.Verdicts.{verdict_of}
-use Rattle.testr_cli.specs.Says.{Says, SaysReport, OfBytes}
+use Rattle.testr_cli.specs.Says.{Says, SaysReport, SaysFailing, SoundFor, OfBytes}
 use Rattle.testr_cli.specs.Told.{TellsSo, IsAnswer, fault_fails, fault_of_ledger}
 use Rattle.testr_cli.specs.declared.command.Question.{Question}
-use Rattle.testr_cli.specs.declared.command.Question.TheVariants.{Last}
+use Rattle.testr_cli.specs.declared.command.Question.TheVariants.{Last, Failing}
 use Rattle.testr_cli.specs.declared.told.Told.{Told}
 use Rattle.testr_cli.specs.declared.told.TellFault.{TellFault}
 
@@ -49,15 +50,37 @@ if_ok_then : {A E : Type 0} (P Q : A → Type 0) (r : Result A E) → IfOk r P �
 if_ok_then P Q (Ok a) holds each = each a holds
 if_ok_then P Q (Err e) holds each = tt
 
-some_both : (kinds : List Bool) (question : Question) (told : Told) (state : Option Folder) → IfSome state (FitsFolder kinds) → IfSome state (TellsSo (Says question) told) → IfSome state (IsAnswer question told)
+-- what is told of a folder, if it is sound, is told of a sound folder
+pub where_sound : {T E : Type 0} (P : T → Folder → Type 0) (state : Option Folder) (r : Result T E) → (IfSome state ReadsSound → IfOk r (λ told. IfSome state (P told))) → IfOk r (λ told. IfSome state (λ s. ReadsSound s → P told s))
+where_sound P None (Ok told) says = tt
+where_sound P (Some s) (Ok told) says = says
+where_sound P state (Err fault) says = tt
+
+abbrev TellsWhereSound : Question → Told → Folder → Type 0
+TellsWhereSound question told s = SoundFor question s → TellsSo (Says question) told s
+
+some_both : (kinds : List Bool) (question : Question) (told : Told) (state : Option Folder) → IfSome state (FitsFolder kinds) → IfSome state (TellsWhereSound question told) → IfSome state (IsAnswer question told)
 some_both kinds question told None fits says = tt
 some_both kinds question told (Some s) fits says = record { repository = fits.repository; says = says }
 
--- what is told of a repository is the answer of the question
+-- what is told of a repository, where it is sound for the question, is the answer of the question
+pub answers_where : {E : Type 0} (question asked : Question) (kinds : List Bool) (state : Option Folder) (r : Result Told E) → asked ≡ question → IfSome state (FitsFolder kinds) → IfOk r (λ told. IfSome state (TellsWhereSound question told)) → IfOk r (λ told. IfSome state (IsAnswer asked told))
+answers_where question asked kinds state r is fits says =
+    subst (λ (q : Question). IfOk r (λ told. IfSome state (IsAnswer q told))) (sym is)
+    (if_ok_then (λ told. IfSome state (TellsWhereSound question told)) (λ told. IfSome state (IsAnswer question told)) r says (λ told. some_both kinds question told state fits))
+
+some_anyway : (question : Question) (told : Told) (state : Option Folder) → IfSome state (TellsSo (Says question) told) → IfSome state (TellsWhereSound question told)
+some_anyway question told None says = tt
+some_anyway question told (Some s) says = λ sound. says
+
+-- and so is what is told of each
 pub answers_so : {E : Type 0} (question asked : Question) (kinds : List Bool) (state : Option Folder) (r : Result Told E) → asked ≡ question → IfSome state (FitsFolder kinds) → IfOk r (λ told. IfSome state (TellsSo (Says question) told)) → IfOk r (λ told. IfSome state (IsAnswer asked told))
 answers_so question asked kinds state r is fits says =
-    subst (λ (q : Question). IfOk r (λ told. IfSome state (IsAnswer q told))) (sym is)
-    (if_ok_then (λ told. IfSome state (TellsSo (Says question) told)) (λ told. IfSome state (IsAnswer question told)) r says (λ told. some_both kinds question told state fits))
+    answers_where question asked kinds state r is fits (if_ok_then (λ told. IfSome state (TellsSo (Says question) told)) (λ told. IfSome state (TellsWhereSound question told)) r says (λ told. some_anyway question told state))
+
+-- the failing set, if the folder is sound
+pub failing_so : {E : Type 0} (list : Bool) (asked : Question) (kinds : List Bool) (state : Option Folder) (r : Result Told E) → asked ≡ Failing list → IfSome state (FitsFolder kinds) → (IfSome state ReadsSound → IfOk r (λ told. IfSome state (TellsSo (SaysFailing list) told))) → IfOk r (λ told. IfSome state (IsAnswer asked told))
+failing_so list asked kinds state r is fits says = answers_where (Failing list) asked kinds state r is fits (where_sound (TellsSo (SaysFailing list)) state r says)
 
 -- where the last run's bytes are not asked for, its report is
 pub is_report : (question : Question) (subunit : Bool) → question ≡ Last subunit → (OfBytes question → ⊥) → question ≡ Last false

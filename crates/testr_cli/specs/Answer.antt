@@ -24,7 +24,7 @@ use Rattle.testr_cli.specs.declared.recording.RecordFault.TheVariants as record_
 use Rattle.testr_cli.specs.declared.told.TellFault.TheVariants as tell_fault
 use Rattle.testr_cli.specs.declared.answer.Verdict.{Verdict}
 use Rattle.testr_cli.specs.declared.answer.Refusal.{Refusal}
-use Rattle.testr_cli.specs.declared.answer.Refusal.TheVariants.{Usage, Init, Open, Runs, Record, Memory, Keep, Tell, Print, Conf, Pattern, LoadList, Call, Table, Listing, Job, Start, Lanes, Report}
+use Rattle.testr_cli.specs.declared.answer.Refusal.TheVariants.{Usage, Init, Open, Runs, Record, Memory, Keep, Refresh, Tell, Print, Conf, Pattern, LoadList, Call, Table, Listing, Job, Start, Lanes, Report}
 
 abbrev pub refusal_code : Refusal → ℕ
 refusal_code (Usage fault) = 2
@@ -34,6 +34,7 @@ refusal_code (Runs fault) = 3
 refusal_code (Record fault) = record_code fault
 refusal_code (Memory fault) = 5
 refusal_code (Keep fault) = 4
+refusal_code (Refresh fault) = tell_code fault
 refusal_code (Tell fault) = tell_code fault
 refusal_code (Print fault) = 4
 refusal_code (Conf fault) = conf_code fault
@@ -55,6 +56,7 @@ refusal_text (Runs fault) = runs_text fault
 refusal_text (Record fault) = record_text fault
 refusal_text (Memory fault) = memory_text
 refusal_text (Keep fault) = keep_text
+refusal_text (Refresh fault) = tell_text fault
 refusal_text (Tell fault) = tell_text fault
 refusal_text (Print fault) = print_text
 refusal_text (Conf fault) = conf_text fault
@@ -76,6 +78,7 @@ place_of (Record (record_fault.Shelf call)) = Some in_folder
 place_of (Record record_fault.Input) = Some in_input
 place_of (Record record_fault.Site) = Some in_site
 place_of (Keep fault) = Some in_folder
+place_of (Refresh tell_fault.Shelf) = Some in_folder
 place_of (Tell tell_fault.Shelf) = Some in_folder
 place_of (Print fault) = Some in_out
 place_of (Conf conf.Site) = Some in_site
@@ -101,10 +104,11 @@ may_have_placed Publish = true
 may_have_placed SyncFolder = true
 may_have_placed call = false
 
--- Whether a run may be shown that was not before: a load was done, or a call failed that was to give its run the name, or
--- that came behind. So it is of no other outcome.
+-- Whether a run may be shown that was not before: a load was done; or a call failed that was to give its run the name, or
+-- that came behind; or there was no memory for the caches. So it is of no other outcome.
 abbrev pub may_have_kept : Option Task → Result Verdict Refusal → Bool
 may_have_kept (Some (load partial names)) (Ok verdict) = true
 may_have_kept (Some (load partial names)) (Err (Keep fault)) = may_have_placed fault.call
+may_have_kept (Some (load partial names)) (Err (Refresh fault)) = true
 may_have_kept (Some (load partial names)) (Err (Print fault)) = true
 may_have_kept asked outcome = false

@@ -15,6 +15,7 @@ pub mod Told
 pub mod Copying
 pub mod Perhaps
 pub mod Asking
+pub mod Refreshing
 pub mod Telling
 pub mod SuiteTexts
 pub mod Answer
@@ -24,6 +25,7 @@ pub mod SelfTest
 pub mod Init
 pub mod Load
 pub mod Ask
+pub mod Sparing
 pub mod Stops
 pub mod Program
 pub mod SuiteStops

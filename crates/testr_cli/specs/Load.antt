@@ -5,10 +5,11 @@ use Rattle.testr_cli.specs.Steps.{Step, Then, Still, Gives, At}
 use Rattle.testr_cli.specs.Outside.{Work, work_folder, work_out}
 use Rattle.testr_cli.specs.Store.{Opens, TakesRun, Begins, Keeps}
 use Rattle.testr_cli.specs.Files.{RecordsSources}
+use Rattle.testr_cli.specs.Refreshing.{Refreshes}
 use Rattle.testr_cli.specs.Reporting.{Reports, Prints}
 use Rattle.testr_cli.specs.declared.answer.Verdict.{Verdict}
 use Rattle.testr_cli.specs.declared.answer.Refusal.{Refusal}
-use Rattle.testr_cli.specs.declared.answer.Refusal.TheVariants.{Open, Runs, Keep, Record, Memory, Print}
+use Rattle.testr_cli.specs.declared.answer.Refusal.TheVariants.{Open, Runs, Keep, Record, Memory, Refresh, Print}
 
 abbrev pub Loads : Bool → List (List ℕ) → Step Work Verdict Refusal
 Loads partial names =
@@ -18,5 +19,6 @@ Loads partial names =
     Then Record (RecordsSources names) (λ rows.
     Then Memory (Still (Reports (length (kinds_of found)) [] rows)) (λ report.
     Then Keep (At work_folder (Keeps partial (length (kinds_of found)))) (λ _.
+    Then Refresh (At work_folder (Refreshes (length (kinds_of found)) rows)) (λ _.
     Then Print (At work_out (Prints report.text.items)) (λ _.
-    Gives report.verdict)))))))
+    Gives report.verdict))))))))

@@ -13,6 +13,7 @@ use Rattle.packet_codec.specs.Grammar.{AreBytes}
 use Rattle.outcome_fold.specs.Rows.{rows_of}
 use Rattle.outcome_fold.specs.Answers.{status_of}
 use Rattle.testr_cli.specs.Files.{AreSources, HasRecordedInTurn}
+use Rattle.run_ledger.specs.Refreshing.{KeepsSound}
 use Rattle.run_shelf.specs.Images.{MakesRepository}
 use Rattle.run_shelf.specs.Repository.{Run, run_of, Shows, IsRepository, most_runs, format_name}
 use Rattle.sub_text.specs.Texts.{report_of}
@@ -24,6 +25,7 @@ use Rattle.testr_cli.specs.Runs.{run_bytes, HasRuns, KeepsFiles}
 use Rattle.testr_cli.specs.Verdicts.{verdict_code}
 use Rattle.testr_cli.specs.Says.{SaysOfFolder, OfLastRun}
 use Rattle.testr_cli.specs.Recording.{most_bytes}
+use Rattle.testr_cli.specs.Refreshing.{BringsCaches}
 use Rattle.testr_cli.specs.Answer.{refusal_text, code_of, place_in, may_have_kept}
 use Rattle.testr_cli.specs.Init.{Inits}
 use Rattle.testr_cli.specs.Load.{Loads}
@@ -99,7 +101,8 @@ ReadsInputFor [] before after = IsAtEnd after.told
 ReadsInputFor (name ∷ names) before after = after ≡ before
 
 -- Each source was read to its end. Whatever runs the folder shows, it shows one run more, of what is recorded of the
--- sources in turn, and the report of its rows was printed; the status is theirs.
+-- sources in turn, and the report of its rows was printed; the status is theirs. Where the files were sound, the caches are
+-- those of all runs.
 pub record LoadsAll (partial : Bool) (names : List (List ℕ)) (before after : Work) (answer : ℕ) : Type 0 where
   pub sources : List (List ℕ)
   pub are_sources : AreSources names before.site.told before.input.told sources
@@ -108,6 +111,7 @@ pub record LoadsAll (partial : Bool) (names : List (List ℕ)) (before after : W
   pub recorded : HasRecordedInTurn 0 sources events
   pub at_end : ReadsInputFor names before.input after.input
   pub stored : Goes before.folder.told after.folder.told (AddsRun partial events)
+  pub cached : Goes before.folder.told after.folder.told BringsCaches
   pub printed : IfSome before.folder.told (λ s. (runs : List Run) → Shows s.disk.published runs → Appends before.out.told after.out.told (report_of (rows_of events) (length runs) []))
   pub status : answer ≡ status_of (rows_of events)
 
@@ -177,6 +181,8 @@ pub record Promises (reading : Bool) (wrong : UsageFault) (asked : Option Task) 
   -- a stop at each moment leaves what one before the call might have left, or the files as reads gave them before the
   -- call with all that the command adds
   pub any_moment : Goes before.folder.told after.folder.told (PassesCommand asked before.site.told before.input.told)
+  -- where all that a stop before the call might have left is sound, so is what one at each moment of it leaves
+  pub sound : Goes before.folder.told after.folder.told KeepsSound
   pub made : asked ≡ Some init → answer ≡ 0 → Goes before.folder.told after.folder.told MakesRepository
   pub loaded : (partial : Bool) (names : List (List ℕ)) → asked ≡ Some (load partial names) → answer ≤ 1 → LoadsAll partial names (work_of before) (work_of after) answer
   pub answered : (question : Question) → asked ≡ Some (ask question) → answer ≤ 1 → AnswersQuestion question (work_of before) (work_of after) answer

@@ -13,6 +13,7 @@ use Rattle.suite_plan.specs.Patterns.{Compiles}
 use Rattle.suite_run.specs.Recording.{RecordsLanes}
 use Rattle.suite_run.specs.Starting.{StartsLanes}
 use Rattle.testr_cli.specs.Outside.{Work, work_folder, work_site, work_spawner, work_out}
+use Rattle.testr_cli.specs.Refreshing.{Refreshes}
 use Rattle.testr_cli.specs.Reporting.{Reports, Prints}
 use Rattle.testr_cli.specs.Selecting.{Selects, Plans}
 use Rattle.testr_cli.specs.Steps.{Step, Then, Still, Gives, At}
@@ -24,7 +25,7 @@ use Rattle.testr_cli.specs.declared.working.Ran.{Ran}
 use Rattle.testr_cli.specs.declared.answer.Verdict.{Verdict}
 use Rattle.testr_cli.specs.declared.answer.Verdict.TheVariants.{Passed}
 use Rattle.testr_cli.specs.declared.answer.Refusal.{Refusal}
-use Rattle.testr_cli.specs.declared.answer.Refusal.TheVariants.{Conf, Open, Runs, Pattern, Listing, Memory, Start, Lanes, Keep, Report, Print}
+use Rattle.testr_cli.specs.declared.answer.Refusal.TheVariants.{Conf, Open, Runs, Pattern, Listing, Memory, Start, Lanes, Keep, Refresh, Report, Print}
 
 -- ---- `list-tests`
 
@@ -47,14 +48,15 @@ ListsSuite patterns = Then Conf (At work_site ReadsConf) (ListsBy patterns)
 -- ---- `run`
 
 -- The workers are started, each with its job, and read to their ends, side by side; what is recorded of them becomes the
--- run of this number. It gives the run's rows.
+-- run of this number, and the caches cover it. It gives the run's rows.
 abbrev pub Works : (partial : Bool) → (number : ℕ) → List Job → Step Work (List Row) Refusal
 Works partial number jobs =
     Then Keep (At work_folder Begins) (λ _.
     Then Start (At work_spawner (StartsLanes jobs)) (λ rests.
     Then Lanes (At work_folder (RecordsLanes rests)) (λ rows.
     Then Keep (At work_folder (Keeps partial number)) (λ _.
-    Gives rows))))
+    Then Refresh (At work_folder (Refreshes number rows)) (λ _.
+    Gives rows)))))
 
 -- the answer, of what was done the rows alone
 abbrev pub rows_in : {E : Type 0} → Result Ran E → Result (List Row) E

@@ -1,10 +1,12 @@
 -- Runs as the commands speak of them.
 use Rattle.std.specs.Prelude.{◌≡◌, ℕ, Bool, List, length}
 use Rattle.std.specs.List.{flat_map}
-use Rattle.edge_io.specs.Disk.{Folder}
+use Rattle.edge_io.specs.Disk.{Files, Folder}
 use Rattle.packet_codec.specs.declared.event.Event.{Event}
 use Rattle.packet_codec.specs.Canonical.{canonical}
-use Rattle.run_shelf.specs.Repository.{IsRepository, HasKinds}
+use Rattle.run_shelf.specs.Images.{HasRunBeside}
+use Rattle.run_shelf.specs.Repository.{Run, IsRepository, HasKinds}
+use Rattle.run_shelf.specs.Sides.{SameButSides}
 
 -- the bytes of a run of these events
 abbrev pub run_bytes : List Event → List ℕ
@@ -16,6 +18,12 @@ pub record HasRuns (number : ℕ) (s : Folder) : Type 0 where
   pub kinds : List Bool
   pub kinds_are : HasKinds s.disk.published kinds
   pub count : number ≡ length kinds
+
+-- The files and one run more, which is the run behind all others. Of other files only those of the caches may differ.
+pub record HasRunAndCaches (files : Files) (number : ℕ) (run : Run) (image : Files) : Type 0 where
+  pub between : Files
+  pub beside : HasRunBeside files number run between
+  pub but : SameButSides between image
 
 -- reads of the folder give the same files
 abbrev pub KeepsFiles : Folder → Folder → Type 0

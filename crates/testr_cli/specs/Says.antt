@@ -1,10 +1,11 @@
 -- How questions are answered of the runs that a folder shows.
-use Rattle.std.specs.Prelude.{◌≡◌, ℕ, ◌+◌, Bool, true, false, Some, List, [], ◌∷◌, ◌++◌, codes}
+use Rattle.std.specs.Prelude.{◌≡◌, ⊤, ℕ, ◌+◌, Bool, true, false, Some, List, [], ◌∷◌, ◌++◌, codes}
 use Rattle.std.specs.Fmt.{decimal}
 use Rattle.edge_io.specs.Disk.{Folder}
 use Rattle.outcome_fold.specs.declared.row.Row.{Row}
 use Rattle.run_shelf.specs.Repository.{Run, run_at, IsRepository}
 use Rattle.run_ledger.specs.Reading.{AreRowsOf}
+use Rattle.run_ledger.specs.Cached.{ReadsSound}
 use Rattle.run_ledger.specs.Ledger.{IsFailingSet}
 use Rattle.sub_text.specs.Texts.{report_of, slowest_of, failing_text_of}
 use Rattle.testr_cli.specs.Verdicts.{verdict_of}
@@ -76,10 +77,18 @@ Says (Failing list) = SaysFailing list
 Says (Slowest all) = SaysSlowest all
 Says Stats = SaysStats
 
--- so it is, and the folder is a repository
+-- What a folder must be so that the question is answered of its runs. The failing set is told with the help of its cache, so
+-- the folder must be sound; the other questions are answered from the runs alone.
+abbrev pub SoundFor : Question → Folder → Type 0
+SoundFor (Last subunit) s = ⊤
+SoundFor (Failing list) s = ReadsSound s
+SoundFor (Slowest all) s = ⊤
+SoundFor Stats s = ⊤
+
+-- so it is where the folder is sound for it, and the folder is a repository
 pub record SaysOfFolder (question : Question) (text : List ℕ) (v : Verdict) (s : Folder) : Type 0 where
   pub repository : IsRepository s.disk.published
-  pub says : Says question s text v
+  pub says : SoundFor question s → Says question s text v
 
 -- whether it is of the last run's bytes
 abbrev pub OfBytes : Question → Type 0

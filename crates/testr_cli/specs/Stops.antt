@@ -7,12 +7,12 @@ use Rattle.packet_codec.specs.Grammar.{AreBytes}
 use Rattle.packet_codec.specs.declared.event.Event.{Event}
 use Rattle.testr_cli.specs.Files.{AreSources, HasRecordedInTurn}
 use Rattle.run_shelf.specs.Repository.{run_of}
-use Rattle.run_shelf.specs.Images.{HasRunBeside, PassesOld, PassesFormat}
-use Rattle.testr_cli.specs.Runs.{run_bytes}
+use Rattle.run_shelf.specs.Images.{PassesOld, PassesFormat}
+use Rattle.testr_cli.specs.Runs.{run_bytes, HasRunAndCaches}
 use Rattle.testr_cli.specs.Tasks.{Task, init, load, ask}
 
 -- The files and one run more, whole: the run of what is recorded of all sources, which are the input's bytes or those of
--- the files named, where these are told.
+-- the files named, where these are told. Of other files only those of the caches may differ.
 pub record HasLoadedRun (partial : Bool) (names : List (List ℕ)) (told : Option Files) (left : Option (List ℕ)) (files image : Files) : Type 0 where
   pub number : ℕ
   pub sources : List (List ℕ)
@@ -20,9 +20,10 @@ pub record HasLoadedRun (partial : Bool) (names : List (List ℕ)) (told : Optio
   pub are_bytes : All AreBytes sources
   pub events : List Event
   pub recorded : HasRecordedInTurn 0 sources events
-  pub beside : HasRunBeside files number (run_of partial (run_bytes events)) image
+  pub beside : HasRunAndCaches files number (run_of partial (run_bytes events)) image
 
--- a stop at each moment leaves what one before the command might have left, or these files with the new run
+-- a stop at each moment leaves what one before the command might have left, or these files with the new run, whatever the
+-- caches are
 abbrev pub PassesLoad : Bool → List (List ℕ) → Option Files → Option (List ℕ) → Folder → Folder → Type 0
 PassesLoad partial names told left s t = Passes (λ image. IsImage s.disk image ⊎ HasLoadedRun partial names told left s.disk.published image) s t
 

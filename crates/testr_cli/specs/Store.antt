@@ -1,8 +1,8 @@
 -- The steps of the folder: what each does to it, why it refuses, and what it says then.
-use Rattle.std.specs.Prelude.{◌≡◌, ℕ, ◌<◌, Bool, List, ◌++◌, codes, Result, IfOk, IfErr, OnOk, OnErr}
+use Rattle.std.specs.Prelude.{◌≡◌, ℕ, ◌<◌, Bool, List, ◌++◌, codes, IfSome, Result, IfOk, IfErr, OnOk, OnErr}
 use Rattle.std.specs.Fmt.{decimal}
 use Rattle.edge_io.specs.Causes.{HasCause, RisesExactlyIf}
-use Rattle.edge_io.specs.Disk.{Folder}
+use Rattle.edge_io.specs.Disk.{Folder, IsImage}
 use Rattle.edge_io.specs.Seen.{Seen}
 use Rattle.edge_io.specs.Steps.{Goes, Opened, Dropped}
 use Rattle.run_shelf.specs.declared.faults.InitFault.{InitFault}
@@ -26,6 +26,8 @@ use Rattle.testr_cli.specs.declared.store.KeepFault.{KeepFault}
 -- ---- making a repository
 
 pub record Makes (before after : Seen Folder) (result : Result (Unit {0}) InitFault) : Type 0 where
+  -- what reads give before is what a stop may leave then
+  pub reads : IfSome before.told (λ s. IsImage s.disk s.disk.published)
   pub made : OnOk result (Goes before.told after.told MakesRepository)
   pub refused : IfErr result (λ fault. Goes before.told after.told (InitFails fault))
   pub any_moment : Goes before.told after.told PassesFormat

@@ -15,6 +15,7 @@ use Rattle.packet_codec.specs.Canonical.{IsEvent, Fits}
 use Rattle.packet_codec.specs.Lanes.{IsOfLaneBelow, IsMerge, joined}
 use Rattle.packet_codec.specs.declared.event.Event.{Event}
 use Rattle.partition_times.specs.Patterns.{IsPattern}
+use Rattle.run_ledger.specs.Refreshing.{KeepsSound}
 use Rattle.run_shelf.specs.Repository.{Run, Shows, most_runs}
 use Rattle.sub_text.specs.Texts.{report_of}
 use Rattle.suite_plan.specs.Calling.{TellsNumber}
@@ -33,8 +34,9 @@ use Rattle.worker_mux.specs.Outputs.{IsOutput, lists_from}
 use Rattle.testr_cli.specs.Answer.{place_in, may_have_placed}
 use Rattle.testr_cli.specs.Outside.{Outside, Work, work_of, work_folder, SomeRose, RisesAt}
 use Rattle.testr_cli.specs.Program.{GivesUp, KeepsRuns, AddsRun, Tells, Promises, PromisesOfFilters}
+use Rattle.testr_cli.specs.Refreshing.{BringsCaches}
 use Rattle.testr_cli.specs.RunSuite.{ListsSuite, RunsSuite}
-use Rattle.testr_cli.specs.Runs.{HasRuns}
+use Rattle.testr_cli.specs.Runs.{HasRuns, KeepsFiles}
 use Rattle.testr_cli.specs.Selecting.{Selects, Plans}
 use Rattle.testr_cli.specs.SelfTestProgram.{SelfTestPromises, drawing_asked_by}
 use Rattle.testr_cli.specs.Steps.{Step}
@@ -42,7 +44,7 @@ use Rattle.testr_cli.specs.SuiteStops.{PassesSuite}
 use Rattle.testr_cli.specs.Suites.{Suite, list, run, RunOptions, is_partial, suite_of}
 use Rattle.testr_cli.specs.Words.{testr_word, and_then, command_of, asked_by}
 use Rattle.testr_cli.specs.declared.answer.Refusal.{Refusal}
-use Rattle.testr_cli.specs.declared.answer.Refusal.TheVariants.{Keep, Report, Print, Call, Listing}
+use Rattle.testr_cli.specs.declared.answer.Refusal.TheVariants.{Keep, Refresh, Report, Print, Call, Listing}
 use Rattle.testr_cli.specs.declared.answer.Verdict.{Verdict}
 use Rattle.testr_cli.specs.declared.drawing.Drawing.{Drawing}
 use Rattle.testr_cli.specs.declared.selecting.Selected.{Selected}
@@ -67,10 +69,11 @@ IsChildFault (Err (Listing listing.Child)) = ⊤
 IsChildFault outcome = ⊥
 
 -- Whether a run may be shown that was not before: a run was done; or a call failed that was to give it its name, or that
--- came behind; or there was no memory for its report. So it is of no other outcome.
+-- came behind; or there was no memory for the caches or its report. So it is of no other outcome.
 abbrev pub may_have_run : Suite → Result Verdict Refusal → Bool
 may_have_run (run options) (Ok verdict) = true
 may_have_run (run options) (Err (Keep fault)) = may_have_placed fault.call
+may_have_run (run options) (Err (Refresh fault)) = true
 may_have_run (run options) (Err (Report fault)) = true
 may_have_run (run options) (Err (Print fault)) = true
 may_have_run asked outcome = false
@@ -95,13 +98,15 @@ pub record ListsAll (patterns : Ids) (before after : Work) (answer : ℕ) : Type
 -- started; their outputs are the workers'. Whatever runs the folder showed, it shows one run more, and so does what each
 -- later stop leaves: its packets are those of events that are each under one of the lanes, and where the outputs are told
 -- they are a merge of what is recorded of each: all of it, once and in order under its lane. The report of the run's rows
--- was printed and the status is theirs; both are those of the workers read one after another.
+-- was printed and the status is theirs; both are those of the workers read one after another. Where the files were sound,
+-- the caches are those of all runs.
 pub record RunsAll (options : RunOptions) (before after : Work) (answer : ℕ) : Type 0 where
   pub settings : Settings
   pub conf : IfSome before.site.told (GivesSettings settings)
-  -- the folder was opened
+  -- the folder was opened, and reads give the files as before
   pub opened : Work
   pub opened_is : opened ≡ work_folder.put before opened.folder
+  pub opened_files : Goes before.folder.told opened.folder.told KeepsFiles
   -- the tests and the number of workers were selected
   pub selected : Selected
   pub selecting : Work
@@ -122,6 +127,7 @@ pub record RunsAll (options : RunOptions) (before after : Work) (answer : ℕ) :
   pub in_turn : IfSome before.spawner.told (λ _. AllByRecursion IsOutput outputs → SaySame events (joined (lists_from 0 outputs)))
   -- the run, the report and the status
   pub stored : Goes before.folder.told after.folder.told (AddsRun (is_partial options) events)
+  pub cached : Goes before.folder.told after.folder.told BringsCaches
   pub printed : IfSome before.folder.told (λ s. (runs : List Run) → Shows s.disk.published runs → Appends before.out.told after.out.told (report_of (rows_of events) (length runs) settings.filter_tags))
   pub status : IfSome before.folder.told (λ _. answer ≡ status_of (rows_of events))
   pub input : after.input ≡ before.input
@@ -203,6 +209,8 @@ pub record SuitePromises (asked : Suite) (before after : Outside) (answer : ℕ)
   -- a stop at each moment leaves what one before the call might have left, or the files as reads gave them before the
   -- call with the whole run
   pub any_moment : Goes before.folder.told after.folder.told (PassesSuite asked before.spawner.told)
+  -- where all that a stop before the call might have left is sound, so is what one at each moment of it leaves
+  pub sound : Goes before.folder.told after.folder.told KeepsSound
   pub listed : (patterns : Ids) → asked ≡ list patterns → answer ≤ 1 → ListsAll patterns (work_of before) (work_of after) answer
   pub ran : (options : RunOptions) → asked ≡ run options → answer ≤ 1 → RunsAll options (work_of before) (work_of after) answer
   -- it does not give up without a cause

@@ -8,10 +8,9 @@ use Rattle.edge_io.specs.Spawners.{Spawning}
 use Rattle.edge_io.specs.Steps.{Stays}
 use Rattle.packet_codec.specs.declared.event.Event.{Event}
 use Rattle.packet_codec.specs.Lanes.{IsOfLaneBelow, IsMerge}
-use Rattle.run_shelf.specs.Images.{HasRunBeside}
 use Rattle.run_shelf.specs.Repository.{run_of}
 use Rattle.worker_mux.specs.Outputs.{IsOutput, lists_from}
-use Rattle.testr_cli.specs.Runs.{run_bytes}
+use Rattle.testr_cli.specs.Runs.{run_bytes, HasRunAndCaches}
 use Rattle.testr_cli.specs.Suites.{Suite, list, run, is_partial}
 
 -- Of the children to come, the first two at most are asked for the number of workers and for the tests, and those behind
@@ -27,15 +26,16 @@ pub record AreOfWorkers (events : List Event) (s : Spawning) : Type 0 where
   pub merge : AllByRecursion IsOutput workers → IsMerge events (lists_from 0 workers)
 
 -- The files and one run more, whole: its packets are those of events that are each under one of the lanes, and where the
--- children are told they are the workers'.
+-- children are told they are the workers'. Of other files only those of the caches may differ.
 pub record HasSuiteRun (partial : Bool) (told : Option Spawning) (files image : Files) : Type 0 where
   pub number : ℕ
   pub events : List Event
   pub of_lanes : All (IsOfLaneBelow 64) events
   pub of_workers : IfSome told (AreOfWorkers events)
-  pub beside : HasRunBeside files number (run_of partial (run_bytes events)) image
+  pub beside : HasRunAndCaches files number (run_of partial (run_bytes events)) image
 
--- a stop at each moment leaves what one before the command might have left, or these files with the new run
+-- a stop at each moment leaves what one before the command might have left, or these files with the new run, whatever the
+-- caches are
 abbrev pub PassesSuiteRun : Bool → Option Spawning → Folder → Folder → Type 0
 PassesSuiteRun partial told s t = Passes (λ image. IsImage s.disk image ⊎ HasSuiteRun partial told s.disk.published image) s t
 

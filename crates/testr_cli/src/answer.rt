@@ -63,6 +63,8 @@ pub enum Refusal<'a> {
     Memory(NoMemory),
     /// The run was not begun, or not kept, or not surely.
     Keep(KeepFault),
+    /// The caches were not brought up to the run, which is kept.
+    Refresh(TellFault),
     /// The runs were not read.
     Tell(TellFault),
     /// A text was not printed whole.
@@ -285,7 +287,7 @@ impl<'a> Refusal<'a> {
             Refusal::Open(fault) => open_status(fault),
             Refusal::Runs(_) => 3,
             Refusal::Record(fault) => fault.code(),
-            Refusal::Tell(fault) => fault.code(),
+            Refusal::Refresh(fault) | Refusal::Tell(fault) => fault.code(),
             Refusal::Keep(_) | Refusal::Print(_) => 4,
             Refusal::Memory(_) | Refusal::Report(_) => 5,
             Refusal::Conf(refusal) => conf_status(refusal),
@@ -312,7 +314,7 @@ impl<'a> Refusal<'a> {
             Refusal::Record(fault) => fault.line(),
             Refusal::Memory(_) | Refusal::Report(_) => Line::of("testr: out of memory\n"),
             Refusal::Keep(fault) => fault.line(),
-            Refusal::Tell(fault) => fault.line(),
+            Refusal::Refresh(fault) | Refusal::Tell(fault) => fault.line(),
             Refusal::Print(fault) => fault.line(),
             Refusal::Conf(refusal) => conf_line(refusal),
             Refusal::Pattern(refusal) => pattern_line(refusal),

@@ -1,8 +1,9 @@
-//! Asks the runs of a folder that was opened.
+//! Asks the runs of a folder that was opened, with the help of the caches.
 
 ghost use Rattle.std.specs.Prelude.{◌≡◌, None, IfOk, IfSome};
 ghost use Rattle.edge_io.specs.Steps.{Goes, Stays};
 ghost use Rattle.edge_io.specs.Causes.{RisesExactlyIf};
+ghost use Rattle.run_ledger.specs.Cached.{ReadsSound};
 ghost use Rattle.run_ledger.specs.Ledger.{IsFailingSet, AreTimes};
 ghost use Rattle.run_shelf.specs.Holds.{kinds_of, FitsWhereTold};
 ghost use Rattle.run_shelf.specs.Stores.{store_kinds, store_fault, FitsUnlessBroken};
@@ -16,7 +17,7 @@ use run_shelf::{Found, Store};
 use std::alloc::Global;
 use sub_number::{IdList, TimeMap};
 
-/// The ids that fail by all of these runs, in the order of their bytes.
+/// The ids that fail by all of these runs, in the order of their bytes, told with the help of their cache.
 pub fn find_failing<H: Shelf>(
     alloc: Global,
     shelf: &mut H,
@@ -38,7 +39,7 @@ fn failing_of<H: Shelf>(alloc: Global, store: &mut Store<'_, H>) -> Result<IdLis
     requires unbroken { store_fault store.old ≡ None }
     requires fits { FitsUnlessBroken (store_kinds store.old) (store_fault store.old) (H.seen store.old.shelf.now).told }
     ensures same_reference { store.new.shelf.ghost_name ≡ store.old.shelf.ghost_name }
-    ensures ids { IfOk result (λ ids. IfSome (H.seen store.old.shelf.now).told (IsFailingSet ids)) }
+    ensures ids { IfSome (H.seen store.old.shelf.now).told ReadsSound → IfOk result (λ ids. IfSome (H.seen store.old.shelf.now).told (IsFailingSet ids)) }
     ensures count { RisesExactlyIf (H.seen store.old.shelf.now).faults (H.seen store.new.shelf.now).faults (tell_failed result) }
     ensures same { Goes (H.seen store.old.shelf.now).told (H.seen store.new.shelf.now).told Stays }
 {
@@ -48,7 +49,7 @@ fn failing_of<H: Shelf>(alloc: Global, store: &mut Store<'_, H>) -> Result<IdLis
     }
 }
 
-/// The times of the ids in all of these runs.
+/// The times of the ids in all of these runs, told with the help of their cache.
 pub fn find_times<H: Shelf>(
     alloc: Global,
     shelf: &mut H,
@@ -70,7 +71,7 @@ fn times_of<H: Shelf>(alloc: Global, store: &mut Store<'_, H>) -> Result<TimeMap
     requires unbroken { store_fault store.old ≡ None }
     requires fits { FitsUnlessBroken (store_kinds store.old) (store_fault store.old) (H.seen store.old.shelf.now).told }
     ensures same_reference { store.new.shelf.ghost_name ≡ store.old.shelf.ghost_name }
-    ensures times { IfOk result (λ times. IfSome (H.seen store.old.shelf.now).told (AreTimes times)) }
+    ensures times { IfSome (H.seen store.old.shelf.now).told ReadsSound → IfOk result (λ times. IfSome (H.seen store.old.shelf.now).told (AreTimes times)) }
     ensures count { RisesExactlyIf (H.seen store.old.shelf.now).faults (H.seen store.new.shelf.now).faults (tell_failed result) }
     ensures same { Goes (H.seen store.old.shelf.now).told (H.seen store.new.shelf.now).told Stays }
 {

@@ -1,6 +1,6 @@
 //! Laws of the refusals.
 
-ghost use Rattle.std.specs.Prelude.{◌≡◌, ◌⊎◌, ◌<◌, ◌≤◌, ℕ, List, ◌∷◌, ◌++◌, Result, Ok, Err, None, IsSome, IsSomeAnd, All, length};
+ghost use Rattle.std.specs.Prelude.{◌≡◌, ◌≢◌, ◌⊎◌, ◌<◌, ◌≤◌, ℕ, List, ◌∷◌, ◌++◌, Result, Ok, Err, None, IsSome, IsSomeAnd, All, length};
 ghost use Rattle.edge_io.specs.Disk.{Folder};
 ghost use Rattle.edge_io.specs.Seen.{Seen};
 ghost use Rattle.outcome_fold.specs.declared.row.Row.{Row as ARow};
@@ -15,15 +15,19 @@ ghost use Rattle.testr_cli.specs.declared.recording.RecordFault.{RecordFault as 
 ghost use Rattle.testr_cli.specs.declared.recording.RecordFault.TheVariants.{TooLong};
 ghost use Rattle.testr_cli.specs.declared.store.RunsFault.{RunsFault as ARunsFault};
 ghost use Rattle.testr_cli.specs.declared.store.RunsFault.TheVariants.{Full, NoRuns};
+ghost use Rattle.testr_cli.specs.declared.told.TellFault.{TellFault as ATellFault};
+ghost use Rattle.testr_cli.specs.declared.told.TellFault.TheVariants.{Shelf as CachesShelf};
 ghost use Rattle.testr_cli.specs.Exact.{InitEnds, OpenEnds, RecordEnds, IsNoFile, IsFileTooLong};
 ghost use Rattle.testr_cli.specs.Files.{RecordsFiles};
 ghost use Rattle.testr_cli.specs.Outside.{Fed, Filed};
 ghost use Rattle.testr_cli.specs.Recording.{Records, most_bytes};
+ghost use Rattle.testr_cli.specs.Refreshing.{Refreshes};
 ghost use Rattle.testr_cli.specs.Says.{OfLastRun};
 ghost use Rattle.testr_cli.specs.Store.{Makes, Opens, TakesRun, HasRunFor};
 
 /// Where the cause of a named refusal is there, the step refuses by that name, unless a call failed or memory was wanting
-/// before. That it comes only there is what the step itself says. So each comes exactly where its cause is.
+/// before. That it comes only there is what the step itself says. So each comes exactly where its cause is. Where the
+/// folder's count rose in the step of the caches, this refuses by the folder's fault.
 pub fn refusals_are_exact()
     ensures already_here { (before after : Seen Folder) (result : Result (Unit {0}) AnInitFault) → Makes before after result
         → IsSomeAnd before.told (λ s. IsSome (s.disk.published format_name)) → (result ≡ Err Exists) ⊎ InitEnds result }
@@ -37,6 +41,8 @@ pub fn refusals_are_exact()
     ensures no_runs { (question : AQuestion) (result : Result (Unit {0}) ARunsFault) → HasRunFor question 0 result → OfLastRun question → result ≡ Err NoRuns }
     ensures too_long { (before after : Fed) (result : Result (List ARow) ARecordFault) → Records before after result
         → IsSomeAnd before.input.told (λ bytes. most_bytes < length bytes) → (result ≡ Err TooLong) ⊎ RecordEnds result }
+    ensures caches_not_kept { (number : ℕ) (rows : List ARow) (before after : Seen Folder) (result : Result (Unit {0}) ATellFault) → Refreshes number rows before after result
+        → after.faults ≢ before.faults → result ≡ Err CachesShelf }
     ensures no_file { (front back : List (List ℕ)) (name : List ℕ) (before after : Filed) (result : Result (List ARow) ARecordFault) → RecordsFiles (front ++ name ∷ back) before after result
         → IsSomeAnd before.site.told (λ files. All (λ n. IsSomeAnd (files n) (λ bytes. length bytes ≤ most_bytes)) front × (files name ≡ None)) → IsNoFile name result ⊎ RecordEnds result }
     ensures file_too_long { (front back : List (List ℕ)) (name : List ℕ) (before after : Filed) (result : Result (List ARow) ARecordFault) → RecordsFiles (front ++ name ∷ back) before after result

@@ -5,7 +5,7 @@
 //! the order of the steps and the refusals, and never a real file or process.
 //!
 //! - `command`, `drawing`, `words`, `values`: which words are a command
-//! - `store`, `recording`, `files`, `reporting`, `told`, `copying`, `asking`: the steps, each with why it refuses
+//! - `store`, `recording`, `files`, `refreshing`, `reporting`, `told`, `copying`, `asking`: the steps, each with why it refuses
 //! - `selecting`, `planning`, `working`: which tests run, what each worker is started with, and the workers themselves
 //! - `answer`, `suite_refusals`, `telling`: statuses and refusals by step, and the lines that tell of them
 //! - `init`, `load`, `ask`, `run`, `list`, `selftest`: the commands, each a chain of steps
@@ -26,6 +26,7 @@ mod list;
 mod load;
 mod planning;
 mod recording;
+mod refreshing;
 mod reporting;
 mod run;
 mod selecting;
@@ -56,6 +57,8 @@ pub use words::{UsageFault, reads};
 mod tests;
 #[cfg(test)]
 mod tests_ask;
+#[cfg(test)]
+mod tests_caches;
 #[cfg(test)]
 mod tests_copying;
 #[cfg(test)]

@@ -7,6 +7,7 @@ ghost use Rattle.edge_io.specs.Seen.{Seen};
 ghost use Rattle.edge_io.specs.Spawners.{Spawning};
 
 use crate::files::record_sources;
+use crate::refreshing::refresh;
 use crate::reporting::{print, report_rows};
 use crate::store::{begin, keep, open, take_run};
 use crate::{Refusal, Verdict};
@@ -16,9 +17,9 @@ use std::alloc::Global;
 use std::mem::forget;
 use sub_number::IdList;
 
-/// Reads the sources to their ends, one after another, keeps what is recorded of them as the next run, and prints the run's
-/// report. They are the files of these names, of which there are 64 at most, or the input where there are none. What is
-/// recorded is written as it is read; the report is made before the run is kept, so that no want of memory comes after.
+/// Reads the sources to their ends, one after another, keeps what is recorded of them as the next run, brings the caches up
+/// to it, and prints the run's report. They are the files of these names, of which there are 64 at most, or the input where
+/// there are none. What is recorded is written as it is read, and the report is made before the run is kept.
 pub fn load<'a, H: Shelf, F: Site, I: Source, O: Sink>(
     alloc: Global,
     partial: bool,
@@ -40,6 +41,9 @@ pub fn load<'a, H: Shelf, F: Site, I: Source, O: Sink>(
     let rows = record_sources(alloc, names, shelf, site, input)?;
     let report = report_rows(alloc, found.runs(), &Tags::new(alloc), &rows)?;
     keep(shelf, &mut found, partial)?;
+    if let Err(fault) = refresh(alloc, shelf, found, &rows) {
+        return Err(Refusal::Refresh(fault));
+    }
     print(out, &report.text)?;
     // The program ends here, and the system takes the memory back in one piece.
     forget(rows);

@@ -26,8 +26,8 @@ use suite_plan::{Compiled, PatternRefusal, compile};
 use testr_conf::Conf;
 
 /// Runs the tests that the command selects, by the project's configuration, in worker processes that are read side by side;
-/// keeps what is recorded of them as the next run; and prints the run's report, of the rows that were told as it was recorded.
-/// It may wait for the workers.
+/// keeps what is recorded of them as the next run; brings the caches up to it; and prints the run's report, of the rows that
+/// were told as it was recorded. It may wait for the workers.
 pub fn run<'a, R: Threads + Wait + Sync, H: Shelf, S: Spawner, F: Site, O: Sink>(
     rt: &R,
     alloc: Global,
@@ -58,10 +58,10 @@ pub fn run<'a, R: Threads + Wait + Sync, H: Shelf, S: Spawner, F: Site, O: Sink>
         site,
     )?;
     let jobs = plan(alloc, conf, &asked.compiled.groups, selected, shelf, &found)?;
-    let ran = run_workers(rt, alloc, &jobs, asked.partial, shelf, found, spawner)?;
-    let answer = tell_run(alloc, number, conf.filter_tags(), &ran.rows, out);
+    let rows = run_workers(rt, alloc, &jobs, asked.partial, shelf, found, spawner)?;
+    let answer = tell_run(alloc, number, conf.filter_tags(), &rows, out);
     // The program ends here, and the system takes the memory back in one piece.
-    forget(ran);
+    forget(rows);
     answer
 }
 

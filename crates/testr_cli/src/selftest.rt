@@ -10,7 +10,7 @@ use crate::drawing::Drawing;
 use crate::reporting::{print, verdict};
 use crate::store::{make, open, take_run};
 use crate::told::Told;
-use crate::working::{Ran, run_workers};
+use crate::working::run_workers;
 use crate::{Refusal, Verdict};
 use drawn_lanes::plans;
 use edge_io::{Job, MemShelf, PlanSpawner, Shelf, Sink, Spawner};
@@ -74,7 +74,7 @@ fn drawn_rows<R: Threads + Wait + Sync>(
     let mut spawner = PlanSpawner::new(alloc, plans, Vec::new(alloc));
     let mut shelf = MemShelf::new(alloc, Vec::new(alloc));
     match run_drawn(rt, alloc, &jobs, &mut shelf, &mut spawner) {
-        Ok(ran) => Ok(ran.rows),
+        Ok(rows) => Ok(rows),
         Err(_) => Err(NoMemory),
     }
 }
@@ -104,9 +104,9 @@ fn run_drawn<R: Threads + Wait + Sync, H: Shelf, S: Spawner>(
     jobs: &[Job],
     shelf: &mut H,
     spawner: &mut S,
-) -> Result<Ran, Refusal<'static>>
+) -> Result<Rows, Refusal<'static>>
     requires few { length jobs.now ≤ 64 }
-    ensures { IfOk result (λ ran. IfSome (S.seen spawner.old).told (λ s. RunsInTurn jobs.now s ran.rows)) }
+    ensures { IfOk result (λ rows. IfSome (S.seen spawner.old).told (λ s. RunsInTurn jobs.now s rows)) }
 {
     make(shelf)?;
     let found = open(alloc, shelf)?;

@@ -3,6 +3,7 @@
 ghost use Rattle.std.specs.Prelude.{◌≡◌, ◌<◌, ◌++◌, ◌∷◌, [], length, OnOk};
 ghost use Rattle.edge_io.specs.Steps.{HasDraft};
 ghost use Rattle.run_shelf.specs.Holds.{kinds_of, HasRoom, FitsWhereTold};
+ghost use Rattle.run_shelf.specs.Outcomes.{TicksUpTo};
 ghost use Rattle.run_shelf.specs.Repository.{most_runs};
 ghost use Rattle.testr_cli.specs.Store.{Makes, init_code, init_text, Opens, open_code, open_text, TakesRun, HasRunFor, runs_text, Begins, Keeps, keep_text};
 ghost use Rattle.testr_cli.specs.Telling.{line_text};
@@ -43,9 +44,10 @@ pub fn init_line(fault: InitFault) -> Line<'static>
     }
 }
 
-/// Looks which runs the repository has.
+/// Looks which runs the repository has, in at most four calls of the folder.
 pub fn open<H: Shelf>(alloc: Global, shelf: &mut H) -> Result<Found, OpenFault>
-    ensures { Opens (H.seen shelf.old) (H.seen shelf.new) result }
+    ensures step { Opens (H.seen shelf.old) (H.seen shelf.new) result }
+    ensures time { TicksUpTo 4 (H.clock shelf.old) (H.clock shelf.new) }
 {
     survey(alloc, shelf)
 }

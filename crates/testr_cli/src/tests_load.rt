@@ -11,9 +11,9 @@ use std::test::Fail;
 const NO_TESTS: &[u8] = b"Ran 0 tests\nPASSED (id=0)\n";
 
 // `foo` failed.
-const FAIL: &[u8] = b"\xb3\x29\x06\x0c\x03foo\x15\x50\x6f\xa3";
+pub const FAIL: &[u8] = b"\xb3\x29\x06\x0c\x03foo\x15\x50\x6f\xa3";
 
-const FAIL_KEPT: &[u8] = b"\xb3\x2d\x06\x0e\x03foo\x01\x30\xec\x4f\xd5\x84";
+pub const FAIL_KEPT: &[u8] = b"\xb3\x2d\x06\x0e\x03foo\x01\x30\xec\x4f\xd5\x84";
 
 const FAIL_REPORT: &[u8] =
     b"======================================================================\nFAIL: foo\n----------------------------------------------------------------------\nRan 1 tests\nFAILED (id=0, failures=1)\n";
@@ -143,6 +143,23 @@ fn a_partial_run_has_a_name_of_its_own_and_the_next_number(rt: HostRuntime) -> R
     Ok(())
 }
 
+#[test]
+fn the_caches_cover_the_runs_behind_each_load(rt: HostRuntime) -> Result<(), Fail> {
+    let alloc = rt.alloc();
+    let mut shelf = repository(alloc, &[])?;
+    let times = b"subunit-times 1\n1\nfoo\x001000500000\x00";
+    assert!(rt; load(&rt, &mut shelf, TIMED)?.is(0, TIMED_REPORT, NOTHING));
+    assert!(rt; has_file(&mut shelf, "failing.set", b"subunit-failing 1\n1\n")?);
+    assert!(rt; has_file(&mut shelf, "times.set", times)?);
+    let mut input = source(alloc, FAIL, 12, &[])?;
+    let told = call(&rt, &["testr", "load", "--partial"], &mut shelf, &mut input)?;
+    assert_eq!(rt; told.status, 1);
+    let times = b"subunit-times 1\n2\nfoo\x001000500000\x00";
+    assert!(rt; has_file(&mut shelf, "failing.set", b"subunit-failing 1\n2\nfoo\x00")?);
+    assert!(rt; has_file(&mut shelf, "times.set", times)?);
+    Ok(())
+}
+
 // The largest packet: a file of zeros, and the checksum that zlib gives for it.
 fn largest_packet(alloc: Global) -> Result<Vec<u8>, Fail> {
     let mut packet = Vec::new(alloc);
@@ -192,7 +209,8 @@ fn packets_of_a_piece_or_more_are_added_one_by_one(rt: HostRuntime) -> Result<()
     let mut shelf = repository(alloc, &[71])?;
     let told = load(&rt, &mut shelf, &packet)?;
     assert!(rt; told.is(4, NOTHING, SHELF_FAULT));
-    let mut shelf = repository(alloc, &[72])?;
+    // Eleven calls more bring up the caches.
+    let mut shelf = repository(alloc, &[83])?;
     let told = load(&rt, &mut shelf, &packet)?;
     assert!(rt; told.is(0, NO_TESTS, NOTHING));
     Ok(())

@@ -490,10 +490,11 @@ fn a_report_that_is_not_written_leaves_the_new_run(rt: HostRuntime) -> Result<()
 }
 
 #[test]
-fn once_the_run_is_kept_the_folder_is_not_called(rt: HostRuntime) -> Result<(), Fail> {
+fn once_the_caches_are_kept_the_folder_is_not_called(rt: HostRuntime) -> Result<(), Fail> {
     let alloc = rt.alloc();
-    // Four calls look at the runs, one begins the new one, one adds to it and three keep it. The next one fails.
-    let mut shelf = repository(alloc, &[9])?;
+    // Four calls look at the runs, one begins the new one, one adds to it and three keep it. Behind them the file of the
+    // times is looked for, and each cache takes five. The next one fails.
+    let mut shelf = repository(alloc, &[20])?;
     let mut project = project_of(alloc, CONF, &[(FOO, ENDED)], &[], &[])?;
     let told = call_in(&rt, &["testr", "run"], &mut shelf, &mut project, &[])?;
     assert!(rt; told.is(0, PASSED_AS_0, NOTHING));

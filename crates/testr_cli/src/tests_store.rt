@@ -4,6 +4,7 @@ use crate::tests::{
     FOO, FOO_KEPT, NOTHING, PASSED_AS_0, PASSED_AS_1, SHELF_FAULT, Told, call, has_file, load, put,
     repository, source,
 };
+use crate::tests_load::{FAIL, FAIL_KEPT};
 use edge_io::{Failed, MemShelf, Shelf};
 use itoa::Buffer;
 use std::sync::Wait;
@@ -37,7 +38,8 @@ fn a_repository_is_made_once(rt: HostRuntime) -> Result<(), Fail> {
     assert!(rt; load(&rt, &mut shelf, FOO)?.is(0, PASSED_AS_1, NOTHING));
     assert!(rt; has_file(&mut shelf, "0", FOO_KEPT)?);
     assert!(rt; has_file(&mut shelf, "1", FOO_KEPT)?);
-    assert_eq!(rt; shelf.names(alloc)?.len(), 3);
+    // The format, the runs and the two caches.
+    assert_eq!(rt; shelf.names(alloc)?.len(), 5);
     Ok(())
 }
 
@@ -136,8 +138,52 @@ fn each_call_of_the_folder_may_fail_at_a_load(rt: HostRuntime) -> Result<(), Fai
         );
         assert!(rt; has_file(&mut shelf, "0", FOO_KEPT)?, "call {failing}");
     }
-    let mut shelf = repository(alloc, &[9])?;
+    Ok(())
+}
+
+// What is listed of the failing tests.
+fn failing<R: Threads + Wait + Sync + AllocGlobal, H: Shelf>(
+    rt: &R,
+    shelf: &mut H,
+) -> Result<Told, Fail> {
+    let mut input = source(rt.alloc(), NOTHING, 1, &[])?;
+    call(rt, &["testr", "failing", "--list"], shelf, &mut input)
+}
+
+#[test]
+fn a_fault_at_the_caches_leaves_the_new_run(rt: HostRuntime) -> Result<(), Fail> {
+    let alloc = rt.alloc();
+    // Nine calls keep the run. Behind them the file of the times is looked for, and each cache takes five calls.
+    for failing_call in 9..20 {
+        let mut shelf = repository(alloc, &[failing_call])?;
+        let told = load(&rt, &mut shelf, FAIL)?;
+        assert!(rt; told.is(4, NOTHING, SHELF_FAULT), "call {failing_call}");
+        assert!(rt;
+            has_file(&mut shelf, "0", FAIL_KEPT)?,
+            "call {failing_call}"
+        );
+        let told = failing(&rt, &mut shelf)?;
+        assert!(rt; told.is(1, b"foo\n", NOTHING), "call {failing_call}");
+    }
+    let mut shelf = repository(alloc, &[20])?;
+    assert_eq!(rt; load(&rt, &mut shelf, FAIL)?.status, 1);
+    Ok(())
+}
+
+#[test]
+fn a_stop_at_the_caches_changes_no_answer(rt: HostRuntime) -> Result<(), Fail> {
+    let alloc = rt.alloc();
+    let mut shelf = repository(alloc, &[])?;
     assert!(rt; load(&rt, &mut shelf, FOO)?.is(0, PASSED_AS_0, NOTHING));
+    assert_eq!(rt; load(&rt, &mut shelf, FAIL)?.status, 1);
+    // The first load makes 20 calls, and the second one has kept its run after nine of its own.
+    for moment in 29..42 {
+        for choice in [false, true] {
+            let mut image = shelf.image(moment, choice)?;
+            let told = failing(&rt, &mut image)?;
+            assert!(rt; told.is(1, b"foo\n", NOTHING), "moment {moment}, {choice}");
+        }
+    }
     Ok(())
 }
 

@@ -1,6 +1,6 @@
 //! The top call.
 
-ghost use Rattle.std.specs.Prelude.{◌≡◌, ℕ, List, true, false, Some, None};
+ghost use Rattle.std.specs.Prelude.{◌≡◌, ◌∷◌, ℕ, List, true, false, Some, None};
 ghost use Rattle.edge_io.specs.Disk.{Files, Folder};
 ghost use Rattle.edge_io.specs.Seen.{Seen};
 ghost use Rattle.edge_io.specs.Spawners.{Spawning};
@@ -10,8 +10,10 @@ ghost use Rattle.testr_cli.specs.Outside.{outside, work};
 ghost use Rattle.testr_cli.specs.Program.{Promises, Performs, Tells};
 ghost use Rattle.testr_cli.specs.SelfTestProgram.{SelfTestAnswers};
 ghost use Rattle.testr_cli.specs.SuiteProgram.{ProgramPromises, TestrPromises, SuiteAnswers};
+ghost use Rattle.testr_cli.specs.Sparing.{SparesReads};
 ghost use Rattle.testr_cli.specs.Suites.{Suite, run as run_asked, list as list_asked, run_options, suite_of};
 ghost use Rattle.testr_cli.specs.Tasks.{task_of, task_with};
+ghost use Rattle.testr_cli.specs.Words.{testr_word, asked_by};
 ghost use Rattle.testr_cli.specs.declared.command.Verb.TheVariants.{Load};
 ghost use Rattle.testr_cli.specs.declared.words.UsageFault.TheVariants.{Words};
 
@@ -64,6 +66,7 @@ pub fn program<
         (outside (H.seen shelf.old) (F.seen site.old) (S.seen spawner.old) (I.seen input.old) (O.seen out.old) (E.seen err.old))
         (outside (H.seen shelf.new) (F.seen site.new) (S.seen spawner.new) (I.seen input.new) (O.seen out.new) (E.seen err.new))
         result }
+    ensures spares { (behind : List (List ℕ)) → texts words.now ≡ testr_word ∷ behind → SparesReads (asked_by behind) (H.seen shelf.old).told (H.clock shelf.old) (H.clock shelf.new) }
 {
     if !is_testr(words) {
         return filters(alloc, words, input, out, err);
@@ -87,7 +90,8 @@ pub fn program<
 ///
 /// `init` makes a repository. `load` reads the files that are named, or the input where none is, to their ends, one after
 /// another; keeps what is recorded of them as the next run, the first file under lane 0; and prints the run's report.
-/// `last`, `failing`, `slowest` and `stats` tell of the runs and change nothing. A refusal prints one line to `err`. Before
+/// `last`, `failing`, `slowest` and `stats` tell of the runs and change nothing; `failing` goes by its cache, where one is
+/// there, and tells what all runs say where the folder is sound. A refusal prints one line to `err`. Before
 /// a run is kept a refusal leaves the shown runs as they were; behind that a refusal leaves the new run. A stop at any moment
 /// leaves the earlier runs, and the new one wholly or not at all.
 ///
@@ -110,6 +114,7 @@ pub fn testr<R: Threads + Wait + Sync, H: Shelf, S: Spawner, F: Site, I: Source,
         (outside (H.seen shelf.old) (F.seen site.old) (S.seen spawner.old) (I.seen input.old) (O.seen out.old) (E.seen err.old))
         (outside (H.seen shelf.new) (F.seen site.new) (S.seen spawner.new) (I.seen input.new) (O.seen out.new) (E.seen err.new))
         result }
+    ensures spares { SparesReads (asked_by (texts words.now)) (H.seen shelf.old).told (H.clock shelf.old) (H.clock shelf.new) }
 {
     match reads(alloc, words) {
         Ok(Some(command)) => follow(rt, alloc, &command, shelf, spawner, site, input, out, err),
@@ -143,6 +148,7 @@ fn follow<R: Threads + Wait + Sync, H: Shelf, S: Spawner, F: Site, I: Source, O:
         (outside (H.seen shelf.new) (F.seen site.new) (S.seen spawner.new) (I.seen input.new) (O.seen out.new) (E.seen err.new))
         result }
     ensures spawner { suite_of command.now ≡ None → S.seen spawner.new ≡ S.seen spawner.old }
+    ensures spares { SparesReads (task_of command.now) (H.seen shelf.old).told (H.clock shelf.old) (H.clock shelf.new) }
 {
     match drawing_of(command) {
         Some(drawing) => test_itself(rt, alloc, drawing, out, err),
@@ -189,6 +195,7 @@ fn obey<R: Threads + Wait + Sync, H: Shelf, S: Spawner, F: Site, I: Source, O: S
         (outside (H.seen shelf.new) (F.seen site.new) (S.seen spawner.new) (I.seen input.new) (O.seen out.new) (E.seen err.new))
         result }
     ensures spawner { suite_of command.now ≡ None → S.seen spawner.new ≡ S.seen spawner.old }
+    ensures spares { SparesReads (task_of command.now) (H.seen shelf.old).told (H.clock shelf.old) (H.clock shelf.new) }
 {
     match command.verb {
         Verb::Run => run_suite(rt, alloc, command, shelf, spawner, site, out, err),
@@ -262,6 +269,7 @@ pub fn quiet<H: Shelf, F: Site, I: Source, O: Sink, E: Sink>(
         (outside (H.seen shelf.old) (F.seen site.old) spawner (I.seen input.old) (O.seen out.old) (E.seen err.old))
         (outside (H.seen shelf.new) (F.seen site.new) spawner (I.seen input.new) (O.seen out.new) (E.seen err.new))
         result }
+    ensures spares { SparesReads (task_of command.now) (H.seen shelf.old).told (H.clock shelf.old) (H.clock shelf.new) }
 {
     let outcome = perform(alloc, command, shelf, site, input, out);
     answer(outcome, err)
@@ -276,10 +284,11 @@ fn perform<'a, H: Shelf, F: Site, I: Source, O: Sink>(
     input: &mut I,
     out: &mut O,
 ) -> Result<Verdict, Refusal<'a>>
-    ensures { (spawner : Seen Spawning) → Performs Words (task_of command.now)
+    ensures step { (spawner : Seen Spawning) → Performs Words (task_of command.now)
         (work (H.seen shelf.old) (F.seen site.old) spawner (I.seen input.old) (O.seen out.old))
         (work (H.seen shelf.new) (F.seen site.new) spawner (I.seen input.new) (O.seen out.new))
         result }
+    ensures spares { SparesReads (task_of command.now) (H.seen shelf.old).told (H.clock shelf.old) (H.clock shelf.new) }
 {
     match command.verb {
         Verb::Init => init(shelf),

@@ -12,6 +12,7 @@ ghost use Rattle.testr_cli.specs.Outside.{work};
 ghost use Rattle.testr_cli.specs.RunSuite.{Works, rows_in};
 
 use crate::Refusal;
+use crate::refreshing::refresh;
 use crate::store::{begin, keep};
 use edge_io::{Child, Job, Shelf, Spawner};
 use outcome_fold::Rows;
@@ -22,17 +23,17 @@ use std::thread::Threads;
 use suite_run::{LanesRefusal, record_lanes, start_lanes};
 use worker_lane::Lane;
 
-/// A run that was kept.
+// What was recorded of the workers.
 #[derive(Drop)]
-pub struct Ran {
-    /// The runs that there are, with this one.
-    pub found: Found,
-    /// The rows of this one, which are those of its stored bytes.
-    pub rows: Rows,
+struct Ran {
+    // The runs that there are.
+    found: Found,
+    // The rows of what was recorded.
+    rows: Rows,
 }
 
-/// Starts a worker for each of the jobs, 64 at most, reads them to their ends, side by side, and keeps what is recorded of
-/// them as the next run, whose rows are told as it is recorded. It may wait for them.
+/// Starts a worker for each of the jobs, 64 at most, reads them to their ends, side by side, keeps what is recorded of them
+/// as the next run, whose rows are told as it is recorded, and brings the caches up to it. It may wait for them.
 pub fn run_workers<R: Threads + Wait + Sync, H: Shelf, S: Spawner>(
     rt: &R,
     alloc: Global,
@@ -41,23 +42,24 @@ pub fn run_workers<R: Threads + Wait + Sync, H: Shelf, S: Spawner>(
     shelf: &mut H,
     found: Found,
     spawner: &mut S,
-) -> Result<Ran, Refusal<'static>>
+) -> Result<Rows, Refusal<'static>>
     requires few { length jobs.now ≤ 64 }
     requires free { length (kinds_of found) < most_runs }
     requires room { HasRoom found }
     requires fits { FitsWhereTold (kinds_of found) (H.seen shelf.old).told }
-    ensures step { (site : _) → (input out : Seen (List ℕ)) → Works partial (length (kinds_of found)) jobs.now
+    ensures { (site : _) → (input out : Seen (List ℕ)) → Works partial (length (kinds_of found)) jobs.now
         (work (H.seen shelf.old) site (S.seen spawner.old) input out)
         (work (H.seen shelf.new) site (S.seen spawner.new) input out)
-        (rows_in result) }
-    ensures kinds { IfOk result (λ ran. kinds_of ran.found ≡ kinds_of found ++ partial ∷ []) }
-    ensures fits { IfOk result (λ ran. FitsWhereTold (kinds_of ran.found) (H.seen shelf.new).told) }
+        result }
 {
     begin(shelf)?;
     let lanes = start_lanes(alloc, spawner, jobs)?;
-    let mut ran = record_workers(rt, alloc, lanes, shelf, found, partial)?;
-    keep(shelf, &mut ran.found, partial)?;
-    Ok(ran)
+    let Ran { mut found, rows } = record_workers(rt, alloc, lanes, shelf, found, partial)?;
+    keep(shelf, &mut found, partial)?;
+    match refresh(alloc, shelf, found, &rows) {
+        Ok(()) => Ok(rows),
+        Err(fault) => Err(Refusal::Refresh(fault)),
+    }
 }
 
 // Records the lanes of the workers behind the draft that was begun, and gives the runs that there are, and the rows of what

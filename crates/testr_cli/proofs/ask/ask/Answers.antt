@@ -1,51 +1,75 @@
 use Rattle.std.proofs.Common.{refl}
 use Rattle.testr_cli.proofs.AskLemmas.{of_bytes, of_text, bytes_of_last, by_copy, by_text}
+use Rattle.testr_cli.proofs.SparingLemmas.{opens_spare, opened_spare, bytes_spare}
 use Rattle.testr_cli.proofs.StepLemmas.{still_done, part_done, still_stops, part_stops, stopped, prints_as, gives}
 use Rattle.testr_cli.specs.Steps.{goes_on}
 use Rattle.testr_cli.proofs.ask.ask.Goals as goal
 
-pub returns-in_err-found : goal.returns-in_err-found
-returns-in_err-found g c = part_stops _ c.from_residual.ensures.1 c.in_err-found.ensures refl
+pub returns-in_err-found-clause-step : goal.returns-in_err-found-clause-step
+returns-in_err-found-clause-step g c = part_stops _ c.from_residual.ensures.1 c.in_err-found.ensures.step refl
 
-pub returns-in_err-have_run : goal.returns-in_err-have_run
-returns-in_err-have_run g c =
-    part_done _ _ c.in_ok-found.ensures
+pub returns-in_err-have_run-clause-step : goal.returns-in_err-have_run-clause-step
+returns-in_err-have_run-clause-step g c =
+    part_done _ _ c.in_ok-found.ensures.step
     (still_stops _ c.from_residual-in_err-have_run.ensures.1 c.in_err-have_run.ensures refl)
 
-pub returns-in_err-copy_last : goal.returns-in_err-copy_last
-returns-in_err-copy_last g c =
-    part_done _ _ c.in_ok-found.ensures
+pub returns-in_err-copy_last-clause-step : goal.returns-in_err-copy_last-clause-step
+returns-in_err-copy_last-clause-step g c =
+    part_done _ _ c.in_ok-found.ensures.step
     (still_done _ c.in_ok-have_run.ensures
     (by_copy c.in_ok-found.found _ _ _ c.args.question (of_bytes _ _ c.is_of_bytes.ensures c.if-is_of_bytes.true)
     (stopped _ c.from_residual-in_err-copy_last.ensures.1 c.in_err-copy_last.ensures)))
 
-pub returns-then-is_of_bytes : goal.returns-then-is_of_bytes
-returns-then-is_of_bytes g c =
-    part_done _ _ c.in_ok-found.ensures
+pub returns-then-is_of_bytes-clause-step : goal.returns-then-is_of_bytes-clause-step
+returns-then-is_of_bytes-clause-step g c =
+    part_done _ _ c.in_ok-found.ensures.step
     (still_done _ c.in_ok-have_run.ensures
     (by_copy c.in_ok-found.found _ _ _ c.args.question (of_bytes _ _ c.is_of_bytes.ensures c.if-is_of_bytes.true)
     (goes_on _ _ c.in_ok-copy_last.ensures gives)))
 
-pub returns-in_err-told : goal.returns-in_err-told
-returns-in_err-told g c =
-    part_done _ _ c.in_ok-found.ensures
+pub returns-in_err-told-clause-step : goal.returns-in_err-told-clause-step
+returns-in_err-told-clause-step g c =
+    part_done _ _ c.in_ok-found.ensures.step
     (still_done _ c.in_ok-have_run.ensures
     (by_text c.in_ok-found.found _ _ _ c.args.question (of_text _ _ c.is_of_bytes.ensures c.if-is_of_bytes.false)
-    (part_stops _ c.from_residual-in_err-told.ensures.1 c.in_err-told.ensures refl)))
+    (part_stops _ c.from_residual-in_err-told.ensures.1 c.in_err-told.ensures.step refl)))
 
-pub returns-in_err-print : goal.returns-in_err-print
-returns-in_err-print g c =
-    part_done _ _ c.in_ok-found.ensures
+pub returns-in_err-print-clause-step : goal.returns-in_err-print-clause-step
+returns-in_err-print-clause-step g c =
+    part_done _ _ c.in_ok-found.ensures.step
     (still_done _ c.in_ok-have_run.ensures
     (by_text c.in_ok-found.found _ _ _ c.args.question (of_text _ _ c.is_of_bytes.ensures c.if-is_of_bytes.false)
-    (part_done c.in_ok-told.told _ c.in_ok-told.ensures
+    (part_done c.in_ok-told.told _ c.in_ok-told.ensures.step
     (part_stops _ c.from_residual-in_err-print.ensures.1 (prints_as c.deref.ensures.value c.in_err-print.ensures) refl))))
 
-pub returns : goal.returns
-returns g c =
-    part_done _ _ c.in_ok-found.ensures
+pub returns-clause-step : goal.returns-clause-step
+returns-clause-step g c =
+    part_done _ _ c.in_ok-found.ensures.step
     (still_done _ c.in_ok-have_run.ensures
     (by_text c.in_ok-found.found _ _ _ c.args.question (of_text _ _ c.is_of_bytes.ensures c.if-is_of_bytes.false)
-    (part_done c.in_ok-told.told _ c.in_ok-told.ensures
+    (part_done c.in_ok-told.told _ c.in_ok-told.ensures.step
     (part_done _ _ (prints_as c.deref.ensures.value c.in_ok-print.ensures)
     gives))))
+
+-- ---- how many calls there were
+
+pub returns-in_err-found-clause-spares : goal.returns-in_err-found-clause-spares
+returns-in_err-found-clause-spares g c = λ list is. opens_spare _ _ _ c.in_err-found.ensures.time
+
+pub returns-in_err-have_run-clause-spares : goal.returns-in_err-have_run-clause-spares
+returns-in_err-have_run-clause-spares g c = λ list is. opens_spare _ _ _ c.in_ok-found.ensures.time
+
+pub returns-in_err-copy_last-clause-spares : goal.returns-in_err-copy_last-clause-spares
+returns-in_err-copy_last-clause-spares g c = bytes_spare 6 c.args.question _ _ _ (of_bytes _ _ c.is_of_bytes.ensures c.if-is_of_bytes.true)
+
+pub returns-then-is_of_bytes-clause-spares : goal.returns-then-is_of_bytes-clause-spares
+returns-then-is_of_bytes-clause-spares g c = bytes_spare 6 c.args.question _ _ _ (of_bytes _ _ c.is_of_bytes.ensures c.if-is_of_bytes.true)
+
+pub returns-in_err-told-clause-spares : goal.returns-in_err-told-clause-spares
+returns-in_err-told-clause-spares g c = λ list is. opened_spare _ _ _ _ _ _ c.in_ok-found.ensures.step.found c.in_ok-found.ensures.time (c.in_err-told.ensures.spares list is)
+
+pub returns-in_err-print-clause-spares : goal.returns-in_err-print-clause-spares
+returns-in_err-print-clause-spares g c = λ list is. opened_spare _ _ _ _ _ _ c.in_ok-found.ensures.step.found c.in_ok-found.ensures.time (c.in_ok-told.ensures.spares list is)
+
+pub returns-clause-spares : goal.returns-clause-spares
+returns-clause-spares g c = λ list is. opened_spare _ _ _ _ _ _ c.in_ok-found.ensures.step.found c.in_ok-found.ensures.time (c.in_ok-told.ensures.spares list is)

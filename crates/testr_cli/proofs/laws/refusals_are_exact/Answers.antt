@@ -23,6 +23,9 @@ returns-clause-no_runs c = exact.no_runs
 pub returns-clause-too_long : goal.returns-clause-too_long
 returns-clause-too_long c = exact.too_long
 
+pub returns-clause-caches_not_kept : goal.returns-clause-caches_not_kept
+returns-clause-caches_not_kept c = exact.caches_not_kept
+
 pub returns-clause-no_file : goal.returns-clause-no_file
 returns-clause-no_file c = exact_files.no_file
 

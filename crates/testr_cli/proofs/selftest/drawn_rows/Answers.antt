@@ -14,7 +14,7 @@ lane_jobs-requires g c = (few_parts c.args.drawing.lanes c.args.drawing.tests c.
 
 pub returns-in-Ok : goal.returns-in-Ok
 returns-in-Ok g c =
-    drawn_in_turn c.args.drawing _ (spawning_of c.new-spawner.result) c.in-Ok.ran.rows c.requires.few
+    drawn_in_turn c.args.drawing _ (spawning_of c.new-spawner.result) c.in-Ok.rows c.requires.few
     (ap (λ (s : Spawning). s.outputs) c.new-spawner.ensures.spawning ∙ c.in_ok-plans.ensures.outputs)
     (ap length c.deref.ensures.value ∙ c.in_ok-jobs.ensures.count)
     c.in-Ok.ensures

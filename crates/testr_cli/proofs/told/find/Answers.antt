@@ -6,7 +6,10 @@ returns g c =
     let name = sym (c.into_shelf.ensures.same_reference ∙ c.answer_of-told.ensures.same_reference ∙ c.attach-store.ensures.same_reference) in
     let tie = sym (c.shelf-1.given.1 name ∙ c.hand_back.ensures ∙ c.into_shelf.ensures.same) in
     record {
-      answers = rw c.attach-store.ensures.same at c.answer_of-told.ensures.told;
-      same = rw tie at (rw c.attach-store.ensures.same at c.answer_of-told.ensures.same);
-      count = rw tie at (rw c.attach-store.ensures.same at c.answer_of-told.ensures.count);
+      step = record {
+        answers = rw c.attach-store.ensures.same at c.answer_of-told.ensures.told;
+        same = rw tie at (rw c.attach-store.ensures.same at c.answer_of-told.ensures.same);
+        count = rw tie at (rw c.attach-store.ensures.same at c.answer_of-told.ensures.count);
+      };
+      spares = rw tie at (rw c.attach-store.ensures.same at c.answer_of-told.ensures.spares);
     }

@@ -1,6 +1,7 @@
 use Rattle.std.proofs.Common.{◌≡◌, Some, None, refl, sym, ◌∙◌}
 use Rattle.testr_cli.specs.Drawings.{drawing_of}
 use Rattle.testr_cli.proofs.SelfTestLaws.{apart, few_drawn, one_drawn, as_asked, not_both}
+use Rattle.testr_cli.proofs.SparingLemmas.{none_spare}
 use Rattle.testr_cli.proofs.top.follow.Goals as goal
 
 pub test_itself-requires-clause-few : goal.test_itself-requires-clause-few
@@ -14,6 +15,7 @@ returns-in-Some g c =
       selftest = λ asked is. as_asked (one_drawn c.in-Some.drawing asked drawn is) (c.test_itself.ensures _ _ _ _);
       others = λ none undrawn. absurd (not_both c.in-Some.drawing drawn undrawn);
       spawner = λ none. refl;
+      spares = none_spare _ _ _ _ refl;
     }
 
 pub returns-in-None : goal.returns-in-None
@@ -24,4 +26,5 @@ returns-in-None g c =
       selftest = λ asked is. absurd (not_both asked is undrawn);
       others = λ none _. c.obey.ensures.others none;
       spawner = c.obey.ensures.spawner;
+      spares = c.obey.ensures.spares;
     }

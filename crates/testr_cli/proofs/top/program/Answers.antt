@@ -2,6 +2,7 @@ use Rattle.std.proofs.Common.{◌≡◌, ◌∷◌, inl, true, false, drop, refl
 use Rattle.std.proofs.lemmas.List.{take_rest}
 use Rattle.command_words.specs.Items.{texts}
 use Rattle.testr_cli.specs.Words.{names_testr, testr_word, asked_by}
+use Rattle.testr_cli.proofs.SparingLemmas.{none_spare, behind_spare}
 use Rattle.testr_cli.proofs.SuitePromises.{testr_behind}
 use Rattle.testr_cli.proofs.Performing.{refuses}
 use Rattle.testr_cli.proofs.WordsLemmas.{names_first, names_other}
@@ -15,6 +16,7 @@ returns-then-not-is_testr g c =
         testr = λ behind is. absurd (names_other _ unnamed behind is);
         filters = λ none. record { filtered = c.filters.ensures.promises; folder = refl; site = refl; spawner = refl };
       };
+      spares = λ behind is. none_spare _ _ _ _ refl;
     }
 
 pub returns : goal.returns
@@ -26,4 +28,5 @@ returns g c =
         testr = λ behind is. testr_behind _ behind (ap (λ l. testr_word ∷ texts l) (take_rest c.args.words.now 1) ∙ sym first ∙ is) _ _ _ c.testr.ensures.promises;
         filters = λ none. absurd (none (texts (drop 1 c.args.words.now)) first);
       };
+      spares = λ behind is. behind_spare _ behind _ _ _ (ap (λ l. testr_word ∷ texts l) (take_rest c.args.words.now 1) ∙ sym first ∙ is) c.testr.ensures.spares;
     }

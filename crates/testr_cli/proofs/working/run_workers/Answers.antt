@@ -1,34 +1,42 @@
-use Rattle.std.proofs.Common.{refl}
-use Rattle.testr_cli.proofs.StepLemmas.{part_done, part_fails, gives}
-use Rattle.testr_cli.specs.RunSuite.{rows_in}
+use Rattle.std.proofs.Common.{Bool, List, [], ◌∷◌, ◌++◌, refl, ap, ◌∙◌}
+use Rattle.testr_cli.specs.Steps.{stops}
+use Rattle.testr_cli.proofs.StepLemmas.{part_done, part_stops, refreshes_as, gives}
 use Rattle.testr_cli.proofs.working.run_workers.Goals as goal
 
-pub returns-in_err-begin-clause-step : goal.returns-in_err-begin-clause-step
-returns-in_err-begin-clause-step g c = λ site input out.
-    part_fails rows_in (λ e. refl) c.from_residual.result _ c.from_residual.ensures.1 c.in_err-begin.ensures refl
+pub returns-in_err-begin : goal.returns-in_err-begin
+returns-in_err-begin g c = λ site input out. part_stops _ c.from_residual.ensures.1 c.in_err-begin.ensures refl
 
-pub returns-in_err-lanes-clause-step : goal.returns-in_err-lanes-clause-step
-returns-in_err-lanes-clause-step g c = λ site input out.
+pub returns-in_err-lanes : goal.returns-in_err-lanes
+returns-in_err-lanes g c = λ site input out.
     part_done _ _ c.in_ok-begin.ensures
-    (part_fails rows_in (λ e. refl) c.from_residual-in_err-lanes.result _ c.from_residual-in_err-lanes.ensures.1 c.in_err-lanes.ensures.step refl)
+    (part_stops _ c.from_residual-in_err-lanes.ensures.1 c.in_err-lanes.ensures.step refl)
 
-pub returns-in_err-ran-clause-step : goal.returns-in_err-ran-clause-step
-returns-in_err-ran-clause-step g c = λ site input out.
-    part_done _ _ c.in_ok-begin.ensures
-    (part_done _ _ c.in_ok-lanes.ensures.step
-    (part_fails rows_in (λ e. refl) c.from_residual-in_err-ran.result _ c.from_residual-in_err-ran.ensures.1 c.in_err-ran.ensures.step refl))
-
-pub returns-in_err-keep-clause-step : goal.returns-in_err-keep-clause-step
-returns-in_err-keep-clause-step g c = λ site input out.
+pub returns-in_err-found : goal.returns-in_err-found
+returns-in_err-found g c = λ site input out.
     part_done _ _ c.in_ok-begin.ensures
     (part_done _ _ c.in_ok-lanes.ensures.step
-    (part_done _ _ c.in_ok-ran.ensures.step
-    (part_fails rows_in (λ e. refl) c.from_residual-in_err-keep.result _ c.from_residual-in_err-keep.ensures.1 (rw c.in_ok-ran.ensures.kinds at c.in_err-keep.ensures.step) refl)))
+    (part_stops _ c.from_residual-in_err-found.ensures.1 c.in_err-found.ensures.step refl))
 
-pub returns-clause-step : goal.returns-clause-step
-returns-clause-step g c = λ site input out.
+pub returns-in_err-keep : goal.returns-in_err-keep
+returns-in_err-keep g c = λ site input out.
     part_done _ _ c.in_ok-begin.ensures
     (part_done _ _ c.in_ok-lanes.ensures.step
-    (part_done _ _ c.in_ok-ran.ensures.step
-    (part_done _ _ (rw c.in_ok-ran.ensures.kinds at c.in_ok-keep.ensures.step)
-    gives)))
+    (part_done _ _ c.in_ok-found.ensures.step
+    (part_stops _ c.from_residual-in_err-keep.ensures.1 (rw c.in_ok-found.ensures.kinds at c.in_err-keep.ensures.step) refl)))
+
+pub returns-in-Ok : goal.returns-in-Ok
+returns-in-Ok g c = λ site input out.
+    part_done _ _ c.in_ok-begin.ensures
+    (part_done _ _ c.in_ok-lanes.ensures.step
+    (part_done _ _ c.in_ok-found.ensures.step
+    (part_done _ _ (rw c.in_ok-found.ensures.kinds at c.in_ok-keep.ensures.step)
+    (part_done _ _ (refreshes_as _ _ c.args.partial (c.in_ok-keep.ensures.kinds ∙ ap (λ (l : List Bool). l ++ c.args.partial ∷ []) c.in_ok-found.ensures.kinds) c.in-Ok.ensures)
+    gives))))
+
+pub returns : goal.returns
+returns g c = λ site input out.
+    part_done _ _ c.in_ok-begin.ensures
+    (part_done _ _ c.in_ok-lanes.ensures.step
+    (part_done _ _ c.in_ok-found.ensures.step
+    (part_done _ _ (rw c.in_ok-found.ensures.kinds at c.in_ok-keep.ensures.step)
+    (stops c.in-Err.fault refl (record { at = refreshes_as _ _ c.args.partial (c.in_ok-keep.ensures.kinds ∙ ap (λ (l : List Bool). l ++ c.args.partial ∷ []) c.in_ok-found.ensures.kinds) c.in-Err.ensures; rest = refl })))))
