@@ -5,7 +5,7 @@ ghost use Rattle.std.specs.Io.{ReadsAtMost};
 use crate::cause::{Cause, told};
 use crate::identity::is_at;
 use crate::lock::{FOLDER, Lock, Sharing};
-use crate::published::{is_stranger, length_of, link, read_from};
+use crate::published::{is_stranger, length_of, publish, read_from};
 use std::alloc::Global;
 use std::collections::BTreeSet;
 use std::fs::{DirEntry, File, Files};
@@ -127,7 +127,8 @@ impl<'r, R: Files<File = File>> Folder<'r, R> {
         outcome
     }
 
-    /// Makes the draft the file of this name, which no other file may have. There is no draft afterwards.
+    /// Makes the draft the file of this name: a cache in place of an older one, and any other file only where the name is
+    /// free. There is no draft afterwards.
     pub fn publish(&mut self, name: &str) -> Result<(), Cause> {
         let Some(mut draft) = self.draft.take() else {
             return Err(no_draft());
@@ -164,7 +165,7 @@ impl<'r, R: Files<File = File>> Folder<'r, R> {
         told("write", DRAFT, draft.flush())?;
         self.lock.confirm(self.rt)?;
         let path = self.path_of(name)?;
-        match link(self.rt, draft.get_ref(), DRAFT, &path) {
+        match publish(self.rt, draft.get_ref(), DRAFT, &path) {
             Ok(()) => Ok(()),
             Err(error) => Err(Cause::of_path("make", path, error)),
         }

@@ -91,7 +91,8 @@ impl<R: Files<File = File> + AllocGlobal + Clone + Drop> Shelf for FolderShelf<'
         self.faults.counted(result)
     }
 
-    /// Writes what waits, and gives the file this name, where no other file has it; it fails where one does.
+    /// Writes what waits, and gives the file this name. A cache is put in place of an older one. No other name is given
+    /// twice: it fails where a file has it.
     fn publish(&mut self, name: &str) -> Result<(), Failed> {
         self.calls = self.calls.saturating_add(1);
         let result = self.folder.publish(name);

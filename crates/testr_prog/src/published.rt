@@ -9,6 +9,9 @@ use std::os::unix::fs::FileExt;
 use std::path::Path;
 use std::{fs, io};
 
+// What the name of a cache ends in. No run's name does, nor does `format`.
+const CACHE: &str = ".set";
+
 /// Whether a name is no published file's, since what it leads to is no regular file. A name that leads nowhere, or that
 /// can't be followed, is none such.
 pub fn is_stranger<R: Files>(rt: &R, path: Path<'_>) -> bool {
@@ -52,22 +55,32 @@ pub fn read_from<R: Files<File = File>>(
     }
 }
 
-/// Gives the file, which has the path `draft`, this path too, which no other file may have. It is never given to another
-/// file: where it was free, and `draft` is not this file's any more, it stays free or the call fails.
-pub fn link<R: Files>(rt: &R, file: &File, draft: &str, path: &str) -> io::Result<()> {
+/// Gives the file, which has the path `draft`, this path: that of a cache in place of whatever file had it, and any other
+/// only where it is free. At `Ok` the path leads to this file. Where `draft` is not this file's any more, the call fails.
+pub fn publish<R: Files>(rt: &R, file: &File, draft: &str, path: &str) -> io::Result<()> {
     if !is_at(rt, file, draft)? {
         return Err(replaced());
     }
-    match fs::hard_link(rt, draft, path) {
-        Ok(()) => {}
-        Err(error) if error.kind() == ErrorKind::AlreadyExists => return Err(error),
-        // Not every file system has hard links.
-        Err(_) => rename(rt, draft, path)?,
+    if path.ends_with(CACHE) {
+        // One call of the system, so at each moment the path leads to the old file or to this one.
+        fs::rename(rt, draft, path)?;
+    } else {
+        link(rt, draft, path)?;
     }
     if is_at(rt, file, path)? {
         Ok(())
     } else {
         Err(replaced())
+    }
+}
+
+// Gives the draft this path too, which no other file may have.
+fn link<R: Files>(rt: &R, draft: &str, path: &str) -> io::Result<()> {
+    match fs::hard_link(rt, draft, path) {
+        Ok(()) => Ok(()),
+        Err(error) if error.kind() == ErrorKind::AlreadyExists => Err(error),
+        // Not every file system has hard links.
+        Err(_) => rename_to_free(rt, draft, path),
     }
 }
 
@@ -79,7 +92,7 @@ fn replaced() -> io::Error {
 }
 
 // Renames the file, where the new name is free.
-fn rename<R: Files>(rt: &R, draft: &str, path: &str) -> io::Result<()> {
+fn rename_to_free<R: Files>(rt: &R, draft: &str, path: &str) -> io::Result<()> {
     match fs::symlink_metadata(rt, path) {
         Ok(_) => Err(io::Error::from(ErrorKind::AlreadyExists)),
         Err(error) if error.kind() == ErrorKind::NotFound => fs::rename(rt, draft, path),

@@ -296,6 +296,56 @@ fn a_name_is_not_replaced(rt: HostRuntime) -> Result<(), Fail> {
     Ok(())
 }
 
+// Publishes these bytes by a shelf that goes on.
+fn put(shelf: &mut FolderShelf<'_, HostRuntime>, name: &str, bytes: &[u8]) -> Result<(), Failed> {
+    shelf.start_draft()?;
+    shelf.append(bytes)?;
+    shelf.sync_draft()?;
+    shelf.publish(name)?;
+    shelf.sync_folder()
+}
+
+// The shelf that put a cache reads the new one, wherever it has read the old one.
+#[test]
+fn a_cache_is_replaced(rt: HostRuntime) -> Result<(), Fail> {
+    let home = enter_home(&rt, "cache")?;
+    let mut shelf = FolderShelf::new(rt.alloc(), &rt, Sharing::Alone);
+    put(&mut shelf, "failing.set", b"older")?;
+    assert_eq!(rt; shelf.length("failing.set"), Ok(Some(5)));
+    put(&mut shelf, "failing.set", b"newer one")?;
+    assert_eq!(rt; shelf.length("failing.set"), Ok(Some(9)));
+    let mut part = [0u8; 4];
+    assert_eq!(rt; shelf.read_at("failing.set", 0, &mut part), Ok(4));
+    assert_eq!(rt; part, *b"newe");
+    assert!(rt; !is_there(&rt, ".testrepository/draft"));
+    assert_eq!(rt; put(&mut shelf, "0", b"run"), Ok(()));
+    assert_eq!(rt; put(&mut shelf, "0", b"other"), Err(Failed));
+    leave_home(&rt, &home)?;
+    Ok(())
+}
+
+// A link and a pipe give way, and what the link leads to does not change. A folder stays.
+#[test]
+fn a_cache_gets_its_name_whatever_file_has_it(rt: HostRuntime) -> Result<(), Fail> {
+    let home = enter_home(&rt, "strange-cache")?;
+    fs::write(&rt, "dotfile", "mine")?;
+    for text in ["ln -s ../dotfile", "mkfifo", "mkdir"] {
+        shell(
+            &rt,
+            format!(in rt.alloc();
+                "mkdir -p .testrepository; cd .testrepository; rm -rf times.set; {text} times.set"
+            )?.as_str(),
+        )?;
+        let is_put = publish_one(&rt, "times.set").is_ok();
+        assert_eq!(rt; is_put, text != "mkdir");
+        assert_eq!(rt; holds(&rt, ".testrepository/times.set", "first"), is_put);
+        assert!(rt; !is_there(&rt, ".testrepository/draft"));
+    }
+    assert!(rt; holds(&rt, "dotfile", "mine"));
+    leave_home(&rt, &home)?;
+    Ok(())
+}
+
 // Where the lock's file is removed, a second shelf may get a lock of its own. The first one publishes nothing then.
 #[test]
 fn a_removed_lock_is_no_lock(rt: HostRuntime) -> Result<(), Fail> {
