@@ -1,17 +1,19 @@
 #!/bin/sh
 # Tries the program where something outside is wrong: links, pipes and folders in place of files, closed descriptors, a
 # full disk, a limit on files, a file system without some call, modes, several users, a removed lock, two at once, killed
-# programs, a build that fails, the names of the program, and its installation. What cannot be tried here is skipped with a
-# word: some cases want to be run by root, some want `strace`.
+# programs, caches that are damaged or cannot be put, a build that fails, the names of the program, and its installation.
+# What cannot be tried here is skipped with a word: some cases want to be run by root, some want `strace`.
 # usage: bench/faults.sh [CASE..]: by default all cases.
 set -eu
 
 root=$(CDPATH='' cd -- "$(dirname -- "$0")/.." && pwd -P)
 . "$root/bench/prepare.sh"
 
+# A copy where other users may run it, too.
 chmod 755 "$work"
+cp "$program" "$work/program"
 PYTHONDONTWRITEBYTECODE=1 PYTHONPATH=$root/bench \
-    python3 - "$program" "$root/bin/testr" "$work" "$@" <<'PYTHON'
+    python3 - "$work/program" "$work" "$root/bin/testr" "$@" <<'PYTHON'
 import os
 import shutil
 import stat
@@ -20,44 +22,19 @@ import sys
 import threading
 import time
 
+import caches
 import streams
+from caches import Home, found
+from cases import (FOLDER_FAULT, LIMIT, PROGRAM, USAGE, WORK, at, bytes_of, case, check, check_refused, init, main, need,
+                   new_folder, run, wait_until)
 
-BUILT, LAUNCHER, WORK = sys.argv[1:4]
-# A copy where other users may run it, too.
-PROGRAM = shutil.copy(BUILT, os.path.join(WORK, "program"))
-LIMIT = 60
+LAUNCHER = sys.argv[3]
 NOBODY = 65534
 IS_ROOT = os.geteuid() == 0
 HAS_STRACE = shutil.which("strace") is not None
 FORMAT = b"subunit-store 1\n"
-USAGE = b"testr: wrong usage\n"
-FOLDER_FAULT = b"testr: fault of the repository folder\n"
 INPUT_FAULT = b"testr: fault reading standard input\n"
 OUTPUT_FAULT = b"testr: fault writing output\n"
-CASES = []
-
-
-class Wrong(Exception):
-    pass
-
-
-class Skipped(Exception):
-    pass
-
-
-def case(function):
-    CASES.append(function)
-    return function
-
-
-def check(holds, text):
-    if not holds:
-        raise Wrong(text)
-
-
-def need(holds, text):
-    if not holds:
-        raise Skipped(text)
 
 
 def stream(count):
@@ -67,19 +44,6 @@ def stream(count):
 def kept(count):
     """What is kept of that stream: each event in its shortest form, under the route 0."""
     return b"".join(streams.small(count, b"0"))
-
-
-def run(folder, *words, given=b"", before=(), program=None, limit=LIMIT, **how):
-    """The status, the output and the errors of `testr WORDS..` in this folder, behind the words `before`."""
-    command = [*before, *(program or [PROGRAM, "testr"]), *words]
-    how = {"stdout": subprocess.PIPE, "stderr": subprocess.PIPE, **how}
-    if "stdin" not in how:
-        how["input"] = given
-    try:
-        done = subprocess.run(command, cwd=folder, timeout=limit, **how)
-    except subprocess.TimeoutExpired:
-        raise Wrong(f"{' '.join(words)} hangs")
-    return done.returncode, done.stdout, done.stderr
 
 
 def start(folder, *words, before=(), **how):
@@ -95,51 +59,24 @@ def shell(folder, script, given=b"", **how):
     return done.returncode, done.stdout, done.stderr
 
 
-def new_folder(mode=0o755):
-    folder = os.path.join(WORK, f"home-{len(os.listdir(WORK))}")
-    os.mkdir(folder)
-    os.chmod(folder, mode)
-    return folder
-
-
 def new_repository(*counts):
     """A folder with a repository that has runs of so many events."""
     folder = new_folder()
-    check(run(folder, "init") == (0, b"", b""), "init fails")
+    init(folder)
     for count in counts:
         check(run(folder, "load", given=stream(count))[0] <= 1, "a load fails")
     return folder
 
 
-def at(folder, name):
-    return os.path.join(folder, ".testrepository", name)
-
-
-def bytes_at(folder, name):
-    with open(at(folder, name), "rb") as file:
-        return file.read()
-
-
 def check_runs(folder, *counts):
     """The runs have so many events, each is whole, and no draft is left."""
-    files = set(os.listdir(os.path.join(folder, ".testrepository"))) - {"lock"}
+    files = set(os.listdir(os.path.join(folder, ".testrepository"))) - {"lock", *caches.NAMES}
     wanted = {"format", *(str(place) for place in range(len(counts)))}
     check(files == wanted, f"the files are {sorted(files)}, not {sorted(wanted)}")
-    check(bytes_at(folder, "format") == FORMAT, "format is damaged")
+    check(bytes_of(folder, "format") == FORMAT, "format is damaged")
     for place, count in enumerate(counts):
-        check(bytes_at(folder, str(place)) == kept(count), f"run {place} is damaged")
+        check(bytes_of(folder, str(place)) == kept(count), f"run {place} is damaged")
     check(os.path.getsize(at(folder, "lock")) == 0, "the lock's file is not empty")
-
-
-def check_refused(done, line, *words):
-    """A fault: its line, and one line more that has its cause in these words."""
-    status, out, err = done
-    check((status, out or b"") == (4, b""), f"status {status}, output {out!r}, errors {err!r}")
-    lines = err.splitlines(True)
-    check(lines[:1] == [line], f"the line is {err!r}")
-    check(len(lines) == 2 and lines[1].startswith(b"testr: cause: "), f"the cause is {lines[1:]}")
-    for word in words:
-        check(word in lines[1], f"the cause is {lines[1]!r}, without {word!r}")
 
 
 def loads(folder, count, number, **how):
@@ -149,13 +86,6 @@ def loads(folder, count, number, **how):
 
 def mode_of(path):
     return stat.S_IMODE(os.stat(path).st_mode)
-
-
-def wait_until(holds, text):
-    end = time.monotonic() + LIMIT
-    while not holds():
-        check(time.monotonic() < end, text)
-        time.sleep(0.002)
 
 
 def slow_load(folder, given):
@@ -268,7 +198,11 @@ def run_is_a_link_to_nothing():
     os.symlink("/nonexistent", at(folder, "0"))
     for words in (["last"], ["last", "--subunit"], ["failing"], ["slowest"]):
         check_refused(run(folder, *words), FOLDER_FAULT, b"read .testrepository/0: ")
-    loads(folder, 2, 1)
+    # A load stores its run. Then the caches want the run that cannot be read.
+    done = run(folder, "load", given=stream(2))
+    check(bytes_of(folder, "1") == kept(2), "the new run is not stored")
+    if done[0] > 1:
+        check_refused(done, FOLDER_FAULT, b"read .testrepository/0: ")
 
 
 @case
@@ -350,8 +284,8 @@ def lock_is_removed():
 @case
 def lock_is_removed_again_and_again():
     """Some load one run after another, and the lock's file is removed all the while. Each run that was told as kept is
-    there, and no number was told twice."""
-    folder, end, told = new_repository(), time.monotonic() + 3, []
+    there, no number was told twice, and each other run is that of a load that was refused behind it, at the caches."""
+    folder, end, told, refused = new_repository(), time.monotonic() + 3, [], {}
 
     def load_on(first):
         count = first
@@ -360,6 +294,8 @@ def lock_is_removed_again_and_again():
             status, out, _ = run(folder, "load", given=stream(count))
             if status <= 1:
                 told.append((int(out.rsplit(b"id=", 1)[1].split(b",")[0].rstrip(b")\n")), count))
+            else:
+                refused[kept(count)] = count
 
     loaders = [threading.Thread(target=load_on, args=(2 * place,)) for place in range(6)]
     for loader in loaders:
@@ -370,10 +306,16 @@ def lock_is_removed_again_and_again():
         time.sleep(0.0005)
     for loader in loaders:
         loader.join()
-    told.sort()
-    check(told and [number for number, _ in told] == list(range(len(told))), "a number was told twice or not at all")
-    loads(folder, 2, len(told))
-    check_runs(folder, *(count for _, count in told), 2)
+    counts = dict(told)
+    check(told and len(counts) == len(told), "a number was told twice, or none at all")
+    number = 0
+    while os.path.exists(at(folder, str(number))):
+        counts.setdefault(number, refused.get(bytes_of(folder, str(number))))
+        check(counts[number] is not None, f"run {number} is no load's")
+        number += 1
+    check(number == len(counts), f"of {len(counts)} runs {number} are there")
+    loads(folder, 2, number)
+    check_runs(folder, *(counts[place] for place in range(number)), 2)
 
 
 @case
@@ -458,21 +400,30 @@ def folder_comes_later():
 
 # Disks and limits.
 
-@case
-def disk_is_full():
+def on_small_disk(size, do):
+    """Does this in a folder on a disk of this size."""
     need(IS_ROOT, "want of root")
     folder = new_folder()
-    mount = ["mount", "-t", "tmpfs", "-o", "size=1m,mode=755", "testr", folder]
+    mount = ["mount", "-t", "tmpfs", "-o", f"size={size},mode=755", "testr", folder]
     need(subprocess.run(mount, capture_output=True).returncode == 0, "want of a small tmpfs")
     try:
-        check(run(folder, "init")[0] == 0, "init fails")
-        loads(folder, 100, 0)
-        check_refused(run(folder, "load", given=stream(20_000)), FOLDER_FAULT, b".testrepository/draft: No space left")
-        check_runs(folder, 100)
-        loads(folder, 100, 1)
-        check_runs(folder, 100, 100)
+        do(folder)
     finally:
         subprocess.run(["umount", folder])
+
+
+def fill(folder):
+    init(folder)
+    loads(folder, 100, 0)
+    check_refused(run(folder, "load", given=stream(20_000)), FOLDER_FAULT, b".testrepository/draft: No space left")
+    check_runs(folder, 100)
+    loads(folder, 100, 1)
+    check_runs(folder, 100, 100)
+
+
+@case
+def disk_is_full():
+    on_small_disk("1m", fill)
 
 
 @case
@@ -488,12 +439,16 @@ def files_are_limited():
     loads(folder, 4, 1)
 
 
+def befalling(call, what, when=None):
+    """The words before the program, where this befalls the call of the system, or its call of that number alone."""
+    need(HAS_STRACE, "want of strace")
+    inject = f"inject={call}:{what}" + (f":when={when}" if when else "")
+    return ["strace", "-o", "/dev/null", "-e", f"trace={call}", "-e", inject]
+
+
 def with_error(call, error, folder, *words, given=b"", when=None):
     """Runs the program where this call of the system fails."""
-    need(HAS_STRACE, "want of strace")
-    inject = f"inject={call}:error={error}" + (f":when={when}" if when else "")
-    before = ["strace", "-o", "/dev/null", "-e", f"trace={call}", "-e", inject]
-    return run(folder, *words, given=given, before=before)
+    return run(folder, *words, given=given, before=befalling(call, f"error={error}", when))
 
 
 @case
@@ -548,22 +503,238 @@ def folder_cannot_be_listed():
     check_refused(run(folder, "stats", **user), FOLDER_FAULT, b"sync .testrepository: Permission denied")
 
 
+def protect(folder):
+    init(folder)
+    loads(folder, 2, 0)
+    need(subprocess.run(["mount", "-o", "remount,ro", folder], capture_output=True).returncode == 0,
+         "want of a read only tmpfs")
+    check(run(folder, "stats") == (0, b"runs=1\n", b""), "stats is refused")
+    check(run(folder, "failing") == (0, b"failures=0\n", b""), "failing is refused")
+    check_refused(run(folder, "load", given=stream(2)), FOLDER_FAULT, b"Read-only file system")
+    check_runs(folder, 2)
+
+
 @case
 def file_system_is_read_only():
+    on_small_disk("1m", protect)
+
+
+# Caches.
+
+def home_of(count, seed=1, folder=None):
+    """A repository with so many drawn runs and their caches."""
+    home = Home(seed, folder)
+    for _ in range(count):
+        home.load_well()
+    home.need_caches()
+    return home
+
+
+def put(home, name, bytes):
+    with open(at(home.folder, name), "wb") as file:
+        file.write(bytes)
+
+
+def damaged(cache, other):
+    """Files that are no cache, made of a cache and of that of the other kind."""
+    title, rest = cache.split(b"\n", 1)
+    yield from (b"", b"\0", b"garbage\n", title, title + b"\n", cache[:-1] if cache[-1:] == b"\0" else cache[:-3], other)
+    yield title.replace(b" 1", b" 2") + b"\n" + rest
+    for number in (b"", b"01", b"-1", b"1x", b"18446744073709551616", b"9" * 100):
+        yield title + b"\n" + number + b"\n" + rest.split(b"\n", 1)[1]
+    yield cache + b"z"
+    yield cache + b"\xff\0" + (b"1\0" if b"times" in title else b"")
+    # Out of order, and twice.
+    for ids in ((b"y", b"x"), (b"x", b"x")):
+        yield title + b"\n1\n" + b"".join(id + (b"\0" + b"1\0" if b"times" in title else b"\0") for id in ids)
+
+
+@case
+def cache_is_garbage():
+    home = home_of(4)
+    for name in caches.NAMES:
+        other = caches.NAMES[name == caches.NAMES[0]]
+        for bytes in list(damaged(home.moments[-1][name], home.moments[-1][other])) + [os.urandom(100_000)]:
+            put(home, name, bytes)
+            home.check_failing()
+            home.load_well()
+            home.check_failing()
+
+
+@case
+def cache_covers_more_runs_than_there_are():
+    home = home_of(4)
+    more = home_of(12, seed=2)
+    for _ in range(5):
+        for name, cache in found(more.folder).items():
+            put(home, name, cache)
+        home.check_failing()
+        home.load_well()
+        home.check_failing()
+
+
+@case
+def last_run_was_removed_by_hand():
+    """So the caches cover one run more than there are, and after the next load as many."""
+    for seed in range(10):
+        home = home_of(5, seed)
+        home.remove_last()
+        home.check_failing()
+        home.load_well()
+        home.check_failing()
+
+
+@case
+def cache_is_another_folders():
+    """It cannot be told from an own one. No run is harmed, and without it all is right again."""
+    home, other = home_of(8), home_of(4, seed=2)
+    for _ in range(5):
+        for name, cache in found(other.folder).items():
+            put(home, name, cache)
+        check(run(home.folder, "failing")[0] <= 1, "failing fails")
+        check(home.load()[0] <= 1, "a load fails")
+        home.check_runs()
+        caches.remove(home.folder)
+        home.check_failing()
+        home.load_well()
+
+
+def strangers():
+    return (("a folder", os.mkdir), ("a pipe", os.mkfifo),
+            ("a link to nothing", lambda path: os.symlink("/nonexistent", path)))
+
+
+@case
+def cache_is_no_file():
+    """Where it is looked at or cannot be put, the load has stored its run, and fails. Else it gives way."""
+    for name in caches.NAMES:
+        for text, make in strangers():
+            for is_partial in (True, False):
+                home = home_of(3)
+                os.remove(at(home.folder, name))
+                make(at(home.folder, name))
+                if name == "failing.set":
+                    check_refused(run(home.folder, "failing", limit=10), FOLDER_FAULT, b"read .testrepository/failing.set: ")
+                else:
+                    home.check_failing()
+                found_then = home.load(is_partial, limit=10)
+                home.check_runs()
+                if found_then[0] > 1:
+                    check_refused(found_then, FOLDER_FAULT, b".testrepository/%s: " % name.encode())
+                    os.rmdir(at(home.folder, name)) if text == "a folder" else os.remove(at(home.folder, name))
+                    home.load_well()
+                home.check_caches()
+                home.check_failing()
+
+
+@case
+def cache_is_a_link_to_a_file():
+    """It is read, and then gives way to a file. What it led to stays as it was."""
+    home = home_of(3)
+    for name in caches.NAMES:
+        for is_partial in (True, False):
+            moved = os.path.join(home.folder, "moved")
+            os.rename(at(home.folder, name), moved)
+            os.symlink("../moved", at(home.folder, name))
+            home.check_failing()
+            home.load_well(is_partial=is_partial)
+            home.check_failing()
+            check(not os.path.islink(at(home.folder, name)), f"{name} is a link still")
+            with open(moved, "rb") as file:
+                check(file.read() == home.moments[-2][name], "what the link led to has changed")
+
+
+@case
+def cache_cannot_be_read():
     need(IS_ROOT, "want of root")
-    folder = new_folder()
-    mount = ["mount", "-t", "tmpfs", "-o", "size=1m,mode=755", "testr", folder]
-    need(subprocess.run(mount, capture_output=True).returncode == 0, "want of a small tmpfs")
-    try:
-        check(run(folder, "init")[0] == 0, "init fails")
-        loads(folder, 2, 0)
-        need(subprocess.run(["mount", "-o", "remount,ro", folder], capture_output=True).returncode == 0,
-             "want of a read only tmpfs")
-        check(run(folder, "stats") == (0, b"runs=1\n", b""), "stats is refused")
-        check_refused(run(folder, "load", given=stream(2)), FOLDER_FAULT, b"Read-only file system")
-        check_runs(folder, 2)
-    finally:
-        subprocess.run(["umount", folder])
+    user = {"user": NOBODY, "group": NOBODY, "extra_groups": ()}
+    for name in caches.NAMES:
+        home = home_of(3)
+        os.chmod(at(home.folder, name), 0)
+        for path in (home.folder, os.path.join(home.folder, ".testrepository")):
+            os.chown(path, NOBODY, NOBODY)
+        for entry in os.listdir(os.path.join(home.folder, ".testrepository")):
+            os.chown(at(home.folder, entry), NOBODY, NOBODY)
+        if name == "failing.set":
+            check_refused(run(home.folder, "failing", **user), FOLDER_FAULT, b"failing.set: Permission denied")
+        check_refused(home.load(True, **user), FOLDER_FAULT, b"read .testrepository/%s: Permission denied" % name.encode())
+        home.check_runs()
+        os.remove(at(home.folder, name))
+        home.load_well(**user)
+        home.check_failing()
+
+
+def big_first(home):
+    """Loads a run of 2000 tests, so that the cache of the times is large, and each next run is small."""
+    home.load_well(is_partial=False, pair=(stream(4000), kept(4000)))
+    home.need_caches()
+
+
+def after_fault(home):
+    """The run is stored, the caches are right as far as they are there, and the next load puts them right."""
+    home.check_runs()
+    home.check_sound()
+    home.check_failing()
+
+
+def fill_with_a_cache(folder):
+    home = Home(3, folder)
+    big_first(home)
+    disk = os.statvfs(folder)
+    with open(os.path.join(folder, "filler"), "wb") as file:
+        file.write(bytes(disk.f_bavail * disk.f_frsize - 80_000))
+    check_refused(home.load(True), FOLDER_FAULT, b"write .testrepository/draft: No space left")
+    after_fault(home)
+    os.remove(os.path.join(folder, "filler"))
+    home.load_well()
+    home.check_failing()
+
+
+@case
+def disk_is_full_of_a_cache():
+    on_small_disk("2m", fill_with_a_cache)
+
+
+@case
+def files_are_limited_and_a_cache_is_larger():
+    home = Home(3)
+    big_first(home)
+    limited = ["sh", "-c", f"ulimit -f 64; exec '{LAUNCHER}' \"$@\"", "sh"]
+    check_refused(home.load(True, program=limited), FOLDER_FAULT, b"write .testrepository/draft: File too large")
+    after_fault(home)
+    home.load_well()
+
+
+@case
+def caches_cannot_be_synced_or_named():
+    """The first four syncs of a load are those of its run."""
+    for call, whens in (("fsync", range(5, 9)), ("rename,renameat,renameat2", range(1, 3))):
+        for when in whens:
+            for is_partial in (True, False):
+                home = home_of(2)
+                before = befalling(call, "error=EIO", when)
+                check_refused(home.load(is_partial, before=before), FOLDER_FAULT, b"Input/output error")
+                after_fault(home)
+                home.load_well()
+                home.check_failing()
+
+
+@case
+def a_load_is_killed_at_each_step():
+    """The program is killed where it syncs a file or the folder, and where it gives a file its name."""
+    for call, count in (("fsync", 8), ("link,linkat", 1), ("unlink,unlinkat", 1), ("rename,renameat,renameat2", 2)):
+        for when in range(1, count + 1):
+            home = home_of(2)
+            pair, is_partial = caches.drawn(home.chance), bool(when % 2)
+            name = home.next_name(is_partial)
+            words = ["load", "--partial"] if is_partial else ["load"]
+            run(home.folder, *words, given=pair[0], before=befalling(call, "signal=KILL", when))
+            if os.path.exists(at(home.folder, name)):
+                home.took(pair[1], is_partial)
+            home.check_sound()
+            home.check_failing()
+            home.load_well()
+            home.check_failing()
 
 
 # Modes and users.
@@ -576,7 +747,7 @@ def modes_follow_the_umask():
         loads(folder, 2, 0, umask=umask)
         home = os.path.join(folder, ".testrepository")
         check(mode_of(home) == 0o777 & ~umask, f"the folder's mode is {mode_of(home):o} under {umask:o}")
-        for name in ("format", "0", "lock"):
+        for name in ("format", "0", "lock", *found(folder)):
             check(mode_of(at(folder, name)) == 0o666 & ~umask, f"{name} is {mode_of(at(folder, name)):o} under {umask:o}")
 
 
@@ -646,7 +817,7 @@ def the_writer_is_killed():
     writer.wait(LIMIT)
     out, _ = load.communicate(timeout=LIMIT)
     check(load.returncode <= 1 and b"id=0" in out, "the load fails")
-    check(bytes_at(folder, "0").startswith(kept(4)), "what came is not kept")
+    check(bytes_of(folder, "0").startswith(kept(4)), "what came is not kept")
 
 
 @case
@@ -766,25 +937,5 @@ def an_install_is_refused():
     check(os.listdir(prefix) == ["bin"], "a refused install leaves folders")
 
 
-def main(*names):
-    counts = {"ok": 0, "wrong": 0, "skipped": 0}
-    for function in CASES:
-        name = function.__name__
-        if names and name not in names:
-            continue
-        try:
-            function()
-            counts["ok"] += 1
-            print(f"ok       {name}", flush=True)
-        except Skipped as why:
-            counts["skipped"] += 1
-            print(f"skipped  {name}: {why}", flush=True)
-        except Wrong as why:
-            counts["wrong"] += 1
-            print(f"WRONG    {name}: {why}", flush=True)
-    print("faults: {ok} cases as they must be, {wrong} wrong, {skipped} skipped".format(**counts))
-    sys.exit(1 if counts["wrong"] or not counts["ok"] else 0)
-
-
-main(*sys.argv[4:])
+main("faults", *sys.argv[4:])
 PYTHON

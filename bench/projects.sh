@@ -1,7 +1,7 @@
 #!/bin/sh
 # Tries `testr` in a small project, whose tests are a shell script that prints recorded packets: it is listed, run by one
 # worker and by several, loaded from files, and its worker fails, is killed, prints much, or goes its own way. A case of
-# a command that the program does not have yet is left out with a word.
+# a command that the program does not have yet is skipped with a word.
 # usage: bench/projects.sh [CASE..]: by default all cases. The variable MEBIBYTES says how much the worker prints that
 # prints much: 1024, unless it is set, and so much room is needed on the disk.
 set -eu
@@ -19,8 +19,9 @@ import sys
 import time
 
 import streams
-from project import (CONF, LIMIT, LISTS, PROGRAM, WORKER, bytes_of, case, check, check_answer, check_clean, kept, main, need,
-                     packet, project, report, run, write)
+from caches import Home, Said, found, remove
+from cases import LIMIT, PROGRAM, bytes_of, case, check, main, need, need_command, run, write
+from project import CONF, LISTS, WORKER, check_answer, check_clean, kept, packet, project, report
 from streams import RUNNABLE, SUCCESS, event, text
 
 MUCH = int(os.environ["MEBIBYTES"]) << 20
@@ -44,7 +45,7 @@ def what_a_worker_printed_is_loaded():
 
 @case
 def two_files_are_loaded():
-    need("load", "x")
+    need_command("load", "x")
     folder = project()
     both = report([(b"c", b"")], 2, 0)
     check_answer(run(folder, "load", "packets/a", "packets/c"), 1, both, "load of two files")
@@ -55,7 +56,7 @@ def two_files_are_loaded():
 
 @case
 def a_pipe_is_loaded_by_its_name():
-    need("load", "x")
+    need_command("load", "x")
     folder = project()
     check_answer(run(folder, "load", "/dev/stdin", given=packet(b"a", SUCCESS)), 0, report([], 1, 0), "load of a pipe")
     check(bytes_of(folder, "0") == kept([b"a"]), "the run of a pipe is wrong")
@@ -63,7 +64,7 @@ def a_pipe_is_loaded_by_its_name():
 
 @case
 def a_missing_file_is_refused():
-    need("load", "x")
+    need_command("load", "x")
     folder = project()
     check_answer(run(folder, "load", "packets/a", "missing"), 3, b"", "load of a missing file", b"testr: no file missing\n")
     check(not os.path.exists(os.path.join(folder, ".testrepository", "0")), "a refused load has a run")
@@ -72,7 +73,7 @@ def a_missing_file_is_refused():
 
 @case
 def a_folder_is_a_fault():
-    need("load", "x")
+    need_command("load", "x")
     folder = project()
     status, out, err = run(folder, "load", "packets")
     check((status, out) == (4, b"") and err.startswith(b"testr: fault reading a file\n"), f"load of a folder: {status}, {err}")
@@ -84,7 +85,7 @@ def a_folder_is_a_fault():
 
 @case
 def tests_are_listed():
-    need("list-tests")
+    need_command("list-tests")
     folder = project()
     check_answer(run(folder, "list-tests"), 0, b"a\nb\nc\n", "list-tests")
     check_answer(run(folder, "list-tests", "^[bc]"), 0, b"b\nc\n", "list-tests with a pattern")
@@ -94,7 +95,7 @@ def tests_are_listed():
 
 @case
 def a_listing_that_fails_is_refused():
-    need("list-tests")
+    need_command("list-tests")
     folder = project(worker="#!/bin/sh\nexit 7\n")
     check_answer(run(folder, "list-tests"), 3, b"", "list-tests", b"testr: listing ended with 7\n")
     folder = project(conf="[DEFAULT]\ntest_command=./worker\n")
@@ -105,7 +106,7 @@ def a_listing_that_fails_is_refused():
 
 @case
 def all_is_run():
-    need("run")
+    need_command("run")
     folder = project()
     check_answer(run(folder, "run"), 1, report([(b"c", b"")], 3, 0), "run")
     check(bytes_of(folder, "0") == kept([b"a", b"b", b"c"]), "the run is wrong")
@@ -116,7 +117,7 @@ def all_is_run():
 
 @case
 def some_are_run():
-    need("run")
+    need_command("run")
     folder = project()
     run(folder, "run")
     check_answer(run(folder, "run", "--failing"), 1, report([(b"c", b"")], 1, 1), "run --failing")
@@ -130,7 +131,7 @@ def some_are_run():
 
 @case
 def several_workers_run():
-    need("run")
+    need_command("run")
     folder = project()
     check_answer(run(folder, "run", "--parallel", "--concurrency=2"), 1, report([(b"c", b"")], 3, 0), "run --parallel")
     # Without known times the first share has a and c, and the second b. The second may come at any place.
@@ -143,7 +144,7 @@ def several_workers_run():
 
 @case
 def a_project_without_settings_is_refused():
-    need("run")
+    need_command("run")
     folder = project()
     os.remove(os.path.join(folder, ".testr.conf"))
     check_answer(run(folder, "run"), 3, b"", "run", b"testr: no .testr.conf\n")
@@ -159,14 +160,14 @@ def run_of(script, total, failed, status, number=0):
 
 @case
 def a_worker_fails():
-    need("run")
+    need_command("run")
     run_of("cat packets/a; exit 3\n", 2, [(b"process-returncode", b"returncode 3\n")], 1)
     run_of("exec ./no-such-program 2>/dev/null\n", 1, [(b"process-returncode", b"returncode 127\n")], 1)
 
 
 @case
 def a_worker_is_killed():
-    need("run")
+    need_command("run")
     folder = project(worker="#!/bin/sh\ncat packets/a\nkill -9 $$\n", conf=CONF.replace("./worker", "exec ./worker"))
     check_answer(run(folder, "run"), 1, report([(b"process-returncode", b"returncode -9\n")], 2, 0), "run")
     check_clean(folder)
@@ -174,7 +175,7 @@ def a_worker_is_killed():
 
 @case
 def a_worker_goes_its_own_way():
-    need("run")
+    need_command("run")
     # It has no input, and what it says on its errors is passed on.
     folder = project(worker=f"#!/bin/sh\n{LISTS}cat\necho a word >&2\ncat packets/a packets/b\n")
     check_answer(run(folder, "run", given=b"not for it"), 0, report([], 2, 0), "run", b"a word\n")
@@ -187,7 +188,7 @@ def a_worker_goes_its_own_way():
 
 @case
 def a_worker_prints_much():
-    need("run")
+    need_command("run")
     folder = project(worker=f"#!/bin/sh\nexec head -c {MUCH} /dev/zero\n")
     said = os.path.join(folder, "memory")
     before = [TIME, "-f", "%M", "-o", said] if os.access(TIME, os.X_OK) else []
@@ -205,7 +206,7 @@ def a_worker_prints_much():
 
 @case
 def a_planned_file_of_ids_is_not_written():
-    need("run")
+    need_command("run")
     folder = project()
     write(folder, "precious", b"mine")
     for make in (lambda path: os.symlink("precious", path), os.mkfifo, lambda path: write(folder, path, b"old\n")):
@@ -220,7 +221,7 @@ def a_planned_file_of_ids_is_not_written():
 @case
 def ends_are_not_told():
     """Where the caller ignores SIGCHLD, the system forgets how a child has ended, and the wait fails."""
-    need("run")
+    need_command("run")
     folder = project(conf="[DEFAULT]\ntest_command=exec cat packets/a\n")
     found = run(folder, "run", preexec_fn=lambda: signal.signal(signal.SIGCHLD, signal.SIG_IGN))
     check_answer(found, 1, report([(b"process-returncode", b"read fault\n")], 2, 0), "run")
@@ -228,7 +229,7 @@ def ends_are_not_told():
 
 @case
 def the_program_is_killed():
-    need("run")
+    need_command("run")
     folder = project(worker=f"#!/bin/sh\n{LISTS}cat packets/a\ntouch begun\nexec sleep 2\n")
     child = subprocess.Popen([PROGRAM, "testr", "run", "a"], cwd=folder, stdout=subprocess.DEVNULL)
     until = time.monotonic() + LIMIT
@@ -239,6 +240,60 @@ def the_program_is_killed():
     write(folder, "worker", WORKER.encode())
     check_answer(run(folder, "run", "a"), 0, report([], 1, 0), "the next run")
     check_clean(folder)
+
+
+# The caches.
+
+@case
+def caches_hold_what_the_runs_say():
+    home = Home(7)
+    for _ in range(60):
+        home.load_well()
+        home.need_caches()
+        home.check_failing()
+
+
+@case
+def caches_that_were_removed_come_back():
+    """As those of a repository that an older program made."""
+    home = Home(8)
+    for gone in (("failing.set",), ("times.set",), ("failing.set", "times.set")):
+        for _ in range(5):
+            home.load_well()
+            home.need_caches()
+        for name in gone:
+            os.remove(os.path.join(home.folder, ".testrepository", name))
+        home.check_failing()
+        home.load_well()
+        home.check_failing()
+
+
+@case
+def caches_are_put_by_run_and_by_files():
+    folder, said = project(), Said()
+    steps = (("run",), ("load", "packets/a", "packets/c"), ("run", "--failing"), ("run", "--parallel", "--concurrency=2"),
+             ("load", "--partial", "packets/b", "packets/a"), ("run", "c"))
+    for number, words in enumerate(steps):
+        status, _, err = run(folder, *words)
+        check(status <= 1 and err == b"", f"{words} answers {status}, {err}")
+        is_partial = os.path.exists(os.path.join(folder, ".testrepository", f"{number}.part"))
+        said.take(bytes_of(folder, f"{number}.part" if is_partial else f"{number}"), is_partial)
+        need(found(folder), "the program puts no caches yet")
+        check(found(folder) == said.caches(), f"behind {words} the caches are {found(folder)}")
+        check(run(folder, "failing", "--list") == (*said.listed(), b""), f"behind {words} failing is wrong")
+    check_clean(folder)
+
+
+@case
+def questions_put_no_caches():
+    home = Home(9)
+    for _ in range(5):
+        home.load_well()
+    home.need_caches()
+    remove(home.folder)
+    for words in (("failing",), ("last",), ("slowest",), ("stats",)):
+        check(run(home.folder, *words)[0] <= 1 and not found(home.folder), f"{words} fails or puts a cache")
+    home.check_failing()
 
 
 main("projects", *sys.argv[3:])

@@ -1,7 +1,8 @@
 #!/bin/sh
 # How long `testr run` takes beside what it is made of: one worker that prints a stream beside `testr load` of the stream;
 # four workers that print a quarter each, side by side, beside that load and beside a `cat` of the four; 100,000 listed
-# tests shared among 64 workers; how even the shares of 10,000 tests with known times are; and the start to a line of usage.
+# tests shared among 64 workers; how even the shares of 10,000 tests with known times are; `failing` and `load` where there
+# are 100 and 10,000 small runs, with the caches and without; and the start to a line of usage.
 # usage: bench/runs.sh [RUNS [PERCENT]]: by default each is run 3 times, at most 20, on 100 percent of the size, at most 1000.
 # Times are in milliseconds: user and system time, of the workers too, and by the clock.
 set -eu
@@ -20,9 +21,12 @@ import sys
 import time
 
 import streams
+from caches import Said, found, remove
 
 PROGRAM, WORK = sys.argv[1:3]
 EVENTS, LISTED, TIMED = 1_000_000, 100_000, 10_000
+# How many runs there are beside the caches, and how many tests ran in each.
+SMALL_RUNS, STEPS = (100, 10_000), 10
 EXISTS, IN_PROGRESS, SUCCESS = 1, 2, 3
 LIMIT = 600
 OF_TEST = streams.ID | streams.RUNNABLE
@@ -154,8 +158,49 @@ def shares():
               f"the total divided by the workers {sum(took) / workers:.0f} ms")
 
 
+def small_run(number):
+    """What is kept of some tests, most of which ran before. Each takes a second or less, and now and then one fails."""
+    kept = []
+    for place in range(STEPS):
+        test = (number * 7 + place) % 500
+        status = streams.FAIL if (number + place) % 37 == 0 else SUCCESS
+        for moment, ended in ((2 * place, IN_PROGRESS), (2 * place + number % 50, status)):
+            body = streams.time(moment) + streams.text(streams.test_id(test))
+            kept.append(streams.event(streams.TIME | OF_TEST | ended, body, b"0"))
+    return b"".join(kept)
+
+
+def beside_caches(count):
+    """The first run is full and all others are partial, so that without a cache each of them is read."""
+    folder, said = project(""), Said()
+    for number in range(count):
+        kept = small_run(number)
+        write(os.path.join(folder, ".testrepository"), f"{number}.part" if number else "0", kept)
+        said.take(kept, number > 0)
+    given = os.path.join(WORK, "small-run")
+    write(WORK, "small-run", small_run(count))
+    failing, load = ([PROGRAM, "testr", *words] for words in (["failing", "--list"], ["load", "--partial"]))
+    asked = best(lambda: spent(failing, folder))
+    if asked[2] != said.listed()[1]:
+        sys.exit("runs: failing is wrong")
+    tell(f"failing of {count} small runs, without caches", asked)
+
+    def anew():
+        remove(folder)
+        return spent(load, folder, given)
+
+    tell("load beside them, without caches", best(anew))
+    if not found(folder):
+        print("the program puts no caches yet")
+        return
+    tell(f"failing of {count} small runs, with caches", best(lambda: spent(failing, folder)))
+    tell("load beside them, with caches", best(lambda: spent(load, folder, given)))
+
+
 streams_beside()
 many_listed()
 shares()
+for runs in SMALL_RUNS:
+    beside_caches(max(1, runs * PERCENT // 100))
 tell("a line of usage", best(lambda: spent(["sh", "-c", f'"{PROGRAM}" testr 2>/dev/null || true'], WORK)))
 PYTHON

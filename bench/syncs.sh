@@ -17,6 +17,7 @@ import re
 import subprocess
 import sys
 
+import caches
 import streams
 
 LIMIT = 120
@@ -29,7 +30,8 @@ PATH = re.compile(r'"([^"]*)"|\d+<([^>]*)>')
 INIT = ["mkdir .testrepository", "make lock", "flock lock", "make draft", "write draft", "sync draft",
         "link draft format", "unlink draft", "sync .testrepository", "sync ."]
 LOAD = ["flock lock", "sync .testrepository", "sync .", "make draft", "write draft", "sync draft",
-        "link draft NUMBER", "unlink draft", "sync .testrepository", "write output"]
+        "link draft NUMBER", "unlink draft", "sync .testrepository"]
+CACHE = ["make draft", "write draft", "sync draft", "rename draft NAME", "sync .testrepository"]
 ASK = ["share lock", "sync .testrepository", "sync .", "write output"]
 
 
@@ -83,8 +85,12 @@ def main(program, work):
     os.mkdir(folder)
     compare(steps_of(program, folder, ["init"]), INIT, "init")
     for words, count, name in ((["load"], 2, "0"), (["load"], 4000, "1"), (["load", "--partial"], 2, "2.part")):
+        found = steps_of(program, folder, words, b"".join(streams.small(count)))
         wanted = [step.replace("NUMBER", name) for step in LOAD]
-        compare(steps_of(program, folder, words, b"".join(streams.small(count))), wanted, " ".join(words))
+        # Some programs put no caches.
+        for cache in caches.found(folder):
+            wanted += [step.replace("NAME", cache) for step in CACHE]
+        compare(found, [*wanted, "write output"], " ".join(words))
     for words in (["last"], ["failing"], ["stats"]):
         compare(steps_of(program, folder, words), ASK, " ".join(words))
     print("syncs: init, load and the questions make, write, sync and name their files in the right order")

@@ -12,6 +12,7 @@ import os
 import subprocess
 import sys
 
+import caches
 import streams
 
 LIMIT, AT_ONCE = 120, 8
@@ -46,11 +47,16 @@ def check_files(folder, sizes):
     home = os.path.join(folder, ".testrepository")
     wanted = {str(place): b"".join(streams.small(count, b"0")) for place, count in enumerate(sizes)}
     wanted["format"] = FORMAT
-    names = set(os.listdir(home)) - {"lock", "draft"}
+    names = set(os.listdir(home)) - {"lock", "draft", *caches.NAMES}
     check(names == set(wanted), f"the files are {sorted(names)}")
     for name, bytes in wanted.items():
         with open(os.path.join(home, name), "rb") as file:
             check(file.read() == bytes, f"{name} is damaged")
+    said = caches.Said()
+    for place in range(len(sizes)):
+        said.take(wanted[str(place)])
+    # Some programs put no caches.
+    check(caches.found(folder) in ({}, said.caches()), "the caches are wrong")
 
 
 def one_waits(program, folder):

@@ -22,8 +22,8 @@ import sys
 import time
 
 import streams
-from project import (LIMIT, PROGRAM, bytes_of, case, check, check_answer, check_clean, main, packet, project, report, run,
-                     write)
+from cases import LIMIT, PROGRAM, bytes_of, case, check, main, run, write
+from project import check_answer, check_clean, packet, project, report
 from streams import FAIL, ID, RUNNABLE, SUCCESS, TIME, event, text
 
 MUCH = int(os.environ["MEBIBYTES"]) << 20
