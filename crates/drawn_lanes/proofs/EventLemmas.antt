@@ -88,7 +88,7 @@ id_length lane test small few = omega (
   length-decimal-le 6 test (omega arith) (omega (arith, few)) (omega (arith, few)),
 )
 
-id_is_text : (lane test : ℕ) → lane < 64 → test < 1000000 → IsShortText (test_id lane test)
+pub id_is_text : (lane test : ℕ) → lane < 64 → test < 1000000 → IsShortText (test_id lane test)
 id_is_text lane test small few = record { text = plain_text (test_id lane test) (plain_id lane test small few); short = omega (arith, id_length lane test small few) }
 
 -- ---- and they have packets

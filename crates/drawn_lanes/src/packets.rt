@@ -82,6 +82,8 @@ fn stamp(test: u32, nanos: u32) -> Stamp
 }
 
 fn test_id(lane: u32, test: u32, spare: &mut Vec<u8>) -> Result<Text, NoMemory>
+    requires lane { lane < 64 }
+    requires test { test < 1_000_000 }
     ensures { IfOk result (λ id. id ≡ id_of lane test) }
 {
     let mut digits = Buffer::new();
@@ -90,7 +92,7 @@ fn test_id(lane: u32, test: u32, spare: &mut Vec<u8>) -> Result<Text, NoMemory>
     spare.extend_from_slice(digits.format(lane).as_bytes())?;
     spare.extend_from_slice(b".test.")?;
     spare.extend_from_slice(digits.format(test).as_bytes())?;
-    Text::new(*spare.allocator(), spare).map_err(|_| NoMemory)
+    Text::from_tested(*spare.allocator(), spare)
 }
 
 fn status(number: u32) -> Status

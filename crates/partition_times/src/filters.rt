@@ -182,7 +182,7 @@ pub fn pick(alloc: Global, ids: &IdList, filters: &Filters) -> Result<IdList, No
     let mut picked = IdList::new(alloc);
     for id in ids.list() {
         if is_picked(&mut matchers, id) {
-            picked.push(id.copy()?).map_err(|_| NoMemory)?;
+            picked.push(id.copy()?)?;
         }
     }
     Ok(picked)

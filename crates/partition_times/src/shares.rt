@@ -110,7 +110,7 @@ fn append(list: &mut IdList, ids: Vec<Text>) -> Result<(), NoMemory>
     ensures { OnOk result (list.new ≡ list.old ++ ids.items) }
 {
     for id in ids {
-        list.push(id).map_err(|_| NoMemory)?;
+        list.push(id)?;
     }
     Ok(())
 }

@@ -1,13 +1,15 @@
 -- Bytes that are ASCII without NUL: many in one step, and that they are a text.
-use Rattle.std.proofs.Common.{◌≡◌, ℕ, ◌+◌, ◌-◌, ◌%◌, ◌^◌, ◌<◌, ◌≤◌, List, Bool, false, cond, leb, length, get_or, map, replicate, Fits, w8, IsTrue, All, inl, inr, ◌∙◌, ap, arith}
-use Rattle.std.specs.Prelude.{not, nat_eq}
+use Rattle.std.proofs.Common.{◌≡◌, ℕ, ◌+◌, ◌-◌, ◌%◌, ◌^◌, ◌<◌, ◌≤◌, List, [], ◌∷◌, Bool, true, false, cond, leb, length, get_or, map, replicate, Fits, w8, IsTrue, All, inl, inr, ◌∙◌, ap, arith}
+use Rattle.std.specs.Prelude.{not, nat_eq, nat_lt, ◌&&◌}
+use Rattle.std.specs.List.{list_all}
 use Rattle.std.specs.Simd.Lanes.{zip2, mask_l, top, chunk}
-use Rattle.std.proofs.lemmas.Bool.{cases_lt, leb-false}
+use Rattle.std.proofs.lemmas.Bool.{cases_lt, leb-false, ltb-true, and_parts}
 use Rattle.std.proofs.lemmas.Bool.Decides.{nat_tests}
 use Rattle.std.proofs.lemmas.List.{length-map, get_or_past}
+use Rattle.std.proofs.lemmas.List.Elements.{All-cons, All-nil}
 use Rattle.std.proofs.lemmas.Simd.{length-chunk, map-map, mask_l-mod, none_from_empty_mask, tops_compared, zip2_splat, zip2_splat_left}
 use Rattle.std.proofs.lemmas.Str.{IsUtf8-from_ascii}
-use Rattle.sub_number.specs.Texts.{IsPlain, ArePlain, IsText}
+use Rattle.sub_number.specs.Texts.{IsPlain, ArePlain, IsText, IsShortText}
 
 -- a byte less one, where NUL becomes the highest
 abbrev lowered : ℕ → ℕ
@@ -49,3 +51,16 @@ text_from_plain bytes plain = record {
   ]);
   no_nul = λ k d below nul. omega (arith, (plain k d below).0, nul);
 }
+
+are_plain : (bytes : List ℕ) → list_all (λ byte. nat_lt 0 byte && nat_lt byte 128) bytes ≡ true → All IsPlain bytes
+are_plain [] all = All-nil IsPlain
+are_plain (byte ∷ bytes) all =
+    let parts = and_parts (nat_lt 0 byte && nat_lt byte 128) (list_all (λ b. nat_lt 0 b && nat_lt b 128) bytes) all in
+    let both = and_parts (nat_lt 0 byte) (nat_lt byte 128) parts.0 in
+    All-cons IsPlain byte bytes (omega (arith, ltb-true 0 byte both.0), ltb-true byte 128 both.1) (are_plain bytes parts.1)
+
+-- a text that is written out in the code: the test computes
+pub written_text : (bytes : List ℕ) → (list_all (λ byte. nat_lt 0 byte && nat_lt byte 128) bytes && nat_lt (length bytes) (2 ^ 30)) ≡ true → IsShortText bytes
+written_text bytes tested =
+    let parts = and_parts (list_all (λ byte. nat_lt 0 byte && nat_lt byte 128) bytes) (nat_lt (length bytes) (2 ^ 30)) tested in
+    record { text = text_from_plain bytes (are_plain bytes parts.0); short = ltb-true (length bytes) (2 ^ 30) parts.1 }

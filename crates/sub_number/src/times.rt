@@ -80,7 +80,7 @@ impl TimeMap {
     {
         let mut ids = IdList::new(alloc);
         for id in self.times.keys() {
-            ids.push(id.copy()?).map_err(|_| NoMemory)?;
+            ids.push(id.copy()?)?;
         }
         Ok(ids)
     }

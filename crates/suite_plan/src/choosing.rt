@@ -30,7 +30,7 @@ fn those_in(alloc: Global, ids: &IdList, known: &TextSet) -> Result<IdList, NoMe
     let mut both = IdList::new(alloc);
     for id in ids.list() {
         if known.contains(id) {
-            both.push(id.copy()?).map_err(|_| NoMemory)?;
+            both.push(id.copy()?)?;
         }
     }
     Ok(both)
