@@ -1,21 +1,19 @@
 -- A packet that stands at the front of some bytes is as long as the header tells that was read there.
-use Rattle.std.proofs.Common.{◌≡◌, ℕ, ◌≤◌, ◌<◌, List, ◌++◌, length, take, drop, Result, IfOk, sym, ap, ◌∙◌, append_assoc, subst, arith}
+use Rattle.std.proofs.Common.{◌≡◌, ℕ, ◌≤◌, ◌<◌, List, ◌++◌, length, take, drop, sym, ap, ◌∙◌, append_assoc, subst, arith}
 use Rattle.std.specs.Int.{w32, to_be_bytes}
-use Rattle.std.proofs.lemmas.List.{take_at, take-take, take-append-drop, length-append, length-take-le}
+use Rattle.std.proofs.lemmas.List.{take_at, take-append-drop, length-append, length-take-le}
 use Rattle.sub_number.specs.Checksum.{crc32}
-use Rattle.sub_number.proofs.NumberLemmas.{AreBytes, are_bytes_take}
+use Rattle.sub_number.proofs.NumberLemmas.{AreBytes}
 use Rattle.packet_codec.specs.declared.event.Event.{Event}
 use Rattle.packet_codec.specs.declared.header.Header.{Header}
 use Rattle.packet_codec.specs.Flags.{first_flags, second_flags}
 use Rattle.packet_codec.specs.Packet.{SpellsEvent, IsPacket}
 use Rattle.packet_codec.specs.Grammar.{Found, NotFound}
-use Rattle.packet_codec.specs.Canonical.{Fits}
 use Rattle.packet_codec.specs.Header.{BeginsWithPacket}
-use Rattle.packet_codec.specs.Shapes.{HeaderShape, HeaderStands, FieldShapes, Contents, contents_of, event_from, fields_at}
+use Rattle.packet_codec.specs.Shapes.{HeaderShape, HeaderStands}
 use Rattle.packet_codec.proofs.GrammarLemmas.{found_same}
 use Rattle.packet_codec.proofs.HeaderLemmas.{header_free}
-use Rattle.packet_codec.proofs.PacketLemmas.{decoded, decoded_spelled, header_found, room_of, spelled_header, told_at}
-use Rattle.packet_codec.proofs.LeastLemmas.{spelled_fit}
+use Rattle.packet_codec.proofs.PacketLemmas.{header_found, room_of, spelled_header}
 
 -- where a packet stands, it is one of some event, with some bytes behind it
 pub packet_there : (p : List ℕ) (size : ℕ) → BeginsWithPacket p size → (event : Event) × (behind : List ℕ) × Found SpellsEvent p event behind
@@ -44,30 +42,13 @@ module _ (p : List ℕ) (e : Event) (rest : List ℕ) (f : Found SpellsEvent p e
     pub front_length : length (take header.size p) ≡ header.size
     front_length = length-take-le header.size p front_in_range
 
-    pub front_spelled : SpellsEvent (take header.size p) e
-    front_spelled =
-        let is : take header.size p ≡ f.front = ap (take header.size) f.parts ∙ take_at f.front rest header.size (sym front_size) in
-        subst (λ (l : List ℕ). SpellsEvent l e) (sym is) f.spelled
+    -- its bytes are as many of the first ones
+    pub front_is : take header.size p ≡ f.front
+    front_is = ap (take header.size) f.parts ∙ take_at f.front rest header.size (sym front_size)
+
+    front_spelled : SpellsEvent (take header.size p) e
+    front_spelled = subst (λ (l : List ℕ). SpellsEvent l e) (sym front_is) f.spelled
 
     -- they are a packet
     pub front_packet : IsPacket (take header.size p)
     front_packet = (e, front_spelled)
-
-    pub front_stands : HeaderStands (take header.size p) header
-    front_stands = record {
-      in_range = omega (arith, room_of p header stands, front_length);
-      spelled = subst (λ (l : List ℕ). HeaderShape l (header.first, (header.second, header.size))) (sym (take-take header.start header.size p (omega (arith, room_of p header stands)))) stands.spelled;
-    }
-
-    pub are_taken : AreBytes (take header.size p)
-    are_taken = are_bytes_take header.size p are
-
-    pub front_shape : FieldShapes header.first header.second (fields_at header (take header.size p)) (contents_of e)
-    front_shape = (told_at (take header.size p) header e are_taken front_stands front_spelled).shape
-
-    -- the event that its parts make
-    pub front_decoded : {E : Type 0} (c : Contents) (r : Result Event E) → FieldShapes header.first header.second (fields_at header (take header.size p)) c → IfOk r (λ event. event ≡ event_from header.first header.second c) → IfOk r (λ event. event ≡ e)
-    front_decoded c r shape made = decoded (take header.size p) header c e r are_taken front_stands shape front_spelled made
-
-    pub front_fits : {E : Type 0} (c : Contents) (r : Result Event E) → FieldShapes header.first header.second (fields_at header (take header.size p)) c → IfOk r (λ event. event ≡ event_from header.first header.second c) → IfOk r Fits
-    front_fits c r shape made = spelled_fit (take header.size p) r (decoded_spelled (take header.size p) e r front_spelled (front_decoded c r shape made))

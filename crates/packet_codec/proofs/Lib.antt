@@ -18,3 +18,4 @@ pub mod SpelledLemmas
 pub mod SpellingLemmas
 pub mod WritingLemmas
 pub mod AnswerLemmas
+pub mod FieldLemmas

@@ -35,8 +35,8 @@ abbrev pub list_of : (lists : List (List Event)) → (lane : ℕ) → List Event
 list_of lists lane = slice_index_or lists lane []
 
 -- the lists one after another
-abbrev pub joined : List (List Event) → List Event
-joined lists = flat_map (λ events. events) lists
+abbrev pub joined : {A : Type 0} → List (List A) → List A
+joined lists = flat_map (λ list. list) lists
 
 -- The events are those of the lists, of each lane all of them, once and in order, and no others. Nothing is said of the
 -- order of events of two lanes.

@@ -10,3 +10,4 @@ pub mod Told
 pub mod Sight
 pub mod Heading
 pub mod Lanes
+pub mod Packets

@@ -41,6 +41,25 @@ bit flags weight = flags / weight % 2 == 1
 abbrev pub Contents : Type 0
 Contents = Option Stamp × (Option (List ℕ) × (Option (List (List ℕ)) × (Option (List ℕ) × (Option (List ℕ × List ℕ) × Option (List ℕ)))))
 
+-- each of them by its name
+abbrev pub the_stamp : Contents → Option Stamp
+the_stamp (stamp, (id, (tags, (mime, (file, route))))) = stamp
+
+abbrev pub the_id : Contents → Option (List ℕ)
+the_id (stamp, (id, (tags, (mime, (file, route))))) = id
+
+abbrev pub the_tags : Contents → Option (List (List ℕ))
+the_tags (stamp, (id, (tags, (mime, (file, route))))) = tags
+
+abbrev pub the_mime : Contents → Option (List ℕ)
+the_mime (stamp, (id, (tags, (mime, (file, route))))) = mime
+
+abbrev pub the_file : Contents → Option (List ℕ × List ℕ)
+the_file (stamp, (id, (tags, (mime, (file, route))))) = file
+
+abbrev pub the_route : Contents → Option (List ℕ)
+the_route (stamp, (id, (tags, (mime, (file, route))))) = route
+
 -- each field, there where its flag is set
 abbrev pub StampShape : ℕ → List ℕ → Option Stamp → Type 0
 StampShape first = Flagged (bit first 2) SpellsStamp
@@ -101,28 +120,28 @@ file_of file = option_map (λ part. (part.name.now, part.bytes.now)) file
 
 -- where the values of the fields stand
 pub record ShowsParts (parts : Parts) (contents : Contents) : Type 0 where
-  pub stamp : parts.stamp ≡ contents.0
-  pub id : bytes_of parts.id ≡ contents.1.0
-  pub tags : ShowsTags parts.tags contents.1.1.0
-  pub mime : bytes_of parts.mime ≡ contents.1.1.1.0
-  pub file : file_of parts.file ≡ contents.1.1.1.1.0
-  pub route : bytes_of parts.route ≡ contents.1.1.1.1.1
+  pub stamp : parts.stamp ≡ the_stamp contents
+  pub id : bytes_of parts.id ≡ the_id contents
+  pub tags : ShowsTags parts.tags (the_tags contents)
+  pub mime : bytes_of parts.mime ≡ the_mime contents
+  pub file : file_of parts.file ≡ the_file contents
+  pub route : bytes_of parts.route ≡ the_route contents
 
 -- the texts among them are texts
 pub record AreTexts (contents : Contents) : Type 0 where
-  pub id : IfSome contents.1.0 IsText
-  pub tags : IfSome contents.1.1.0 (All IsText)
-  pub mime : IfSome contents.1.1.1.0 IsText
-  pub file : IfSome contents.1.1.1.1.0 (λ file. IsText file.0)
-  pub route : IfSome contents.1.1.1.1.1 IsText
+  pub id : IfSome (the_id contents) IsText
+  pub tags : IfSome (the_tags contents) (All IsText)
+  pub mime : IfSome (the_mime contents) IsText
+  pub file : IfSome (the_file contents) (λ file. IsText file.0)
+  pub route : IfSome (the_route contents) IsText
 
 -- and short enough for their lengths to be spelled
 pub record AreShortTexts (contents : Contents) : Type 0 where
-  pub id : IfSome contents.1.0 IsShortText
-  pub tags : IfSome contents.1.1.0 (All IsShortText)
-  pub mime : IfSome contents.1.1.1.0 IsShortText
-  pub file : IfSome contents.1.1.1.1.0 (λ file. IsShortText file.0)
-  pub route : IfSome contents.1.1.1.1.1 IsShortText
+  pub id : IfSome (the_id contents) IsShortText
+  pub tags : IfSome (the_tags contents) (All IsShortText)
+  pub mime : IfSome (the_mime contents) IsShortText
+  pub file : IfSome (the_file contents) (λ file. IsShortText file.0)
+  pub route : IfSome (the_route contents) IsShortText
 
 -- The front of a packet as it is, whatever follows: its flag bytes, and the size that it tells.
 pub record HeaderShape (bytes : List ℕ) (value : ℕ × (ℕ × ℕ)) : Type 0 where
@@ -154,15 +173,15 @@ file_from file = record { name = file.0; bytes = file.1 }
 -- the event with these flags and fields
 abbrev pub event_from : ℕ → ℕ → Contents → Event
 event_from first second contents = record {
-  stamp = contents.0;
-  id = contents.1.0;
-  tags = contents.1.1.0;
+  stamp = the_stamp contents;
+  id = the_id contents;
+  tags = the_tags contents;
   runnable = bit first 1;
   status = status_from (second % 8);
-  mime = contents.1.1.1.0;
-  file = option_map file_from contents.1.1.1.1.0;
+  mime = the_mime contents;
+  file = option_map file_from (the_file contents);
   eof = bit second 16;
-  route = contents.1.1.1.1.1;
+  route = the_route contents;
 }
 
 -- the fields of an event

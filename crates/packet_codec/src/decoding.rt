@@ -8,15 +8,14 @@ ghost use Rattle.packet_codec.specs.Shapes.{Contents, ShowsRuns, ShowsTags, Show
 ghost use Rattle.packet_codec.specs.declared.event.Event.{Event};
 
 use crate::event::{Event, FilePart};
-use crate::header::header_at;
-use crate::packet::{Packet, packet_parts};
+use crate::packet::{Packet, known_packet};
 use crate::parts::{FileBytes, Parts, RunList, run_at};
 use crate::status::Status;
 use crate::tags::Tags;
 use std::alloc::Global;
 use sub_number::{Bytes, NoMemory, Text};
 
-fn optional_text(alloc: Global, run: Option<&[u8]>) -> Result<Option<Text>, NoMemory>
+pub(crate) fn optional_text(alloc: Global, run: Option<&[u8]>) -> Result<Option<Text>, NoMemory>
     requires { IfSome (bytes_of run) IsShortText }
     ensures { IfOk result (λ text. text ≡ bytes_of run.entry) }
 {
@@ -34,14 +33,16 @@ fn tags_of(alloc: Global, count: u32, bytes: &[u8]) -> Result<Tags, NoMemory>
     let mut rest = bytes;
     for _ in 0..count {
         let (run, after) = run_at(rest).unwrap();
-        tags.push(Text::from_tested(alloc, run)?)
-            .map_err(|_| NoMemory)?;
+        tags.push(Text::from_tested(alloc, run)?)?;
         rest = after;
     }
     Ok(tags)
 }
 
-fn optional_tags(alloc: Global, tags: Option<RunList<'_>>) -> Result<Option<Tags>, NoMemory>
+pub(crate) fn optional_tags(
+    alloc: Global,
+    tags: Option<RunList<'_>>,
+) -> Result<Option<Tags>, NoMemory>
     requires { (runs : Option (List (List ℕ))) × ShowsTags tags runs × IfSome runs (All IsShortText) }
     ensures { (runs : Option (List (List ℕ))) → ShowsTags tags.entry runs → IfOk result (λ tags. tags ≡ runs) }
 {
@@ -64,7 +65,7 @@ fn optional_file(alloc: Global, file: Option<FileBytes<'_>>) -> Result<Option<Fi
 }
 
 /// The status of the lowest three bits.
-fn status_of(second: u8) -> Status
+pub(crate) fn status_of(second: u8) -> Status
     ensures { result ≡ status_from (second % 8) }
 {
     match second % 8 {
@@ -125,7 +126,5 @@ pub fn decode(alloc: Global, bytes: &[u8]) -> Result<Event, NoMemory>
     ensures only { (e : Event) → SpellsEvent bytes.now e → IfOk result (λ event. event ≡ e) }
     ensures fits { IfOk result Fits }
 {
-    let header = header_at(bytes).unwrap();
-    let parts = packet_parts(header, bytes).unwrap();
-    event_of(alloc, header.first, header.second, &parts)
+    known_packet(bytes).event(alloc)
 }

@@ -7,6 +7,7 @@
 //! - `looking`: whether some bytes begin with a packet
 //! - `packet`: a packet of which all is tested; it stands on `header` and `parts`, which read from the front
 //! - `decoding`: the event of a packet
+//! - `fields`: the fields of a packet, each on its own
 //! - `known`: the event of a packet that is known to stand at the front of some bytes
 //! - `sizes`, `encoding`: the shortest spelling and its size
 //! - `routing`: an event under a lane's route
@@ -18,6 +19,7 @@ mod canonical_law;
 mod decoding;
 mod encoding;
 mod event;
+mod fields;
 mod front;
 mod header;
 mod known;
@@ -38,11 +40,11 @@ pub use encoding::encode;
 pub use event::{Event, FilePart};
 pub use front::Front;
 pub use header::{Header, SIGNATURE};
-pub use known::decode_front;
+pub use known::front_packet;
 pub use lane_laws::lanes_are_apart;
 pub use laws::{fronts_are_one, packets_are_one_event};
 pub use looking::{Heading, Sight, head_of, look, look_by, see, see_by};
-pub use packet::Packet;
+pub use packet::{Packet, known_packet};
 pub use routing::reroute;
 pub use sizes::{fits, routed_size, size};
 pub use stamp::Stamp;

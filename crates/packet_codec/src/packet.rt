@@ -7,7 +7,7 @@ ghost use Rattle.sub_number.specs.Texts.{IsText};
 ghost use Rattle.packet_codec.specs.Packet.{IsPacket};
 ghost use Rattle.packet_codec.specs.Shapes.{HeaderStands, FieldShapes, fields_at, Contents, ShowsRuns, ShowsTags, ShowsParts, AreTexts, bytes_of, file_of};
 
-use crate::header::{CHECKSUM, Header};
+use crate::header::{CHECKSUM, Header, header_at};
 use crate::parts::{FileBytes, Parts, RunList, parts_of, run_at};
 use std::marker::Model;
 use sub_number::{crc_of, is_text};
@@ -34,7 +34,8 @@ impl<'a> Model for Packet<'a> {
 impl<'a> Packet<'a> {
     /// Its size in bytes.
     pub fn size(&self) -> usize
-        ensures { result ≡ length self.now }
+        ensures size { result ≡ length self.now }
+        ensures packet { IsPacket self.now }
     {
         self.bytes.len()
     }
@@ -191,4 +192,19 @@ pub fn packet_by(header: Header, bytes: &[u8], sum: u32) -> Option<Packet<'_>>
         header,
         parts,
     })
+}
+
+/// The packet that the bytes are, which are known to be one: nothing is tested again.
+#[inline(always)]
+pub fn known_packet(bytes: &[u8]) -> Packet<'_>
+    requires { IsPacket bytes.now }
+    ensures { result ≡ bytes.now }
+{
+    let header = header_at(bytes).unwrap();
+    let parts = packet_parts(header, bytes).unwrap();
+    Packet {
+        bytes,
+        header,
+        parts,
+    }
 }

@@ -30,7 +30,7 @@ fn text_under(alloc: Global, route: &Option<Text>, lane: u32) -> Result<Text, No
     ensures { IfOk result (λ text. text ≡ route_under lane route.now) }
 {
     let bytes = bytes_under(alloc, route, lane)?;
-    Text::new(alloc, &bytes).map_err(|_| NoMemory)
+    Text::from_tested(alloc, &bytes)
 }
 
 fn bytes_under(alloc: Global, route: &Option<Text>, lane: u32) -> Result<Vec<u8>, NoMemory>

@@ -1,4 +1,4 @@
-use crate::{Event, Front, Status, Tags, decode, decode_front, look};
+use crate::{Event, Front, Status, Tags, decode, front_packet, look};
 use std::alloc::Global;
 use std::test::Fail;
 use sub_number::Text;
@@ -76,7 +76,9 @@ fn read_front(alloc: Global, bytes: &[u8]) -> Option<(Event, usize)> {
     let Front::Packet(_) = look(bytes) else {
         return None;
     };
-    decode_front(alloc, bytes).ok()
+    let packet = front_packet(bytes);
+    let event = packet.event(alloc).ok()?;
+    Some((event, packet.size()))
 }
 
 #[test]

@@ -1,0 +1,8 @@
+use Rattle.packet_codec.proofs.FieldLemmas.{short_id, id_made, copied}
+use Rattle.packet_codec.proofs.packet.Packet.id.Goals as goal
+
+pub optional_text-requires : goal.optional_text-requires
+optional_text-requires c = short_id _ _ _ c.self.invariant
+
+pub returns : goal.returns
+returns c = λ e s. copied _ _ _ (id_made _ _ _ c.self.invariant e (rw (← c.self.view_is) at s)) c.optional_text.ensures
