@@ -1,10 +1,10 @@
 -- What a store is after several calls that only read it.
 use Rattle.std.proofs.Common.{◌≡◌, ℕ, inl, inr, Bool, false, Option, None, Some, refl, ◌∙◌, subst, arith}
+use Rattle.edge_io.specs.Causes.{RisesExactlyIf}
 use Rattle.edge_io.specs.Disk.{Folder}
 use Rattle.edge_io.specs.Steps.{Goes, Stays}
 use Rattle.edge_io.proofs.Going.{goes_then}
 use Rattle.run_shelf.specs.declared.faults.ShelfCall.{ShelfCall}
-use Rattle.run_shelf.specs.Faults.{RisesExactlyIf}
 use Rattle.run_shelf.specs.Outcomes.{TicksAtMost, TicksUpTo}
 use Rattle.run_shelf.specs.Stores.{StoreSeen, Reads}
 

@@ -1,5 +1,5 @@
 -- Files that differ in the files of the caches alone.
-use Rattle.std.proofs.Common.{◌≡◌, ℕ, ◌<◌, Option, IsSome, List, Bool, refl, sym, ap, ◌∙◌, subst, arith, true, false}
+use Rattle.std.proofs.Common.{◌≡◌, ℕ, ◌<◌, IsSome, List, Bool, refl, sym, ap, ◌∙◌, subst, arith, true, false}
 use Rattle.std.specs.Option.{option_map}
 use Rattle.edge_io.specs.Disk.{Files, put}
 use Rattle.run_shelf.specs.Repository.{Run, run_of_files, run_at, run_name, full_name, partial_name, most_runs, Shows, HasKinds, IsRepository, format_name}

@@ -1,6 +1,5 @@
 -- A file of a cache put beside the runs.
-use Rattle.std.proofs.Common.{◌≡◌, ◌⊎◌, inl, inr, ℕ, ◌<◌, Option, None, Some, IsSome, List, Bool, refl, sym, ap, ◌∙◌, subst, arith, true, false}
-use Rattle.std.specs.Option.{option_map}
+use Rattle.std.proofs.Common.{◌≡◌, ◌⊎◌, inl, inr, ℕ, Option, None, Some, List, Bool, refl, sym, ap, ◌∙◌, subst}
 use Rattle.edge_io.specs.Disk.{Files, put, Disk, Folder, IsImage, at_rest}
 use Rattle.edge_io.specs.Steps.{Goes}
 use Rattle.edge_io.proofs.Going.{goes_weaker}
@@ -8,7 +7,7 @@ use Rattle.edge_io.proofs.Passing.{passes_weaker, passes_same}
 use Rattle.run_shelf.specs.Holds.{FitsFolder, FitsWhereTold}
 use Rattle.run_shelf.specs.Images.{KeepsFile, PassesFile}
 use Rattle.run_shelf.specs.Outcomes.{KeepFails}
-use Rattle.run_shelf.specs.Repository.{Run, run_of_files, run_at, full_name, partial_name, most_runs, Shows, HasKinds, IsRepository, format_name}
+use Rattle.run_shelf.specs.Repository.{Shows, HasKinds, IsRepository}
 use Rattle.run_shelf.specs.Sides.{side_name, SameButSides, HasSideBeside, PassesSide, KeepsSide}
 use Rattle.run_shelf.specs.declared.faults.ShelfCall.{ShelfCall}
 use Rattle.run_shelf.specs.declared.side.Side.{Side}

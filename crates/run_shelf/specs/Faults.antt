@@ -1,6 +1,5 @@
 -- When a count of faults may rise, by what a call answered (docs/DISK.md, faults).
 use Rattle.std.specs.Prelude.{Bool, true, false, Result, Ok, Err}
-pub use Rattle.edge_io.specs.Causes.{RisesExactlyIf}
 use Rattle.run_shelf.specs.declared.faults.InitFault.{InitFault}
 use Rattle.run_shelf.specs.declared.faults.InitFault.TheVariants.{Exists, Shelf}
 use Rattle.run_shelf.specs.declared.faults.OpenFault.{OpenFault}

@@ -1,11 +1,12 @@
 -- What a folder is that was not opened.
 use Rattle.std.specs.Prelude.{◌≡◌, ⊤, ℕ, Option, MatchResult, MatchOption, Err}
 use Rattle.std.specs.Borrow.{GName}
+use Rattle.edge_io.specs.Causes.{RisesExactlyIf}
 use Rattle.edge_io.specs.Disk.{Folder}
 use Rattle.edge_io.specs.Steps.{Goes}
 use Rattle.run_shelf.specs.declared.faults.OpenFault.{OpenFault}
-use Rattle.run_shelf.specs.declared.opening.Opening.{Opening}
-use Rattle.run_shelf.specs.Faults.{RisesExactlyIf, open_failed}
+use Rattle.run_shelf.specs.declared.store.Opening.{Opening}
+use Rattle.run_shelf.specs.Faults.{open_failed}
 use Rattle.run_shelf.specs.Images.{PassesOld}
 use Rattle.run_shelf.specs.Outcomes.{OpenFails}
 

@@ -1,5 +1,6 @@
 -- What is seen of a store and of its recorder.
 use Rattle.std.specs.Prelude.{◌≡◌, ◌⊎◌, ◌↔◌, ⊤, ℕ, ◌<◌, Bool, true, false, Option, Some, None, IfSome, IsSome, List, length, Result, Ok, Err}
+use Rattle.edge_io.specs.Causes.{RisesExactlyIf}
 use Rattle.edge_io.specs.Disk.{Folder}
 use Rattle.edge_io.specs.Steps.{Goes, Stays, Dropped, GrownInPart}
 use Rattle.edge_io.specs.Seen.{Seen}
@@ -12,9 +13,8 @@ use Rattle.run_shelf.specs.declared.faults.OpenFault.TheVariants as open_fault
 use Rattle.run_shelf.specs.declared.faults.StartFault.{StartFault}
 use Rattle.run_shelf.specs.declared.faults.StartFault.TheVariants as start_fault
 use Rattle.run_shelf.specs.declared.store.Store.{Store}
-use Rattle.run_shelf.specs.declared.recorder.Recorder.{Recorder}
+use Rattle.run_shelf.specs.declared.run.Recorder.{Recorder}
 use Rattle.run_shelf.specs.Drafts.{OfDraft, PlaceFails}
-use Rattle.run_shelf.specs.Faults.{RisesExactlyIf}
 use Rattle.run_shelf.specs.Holds.{FitsFolder, kinds_of}
 use Rattle.run_shelf.specs.Images.{PassesOld, PassesRun}
 use Rattle.run_shelf.specs.Repository.{run_of, HasFormat, HasOtherFormat, IsGap, format_name, most_runs}

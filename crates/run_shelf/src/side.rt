@@ -1,9 +1,8 @@
 //! The files of the caches, which stand beside the runs.
 
 ghost use Rattle.std.specs.Prelude.{◌≡◌, IfSome, IfOk, IfErr, OnOk, vec_len};
-ghost use Rattle.edge_io.specs.Causes.{HasCause};
+ghost use Rattle.edge_io.specs.Causes.{HasCause, RisesExactlyIf};
 ghost use Rattle.edge_io.specs.Steps.{Goes, Stays};
-ghost use Rattle.run_shelf.specs.Faults.{RisesExactlyIf};
 ghost use Rattle.run_shelf.specs.Images.{AtRest};
 ghost use Rattle.run_shelf.specs.Outcomes.{KeepFails, TicksUpTo};
 ghost use Rattle.run_shelf.specs.Sides.{side_name, HoldsSide, KeepsSide, PassesSide, SideFails, side_failed};

@@ -1,25 +1,24 @@
-//! A repository that holds its folder.
+//! A repository that holds its folder, and the opening of it.
 
 ghost use Rattle.std.specs.Prelude.{◌≡◌, ◌<◌, None, Some, length, slice_get, IfSome, IfOk, IfErr, OnOk};
 ghost use Rattle.std.specs.Borrow.{sem, RestsIfErr};
 ghost use Rattle.std.specs.Io.{ReadsAtMost};
+ghost use Rattle.edge_io.specs.Causes.{RisesExactlyIf};
 ghost use Rattle.edge_io.specs.Steps.{Goes, Opened};
-ghost use Rattle.run_shelf.specs.Faults.{RisesExactlyIf, init_failed};
+ghost use Rattle.run_shelf.specs.Faults.{init_failed};
 ghost use Rattle.run_shelf.specs.Holds.{kinds_of};
 ghost use Rattle.run_shelf.specs.Images.{MakesRepository, PassesFormat, PassesOld};
-ghost use Rattle.run_shelf.specs.Openings.{IsNotOpened};
+ghost use Rattle.run_shelf.specs.Openings.{HandsBack, IsNotOpened};
 ghost use Rattle.run_shelf.specs.Outcomes.{InitFails, Surveys, IsRunLength, IsRunPart, TicksAtMost, TicksUpTo};
 ghost use Rattle.run_shelf.specs.Sides.{HoldsSide, KeepsSide, PassesSide, PutFails, TellsOfReading, SideReads};
 ghost use Rattle.run_shelf.specs.declared.faults.ShelfCall.TheVariants.{Length, ReadAt};
 ghost use Rattle.run_shelf.specs.declared.faults.StoreFault.TheVariants.{Shelf as ShelfFailed};
 ghost use Rattle.run_shelf.specs.Stores.{store_kinds, store_fault, FitsUnlessBroken, seen_store, store_failed, StoreReads, Closes, TellsOf, HasOpenCause, HasStartCause, StartsFrom, StartFails, start_failed, fault_after_start, recorder_kinds, recorder_fault, RecordsUnlessBroken};
 
-use crate::opening::open_or_hand_back;
-use crate::recorder::Recorder;
-use crate::recording::Recording;
 use crate::{
-    Found, InitFault, MOST_RUNS, OpenFault, ShelfCall, Side, SideFault, StartFault, StoreFault,
-    begin_run, make_repository, read_run, read_side, run_length, write_side,
+    Found, InitFault, MOST_RUNS, OpenFault, Recorder, Recording, ShelfCall, Side, SideFault,
+    StartFault, StoreFault, begin_run, make_repository, read_run, read_side, run_length, survey,
+    write_side,
 };
 use edge_io::Shelf;
 use std::alloc::Global;
@@ -284,5 +283,35 @@ impl<'h, H: Shelf> Store<'h, H> {
         ensures same { result.now ≡ self.entry.shelf.now }
     {
         self.shelf
+    }
+}
+
+// What came of opening a folder.
+#[derive(Drop)]
+struct Opening<'h, H: Shelf> {
+    opened: Result<Store<'h, H>, OpenFault>,
+    // The folder, where it was not opened. So a contract can tell what it is then.
+    back: Option<&'h mut H>,
+}
+
+// Opens the repository of the folder, or hands the folder back.
+fn open_or_hand_back<'h, H: Shelf>(alloc: Global, shelf: &'h mut H) -> Opening<'h, H>
+    ensures back { HandsBack shelf.entry.ghost_name result (λ fault last. IsNotOpened fault (H.seen shelf.entry.now).told (H.seen shelf.entry.now).faults (H.seen last).told (H.seen last).faults) }
+    ensures same_reference { IfOk result.opened (λ store. store.shelf.ghost_name ≡ shelf.entry.ghost_name) }
+    ensures opened { IfOk result.opened (λ store. Goes (H.seen shelf.entry.now).told (H.seen store.shelf.now).told (Surveys (store_kinds store))) }
+    ensures any_moment { IfOk result.opened (λ store. Goes (H.seen shelf.entry.now).told (H.seen store.shelf.now).told PassesOld) }
+    ensures fault { IfOk result.opened (λ store. store_fault store ≡ None) }
+    ensures count { IfOk result.opened (λ store. (H.seen store.shelf.now).faults ≡ (H.seen shelf.entry.now).faults) }
+    ensures refused { IfErr result.opened (λ fault. IfSome (H.seen shelf.entry.now).told (HasOpenCause fault)) }
+{
+    match survey(alloc, shelf) {
+        Ok(found) => Opening {
+            opened: Ok(Store::attach(shelf, found)),
+            back: None,
+        },
+        Err(fault) => Opening {
+            opened: Err(fault),
+            back: Some(shelf),
+        },
     }
 }

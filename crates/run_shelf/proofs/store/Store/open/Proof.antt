@@ -11,10 +11,10 @@ use Rattle.run_shelf.specs.Stores.{store_kinds, store_fault, HasOpenCause}
 use Rattle.run_shelf.specs.Openings.{IsNotOpened, HandsBack}
 use Rattle.run_shelf.specs.contracts.store.Store as store
 use Rattle.run_shelf.specs.contracts.faults.OpenFault as open_fault
-use Rattle.run_shelf.specs.contracts.opening.Opening as opening
+use Rattle.run_shelf.specs.contracts.store.Opening as opening
 use Rattle.run_shelf.proofs.store.Store.TheLaws as store_laws
 use Rattle.run_shelf.proofs.faults.OpenFault.TheLaws as open_fault_laws
-use Rattle.run_shelf.proofs.opening.Opening.TheLaws as opening_laws
+use Rattle.run_shelf.proofs.store.Opening.TheLaws as opening_laws
 use Rattle.std.specs.contracts.result.Result as result
 use Rattle.std.proofs.result.Result.TheLaws as result_laws
 use Rattle.std.proofs.Common.{◌≡◌, ℕ, List, [], ◌∷◌, ◌++◌, refl, ap, ◌∙◌, subst}
@@ -52,8 +52,8 @@ use Rattle.run_shelf.specs.contracts.store.Store.open as f
 use Rattle.run_shelf.specs.contracts.store.Store.open.Key.{name as #self}
 use Rattle.run_shelf.proofs.store.Store.open.Statement.{statement}
 use Rattle.run_shelf.proofs.store.Store.open.Code as code
-use Rattle.run_shelf.specs.contracts.opening.open_or_hand_back as g
-use Rattle.run_shelf.proofs.opening.open_or_hand_back.Met.{met}
+use Rattle.run_shelf.specs.contracts.store.open_or_hand_back as g
+use Rattle.run_shelf.proofs.store.open_or_hand_back.Met.{met}
 
 pub open_spec : {M : Type 1} → statement M
 open_spec 𝓤 𝓛 𝓜 𝓡 wired T L ghosts dict bound =
@@ -71,7 +71,7 @@ open_spec 𝓤 𝓛 𝓜 𝓡 wired T L ghosts dict bound =
     enter ! 𝓣.C 𝓣.Λ fn _ Post $ alloc_all ! (λ l. pass_all ! refl (((heap_laws.the_row_laws.lawful 𝓛).typed a.0 (heap_val a.0) are.0).0, ((tt, tt), tt)) $
     let E = env fn.locals l in
     sets ! (addr ! (through ! refl (stop !))) refl (tt, tt) $
-    calls_at ! (framed 𝓤 H 𝓜 𝓣) k (met 𝓤 𝓛 𝓜 𝓡 (code.calls-run_shelf::opening::open_or_hand_back 𝓡.env wired) T L ghosts dict bound) z
+    calls_at ! (framed 𝓤 H 𝓜 𝓣) k (met 𝓤 𝓛 𝓜 𝓡 (code.calls-run_shelf::store::open_or_hand_back 𝓡.env wired) T L ghosts dict bound) z
     (and_then ! (get ! refl) (and_then ! (get ! refl) (no_more !))) (λ v.
     let α : NamedLft = named_lft 2 0 tt κs in let D : RattleType = store.the_row α R in let Op : RattleType = opening.the_row α R in let Res : RattleType = result.the_row D open_fault.the_row in
     let LR = param_laws 0 T L in let typed = (opening_laws.the_row_laws α R LR).lawful 𝓛 in let typed_result = (result_laws.the_row_laws D open_fault.the_row (store_laws.the_row_laws α R LR) open_fault_laws.the_row_laws).lawful 𝓛 in

@@ -5,7 +5,7 @@ use Rattle.edge_io.specs.Steps.{FindsLength, IsPart}
 use Rattle.std.specs.Prelude.{IfSome}
 use Rattle.run_shelf.specs.Repository.{format_name, HasOtherFormat}
 use Rattle.run_shelf.proofs.LookSteps.{other_format, goes_known, stays_back, stays_then}
-use Rattle.run_shelf.proofs.surveying.check_format.Goals as goal
+use Rattle.run_shelf.proofs.names.check_format.Goals as goal
 
 pub returns-else-is_format-clause-refused : goal.returns-else-is_format-clause-refused
 returns-else-is_format-clause-refused g c =

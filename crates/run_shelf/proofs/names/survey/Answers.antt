@@ -1,5 +1,5 @@
 use Rattle.run_shelf.proofs.Joining.{goes_old, settled_stays}
-use Rattle.run_shelf.proofs.surveying.survey.Goals as goal
+use Rattle.run_shelf.proofs.names.survey.Goals as goal
 
 pub returns-clause-any_moment : goal.returns-clause-any_moment
 returns-clause-any_moment g c =

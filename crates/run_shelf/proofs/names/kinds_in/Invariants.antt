@@ -1,5 +1,5 @@
 use Rattle.std.proofs.Common.{◌≡◌, length, map, take, Some}
-use Rattle.run_shelf.proofs.marks.kinds_in.Given as goal
+use Rattle.run_shelf.proofs.names.kinds_in.Given as goal
 
 abbrev pub invariant-loop-mark : goal.invariant-loop-mark
 invariant-loop-mark l = record {

@@ -5,7 +5,7 @@ use Rattle.run_shelf.specs.Images.{HasFormatBeside}
 use Rattle.run_shelf.specs.Repository.{format_name, format_bytes}
 use Rattle.run_shelf.proofs.Joining.{goes_beside, goes_after, settled_stays, stays_some}
 use Rattle.run_shelf.proofs.MakeSteps.{goes_makes, goes_fails, goes_beside_none}
-use Rattle.run_shelf.proofs.making.make_repository.Goals as goal
+use Rattle.run_shelf.proofs.file.make_repository.Goals as goal
 
 pub returns-in_default-length-clause-any_moment : goal.returns-in_default-length-clause-any_moment
 returns-in_default-length-clause-any_moment g c =

@@ -1,7 +1,7 @@
 use Rattle.std.proofs.Common.{◌≡◌, sym, subst, length, arith, rules}
 use Rattle.run_shelf.specs.Marks.{NamesTellKinds}
 use Rattle.run_shelf.proofs.MarkLemmas.{have_gap, have_kinds}
-use Rattle.run_shelf.proofs.marks.kinds_in.Goals as goal
+use Rattle.run_shelf.proofs.names.kinds_in.Goals as goal
 
 pub returns-in_default-clause-refused : goal.returns-in_default-clause-refused
 returns-in_default-clause-refused c =

@@ -2,8 +2,8 @@ use Rattle.std.proofs.Common.{◌≡◌, ◌∙◌, ◌+◌, sym, subst, take, [
 use Rattle.std.proofs.lemmas.List.{take_more}
 use Rattle.run_shelf.specs.Names.{SpellsRun, SpellsNoRun}
 use Rattle.run_shelf.proofs.MarkLemmas.{marks_same, marks_more}
-use Rattle.run_shelf.proofs.marks.marks_of.Goals as goal
-use Rattle.run_shelf.proofs.marks.marks_of.Goals.{in-Some+in_ok-mark, in_default}
+use Rattle.run_shelf.proofs.names.marks_of.Goals as goal
+use Rattle.run_shelf.proofs.names.marks_of.Goals.{in-Some+in_ok-mark, in_default}
 
 pub loop-name-preserved : goal.loop-name-preserved
 loop-name-preserved c =

@@ -7,7 +7,7 @@ use Rattle.run_shelf.specs.Holds.{kinds_of}
 use Rattle.run_shelf.specs.Looking.{LooksLike, LookFails}
 use Rattle.run_shelf.specs.Marks.{NamesTellKinds, NamesFail}
 use Rattle.run_shelf.proofs.LookSteps.{looks_like, names_fail, stays_back, stays_then}
-use Rattle.run_shelf.proofs.surveying.look.Goals as goal
+use Rattle.run_shelf.proofs.names.look.Goals as goal
 
 pub returns-clause-found : goal.returns-clause-found
 returns-clause-found g c =
