@@ -44,6 +44,10 @@ whole_needs_no_more b header are stands in_range more = elim (read_packet (take 
   | inr never ↦ (is_no_packet b header (fits_from_are b are) stands in_range never).1 more
 ]
 
+-- so there are bytes
+pub candidate_some : (b : List ℕ) (header : Header) → HeaderStands b header → header.size ≤ length b → 0 < length b
+candidate_some b header stands in_range = omega (arith, stands.spelled.room)
+
 -- where such a header stands, what is seen to be no packet is foreign
 pub foreign_by_sight : (ended : Bool) (b : List ℕ) (header : Header) (seen : Sight) → AreBytes b → HeaderStands b header → header.size ≤ length b → IsSeen b seen → ((packet : List ℕ) → seen ≡ sight.Packet packet → ⊥) → IsForeign ended b
 foreign_by_sight ended b header (sight.Packet packet) are stands in_range sees other = absurd (other packet refl)

@@ -1,7 +1,10 @@
 -- The first note of what is held.
-use Rattle.std.specs.Prelude.{◌≡◌, ℕ, ◌<◌, ◌≤◌, Bool, Option, Some, None, List, [], ◌∷◌, length, take, drop}
+use Rattle.std.specs.Prelude.{◌≡◌, ℕ, ◌-◌, ◌<◌, ◌≤◌, Bool, Option, Some, None, List, [], ◌∷◌, length, take, drop}
+use Rattle.sub_number.specs.Checksum.{crc32}
 use Rattle.packet_codec.specs.Packet.{SpellsEvent}
 use Rattle.packet_codec.specs.Header.{BeginsWithPacket}
+use Rattle.packet_codec.specs.Shapes.{HeaderStands}
+use Rattle.packet_codec.specs.declared.header.Header.{Header}
 use Rattle.packet_codec.specs.declared.front.Front.{Front}
 use Rattle.packet_codec.specs.declared.front.Front.TheVariants as front
 use Rattle.stream_reader.specs.declared.note.Note.{Note}
@@ -10,7 +13,9 @@ use Rattle.stream_reader.specs.declared.first.First.{First}
 use Rattle.stream_reader.specs.declared.first.First.TheVariants.{Packet, Foreign, Nothing}
 use Rattle.stream_reader.specs.declared.first.Made.{Made}
 use Rattle.stream_reader.specs.declared.first.Made.TheVariants as made
-use Rattle.stream_reader.specs.Run.{IsRun}
+use Rattle.stream_reader.specs.declared.first.Seen.{Seen}
+use Rattle.stream_reader.specs.declared.first.Seen.TheVariants.{Candidate, Told}
+use Rattle.stream_reader.specs.Run.{IsRun, IsForeign}
 use Rattle.stream_reader.specs.Stream.{Gives, IsMadeOf, IsSpent}
 
 -- the first note, and how many bytes at the front it is made of
@@ -30,6 +35,22 @@ abbrev pub FirstIs : Bool → List ℕ → First → Type 0
 FirstIs ended bytes (Packet size) = BeginsWithPacket bytes size
 FirstIs ended bytes (Foreign size behind) = (0 < size) × IsRun ended bytes size (front_behind behind)
 FirstIs ended bytes Nothing = IsSpent ended bytes
+
+-- a header stands at the front, with as many bytes as it tells of, and a packet there would end with this checksum
+pub record IsCandidate (bytes : List ℕ) (header : Header) (sum : ℕ) : Type 0 where
+  pub stands : HeaderStands bytes header
+  pub in_range : header.size ≤ length bytes
+  pub sum_is : sum ≡ crc32 (take (header.size - 4) bytes)
+
+-- a candidate, or what the first note is made of
+abbrev pub SeenIs : Bool → List ℕ → Seen → Type 0
+SeenIs ended bytes (Candidate header sum) = IsCandidate bytes header sum
+SeenIs ended bytes (Told first) = FirstIs ended bytes first
+
+-- the first byte stands there and is foreign
+pub record IsForeignAtFront (ended : Bool) (bytes : List ℕ) : Type 0 where
+  pub some : 0 < length bytes
+  pub foreign : IsForeign ended bytes
 
 -- the note that is made of it
 abbrev pub IsMadeBy : List ℕ → First → Note → Type 0

@@ -3,7 +3,7 @@
 ghost use Rattle.std.specs.Prelude.{◌≡◌};
 ghost use Rattle.stream_reader.specs.First.{first_of};
 
-use packet_codec::Event;
+use packet_codec::{Event, Header};
 
 /// What the first note of the bytes held is made of, before it is made.
 #[derive(Clone, Copy)]
@@ -14,6 +14,17 @@ pub enum First {
     Foreign(usize, Option<usize>),
     /// No further note can be told.
     Nothing,
+}
+
+/// What a look at the bytes held tells of the first note. It says no more than fits a few registers: the packet itself is
+/// asked for where it is needed, and lent.
+#[derive(Clone, Copy)]
+pub enum Seen {
+    /// A header, with as many bytes as it tells of, and the checksum that a packet there would end with. Whether one
+    /// stands there `Reader::packet` tells.
+    Candidate(Header, u32),
+    /// What the first note is made of.
+    Told(First),
 }
 
 /// What the first note of the bytes held is made of. A packet is its event by now, made from the parts that were found

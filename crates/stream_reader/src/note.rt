@@ -37,7 +37,7 @@ impl Note {
 pub fn stdout_event(alloc: Global, bytes: Bytes) -> Result<Event, NoMemory>
     ensures { IfOk result (λ event. event ≡ event_of_bytes bytes) }
 {
-    let name = Text::new(alloc, b"stdout").map_err(|_| NoMemory)?;
+    let name = Text::from_tested(alloc, b"stdout")?;
     Ok(Event {
         stamp: None,
         id: None,

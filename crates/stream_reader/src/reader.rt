@@ -2,20 +2,20 @@
 
 ghost use Rattle.std.specs.Prelude.{◌≡◌, ◌<◌, ◌≤◌, ◌+◌, ◌++◌, [], true, false, length, take, drop, IfOk, OnErr, IfSome, IfNone};
 ghost use Rattle.packet_codec.specs.Header.{BeginsWithPacket};
-ghost use Rattle.packet_codec.specs.Shapes.{HeaderStands};
+ghost use Rattle.packet_codec.specs.Sight.{BeginsWithThis};
 ghost use Rattle.stream_reader.specs.declared.note.Note.{Note};
 ghost use Rattle.stream_reader.specs.declared.first.First.TheVariants.{Nothing};
 ghost use Rattle.stream_reader.specs.Notes.{longest_foreign};
-ghost use Rattle.stream_reader.specs.First.{FirstIs, HasEvent, IsMadeBy, first_of};
+ghost use Rattle.stream_reader.specs.First.{FirstIs, HasEvent, IsCandidate, IsForeignAtFront, IsMadeBy, SeenIs, first_of};
 ghost use Rattle.stream_reader.specs.Room.{room, most_held};
 ghost use Rattle.stream_reader.specs.Run.{AreForeign};
 ghost use Rattle.stream_reader.specs.Stream.{GivesNote, IsSpent};
 
 use crate::buffer::Buffer;
-use crate::first::{First, Made};
+use crate::first::{First, Made, Seen};
 use crate::note::Note;
 use crate::run::{are_bytes, foreign_run};
-use packet_codec::{Front, Header, Heading, Sight, decode, head_of, see_by};
+use packet_codec::{Front, Header, Heading, Packet, Sight, head_of, known_packet, see_by};
 use std::alloc::Global;
 use std::marker::Model;
 use sub_number::{Bytes, NoMemory};
@@ -118,8 +118,61 @@ impl Reader {
     }
 }
 
-/// The steps of `next`, for those who make something else of a note than a value.
+/// The steps of `next`, for those who make something else of a note than a value. `first_seen` tells what is first; of a
+/// candidate `packet` tells whether it is one, and `foreign_front` what is first where it is none. Then `known` and
+/// `front` lend the bytes, and `pass` lets go of them.
 impl Reader {
+    /// What a look at the bytes held tells of the first note. It takes no memory.
+    #[inline(always)]
+    pub fn first_seen(&mut self) -> Seen
+        ensures same { self.new ≡ self.old }
+        ensures seen { SeenIs self.old.ended self.old.bytes result }
+    {
+        if let Some(size) = self.packet {
+            return Seen::Told(First::Packet(size));
+        }
+        let known = self.foreign;
+        if known > 0 {
+            return Seen::Told(self.first_run(known));
+        }
+        if self.held() == 0 {
+            return Seen::Told(First::Nothing);
+        }
+        self.first_unknown()
+    }
+
+    /// The packet that the candidate is, which is first then. None where it is no packet. It takes no memory.
+    #[inline(always)]
+    pub fn packet(&self, header: Header, sum: u32) -> Option<Packet<'_>>
+        requires { IsCandidate self.now.bytes header sum }
+        ensures some { IfSome result (BeginsWithThis self.now.bytes) }
+        ensures none { IfNone result (IsForeignAtFront self.now.ended self.now.bytes) }
+    {
+        are_bytes(self.buffer.held());
+        match see_by(header, self.buffer.held(), sum) {
+            Sight::Packet(packet) => Some(packet),
+            _ => None,
+        }
+    }
+
+    /// The packet of this size that is first. Nothing is tested again, and it takes no memory.
+    pub fn known(&self, size: usize) -> Packet<'_>
+        requires { BeginsWithPacket self.now.bytes size }
+        ensures { result ≡ take size self.now.bytes }
+    {
+        known_packet(self.front(size))
+    }
+
+    /// What is first where the candidate at the front is no packet. It takes no memory.
+    #[inline(never)]
+    pub fn foreign_front(&mut self) -> First
+        requires { IsForeignAtFront self.old.ended self.old.bytes }
+        ensures same { self.new ≡ self.old }
+        ensures first { FirstIs self.old.ended self.old.bytes result }
+    {
+        self.first_run(1)
+    }
+
     /// What the first note of the bytes held is made of; of a packet its event, made from the parts that were found as
     /// the packet was tested. So neither is looked for a second time. For foreign bytes it takes no memory.
     ///
@@ -129,18 +182,10 @@ impl Reader {
         ensures first { IfOk result (λ made. FirstIs self.old.ended self.old.bytes (first_of made)) }
         ensures event { IfOk result (HasEvent self.old.bytes) }
     {
-        if let Some(size) = self.packet {
-            let event = decode(self.alloc, self.front(size))?;
-            return Ok(Made::Event(event, size));
+        match self.first_seen() {
+            Seen::Candidate(header, sum) => self.made_by(header, sum),
+            Seen::Told(first) => self.made_of(first),
         }
-        let known = self.foreign;
-        if known > 0 {
-            return Ok(self.first_run(known));
-        }
-        if self.held() == 0 {
-            return Ok(Made::Nothing);
-        }
-        self.first_unknown()
     }
 
     /// The first bytes held.
@@ -171,6 +216,7 @@ impl Reader {
     }
 
     /// The note of this was given: its bytes are let go of. Where there is nothing the reader is as before.
+    #[inline(always)]
     pub fn pass(&mut self, first: First)
         requires { FirstIs self.old.ended self.old.bytes first }
         ensures given { (note : Note) → IsMadeBy self.old.bytes first note → GivesNote self.old note self.new }
@@ -185,60 +231,77 @@ impl Reader {
         }
     }
 
-    // What is first, where bytes are held and nothing is known of them.
-    fn first_unknown(&mut self) -> Result<Made, NoMemory>
+    // What a look tells, where bytes are held and nothing is known of them.
+    #[inline(always)]
+    fn first_unknown(&mut self) -> Seen
         requires { 0 < length self.old.bytes }
         ensures same { self.new ≡ self.old }
-        ensures first { IfOk result (λ made. FirstIs self.old.ended self.old.bytes (first_of made)) }
-        ensures event { IfOk result (HasEvent self.old.bytes) }
+        ensures seen { SeenIs self.old.ended self.old.bytes result }
     {
         are_bytes(self.buffer.held());
         match head_of(self.buffer.held()) {
-            Heading::Whole(header) => self.first_whole(header),
-            Heading::More if self.ended => Ok(self.first_run(1)),
-            Heading::More => Ok(Made::Nothing),
-            Heading::No => Ok(self.first_run(1)),
+            Heading::Whole(header) => {
+                let sum = self.buffer.front_sum(header);
+                Seen::Candidate(header, sum)
+            }
+            Heading::More if self.ended => Seen::Told(self.first_run(1)),
+            Heading::More => Seen::Told(First::Nothing),
+            Heading::No => Seen::Told(self.first_run(1)),
         }
-    }
-
-    // What is first, where this header stands at the front, and as many bytes as it tells of.
-    fn first_whole(&mut self, header: Header) -> Result<Made, NoMemory>
-        requires some { 0 < length self.old.bytes }
-        requires stands { HeaderStands self.old.bytes header }
-        requires size { header.size ≤ length self.old.bytes }
-        ensures same { self.new ≡ self.old }
-        ensures first { IfOk result (λ made. FirstIs self.old.ended self.old.bytes (first_of made)) }
-        ensures event { IfOk result (HasEvent self.old.bytes) }
-    {
-        are_bytes(self.buffer.held());
-        let sum = self.buffer.front_sum(header);
-        if let Sight::Packet(packet) = see_by(header, self.buffer.held(), sum) {
-            let event = packet.event(self.alloc)?;
-            return Ok(Made::Event(event, packet.size()));
-        }
-        Ok(self.first_run(1))
     }
 
     // The foreign bytes at the front, of which so many are known. How far they go is kept in mind.
-    fn first_run(&mut self, known: usize) -> Made
+    #[inline(never)]
+    fn first_run(&mut self, known: usize) -> First
         requires some { 0 < known }
         requires in_range { known ≤ length self.old.bytes }
         requires short { known ≤ longest_foreign }
         requires are_foreign { AreForeign self.old.ended self.old.bytes known }
         ensures same { self.new ≡ self.old }
-        ensures first { FirstIs self.old.ended self.old.bytes (first_of result) }
-        ensures event { HasEvent self.old.bytes result }
+        ensures first { FirstIs self.old.ended self.old.bytes result }
     {
         let run = foreign_run(&mut self.buffer, known, self.ended);
         self.foreign = run.count;
         match run.front {
-            Front::More => Made::Nothing,
-            Front::Packet(size) => Made::Foreign(run.count, Some(size)),
-            Front::No => Made::Foreign(run.count, None),
+            Front::More => First::Nothing,
+            Front::Packet(size) => First::Foreign(run.count, Some(size)),
+            Front::No => First::Foreign(run.count, None),
+        }
+    }
+
+    // The event of the candidate, or what is first where it is no packet.
+    fn made_by(&mut self, header: Header, sum: u32) -> Result<Made, NoMemory>
+        requires { IsCandidate self.old.bytes header sum }
+        ensures same { self.new ≡ self.old }
+        ensures first { IfOk result (λ made. FirstIs self.old.ended self.old.bytes (first_of made)) }
+        ensures event { IfOk result (HasEvent self.old.bytes) }
+    {
+        if let Some(packet) = self.packet(header, sum) {
+            let event = packet.event(self.alloc)?;
+            return Ok(Made::Event(event, packet.size()));
+        }
+        let first = self.foreign_front();
+        self.made_of(first)
+    }
+
+    // What is first, where that is told, with the event of a packet.
+    fn made_of(&self, first: First) -> Result<Made, NoMemory>
+        requires { FirstIs self.now.ended self.now.bytes first }
+        ensures first { IfOk result (λ made. first_of made ≡ first) }
+        ensures event { IfOk result (HasEvent self.now.bytes) }
+    {
+        match first {
+            First::Packet(size) => {
+                let event = self.known(size).event(self.alloc)?;
+                Ok(Made::Event(event, size))
+            }
+            First::Foreign(size, packet) => Ok(Made::Foreign(size, packet)),
+            First::Nothing => Ok(Made::Nothing),
         }
     }
 
     // So many bytes belong to a note that is given, and what stands behind them is a packet of this size, if it is known.
+    #[inline(always)]
     fn let_pass(&mut self, size: usize, packet: Option<usize>)
         requires in_range { size ≤ length self.old.bytes }
         requires packet { IfSome packet (BeginsWithPacket (drop size self.old.bytes)) }

@@ -21,8 +21,8 @@ first_run-requires-in-No-clause-are_foreign c =
     let one : AreForeign c.self.inside.ended c.self.inside.buffer 1 = one_foreign _ _ foreign in
     rw (← c.self.view_is) one
 
-pub returns-in-More-2-clause-first : goal.returns-in-More-2-clause-first
-returns-in-More-2-clause-first c =
+pub returns-in-More-2-clause-seen : goal.returns-in-More-2-clause-seen
+returns-in-More-2-clause-seen c =
     let going_on : c.self.inside.ended ≡ false = search rules in
     let more : NeedsMore c.self.inside.buffer = rw (c.held-2.ensures) at c.in-More-2.ensures in
     rw (← c.self.view_is) (spent_more _ _ going_on more)

@@ -1,6 +1,0 @@
-use Rattle.std.proofs.Common.{arith}
-use Rattle.stream_reader.proofs.GivingLemmas.{spent_empty}
-use Rattle.stream_reader.proofs.reader.Reader.first_made.Goals as goal
-
-pub returns-then-held-eq0-clause-first : goal.returns-then-held-eq0-clause-first
-returns-then-held-eq0-clause-first c = spent_empty _ _ (omega (arith, c.held.ensures.held, c.if-held-eq0.true))
