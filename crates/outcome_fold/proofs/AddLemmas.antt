@@ -4,13 +4,13 @@ use Rattle.std.specs.FinMap as fin
 use Rattle.std.specs.FinMap.{FinMap}
 use Rattle.std.specs.Option.{option_map}
 use Rattle.packet_codec.specs.declared.event.Event.{Event}
-use Rattle.outcome_fold.specs.declared.ended.Ended.{Ended}
+use Rattle.outcome_fold.specs.declared.row.Ended.{Ended}
 use Rattle.outcome_fold.specs.declared.row.Row.{Row}
 use Rattle.outcome_fold.specs.declared.test_key.TestKey.{TestKey}
 use Rattle.outcome_fold.specs.declared.part.Started.{Started}
 use Rattle.outcome_fold.specs.Order.{test_cmp}
 use Rattle.outcome_fold.specs.Parts.{test_of, ended_by, instant, elapsed}
-use Rattle.outcome_fold.specs.Rows.{completed_row}
+use Rattle.outcome_fold.specs.Rows.{completed_row, row_completing}
 use Rattle.outcome_fold.specs.Started.{open_table}
 use Rattle.outcome_fold.specs.Folded.{extended, row_at}
 use Rattle.outcome_fold.proofs.StepLemmas.{stays, goes, ends, gives}
@@ -33,3 +33,6 @@ is_row seen e kept t how s end nanos row is test some part at time gives_row =
     ap Some (gives_row ∙ ap (λ n. row_at t how n s) (time ∙ ap (elapsed s.start) at)
     ∙ ap (λ (s : Started). row_at t how (elapsed s.start (option_map instant e.stamp)) s) (part ∙ ap (λ (m : Kept). extended (fin.get m t) e) is))
     ∙ sym (gives seen e t how (sym test) (sym some))
+
+pub no_row : (seen : List Event) (e : Event) → None ≡ test_of e → None ≡ completed_row seen e
+no_row seen e none = ap (λ (t : Option TestKey). row_completing t (ended_by e.status) seen e) none

@@ -10,8 +10,8 @@ use Rattle.std.specs.Cmp.{eq_by_cmp_equiv}
 use Rattle.std.specs.declared.cmp.Ordering.{Ordering}
 use Rattle.std.proofs.lemmas.List.Elements.{Contains-append_left, Contains-append_right}
 use Rattle.packet_codec.specs.declared.event.Event.{Event}
-use Rattle.outcome_fold.specs.declared.ended.Ended.{Ended}
-use Rattle.outcome_fold.specs.declared.ended.Ended.TheVariants as ended
+use Rattle.outcome_fold.specs.declared.row.Ended.{Ended}
+use Rattle.outcome_fold.specs.declared.row.Ended.TheVariants as ended
 use Rattle.outcome_fold.specs.declared.test_key.TestKey.{TestKey}
 use Rattle.outcome_fold.specs.declared.row.Row.{Row}
 use Rattle.outcome_fold.specs.Order.{route_cmp, test_cmp, table}

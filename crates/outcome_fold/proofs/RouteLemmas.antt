@@ -9,8 +9,8 @@ use Rattle.std.specs.Cmp.{eq_by_cmp_equiv}
 use Rattle.std.proofs.lemmas.List.Elements.{filter-append}
 use Rattle.packet_codec.specs.declared.event.Event.{Event}
 use Rattle.packet_codec.proofs.FilterLemmas.{filter_within}
-use Rattle.outcome_fold.specs.declared.ended.Ended.{Ended}
-use Rattle.outcome_fold.specs.declared.ended.Ended.TheVariants as how
+use Rattle.outcome_fold.specs.declared.row.Ended.{Ended}
+use Rattle.outcome_fold.specs.declared.row.Ended.TheVariants as how
 use Rattle.outcome_fold.specs.declared.test_key.TestKey.{TestKey}
 use Rattle.outcome_fold.specs.declared.row.Row.{Row}
 use Rattle.outcome_fold.specs.Order.{route_cmp, test_cmp, table}

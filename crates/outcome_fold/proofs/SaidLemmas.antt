@@ -1,12 +1,14 @@
 -- What an event says of its test, and the event itself.
 use Rattle.std.proofs.Common.{◌≡◌, ℕ, List, [], ◌++◌, Option, Some, None, take, refl, ap, ◌∙◌}
 use Rattle.std.specs.Option.{option_map, unwrap_or}
+use Rattle.packet_codec.specs.declared.event.FilePart.{FilePart}
 use Rattle.packet_codec.specs.declared.event.Event.{Event}
+use Rattle.outcome_fold.specs.declared.test_key.TestKey.{TestKey}
 use Rattle.outcome_fold.specs.declared.part.Started.{Started}
 use Rattle.outcome_fold.specs.declared.part.Said.{Said}
 use Rattle.outcome_fold.specs.Order.{in_byte_order}
-use Rattle.outcome_fold.specs.Parts.{text_limit}
-use Rattle.outcome_fold.specs.Started.{next_tags, fresh, after, Says, fresh_said, after_said}
+use Rattle.outcome_fold.specs.Parts.{test_of, text_in, text_limit}
+use Rattle.outcome_fold.specs.Started.{next_tags, after, Says, fresh_said, after_said, text_by}
 use Rattle.outcome_fold.specs.Folded.{extended, extended_by}
 
 tags_said : (old : List (List ℕ)) (tags : Option (List (List ℕ))) → unwrap_or (option_map in_byte_order tags) old ≡ next_tags old tags
@@ -24,3 +26,22 @@ extended_is None said e says =
     said_is (fresh_said said) said e says
     ∙ ap (λ (start : Option ℕ). after (record { start = start; tags = []; text = [] }) e) says.instant
 extended_is (Some s) said e says = said_is s said e says
+
+-- the text of an event whose MIME type and whose file's bytes are these
+text_by_is : (mime : Option (List ℕ)) (file : Option FilePart) → text_by mime (option_map (λ (file : FilePart). file.bytes) file) ≡ text_in mime file
+text_by_is None file = refl
+text_by_is (Some mime) None = refl
+text_by_is (Some mime) (Some file) = refl
+
+pub text_said : (mime bytes : Option (List ℕ)) (text : List ℕ) (e : Event) → text ≡ text_by mime bytes → mime ≡ e.mime → bytes ≡ option_map (λ (file : FilePart). file.bytes) e.file → text ≡ text_in e.mime e.file
+text_said mime bytes text e is type piece = is ∙ ap (λ (m : Option (List ℕ)). text_by m bytes) type ∙ ap (text_by e.mime) piece ∙ text_by_is e.mime e.file
+
+abbrev at_route : Option (List ℕ) → List ℕ → TestKey
+at_route route id = record { route = route; id = id }
+
+-- the test of an event with this id and this route
+pub no_test : (e : Event) → None ≡ e.id → None ≡ test_of e
+no_test e none = ap (option_map (at_route e.route)) none
+
+pub test_said : (e : Event) (route : Option (List ℕ)) (id : List ℕ) → Some id ≡ e.id → route ≡ e.route → Some (at_route route id) ≡ test_of e
+test_said e route id some same = ap (λ (r : Option (List ℕ)). Some (at_route r id)) same ∙ ap (option_map (at_route e.route)) some

@@ -4,7 +4,7 @@ use Rattle.std.specs.FinMap as fin
 use Rattle.std.specs.FinMap.{FinMap}
 use Rattle.std.specs.List.{filter, flat_map}
 use Rattle.outcome_fold.specs.declared.row.Row.{Row}
-use Rattle.outcome_fold.specs.declared.groups.Groups.{Groups}
+use Rattle.outcome_fold.specs.declared.rows.Groups.{Groups}
 use Rattle.outcome_fold.specs.Order.{route_cmp, table}
 use Rattle.outcome_fold.specs.Rows.{is_under}
 

@@ -1,7 +1,7 @@
 -- What the outcomes of a run have taken so far (docs/FORMATS.md, "The fold").
 use Rattle.std.specs.Prelude.{◌≡◌, List}
 use Rattle.packet_codec.specs.declared.event.Event.{Event}
-use Rattle.outcome_fold.specs.declared.outcomes.Outcomes.{Outcomes}
+use Rattle.outcome_fold.specs.declared.fold.Outcomes.{Outcomes}
 use Rattle.outcome_fold.specs.Rows.{completed_rows}
 use Rattle.outcome_fold.specs.Folded.{HasSeen}
 

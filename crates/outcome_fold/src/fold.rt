@@ -1,17 +1,19 @@
-//! The fold of events into rows.
+//! The fold of events into rows, and the rows of a whole run.
 
-ghost use Rattle.std.specs.Prelude.{◌≡◌, List, [], ◌∷◌, ◌++◌, false, IfOk, OnOk, OnErr, is_some, if◌then◌else◌};
+ghost use Rattle.outcome_fold.specs.Rows as rows_are;
 ghost use Rattle.std.specs.FinMap as map;
+ghost use Rattle.std.specs.Prelude.{◌≡◌, List, [], ◌∷◌, ◌++◌, false, IfOk, OnOk, OnErr, is_some, if◌then◌else◌};
+ghost use Rattle.packet_codec.specs.Packet.{SpellsEvent};
 ghost use Rattle.packet_codec.specs.declared.event.Event.{Event as AnEvent};
 ghost use Rattle.outcome_fold.specs.Rows.{is_failure, completed_row, open_rows};
 ghost use Rattle.outcome_fold.specs.Folded.{HasSeen, Speaks, open_in, extended_by, with_extended, row_at};
+ghost use Rattle.outcome_fold.specs.Outcome.{HasFolded};
 
-use crate::ended::{Ended, ended_by};
-use crate::kept_text::KeptText;
-use crate::part::{Said, Started, elapsed, moved_tags, said_by, said_with};
-use crate::row::Row;
-use crate::test_key::{TestKey, key_of, take_key};
-use packet_codec::Event;
+use crate::part::{KeptText, Said, Started, elapsed, moved_tags, said_by, said_in, said_with};
+use crate::row::{Ended, Row, ended_by};
+use crate::rows::{Rows, by_route};
+use crate::test_key::{TestKey, key_in, key_of, take_key};
+use packet_codec::{Event, Packet};
 use std::alloc::Global;
 use std::collections::BTreeMap;
 use sub_number::{Bytes, NoMemory};
@@ -50,7 +52,9 @@ impl Fold {
         }
     }
 
-    // Takes what an event says that does not complete its test, which is open then.
+    // Takes what an event says that does not complete its test, which is open then. Each of the two steps has a frame of
+    // its own, so that an event pays for the one that it takes.
+    #[inline(never)]
     fn go_on(&mut self, key: TestKey, mut said: Said<'_>) -> Result<(), NoMemory>
         ensures ok { OnOk result (open_in self.new ≡ map.insert (open_in self.old) key (extended_by (map.get (open_in self.old) key) said.entry)) }
         ensures err { OnErr result (open_in self.new ≡ open_in self.old) }
@@ -64,6 +68,7 @@ impl Fold {
     }
 
     // What the part of the test says with this, and the test is no longer open.
+    #[inline(never)]
     fn finish(&mut self, key: &TestKey, mut said: Said<'_>) -> Result<Started, NoMemory>
         ensures part { IfOk result (λ started. started ≡ extended_by (map.get (open_in self.old) key.now) said.entry) }
         ensures ok { OnOk result (open_in self.new ≡ map.remove (open_in self.old) key.now) }
@@ -134,6 +139,22 @@ impl Fold {
         self.tell(key, ended_by(event.status), said_with(tags, &event))
     }
 
+    /// The same of the event that the packet spells, which is not made: what is needed of it is copied from where it
+    /// stands.
+    ///
+    /// `NoMemory` comes only for want of memory, and then the fold is as before.
+    pub fn hear(&mut self, packet: &Packet<'_>) -> Result<Option<Row>, NoMemory>
+        ensures row { (seen : List AnEvent) (e : AnEvent) → SpellsEvent packet.now e → HasSeen self.old seen → IfOk result (λ row. row ≡ completed_row seen e) }
+        ensures ok { (seen : List AnEvent) (e : AnEvent) → SpellsEvent packet.now e → HasSeen self.old seen → OnOk result (HasSeen self.new (seen ++ e ∷ [])) }
+        ensures err { OnErr result (open_in self.new ≡ open_in self.old) }
+    {
+        let Some(key) = key_in(self.alloc, packet)? else {
+            return Ok(None);
+        };
+        let said = said_in(self.alloc, packet)?;
+        self.tell(key, ended_by(packet.status()), said)
+    }
+
     /// Ends the fold, and gives a row for each open test, by route, no route first, and then by id.
     ///
     /// `NoMemory` comes only for want of memory.
@@ -176,5 +197,86 @@ fn row_of(alloc: Global, key: TestKey, ended: Ended, nanos: Option<u64>, started
         tags,
         nanos,
         text: row_text(alloc, ended, text),
+    }
+}
+
+/// The outcomes of a run so far: the completed rows, and the tests that are open.
+#[derive(Drop)]
+pub struct Outcomes {
+    alloc: Global,
+    fold: Fold,
+    completed: Vec<Row>,
+}
+
+impl Outcomes {
+    /// The outcomes of no event. They take no memory yet.
+    pub fn new(alloc: Global) -> Self
+        ensures { HasFolded result [] }
+    {
+        Outcomes {
+            alloc,
+            fold: Fold::new(alloc),
+            completed: Vec::new(alloc),
+        }
+    }
+
+    /// Takes the event.
+    ///
+    /// `NoMemory` comes only for want of memory, and then the outcomes are as before.
+    pub fn add(&mut self, event: &Event) -> Result<(), NoMemory>
+        ensures ok { (seen : List AnEvent) → HasFolded self.old seen → OnOk result (HasFolded self.new (seen ++ event.now ∷ [])) }
+        ensures err { (seen : List AnEvent) → HasFolded self.old seen → OnErr result (HasFolded self.new seen) }
+    {
+        self.completed.reserve(1)?;
+        if let Some(row) = self.fold.add(event)? {
+            self.completed.push(row)?;
+        }
+        Ok(())
+    }
+
+    /// The same of an event that is given away: its id, its route and its tags are moved, and not copied.
+    ///
+    /// `NoMemory` comes only for want of memory, and then the outcomes are as before.
+    pub fn take(&mut self, event: Event) -> Result<(), NoMemory>
+        ensures ok { (seen : List AnEvent) → HasFolded self.old seen → OnOk result (HasFolded self.new (seen ++ event ∷ [])) }
+        ensures err { (seen : List AnEvent) → HasFolded self.old seen → OnErr result (HasFolded self.new seen) }
+    {
+        self.completed.reserve(1)?;
+        if let Some(row) = self.fold.take(event)? {
+            self.completed.push(row)?;
+        }
+        Ok(())
+    }
+
+    /// The same of the event that the packet spells, which is not made: what is needed of it is copied from where it
+    /// stands.
+    ///
+    /// `NoMemory` comes only for want of memory, and then the outcomes are as before.
+    pub fn hear(&mut self, packet: &Packet<'_>) -> Result<(), NoMemory>
+        ensures ok { (seen : List AnEvent) (e : AnEvent) → SpellsEvent packet.now e → HasFolded self.old seen → OnOk result (HasFolded self.new (seen ++ e ∷ [])) }
+        ensures err { (seen : List AnEvent) → HasFolded self.old seen → OnErr result (HasFolded self.new seen) }
+    {
+        self.completed.reserve(1)?;
+        if let Some(row) = self.fold.hear(packet)? {
+            self.completed.push(row)?;
+        }
+        Ok(())
+    }
+
+    /// Ends the run, and gives its rows: by route, no route first, and in a route first the completed ones in the order
+    /// of their completing events, then the open ones by id.
+    ///
+    /// `NoMemory` comes only for want of memory.
+    pub fn close(self) -> Result<Rows, NoMemory>
+        ensures { (seen : List AnEvent) → HasFolded self seen → IfOk result (λ rows. rows ≡ rows_are.rows_of seen) }
+    {
+        let Outcomes {
+            alloc,
+            fold,
+            completed: mut rows,
+        } = self;
+        let mut open = fold.close()?;
+        rows.append(&mut open)?;
+        Ok(Rows::of(by_route(alloc, rows)?))
     }
 }

@@ -1,33 +1,31 @@
 //! What became of the tests of a stream: its events folded into rows, one for each part of a test's events.
 //!
 //! The rules stand in docs/FORMATS.md under "The fold". `specs/` states them of whole lists of events.
+//!
+//! - `test_key`: which test an event speaks of
+//! - `part`: what the events of a part of a test say together, and the text that is kept of it
+//! - `row`: how a test ended, and what became of it
+//! - `fold`: the events folded into rows, as they come, and of a whole run
+//! - `rows`: the rows of a run, in their groups, how many there are, and what they say
+//! - `text_set`: texts in the order of their bytes, each once
+//! - `laws`: what holds of the rows of all events
 #![tactic(auto)]
 
-mod counting;
-mod ended;
 mod fold;
-mod groups;
-mod kept_text;
 mod laws;
-mod outcomes;
 mod part;
 mod row;
 mod rows;
-mod sorting;
 mod test_key;
 mod text_set;
 
-pub use ended::{Ended, ended_by};
-pub use fold::Fold;
-pub use kept_text::KeptText;
+pub use fold::{Fold, Outcomes};
 pub use laws::{orders_of_maps, rows_are_by_route, rows_of_events};
-pub use outcomes::Outcomes;
-pub use part::{elapsed, instant_of, text_in};
-pub use row::{Counts, Row};
+pub use part::{KeptText, elapsed, instant_in, instant_of, text_heard, text_in};
+pub use row::{Counts, Ended, Row, ended_by};
 pub use rows::Rows;
-pub use sorting::sorted_tags;
-pub use test_key::{TestKey, key_of};
-pub use text_set::TextSet;
+pub use test_key::{TestKey, key_in, key_of};
+pub use text_set::{TextSet, into_sorted, sorted_tags};
 
 #[cfg(test)]
 mod tests;

@@ -1,17 +1,69 @@
-//! What the events of a part of a test say together.
+//! What the events of a part of a test say together, and the text that is kept of it.
 
-ghost use Rattle.std.specs.Prelude.{◌≡◌, IfOk, OnOk, OnErr};
-ghost use Rattle.std.specs.Option.{option_map};
 ghost use Rattle.outcome_fold.specs.Parts as parts;
+ghost use Rattle.std.specs.Prelude.{◌≡◌, IfOk, OnOk, OnErr, [], ◌++◌, take};
+ghost use Rattle.outcome_fold.specs.Parts.{text_limit};
+ghost use Rattle.std.specs.Option.{option_map};
 ghost use Rattle.outcome_fold.specs.Order.{in_byte_order};
-ghost use Rattle.outcome_fold.specs.Started.{Says, IsBut, after_said, fresh_said};
+ghost use Rattle.outcome_fold.specs.Started.{Says, IsBut, after_said, fresh_said, text_by};
+ghost use Rattle.packet_codec.specs.Packet.{SpellsEvent};
+ghost use Rattle.packet_codec.specs.Shapes.{bytes_of};
 ghost use Rattle.packet_codec.specs.declared.event.Event.{Event as AnEvent};
 
-use crate::kept_text::KeptText;
-use crate::sorting::{into_sorted, sorted_tags};
-use packet_codec::{Event, Tags};
+use crate::text_set::{into_sorted, sorted_tags};
+use packet_codec::{Event, Packet, Stamp, Tags};
 use std::alloc::Global;
-use sub_number::NoMemory;
+use std::marker::Model;
+use sub_number::{Bytes, NoMemory};
+
+/// The bytes of a row's text that are kept.
+const TEXT_LIMIT: usize = 65_536;
+
+/// The first bytes of some files, joined. Contracts see them as a list of bytes.
+#[derive(Drop)]
+pub struct KeptText {
+    bytes: Vec<u8>,
+}
+
+impl Model for KeptText {
+    ghost use Rattle.std.specs.Prelude.{List, ℕ};
+
+    ghost Value = { List ℕ };
+
+    ghost view = { λ t. t.bytes.items };
+}
+
+impl KeptText {
+    /// No bytes. It takes no memory.
+    pub fn new(alloc: Global) -> Self
+        ensures { result ≡ [] }
+    {
+        KeptText {
+            bytes: Vec::new(alloc),
+        }
+    }
+
+    /// Appends the piece, of which no more is copied than is kept.
+    ///
+    /// `NoMemory` comes only for want of memory, and then the text is as before.
+    pub fn append(&mut self, piece: &[u8]) -> Result<(), NoMemory>
+        ensures ok { OnOk result (self.new ≡ take text_limit (self.old ++ piece.now)) }
+        ensures err { OnErr result (self.new ≡ self.old) }
+    {
+        let room = TEXT_LIMIT.saturating_sub(self.bytes.len());
+        self.bytes
+            .extend_from_slice(&piece[..room.min(piece.len())])?;
+        self.bytes.truncate(TEXT_LIMIT);
+        Ok(())
+    }
+
+    /// The bytes, moved out.
+    pub fn into_bytes(self) -> Bytes
+        ensures { result ≡ self }
+    {
+        Bytes::from_vec(self.bytes)
+    }
+}
 
 /// What the events of a part say so far.
 #[derive(Drop)]
@@ -28,7 +80,23 @@ pub struct Started {
 pub fn instant_of(event: &Event) -> Option<u64>
     ensures { result ≡ option_map parts.instant event.now.stamp }
 {
-    match event.stamp {
+    instant_at(event.stamp)
+}
+
+/// The instant of the packet's event, in nanoseconds since 1970 in UTC, where it has a stamp.
+#[inline(always)]
+pub fn instant_in(packet: &Packet<'_>) -> Option<u64>
+    ensures { (e : AnEvent) → SpellsEvent packet.now e → result ≡ option_map parts.instant e.stamp }
+{
+    instant_at(packet.stamp())
+}
+
+// The instant of a time, where there is one.
+#[inline(always)]
+fn instant_at(stamp: Option<Stamp>) -> Option<u64>
+    ensures { result ≡ option_map parts.instant stamp }
+{
+    match stamp {
         Some(stamp) => Some(stamp.instant()),
         None => None,
     }
@@ -53,6 +121,26 @@ pub fn text_in(event: &Event) -> &[u8]
         (Some(mime), Some(file)) if mime.bytes().starts_with(b"text/") => file.bytes.bytes(),
         _ => &[],
     }
+}
+
+// The bytes of a file, where there are some, and a MIME type that begins with `text/`, else none.
+#[inline(always)]
+fn text_at<'a>(mime: Option<&[u8]>, file: Option<&'a [u8]>) -> &'a [u8]
+    ensures { result.now ≡ text_by (bytes_of mime.entry) (bytes_of file.entry) }
+{
+    match (mime, file) {
+        (Some(mime), Some(bytes)) if mime.starts_with(b"text/") => bytes,
+        _ => &[],
+    }
+}
+
+/// The bytes of the file of the packet's event, where it has a MIME type that begins with `text/`, else none. They are
+/// not copied.
+#[inline(always)]
+pub fn text_heard<'p>(packet: &'p Packet<'_>) -> &'p [u8]
+    ensures { (e : AnEvent) → SpellsEvent packet.now e → result.now ≡ parts.text_in e.mime e.file }
+{
+    text_at(packet.mime(), packet.file_bytes())
 }
 
 /// What one event says of its test.
@@ -88,6 +176,22 @@ pub(crate) fn said_with(tags: Option<Tags>, event: &Event) -> Said<'_>
         tags,
         text: text_in(event),
     }
+}
+
+/// What the packet's event says. Its tags are copied, and its text stays where it stands.
+///
+/// `NoMemory` comes only for want of memory.
+#[inline(always)]
+pub(crate) fn said_in<'p>(alloc: Global, packet: &'p Packet<'_>) -> Result<Said<'p>, NoMemory>
+    ensures { (e : AnEvent) → SpellsEvent packet.now e → IfOk result (λ said. Says said e) }
+{
+    let own = packet.tags(alloc)?;
+    let tags = moved_tags(alloc, own)?;
+    Ok(Said {
+        instant: instant_in(packet),
+        tags,
+        text: text_heard(packet),
+    })
 }
 
 // The tags of an event in the order of their bytes, each once, where it has tags.

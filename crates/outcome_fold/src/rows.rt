@@ -1,17 +1,21 @@
-//! The rows of a run, and what they say.
+//! The rows of a run, in their groups, how many there are, and what they say.
 
-ghost use Rattle.std.specs.Prelude.{◌≡◌, IfOk, OnOk, None, ◌&&◌, not, max, if◌then◌else◌};
+ghost use Rattle.outcome_fold.specs.Rows as rows_are;
+ghost use Rattle.outcome_fold.specs.Answers as answers;
 ghost use Rattle.std.specs.FinMap as map;
+ghost use Rattle.std.specs.Prelude.{◌≡◌, IfOk, OnOk, None, ◌&&◌, not, max, if◌then◌else◌, ◌+◌, ◌≤◌, ◌<◌, ◌^◌, ◌||◌, Some, is_some, List, [], ◌∷◌, ◌++◌};
 ghost use Rattle.std.specs.Option.{unwrap_or};
 ghost use Rattle.std.specs.List.{filter};
-ghost use Rattle.outcome_fold.specs.Answers as answers;
 ghost use Rattle.outcome_fold.specs.Order.{among, in_byte_order};
+ghost use Rattle.outcome_fold.specs.declared.row.Row.{Row as ARow};
+ghost use Rattle.outcome_fold.specs.Grouped.{groups_in, joined_groups};
 
-use crate::counting::{count_rows, is_run};
-use crate::row::{Counts, Row};
+use crate::row::{Counts, Ended, Row};
+use crate::test_key::copy_route;
 use crate::text_set::TextSet;
 use packet_codec::Tags;
 use std::alloc::Global;
+use std::collections::BTreeMap;
 use std::marker::Model;
 use sub_number::{IdList, NoMemory, Text, TimeMap};
 
@@ -169,4 +173,185 @@ fn tag_set(alloc: Global, rows: &[Row]) -> Result<TextSet, NoMemory>
         }
     }
     Ok(tags)
+}
+
+/// Whether the row is of a test that ran.
+pub fn is_run(row: &Row) -> bool
+    ensures { result ≡ answers.is_run row.now }
+{
+    row.ended != Ended::Exists
+}
+
+// Whether the row has one of the tags.
+fn has_one_of(tags: &[Text], row: &Row) -> bool
+    ensures { result ≡ answers.has_one_of tags.now row.now }
+{
+    tags.iter().any(|tag| row.tags.list().contains(tag))
+}
+
+// Whether the row is counted.
+fn is_counted(filter_tags: &[Text], row: &Row) -> bool
+    ensures { result ≡ answers.is_counted filter_tags.now row.now }
+{
+    is_run(row) && (row.ended.fails() || !has_one_of(filter_tags, row))
+}
+
+// The sum of the times that there are.
+fn sum_time(total: Option<u128>, nanos: Option<u64>) -> Option<u128>
+    requires { unwrap_or total 0 + 2 ^ 64 ≤ 2 ^ 128 }
+    ensures sum { result ≡ (if is_some total || is_some nanos then Some (unwrap_or total 0 + unwrap_or nanos 0) else None) }
+    ensures bound { unwrap_or result 0 ≤ unwrap_or total 0 + 2 ^ 64 }
+{
+    match (total, nanos) {
+        (None, None) => None,
+        (None, Some(nanos)) => Some(u128::from(nanos)),
+        (Some(total), None) => Some(total),
+        (Some(total), Some(nanos)) => Some(total + u128::from(nanos)),
+    }
+}
+
+// The counts with one row more.
+fn with(counts: Counts, row: &Row) -> Counts
+    requires total { counts.total + 1 < 2 ^ 64 }
+    requires passed { counts.passed + 1 < 2 ^ 64 }
+    requires failed { counts.failed + 1 < 2 ^ 64 }
+    requires skipped { counts.skipped + 1 < 2 ^ 64 }
+    requires nanos { unwrap_or counts.nanos 0 + 2 ^ 64 ≤ 2 ^ 128 }
+    ensures counted { (rows : List ARow) → counts ≡ answers.counts_in rows → result ≡ answers.counts_in (rows ++ row.now ∷ []) }
+    ensures total { result.total ≤ counts.total + 1 }
+    ensures passed { result.passed ≤ counts.passed + 1 }
+    ensures failed { result.failed ≤ counts.failed + 1 }
+    ensures skipped { result.skipped ≤ counts.skipped + 1 }
+    ensures nanos { unwrap_or result.nanos 0 ≤ unwrap_or counts.nanos 0 + 2 ^ 64 }
+{
+    let fails = row.ended.fails();
+    let skip = row.ended == Ended::Skip;
+    Counts {
+        total: counts.total + 1,
+        passed: counts.passed + if fails || skip { 0 } else { 1 },
+        failed: counts.failed + if fails { 1 } else { 0 },
+        skipped: counts.skipped + if skip { 1 } else { 0 },
+        nanos: sum_time(counts.nanos, row.nanos),
+    }
+}
+
+/// How many rows are counted, where these tags filter.
+pub fn count_rows(filter_tags: &[Text], rows: &[Row]) -> Counts
+    ensures { result ≡ answers.counts_of filter_tags.now rows.now }
+{
+    let mut counts = Counts {
+        total: 0,
+        passed: 0,
+        failed: 0,
+        skipped: 0,
+        nanos: None,
+    };
+    for row in rows {
+        if is_counted(filter_tags, row) {
+            counts = with(counts, row);
+        }
+    }
+    counts
+}
+
+/// The rows of one route. Contracts see it as their list.
+#[derive(Drop)]
+pub struct Group {
+    rows: Vec<Row>,
+}
+
+impl Model for Group {
+    ghost use Rattle.std.specs.Prelude.{List};
+    ghost use Rattle.outcome_fold.specs.declared.row.Row.{Row as ARow};
+
+    ghost Value = { List ARow };
+
+    ghost view = { λ g. g.rows.items };
+}
+
+impl Group {
+    fn one(alloc: Global, row: Row) -> Result<Self, NoMemory>
+        ensures { IfOk result (λ group. group ≡ row ∷ []) }
+    {
+        let mut rows = Vec::new(alloc);
+        rows.push(row)?;
+        Ok(Group { rows })
+    }
+
+    fn push(&mut self, row: Row) -> Result<(), NoMemory>
+        ensures { OnOk result (self.new ≡ self.old ++ row ∷ []) }
+    {
+        self.rows.push(row)?;
+        Ok(())
+    }
+
+    // Moves the rows to the end of the others.
+    fn move_to(mut self, rows: &mut Vec<Row>) -> Result<(), NoMemory>
+        ensures { OnOk result (rows.new.items ≡ rows.old.items ++ self) }
+    {
+        rows.append(&mut self.rows)?;
+        Ok(())
+    }
+}
+
+/// The rows of each route.
+#[derive(Drop)]
+struct Groups {
+    alloc: Global,
+    groups: BTreeMap<Option<Text>, Group>,
+}
+
+impl Groups {
+    fn new(alloc: Global) -> Self
+        ensures { groups_in result ≡ map.empty }
+    {
+        Groups {
+            alloc,
+            groups: BTreeMap::new(alloc),
+        }
+    }
+
+    // Puts the row to the end of its route's group.
+    fn push(&mut self, row: Row) -> Result<(), NoMemory>
+        ensures { OnOk result (groups_in self.new ≡ map.insert (groups_in self.old) row.route (unwrap_or (map.get (groups_in self.old) row.route) [] ++ row ∷ [])) }
+    {
+        match self.groups.get_mut(&row.route) {
+            Some(group) => group.push(row),
+            None => self.start(row),
+        }
+    }
+
+    // Starts a group with the row.
+    fn start(&mut self, row: Row) -> Result<(), NoMemory>
+        ensures { OnOk result (groups_in self.new ≡ map.insert (groups_in self.old) row.route (row ∷ [])) }
+    {
+        let route = copy_route(&row.route)?;
+        let group = Group::one(self.alloc, row)?;
+        self.groups.insert(route, group)?;
+        Ok(())
+    }
+
+    // All rows, group by group.
+    fn joined(self) -> Result<Vec<Row>, NoMemory>
+        ensures { IfOk result (λ rows. rows.items ≡ joined_groups (groups_in self)) }
+    {
+        let mut rows = Vec::new(self.alloc);
+        for (_, group) in self.groups {
+            group.move_to(&mut rows)?;
+        }
+        Ok(rows)
+    }
+}
+
+/// The rows route by route, no route first, and those of one route in their order.
+///
+/// `NoMemory` comes only for want of memory.
+pub fn by_route(alloc: Global, rows: Vec<Row>) -> Result<Vec<Row>, NoMemory>
+    ensures { IfOk result (λ ordered. ordered.items ≡ rows_are.by_route rows.items) }
+{
+    let mut groups = Groups::new(alloc);
+    for row in rows {
+        groups.push(row)?;
+    }
+    groups.joined()
 }

@@ -3,8 +3,11 @@
 ghost use Rattle.std.specs.Prelude.{◌≡◌, IfOk};
 ghost use Rattle.outcome_fold.specs.Parts.{test_of};
 ghost use Rattle.outcome_fold.specs.Started.{IsBut};
+ghost use Rattle.packet_codec.specs.Packet.{SpellsEvent};
+ghost use Rattle.packet_codec.specs.declared.event.Event.{Event as AnEvent};
 
-use packet_codec::Event;
+use packet_codec::{Event, Packet};
+use std::alloc::Global;
 use sub_number::{NoMemory, Text};
 
 /// A test: its route and its id. In order, no route comes first, then the routes by their bytes, and in a route the ids
@@ -28,6 +31,20 @@ pub fn key_of(event: &Event) -> Result<Option<TestKey>, NoMemory>
         None => return Ok(None),
     };
     let route = copy_route(&event.route)?;
+    Ok(Some(TestKey { route, id }))
+}
+
+/// The test that the packet's event speaks of. `None` comes exactly where it has no id.
+///
+/// `NoMemory` comes only for want of memory.
+#[inline(always)]
+pub fn key_in(alloc: Global, packet: &Packet<'_>) -> Result<Option<TestKey>, NoMemory>
+    ensures { (e : AnEvent) → SpellsEvent packet.now e → IfOk result (λ key. key ≡ test_of e) }
+{
+    let Some(id) = packet.id(alloc)? else {
+        return Ok(None);
+    };
+    let route = packet.route(alloc)?;
     Ok(Some(TestKey { route, id }))
 }
 

@@ -69,7 +69,7 @@ impl Comment {
         if self.bytes.is_empty() {
             return Ok(None);
         }
-        let name = Text::new(alloc, b"tap comment").map_err(|_| NoMemory)?;
+        let name = Text::from_tested(alloc, b"tap comment")?;
         Ok(Some(FilePart {
             name,
             bytes: Bytes::from_vec(self.bytes),

@@ -23,7 +23,7 @@ fn mime_of(alloc: Global, file: &Option<FilePart>) -> Result<Option<Text>, NoMem
     if file.is_none() {
         return Ok(None);
     }
-    let mime = Text::new(alloc, b"text/plain; charset=UTF8").map_err(|_| NoMemory)?;
+    let mime = Text::from_tested(alloc, b"text/plain; charset=UTF8")?;
     Ok(Some(mime))
 }
 
@@ -78,7 +78,7 @@ fn missing_event(alloc: Global, number: u64) -> Result<Event, NoMemory>
 {
     let id = test_id(alloc, number, b"")?;
     let file = FilePart {
-        name: Text::new(alloc, b"tap meta").map_err(|_| NoMemory)?,
+        name: Text::from_tested(alloc, b"tap meta")?,
         bytes: Bytes::new(alloc, b"test missing from TAP output")?,
     };
     test_event(alloc, id, Status::Fail, Some(file))
