@@ -7,7 +7,7 @@ use Rattle.std.specs.FinMap.{FinMap, same_map, get-insert, get-remove}
 use Rattle.std.specs.Ordering.{eq_by_cmp}
 use Rattle.std.specs.Option.{unwrap_or}
 use Rattle.packet_codec.specs.declared.event.Event.{Event}
-use Rattle.outcome_fold.specs.declared.ended.Ended.{Ended}
+use Rattle.outcome_fold.specs.declared.row.Ended.{Ended}
 use Rattle.outcome_fold.specs.declared.test_key.TestKey.{TestKey}
 use Rattle.outcome_fold.specs.Order.{test_cmp}
 use Rattle.outcome_fold.specs.Parts.{test_of, speaks_of, events_of_test, ended_by, completes}

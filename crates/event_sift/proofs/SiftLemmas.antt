@@ -5,8 +5,8 @@ use Rattle.std.specs.List.{flat_map}
 use Rattle.std.specs.List.Sorted.{IsStrictlySortedBy}
 use Rattle.std.specs.Option.{option_map}
 use Rattle.packet_codec.specs.declared.event.Event.{Event}
-use Rattle.outcome_fold.specs.declared.ended.Ended.{Ended}
-use Rattle.outcome_fold.specs.declared.ended.Ended.TheVariants as ended
+use Rattle.outcome_fold.specs.declared.row.Ended.{Ended}
+use Rattle.outcome_fold.specs.declared.row.Ended.TheVariants as ended
 use Rattle.outcome_fold.specs.declared.row.Row.{Row}
 use Rattle.outcome_fold.specs.declared.test_key.TestKey.{TestKey}
 use Rattle.outcome_fold.specs.Order.{test_cmp, table}
@@ -45,6 +45,10 @@ is_kept kept row other part events same so is = is ∙ ap (λ b. cond b part [])
 
 pub is_not_kept : (kept : Row → Bool) (row other : Row) (part events : List Event) → row ≡ other → kept row ≡ false → events ≡ [] → events ≡ if_kept kept other part
 is_not_kept kept row other part events same so is = is ∙ ap (λ b. cond b part []) (sym so ∙ ap kept same)
+
+-- the same of a part that has one event more
+pub last_same : (t : TestKey) (how : Ended) (first part : List Event) (e : Event) (row : Row) → first ≡ part → row ≡ row_of t how (elapsed (start_of (first ++ e ∷ [])) (option_map instant e.stamp)) (first ++ e ∷ []) → row ≡ row_of t how (elapsed (start_of (part ++ e ∷ [])) (option_map instant e.stamp)) (part ++ e ∷ [])
+last_same t how first part e row one is = is ∙ ap (λ (es : List Event). row_of t how (elapsed (start_of (es ++ e ∷ [])) (option_map instant e.stamp)) (es ++ e ∷ [])) one
 
 -- At the end.
 

@@ -2,8 +2,8 @@
 use Rattle.std.specs.Prelude.{ℕ, Bool, true, ◌&&◌, ◌||◌, not, List, length, nat_eq, ◌==◌}
 use Rattle.std.specs.List.{list_any, list_all}
 use Rattle.std.specs.Cmp.Lexicographic.{pointwise}
-use Rattle.outcome_fold.specs.declared.ended.Ended.{Ended}
-use Rattle.outcome_fold.specs.declared.ended.Ended.TheVariants as ended
+use Rattle.outcome_fold.specs.declared.row.Ended.{Ended}
+use Rattle.outcome_fold.specs.declared.row.Ended.TheVariants as ended
 use Rattle.outcome_fold.specs.declared.row.Row.{Row}
 use Rattle.outcome_fold.specs.Answers.{has_one_of}
 use Rattle.partition_times.specs.Patterns.{is_found}

@@ -7,12 +7,14 @@
 //! - `rules`, `predicate`: which rows are kept, and what says so of one after another
 //! - `part`, `held`: the events of the open tests
 //! - `part_row`: the row of some events of a test
+//! - `last_event`: the same where the last one stands in a packet
 //! - `sift`: what is released as events come, and at the end
 //! - `whole`: what is released of a whole list of events
 //! - `tagger`: the tags of an event
 #![tactic(auto)]
 
 mod held;
+mod last_event;
 mod part;
 mod part_row;
 mod predicate;

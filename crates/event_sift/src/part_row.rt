@@ -20,7 +20,7 @@ pub fn start_of(part: &[Event]) -> Option<u64>
 }
 
 // The tags of the last event that has tags.
-fn last_tags(part: &[Event]) -> &[Text]
+pub(crate) fn last_tags(part: &[Event]) -> &[Text]
     ensures { result.now ≡ parts.last_tags part.now }
 {
     let mut last: &[Text] = &[];
@@ -33,13 +33,21 @@ fn last_tags(part: &[Event]) -> &[Text]
 }
 
 // The first bytes of the files of text, joined.
-fn text_of(alloc: Global, part: &[Event]) -> Result<Bytes, NoMemory>
+pub(crate) fn kept_text(alloc: Global, part: &[Event]) -> Result<KeptText, NoMemory>
     ensures { IfOk result (λ text. text ≡ parts.text_of part.now) }
 {
     let mut text = KeptText::new(alloc);
     for event in part {
         text.append(text_in(event))?;
     }
+    Ok(text)
+}
+
+// The same, as bytes.
+fn text_of(alloc: Global, part: &[Event]) -> Result<Bytes, NoMemory>
+    ensures { IfOk result (λ text. text ≡ parts.text_of part.now) }
+{
+    let text = kept_text(alloc, part)?;
     Ok(text.into_bytes())
 }
 

@@ -1,7 +1,7 @@
 use Rattle.std.proofs.Common.{◌∙◌, ap, take, ◌++◌}
 use Rattle.outcome_fold.specs.Parts.{text_limit}
 use Rattle.event_sift.proofs.PartLemmas.{text_take}
-use Rattle.event_sift.proofs.part_row.text_of.Goals as goal
+use Rattle.event_sift.proofs.part_row.kept_text.Goals as goal
 
 pub loop-event-preserved : goal.loop-event-preserved
 loop-event-preserved c =
