@@ -21,9 +21,7 @@ use Rattle.stream_reader.specs.declared.note.Note.{Note}
 use Rattle.stream_reader.specs.declared.note.Note.TheVariants as note
 use Rattle.stream_reader.specs.declared.first.First.{First}
 use Rattle.stream_reader.specs.declared.first.First.TheVariants.{Foreign}
-use Rattle.stream_reader.specs.declared.first.Made.{Made}
-use Rattle.stream_reader.specs.declared.first.Made.TheVariants as there
-use Rattle.stream_reader.specs.First.{FirstIs, HasEvent}
+use Rattle.stream_reader.specs.First.{FirstIs}
 use Rattle.stream_reader.specs.Notes.{HasNotes, AreFullRuns, event_of, stdout_event}
 use Rattle.stream_reader.specs.Stream.{Held, Gives, GivesNote}
 use Rattle.stream_reader.proofs.ExistLemmas.{some_notes}
@@ -55,10 +53,6 @@ stdout_fits bytes short = record {
     length_counted bytes,
   );
 }
-
--- the event of a packet
-pub event_fits : (bytes : List ℕ) (made : Made) (event : Event) (size : ℕ) → made ≡ there.Event event size → HasEvent bytes made → Fits event
-event_fits bytes made event size form has = spelled_fits (take size bytes) event (subst (HasEvent bytes) form has)
 
 -- foreign bytes that stand at the front
 pub run_fits : (ended : Bool) (bytes run : List ℕ) (first : First) (size : ℕ) (behind : Option ℕ) → FirstIs ended bytes first → first ≡ Foreign size behind → run ≡ take size bytes → Fits (stdout_event run)

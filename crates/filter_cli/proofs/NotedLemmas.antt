@@ -1,21 +1,21 @@
 -- A filter of notes at work.
 use Rattle.std.proofs.Common.{◌≡◌, ℕ, Option, ◌<◌, length, length-append, Bool, true, false, List, [], ◌∷◌, ◌++◌, take, refl, sym, ap, subst, ◌∙◌, append_assoc, append-nil, arith}
 use Rattle.packet_codec.specs.Grammar.{AreBytes}
+use Rattle.packet_codec.specs.Header.{BeginsWithPacket}
+use Rattle.packet_codec.specs.Packet.{SpellsEvent}
 use Rattle.packet_codec.specs.declared.event.Event.{Event}
 use Rattle.stream_reader.specs.declared.note.Note.{Note}
 use Rattle.stream_reader.specs.declared.note.Note.TheVariants as note
 use Rattle.stream_reader.specs.declared.first.First.{First}
 use Rattle.stream_reader.specs.declared.first.First.TheVariants as found
-use Rattle.stream_reader.specs.declared.first.Made.{Made}
-use Rattle.stream_reader.specs.declared.first.Made.TheVariants as there
-use Rattle.stream_reader.specs.First.{FirstIs, HasEvent, IsMadeBy, first_of}
+use Rattle.stream_reader.specs.First.{FirstIs, IsMadeBy}
 use Rattle.stream_reader.specs.Stream.{Held, GivesNote, IsSpent}
 use Rattle.stream_reader.proofs.TurnLemmas.{notes_none, notes_more, begin_more, whole_at_end, gives_none}
 use Rattle.stream_reader.proofs.GivingLemmas.{spent_empty}
 use Rattle.filter_cli.specs.Pipe.{Adds}
 use Rattle.filter_cli.specs.Plan.{Plan, IsSeen, IsFiltered}
 use Rattle.filter_cli.specs.Script.{given_by}
-use Rattle.filter_cli.specs.Noted.{HasFiltered, TakesNotes}
+use Rattle.filter_cli.specs.Noted.{HasFiltered, TakesFirst, TakesNext, TakesNotes}
 use Rattle.filter_cli.specs.ScriptLaws.{given_more}
 
 pub filtered_none : (takes : List Note → Type 0) (plan : Plan) → takes [] → HasFiltered takes plan [] [] []
@@ -92,8 +92,27 @@ filtered_all takes later plan now rest fed shown held after old mid new status s
 
 -- ---- what is first
 
-pub event_made : (bytes : List ℕ) (made : Made) (event : Event) (size : ℕ) → made ≡ there.Event event size → HasEvent bytes made → IsMadeBy bytes (first_of made) (note.Event event)
-event_made bytes made event size form has = subst (λ (m : Made). IsMadeBy bytes (first_of m) (note.Event event)) (sym form) (subst (HasEvent bytes) form has)
+-- the packet that is first was taken, whichever event it spells
+pub takes_packet : (takes later : List Note → Type 0) (plan : Plan) (bytes packet : List ℕ) (first : First) (size : ℕ) (old new : List ℕ)
+    → first ≡ found.Packet size → BeginsWithPacket bytes size → packet ≡ take size bytes
+    → ((event : Event) → SpellsEvent packet event → (notes : List Note) → takes notes → later (notes ++ note.Event event ∷ []))
+    → ((event : Event) → SpellsEvent packet event → (notes : List Note) → takes notes → new ≡ old ++ plan.gives notes (note.Event event))
+    → TakesFirst takes later plan bytes first old new
+takes_packet takes later plan bytes packet first size old new form begins same goes_on writes =
+    let event = begins.packet.0 in
+    let spells : SpellsEvent packet event = subst (λ (l : List ℕ). SpellsEvent l event) (sym same) begins.packet.1 in
+    record {
+      note = note.Event event;
+      made = subst (λ (f : First). IsMadeBy bytes f (note.Event event)) (sym form) begins.packet.1;
+      taken = goes_on event spells;
+      grown = writes event spells;
+    }
+
+-- what is first was given and taken
+pub takes_next : (takes later : List Note → Type 0) (plan : Plan) (before after : Held) (first : First) (old new : List ℕ)
+    → TakesFirst takes later plan before.bytes first old new → ((note : Note) → IsMadeBy before.bytes first note → GivesNote before note after)
+    → TakesNext takes later plan before after old new
+takes_next takes later plan before after first old new t gives = record { note = t.note; given = gives t.note t.made; taken = t.taken; grown = t.grown }
 
 pub run_made : (bytes run : List ℕ) (first : First) (size : ℕ) (behind : Option ℕ) → first ≡ found.Foreign size behind → run ≡ take size bytes → IsMadeBy bytes first (note.Foreign run)
 run_made bytes run first size behind form same = subst (λ (f : First). IsMadeBy bytes f (note.Foreign run)) (sym form) same

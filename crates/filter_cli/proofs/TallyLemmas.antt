@@ -7,8 +7,8 @@ use Rattle.std.proofs.lemmas.List.Elements.{filter-append}
 use Rattle.std.proofs.lemmas.List.Folds.{list_any-append}
 use Rattle.std.proofs.lemmas.Grind.{flat_map-append}
 use Rattle.packet_codec.specs.declared.event.Event.{Event}
-use Rattle.outcome_fold.specs.declared.ended.Ended.{Ended}
-use Rattle.outcome_fold.specs.declared.ended.Ended.TheVariants as ended
+use Rattle.outcome_fold.specs.declared.row.Ended.{Ended}
+use Rattle.outcome_fold.specs.declared.row.Ended.TheVariants as ended
 use Rattle.outcome_fold.specs.declared.row.Row.{Row}
 use Rattle.outcome_fold.specs.declared.row.Counts.{Counts}
 use Rattle.outcome_fold.specs.Order.{text_cmp, in_byte_order, among}

@@ -4,7 +4,7 @@ use Rattle.stream_reader.specs.declared.note.Note.{Note}
 use Rattle.stream_reader.specs.declared.first.First.{First}
 use Rattle.stream_reader.specs.Notes.{HasDecided}
 use Rattle.stream_reader.specs.First.{IsMadeBy}
-use Rattle.stream_reader.specs.Stream.{Held, BeginsWithNotes, GivesNotes}
+use Rattle.stream_reader.specs.Stream.{Held, BeginsWithNotes, GivesNote, GivesNotes}
 use Rattle.filter_cli.specs.Plan.{Plan}
 use Rattle.filter_cli.specs.Script.{given_by}
 
@@ -20,6 +20,13 @@ pub record HasFiltered (takes : List Note → Type 0) (plan : Plan) (held fed sh
 pub record TakesFirst (takes later : List Note → Type 0) (plan : Plan) (bytes : List ℕ) (first : First) (old new : List ℕ) : Type 0 where
   pub note : Note
   pub made : IsMadeBy bytes first note
+  pub taken : (notes : List Note) → takes notes → later (notes ++ note ∷ [])
+  pub grown : (notes : List Note) → takes notes → new ≡ old ++ plan.gives notes note
+
+-- the first note was given and taken, and what it gives was appended
+pub record TakesNext (takes later : List Note → Type 0) (plan : Plan) (before after : Held) (old new : List ℕ) : Type 0 where
+  pub note : Note
+  pub given : GivesNote before note after
   pub taken : (notes : List Note) → takes notes → later (notes ++ note ∷ [])
   pub grown : (notes : List Note) → takes notes → new ≡ old ++ plan.gives notes note
 

@@ -1,7 +1,6 @@
 -- What is counted of tests as they end.
-use Rattle.std.specs.Prelude.{◌≡◌, Bool, true, false, not, List, map, count_by}
-use Rattle.outcome_fold.specs.declared.ended.Ended.{Ended}
-use Rattle.outcome_fold.specs.declared.ended.Ended.TheVariants as ended
+use Rattle.std.specs.Prelude.{◌≡◌, ◌||◌, Bool, not, List, map, count_by}
+use Rattle.outcome_fold.specs.declared.row.Ended.{Ended}
 use Rattle.outcome_fold.specs.declared.row.Row.{Row}
 use Rattle.outcome_fold.specs.declared.row.Counts.{Counts}
 use Rattle.outcome_fold.specs.Rows.{is_failure}
@@ -12,13 +11,7 @@ use Rattle.filter_cli.specs.declared.tally.Kind.TheVariants as kind
 
 -- neither failed nor skipped, and no test that is only known to exist
 abbrev pub is_pass : Ended → Bool
-is_pass ended.Exists = false
-is_pass ended.Success = true
-is_pass ended.UxSuccess = false
-is_pass ended.Skip = false
-is_pass ended.Fail = false
-is_pass ended.XFail = true
-is_pass ended.Open = false
+is_pass how = not (is_failure how || is_skip how || is_existing how)
 
 abbrev pub is_of : Kind → Ended → Bool
 is_of kind.Run how = not (is_existing how)

@@ -9,7 +9,7 @@ ghost use Rattle.filter_cli.specs.Ls.{shown_line};
 
 use crate::notes::NoteFilter;
 use outcome_fold::{Ended, Fold, Row};
-use packet_codec::Event;
+use packet_codec::Packet;
 use std::alloc::Global;
 use sub_number::NoMemory;
 use sub_text::ls_line;
@@ -62,8 +62,9 @@ impl NoteFilter for Ls {
 
     ghost has = { λ f notes. HasSeen f.fold (events_in notes) × (f.failed ≡ list_any row_fails (completed_rows (events_in notes))) };
 
-    fn take(&mut self, event: Event, text: &mut Vec<u8>) -> Result<(), NoMemory> {
-        let row = self.fold.take(event)?;
+    #[inline(always)]
+    fn take(&mut self, packet: &Packet<'_>, text: &mut Vec<u8>) -> Result<(), NoMemory> {
+        let row = self.fold.hear(packet)?;
         put_row(self.listing, &row, text)?;
         self.failed = failed_after(self.failed, &row);
         Ok(())

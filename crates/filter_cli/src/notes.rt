@@ -1,12 +1,14 @@
 // Filters of notes.
 ghost use Rattle.std.specs.Prelude.{◌≡◌, [], ◌∷◌, ◌++◌, List, IfOk, OnOk};
 ghost use Rattle.packet_codec.specs.Canonical.{Fits};
+ghost use Rattle.packet_codec.specs.Packet.{IsPacket, SpellsEvent};
+ghost use Rattle.packet_codec.specs.declared.event.Event.{Event as AnEvent};
 ghost use Rattle.stream_reader.specs.declared.note.Note.{Note as ANote};
 ghost use Rattle.stream_reader.specs.declared.note.Note.TheVariants as note;
 ghost use Rattle.stream_reader.specs.Notes.{stdout_event as event_of_bytes};
 ghost use Rattle.filter_cli.specs.Plan.{Plan};
 
-use packet_codec::Event;
+use packet_codec::Packet;
 use sub_number::NoMemory;
 
 /// A filter that goes by the notes of a stream, one after another.
@@ -20,14 +22,14 @@ pub trait NoteFilter {
     /// What it was made over may be called.
     ghost ready: { Self → Type 0 } = { λ _. Unit {0} };
 
-    /// Takes the next note, which is this event, and appends what it gives. The event has a packet, as each event of a
-    /// stream has.
-    fn take(&mut self, event: Event, text: &mut Vec<u8>) -> Result<(), NoMemory>
+    /// Takes the next note, which is the event that this packet spells, and appends what it gives. The packet is lent
+    /// where it stands, and a filter copies of it what it needs.
+    fn take(&mut self, packet: &Packet<'_>, text: &mut Vec<u8>) -> Result<(), NoMemory>
         requires ready { ready self.old }
-        requires packet { Fits event }
+        requires packet { IsPacket packet.now }
         ensures ready { OnOk result (ready self.new) }
-        ensures ok { (notes : List ANote) → has self.old notes → OnOk result (has self.new (notes ++ note.Event event ∷ [])) }
-        ensures text { (notes : List ANote) → has self.old notes → OnOk result (text.new.items ≡ text.old.items ++ (plan self.old).gives notes (note.Event event)) }
+        ensures ok { (event : AnEvent) → SpellsEvent packet.now event → (notes : List ANote) → has self.old notes → OnOk result (has self.new (notes ++ note.Event event ∷ [])) }
+        ensures text { (event : AnEvent) → SpellsEvent packet.now event → (notes : List ANote) → has self.old notes → OnOk result (text.new.items ≡ text.old.items ++ (plan self.old).gives notes (note.Event event)) }
         ensures plan { OnOk result (plan self.new ≡ plan self.old) };
 
     /// Takes the next note, which is these foreign bytes, and appends what it gives. The bytes stand where they were

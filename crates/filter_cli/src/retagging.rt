@@ -79,7 +79,7 @@ fn added_by(alloc: Global, words: &[String]) -> Result<Tags, NoMemory>
     let mut tags = Tags::new(alloc);
     for word in words {
         if let Some(tag) = added(word.as_str()) {
-            tags.push(word_text(alloc, tag)?).map_err(|_| NoMemory)?;
+            tags.push(word_text(alloc, tag)?)?;
         }
     }
     Ok(tags)
@@ -91,7 +91,7 @@ fn removed_by(alloc: Global, words: &[String]) -> Result<Tags, NoMemory>
     let mut tags = Tags::new(alloc);
     for word in words {
         if let Some(tag) = removed(word.as_str()) {
-            tags.push(word_text(alloc, tag)?).map_err(|_| NoMemory)?;
+            tags.push(word_text(alloc, tag)?)?;
         }
     }
     Ok(tags)

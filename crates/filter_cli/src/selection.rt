@@ -165,7 +165,7 @@ fn tags_in(alloc: Global, added: Added, items: &[Item<'_>]) -> Result<Tags, NoMe
     let mut tags = Tags::new(alloc);
     for item in items {
         if let Some(value) = value_in(added, item) {
-            tags.push(word_text(alloc, value)?).map_err(|_| NoMemory)?;
+            tags.push(word_text(alloc, value)?)?;
         }
     }
     Ok(tags)
@@ -177,7 +177,7 @@ fn ids_in(alloc: Global, added: Added, items: &[Item<'_>]) -> Result<IdList, NoM
     let mut ids = IdList::new(alloc);
     for item in items {
         if let Some(value) = value_in(added, item) {
-            ids.push(word_text(alloc, value)?).map_err(|_| NoMemory)?;
+            ids.push(word_text(alloc, value)?)?;
         }
     }
     Ok(ids)

@@ -13,7 +13,7 @@ use crate::pass::PumpFault;
 use crate::through::pass_notes;
 use edge_io::{Sink, Source};
 use event_sift::{ByRules, Predicate, Rules, Sift};
-use packet_codec::Event;
+use packet_codec::Packet;
 use std::alloc::Global;
 use sub_number::NoMemory;
 
@@ -58,8 +58,8 @@ impl<'a, P: Predicate + Drop> NoteFilter for Sifting<'a, P> {
 
     ghost ready = { λ f. (P.rules (predicate_of f.sift) ≡ rules_of f.sift) × HoldsPackets f.sift };
 
-    fn take(&mut self, event: Event, text: &mut Vec<u8>) -> Result<(), NoMemory> {
-        let events = self.sift.add(event)?;
+    fn take(&mut self, packet: &Packet<'_>, text: &mut Vec<u8>) -> Result<(), NoMemory> {
+        let events = self.sift.hear(packet)?;
         put_events(&events, text)?;
         Ok(())
     }

@@ -9,7 +9,7 @@ use crate::ls::put_foreign;
 use crate::notes::NoteFilter;
 use crate::tally::Tally;
 use outcome_fold::{Fold, Row};
-use packet_codec::Event;
+use packet_codec::Packet;
 use std::alloc::Global;
 use sub_number::NoMemory;
 use sub_text::counts_text;
@@ -50,8 +50,9 @@ impl NoteFilter for Stats {
 
     ghost has = { λ f notes. HasSeen f.fold (events_in notes) × HasTallied f.tally (completed_rows (events_in notes)) };
 
-    fn take(&mut self, event: Event, _text: &mut Vec<u8>) -> Result<(), NoMemory> {
-        let row = self.fold.take(event)?;
+    #[inline(always)]
+    fn take(&mut self, packet: &Packet<'_>, _text: &mut Vec<u8>) -> Result<(), NoMemory> {
+        let row = self.fold.hear(packet)?;
         count_row(&mut self.tally, &row)?;
         Ok(())
     }

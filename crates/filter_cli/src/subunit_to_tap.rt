@@ -9,7 +9,7 @@ ghost use Rattle.tap_bridge.specs.Texts.{HasWritten, text_at, text_behind};
 use crate::ls::{any_failed, failed_after};
 use crate::notes::NoteFilter;
 use outcome_fold::{Fold, Row};
-use packet_codec::Event;
+use packet_codec::Packet;
 use std::alloc::Global;
 use sub_number::NoMemory;
 use tap_bridge::TapWriter;
@@ -54,8 +54,8 @@ impl NoteFilter for SubunitToTap {
 
     ghost has = { λ f notes. HasSeen f.fold (events_in notes) × HasWritten f.writer (completed_rows (events_in notes)) × (f.failed ≡ list_any row_fails (completed_rows (events_in notes))) };
 
-    fn take(&mut self, event: Event, text: &mut Vec<u8>) -> Result<(), NoMemory> {
-        let row = self.fold.take(event)?;
+    fn take(&mut self, packet: &Packet<'_>, text: &mut Vec<u8>) -> Result<(), NoMemory> {
+        let row = self.fold.hear(packet)?;
         put_row(&mut self.writer, &row, text)?;
         self.failed = failed_after(self.failed, &row);
         Ok(())

@@ -13,7 +13,7 @@ use crate::pass::PumpFault;
 use crate::through::pass_notes;
 use edge_io::{Sink, Source};
 use event_sift::Tagger;
-use packet_codec::{Event, Tags, encode, fits};
+use packet_codec::{Event, Packet, Tags, encode, fits};
 use std::alloc::Global;
 use stream_reader::stdout_event;
 use sub_number::{Bytes, NoMemory};
@@ -53,7 +53,8 @@ impl NoteFilter for Tagging {
     // Nothing is kept of what was taken.
     ghost has = { λ f notes. f.plain ≡ plain_tags f.tagger };
 
-    fn take(&mut self, event: Event, text: &mut Vec<u8>) -> Result<(), NoMemory> {
+    fn take(&mut self, packet: &Packet<'_>, text: &mut Vec<u8>) -> Result<(), NoMemory> {
+        let event = packet.event(self.alloc)?;
         put_tagged(&self.tagger, &mut self.plain, event, text)?;
         Ok(())
     }

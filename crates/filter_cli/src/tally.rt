@@ -52,7 +52,7 @@ fn number_of(kind: Kind, ended: &[Ended]) -> u64
 fn has_run(row: &Row) -> bool
     ensures { result ≡ is_run row.now }
 {
-    row.ended != Ended::Exists
+    is_of(Kind::Run, row.ended)
 }
 
 // Adds the tags of the row's test, where it ran.

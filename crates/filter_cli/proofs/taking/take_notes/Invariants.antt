@@ -4,13 +4,13 @@ use Rattle.filter_cli.specs.Noted.{TakesNotes}
 use Rattle.filter_cli.proofs.taking.take_notes.Given as goal
 
 -- the notes given so far were taken in turn
-abbrev pub invariant-loop-made : goal.invariant-loop-made
-invariant-loop-made g l = record {
+abbrev pub invariant-loop-more : goal.invariant-loop-more
+invariant-loop-more g l = record {
   taken : (notes : List Note) → g.F.NoteFilter.has l.fn.filter notes → TakesNotes (g.F.NoteFilter.has l.filter) (g.F.NoteFilter.plan l.fn.filter) notes l.fn.reader l.reader l.fn.text.items l.text.items;
   ready : g.F.NoteFilter.ready l.filter;
   ended : l.reader.ended ≡ l.fn.reader.ended;
   plan : g.F.NoteFilter.plan l.filter ≡ g.F.NoteFilter.plan l.fn.filter;
 }
 
-abbrev pub decreases-loop-made : goal.decreases-loop-made
-decreases-loop-made g l = length l.reader.bytes
+abbrev pub decreases-loop-more : goal.decreases-loop-more
+decreases-loop-more g l = length l.reader.bytes

@@ -1,13 +1,18 @@
-use Rattle.std.proofs.Common.{◌∙◌}
+use Rattle.std.proofs.Common.{◌++◌, ap, ◌∙◌}
+use Rattle.std.specs.List.{flat_map}
+use Rattle.std.specs.Option.{option_to_list}
 use Rattle.filter_cli.specs.Events.{events_in}
+use Rattle.filter_cli.specs.Ls.{shown_line}
 use Rattle.filter_cli.proofs.EventLemmas.{event_more, failed_more}
 use Rattle.filter_cli.proofs.ls.LsNoteFilter.take.Goals as goal
 
 pub returns-clause-ok : goal.returns-clause-ok
-returns-clause-ok c notes has =
+returns-clause-ok c event spells notes has =
     let seen = events_in notes in
-    let event = c.args.event in
     rw (event_more notes event) (
-      c.in_ok-row.ensures.ok seen has.0,
-      c.failed_after-self.ensures ∙ failed_more seen event c.in_ok-row.row c.args.self.now.failed has.1 (c.in_ok-row.ensures.row seen has.0),
+      c.in_ok-row.ensures.ok seen event spells has.0,
+      c.failed_after-self.ensures ∙ failed_more seen event c.in_ok-row.row c.args.self.now.failed has.1 (c.in_ok-row.ensures.row seen event spells has.0),
     )
+
+pub returns-clause-text : goal.returns-clause-text
+returns-clause-text c event spells notes has = c.in_ok-put_row.ensures ∙ ap (λ r. c.args.text.now.items ++ flat_map (shown_line c.args.self.now.listing) (option_to_list r)) (c.in_ok-row.ensures.row (events_in notes) event spells has.0)

@@ -8,11 +8,10 @@ use Rattle.filter_cli.proofs.EventLemmas.{event_more}
 use Rattle.filter_cli.proofs.stats.StatsNoteFilter.take.Goals as goal
 
 pub returns-clause-ok : goal.returns-clause-ok
-returns-clause-ok c notes has =
+returns-clause-ok c event spells notes has =
     let seen = events_in notes in
-    let event = c.args.event in
-    let row = c.in_ok-row.ensures.row seen has.0 in
+    let row = c.in_ok-row.ensures.row seen event spells has.0 in
     rw (event_more notes event) (
-      c.in_ok-row.ensures.ok seen has.0,
+      c.in_ok-row.ensures.ok seen event spells has.0,
       subst (HasTallied _) (ap (λ r. completed_rows seen ++ option_to_list r) row ∙ sym (completed_push seen event)) (c.in_ok-count_row.ensures (completed_rows seen) has.1),
     )
