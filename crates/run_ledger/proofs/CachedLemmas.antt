@@ -25,7 +25,7 @@ use Rattle.run_shelf.proofs.ShowsLemmas.{shown}
 use Rattle.run_ledger.specs.declared.fault.LedgerFault.{LedgerFault}
 use Rattle.run_ledger.specs.declared.fault.LedgerFault.TheVariants.{Store, NoMemory}
 use Rattle.run_ledger.specs.Outcomes.{LedgerCloses, LedgerReads, closed_by}
-use Rattle.run_ledger.specs.Cached.{ledger_fault, ReadsSound, HoldsFailing, HoldsNoFailing, HoldsTimes, HoldsNoTimes, Spares}
+use Rattle.run_ledger.specs.Cached.{ledger_fault, ReadsSound, HoldsFailing, HoldsNoFailing, HoldsTimes, HoldsNoTimes, Spares, SaysItsFailing, SaysItsTimes}
 use Rattle.run_ledger.specs.Caches.{IsFailingCache, IsTimesCache, SaidOfFirst}
 use Rattle.run_ledger.specs.Costs.{ReadsTo, ReadsBehindCache, ReadsBehindCacheTo}
 use Rattle.run_ledger.specs.Ledger.{RunRows, AreRunRows, failing_after, times_after}
@@ -162,10 +162,16 @@ said_to says (Some s) kinds covers x fits said = says_first says s kinds fits co
 pub set_of : (ids list now old : List (List ℕ)) → list ≡ ids → old ≡ [] → IsStrictlySortedBy text_cmp ids → now ≡ in_byte_order (old ++ list) → now ≡ ids
 set_of ids list now old same none ordered is = is ∙ (λ i. in_byte_order (none i ++ same i)) ∙ ordered_already ids ordered
 
--- a cache in a sound folder
-pub held_is_said : (state : Option Folder) (covers : ℕ) (ids : List (List ℕ)) → IfSome state ReadsSound → IfSome state (HoldsFailing covers ids) → IfSome state (λ s. SaidOfFirst failing_after s.disk.published covers ids)
-held_is_said None covers ids sound holds = tt
-held_is_said (Some s) covers ids sound holds = sound.failing holds.bytes covers ids holds.file holds.form
+-- a cache that says its runs
+pub held_is_said : (state : Option Folder) (covers number : ℕ) (ids : List (List ℕ)) → covers ≤ number → IfSome state (SaysItsFailing number) → IfSome state (HoldsFailing covers ids)
+    → IfSome state (λ s. SaidOfFirst failing_after s.disk.published covers ids)
+held_is_said None covers number ids few says holds = tt
+held_is_said (Some s) covers number ids few says holds = says covers ids holds few
+
+-- in a sound folder it does
+pub sound_failing_says : (state : Option Folder) (number : ℕ) → IfSome state ReadsSound → IfSome state (SaysItsFailing number)
+sound_failing_says None number sound = tt
+sound_failing_says (Some s) number sound = λ covers ids holds few. sound.failing holds.bytes covers ids holds.file holds.form
 
 -- ---- how many calls it takes
 
@@ -290,9 +296,14 @@ holds_no_times (Some s) found bytes is holds none = λ covers times cache.
     let same : cache.bytes ≡ bytes = some_bytes cache.bytes bytes (sym cache.file ∙ sym holds ∙ is) in
     none covers times (subst (λ (l : List ℕ). IsTimesCache l covers times) same cache.form)
 
-pub held_times_said : (state : Option Folder) (covers : ℕ) (times : FinMap text_cmp ℕ) → IfSome state ReadsSound → IfSome state (HoldsTimes covers times) → IfSome state (λ s. SaidOfFirst times_after s.disk.published covers times)
-held_times_said None covers times sound holds = tt
-held_times_said (Some s) covers times sound holds = sound.times holds.bytes covers times holds.file holds.form
+pub held_times_said : (state : Option Folder) (covers number : ℕ) (times : FinMap text_cmp ℕ) → covers ≤ number → IfSome state (SaysItsTimes number) → IfSome state (HoldsTimes covers times)
+    → IfSome state (λ s. SaidOfFirst times_after s.disk.published covers times)
+held_times_said None covers number times few says holds = tt
+held_times_said (Some s) covers number times few says holds = says covers times holds few
+
+pub sound_times_says : (state : Option Folder) (number : ℕ) → IfSome state ReadsSound → IfSome state (SaysItsTimes number)
+sound_times_says None number sound = tt
+sound_times_says (Some s) number sound = λ covers times holds few. sound.times holds.bytes covers times holds.file holds.form
 
 one_times_cache : (covers also : ℕ) (times others : FinMap text_cmp ℕ) (s : Folder) → HoldsTimes covers times s → HoldsTimes also others s → also ≡ covers
 one_times_cache covers also times others s holds other =

@@ -9,7 +9,7 @@ use Rattle.stream_reader.specs.Stream.{Held, BeginsWithNotes, GivesNote, IsSpent
 use Rattle.stream_reader.proofs.TurnLemmas.{notes_none, notes_more, begin_then, begin_more, whole_at_end}
 use Rattle.stream_reader.specs.Room.{most_held}
 use Rattle.stream_reader.proofs.RoomLemmas.{spent_short}
-use Rattle.outcome_fold.specs.declared.outcomes.Outcomes.{Outcomes}
+use Rattle.outcome_fold.specs.declared.fold.Outcomes.{Outcomes}
 use Rattle.outcome_fold.specs.declared.row.Row.{Row}
 use Rattle.outcome_fold.specs.Outcome.{HasFolded}
 use Rattle.outcome_fold.specs.Rows.{rows_of}

@@ -7,16 +7,18 @@ use Rattle.std.proofs.lemmas.List.Elements.{All-nil, All-cons, All-append, All-h
 use Rattle.packet_codec.specs.declared.event.Event.{Event}
 use Rattle.packet_codec.specs.Canonical.{IsEvent, Fits, canonical}
 use Rattle.packet_codec.specs.Grammar.{Found}
+use Rattle.packet_codec.specs.Lanes.{joined}
 use Rattle.packet_codec.specs.Packet.{SpellsEvent}
+use Rattle.packet_codec.specs.Packets.{ArePackets, ArePacketsOf}
 use Rattle.packet_codec.proofs.SpellingLemmas.{canonical_spells}
 use Rattle.stream_reader.proofs.FrontLemmas.{packet_some}
 use Rattle.stream_reader.specs.Notes.{HasEvents}
-use Rattle.outcome_fold.specs.declared.outcomes.Outcomes.{Outcomes}
+use Rattle.outcome_fold.specs.declared.fold.Outcomes.{Outcomes}
 use Rattle.outcome_fold.specs.declared.row.Row.{Row}
 use Rattle.outcome_fold.specs.Outcome.{HasFolded}
 use Rattle.outcome_fold.specs.Rows.{rows_of}
 use Rattle.run_ledger.specs.declared.heard_run.HeardRun.{HeardRun}
-use Rattle.run_ledger.specs.Hearing.{ArePackets, ArePacketsOf, HasHeard, joined}
+use Rattle.run_ledger.specs.Hearing.{HasHeard}
 use Rattle.run_ledger.specs.Reading.{AreRowsOf}
 use Rattle.run_ledger.proofs.FoldLemmas.{if_ok_then}
 use Rattle.run_ledger.proofs.WrittenLemmas.{events_again}

@@ -15,6 +15,10 @@ pub mod HeadLemmas
 pub mod CacheLemmas
 pub mod OrderedLemmas
 pub mod TimedLemmas
+pub mod EntryLemmas
+pub mod StrictLemmas
+pub mod LongestLemmas
+pub mod MergeLemmas
 pub mod CachedLemmas
 pub mod SoundLemmas
 pub mod RefreshLemmas

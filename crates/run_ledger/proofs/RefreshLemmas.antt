@@ -5,6 +5,7 @@ use Rattle.std.specs.FinMap.{FinMap}
 use Rattle.std.specs.List.Sorted.{IsStrictlySortedBy}
 use Rattle.std.proofs.lemmas.Bool.{cases_lt}
 use Rattle.std.proofs.lemmas.List.{length-map}
+use Rattle.edge_io.specs.Causes.{RisesExactlyIf}
 use Rattle.edge_io.specs.Disk.{Files, put, Disk, Folder, IsImage, at_rest}
 use Rattle.edge_io.specs.Moments.{LeavesOnly, Passes}
 use Rattle.edge_io.specs.Steps.{Goes, Stays}
@@ -19,7 +20,6 @@ use Rattle.run_shelf.specs.declared.faults.StoreFault.{StoreFault}
 use Rattle.run_shelf.specs.declared.faults.StoreFault.TheVariants.{Shelf, Closed}
 use Rattle.run_shelf.specs.declared.side.Side.{Side}
 use Rattle.run_shelf.specs.declared.side.Side.TheVariants.{Failing, Times}
-use Rattle.run_shelf.specs.Faults.{RisesExactlyIf}
 use Rattle.run_shelf.specs.Holds.{FitsFolder}
 use Rattle.run_shelf.specs.Images.{ReadsFile}
 use Rattle.run_shelf.specs.Outcomes.{KeepFails}

@@ -9,7 +9,8 @@ use Rattle.run_shelf.specs.declared.side.Side.TheVariants.{Failing, Times}
 use Rattle.run_shelf.specs.Sides.{side_name}
 use Rattle.run_ledger.specs.declared.fault.LedgerFault.{LedgerFault}
 use Rattle.run_ledger.specs.declared.fault.LedgerFault.TheVariants.{Store, NoMemory}
-use Rattle.run_ledger.specs.Caches.{IsFailingCache, IsTimesCache, IsSound}
+use Rattle.run_ledger.specs.Caches.{IsFailingCache, IsTimesCache, SaidOfFirst, IsSound}
+use Rattle.run_ledger.specs.Ledger.{failing_after, times_after}
 use Rattle.run_ledger.specs.Starts.{IsStart}
 
 abbrev pub ledger_fault : SideFault → LedgerFault
@@ -26,6 +27,11 @@ pub record HoldsFailing (covers : ℕ) (ids : List (List ℕ)) (s : Folder) : Ty
   pub file : s.disk.published (side_name Failing) ≡ Some bytes
   pub form : IsFailingCache bytes covers ids
 
+-- Where the file of the cache holds one that covers no more than the first `number` runs, these say what it holds. Of one that
+-- covers more nothing is said, since it is not used.
+abbrev pub SaysItsFailing : (number : ℕ) → Folder → Type 0
+SaysItsFailing number s = (covers : ℕ) (ids : List (List ℕ)) → HoldsFailing covers ids s → covers ≤ number → SaidOfFirst failing_after s.disk.published covers ids
+
 -- the file of the cache holds none, or is not there
 abbrev pub HoldsNoFailing : Folder → Type 0
 HoldsNoFailing s = (covers : ℕ) (ids : List (List ℕ)) → HoldsFailing covers ids s → ⊥
@@ -41,6 +47,10 @@ pub record HoldsTimes (covers : ℕ) (times : FinMap text_cmp ℕ) (s : Folder) 
   pub bytes : List ℕ
   pub file : s.disk.published (side_name Times) ≡ Some bytes
   pub form : IsTimesCache bytes covers times
+
+-- the same of the cache of the times
+abbrev pub SaysItsTimes : (number : ℕ) → Folder → Type 0
+SaysItsTimes number s = (covers : ℕ) (times : FinMap text_cmp ℕ) → HoldsTimes covers times s → covers ≤ number → SaidOfFirst times_after s.disk.published covers times
 
 -- the file of the cache holds none, or is not there
 abbrev pub HoldsNoTimes : Folder → Type 0

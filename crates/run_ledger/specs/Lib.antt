@@ -3,7 +3,6 @@ pub mod Outcomes
 pub mod Pieces
 pub mod Costs
 pub mod Ledger
-pub mod Replacing
 pub mod Starts
 pub mod SoFar
 pub mod Writing
@@ -11,5 +10,6 @@ pub mod Hearing
 pub mod Behind
 pub mod Caches
 pub mod Cuts
+pub mod Merging
 pub mod Cached
 pub mod Refreshing

@@ -4,7 +4,7 @@ use Rattle.packet_codec.specs.declared.event.Event.{Event}
 use Rattle.stream_reader.specs.declared.note.Note.{Note}
 use Rattle.stream_reader.specs.Notes.{HasEvents, events_of}
 use Rattle.stream_reader.specs.Stream.{Held, BeginsWithNotes, GivesNotes}
-use Rattle.outcome_fold.specs.declared.outcomes.Outcomes.{Outcomes}
+use Rattle.outcome_fold.specs.declared.fold.Outcomes.{Outcomes}
 use Rattle.outcome_fold.specs.declared.row.Row.{Row}
 use Rattle.outcome_fold.specs.Outcome.{HasFolded}
 use Rattle.outcome_fold.specs.Rows.{rows_of}

@@ -5,7 +5,7 @@ ghost use Rattle.std.specs.List.Sorted.{IsStrictlySortedBy};
 ghost use Rattle.outcome_fold.specs.Order.{text_cmp};
 ghost use Rattle.run_shelf.specs.Outcomes.{TicksUpTo};
 ghost use Rattle.run_shelf.specs.Stores.{store_kinds, store_fault, FitsUnlessBroken, seen_store};
-ghost use Rattle.run_ledger.specs.Cached.{ReadsSound, HoldsFailing, HoldsNoFailing, Spares};
+ghost use Rattle.run_ledger.specs.Cached.{ReadsSound, SaysItsFailing, HoldsFailing, HoldsNoFailing, Spares};
 ghost use Rattle.run_ledger.specs.Caches.{SaidOfFirst};
 ghost use Rattle.run_ledger.specs.Costs.{ReadsTo, ReadsBehindCache, ReadsBehindCacheTo};
 ghost use Rattle.run_ledger.specs.Ledger.{failing_after, IsFailingSet};
@@ -26,7 +26,8 @@ use sub_number::IdList;
 /// its form in it covers at most the runs that there are and holds what these say. A cache is taken for what the runs say
 /// that it covers, and the later ones are read and folded on, each once. Without a cache, where it covers more runs than
 /// there are, and where the last full run is one that it does not cover, that run and those behind it are read, each once.
-/// Nothing changes in the folder.
+/// Nothing changes in the folder. What is asked of the folder is asked of that cache alone, and only where it covers at most
+/// the runs that there are (`ids_where_few`).
 ///
 /// `Store` comes only where a call of the folder failed, and where one had failed before, which comes first. `NoMemory`
 /// comes for want of memory, or of a run without an end in a folder that tells nothing, and leaves the store open.
@@ -34,6 +35,7 @@ pub fn failing<H: Shelf>(alloc: Global, store: &mut Store<'_, H>) -> Result<IdLi
     requires fits { FitsUnlessBroken (store_kinds store.old) (store_fault store.old) (H.seen store.old.shelf.now).told }
     ensures same_reference { store.new.shelf.ghost_name ≡ store.old.shelf.ghost_name }
     ensures ids { IfSome (H.seen store.old.shelf.now).told ReadsSound → IfOk result (λ ids. IfSome (H.seen store.old.shelf.now).told (IsFailingSet ids)) }
+    ensures ids_where_few { IfSome (H.seen store.old.shelf.now).told (SaysItsFailing (length (store_kinds store.old))) → IfOk result (λ ids. IfSome (H.seen store.old.shelf.now).told (IsFailingSet ids)) }
     ensures reads { LedgerReads (seen_store store.old (H.seen store.old.shelf.now)) (seen_store store.new (H.seen store.new.shelf.now)) result }
     ensures spares { IfSome (H.seen store.old.shelf.now).told ReadsSound → IfSome (H.seen store.old.shelf.now).told (λ s. (covers : ℕ) (ids : List (List ℕ)) → HoldsFailing covers ids s → ReadsBehindCache covers (H.clock store.old.shelf.now) (H.clock store.new.shelf.now) s) }
     ensures time { IfSome (H.seen store.old.shelf.now).told (λ s. (start : ℕ) → IsStart (store_kinds store.old) start → ReadsBehindCache start (H.clock store.old.shelf.now) (H.clock store.new.shelf.now) s) }
@@ -53,7 +55,7 @@ pub(crate) fn failing_to<H: Shelf>(
     requires few { end ≤ length (store_kinds store.old) }
     requires begun { (start : ℕ) → IsStart (store_kinds store.old) start → start ≤ end }
     ensures same_reference { store.new.shelf.ghost_name ≡ store.old.shelf.ghost_name }
-    ensures ids { IfSome (H.seen store.old.shelf.now).told ReadsSound → IfOk result (λ ids. IfSome (H.seen store.old.shelf.now).told (FailsTo (store_kinds store.old) end ids)) }
+    ensures ids { IfSome (H.seen store.old.shelf.now).told (SaysItsFailing end) → IfOk result (λ ids. IfSome (H.seen store.old.shelf.now).told (FailsTo (store_kinds store.old) end ids)) }
     ensures reads { LedgerReads (seen_store store.old (H.seen store.old.shelf.now)) (seen_store store.new (H.seen store.new.shelf.now)) result }
     ensures spares { IfSome (H.seen store.old.shelf.now).told (λ s. (covers : ℕ) (ids : List (List ℕ)) → HoldsFailing covers ids s → (store_fault store.old ≡ None → covers ≤ end) → ReadsBehindCacheTo covers end (H.clock store.old.shelf.now) (H.clock store.new.shelf.now) s) }
     ensures time { IfSome (H.seen store.old.shelf.now).told (λ s. (start : ℕ) → IsStart (store_kinds store.old) start → ReadsBehindCacheTo start end (H.clock store.old.shelf.now) (H.clock store.new.shelf.now) s) }

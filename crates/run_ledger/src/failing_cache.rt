@@ -96,7 +96,7 @@ fn push_id(alloc: Global, ids: &mut IdList, bytes: &[u8]) -> Result<bool, NoMemo
     }
     match Text::new(alloc, bytes) {
         Ok(id) => {
-            ids.push(id).map_err(|_| NoMemory)?;
+            ids.push(id)?;
             Ok(true)
         }
         Err(TextFault::NotText) => Ok(false),

@@ -2,14 +2,16 @@
 
 ghost use Rattle.std.specs.Prelude.{◌≡◌, ◌≤◌, ◌<◌, [], ◌∷◌, ◌++◌, ℕ, List, length, IfOk, OnOk};
 ghost use Rattle.packet_codec.specs.Grammar.{Found};
+ghost use Rattle.packet_codec.specs.Lanes.{joined};
 ghost use Rattle.packet_codec.specs.Packet.{SpellsEvent};
+ghost use Rattle.packet_codec.specs.Packets.{ArePackets, ArePacketsOf};
 ghost use Rattle.packet_codec.specs.declared.event.Event.{Event};
 ghost use Rattle.outcome_fold.specs.Outcome.{HasFolded};
-ghost use Rattle.run_ledger.specs.Hearing.{ArePackets, ArePacketsOf, HasHeard, joined};
+ghost use Rattle.run_ledger.specs.Hearing.{HasHeard};
 ghost use Rattle.run_ledger.specs.Reading.{AreRowsOf};
 
 use outcome_fold::{Outcomes, Rows};
-use packet_codec::decode_front;
+use packet_codec::front_packet;
 use std::alloc::Global;
 use sub_number::NoMemory;
 
@@ -17,7 +19,6 @@ use sub_number::NoMemory;
 /// one after another, which are not read again.
 #[derive(Drop)]
 pub struct HeardRun {
-    alloc: Global,
     outcomes: Outcomes,
 }
 
@@ -27,20 +28,19 @@ impl HeardRun {
         ensures { HasHeard result [] }
     {
         HeardRun {
-            alloc,
             outcomes: Outcomes::new(alloc),
         }
     }
 
-    /// Hears the next piece: the event of each of its packets is made once. That they are packets is known, so that none of
-    /// them is tested again.
+    /// Hears the next piece: of each of its packets what is kept is copied from where it stands. That they are packets is
+    /// known, so that none of them is tested again.
     ///
     /// `NoMemory` comes only for want of memory. Nothing is known then of the rows.
     pub fn hear(&mut self, piece: &[u8]) -> Result<(), NoMemory>
         requires packets { ArePackets piece.now }
         ensures { (pieces : List (List ℕ)) → HasHeard self.old pieces → OnOk result (HasHeard self.new (pieces ++ piece.now ∷ [])) }
     {
-        fold_packets(self.alloc, piece, &mut self.outcomes)
+        fold_packets(piece, &mut self.outcomes)
     }
 
     /// Ends the run, and gives its rows.
@@ -54,26 +54,26 @@ impl HeardRun {
 }
 
 // Folds the events of the packets that the bytes are.
-fn fold_packets(alloc: Global, bytes: &[u8], outcomes: &mut Outcomes) -> Result<(), NoMemory>
+fn fold_packets(bytes: &[u8], outcomes: &mut Outcomes) -> Result<(), NoMemory>
     requires packets { ArePackets bytes.now }
     ensures { (seen events : List Event) → ArePacketsOf events bytes.now → HasFolded outcomes.old seen → OnOk result (HasFolded outcomes.new (seen ++ events)) }
 {
     let mut left = bytes;
     while !left.is_empty() {
-        let size = fold_packet(alloc, left, outcomes)?;
+        let size = fold_packet(left, outcomes)?;
         left = &left[size..];
     }
     Ok(())
 }
 
 // Folds the event of the packet that the bytes begin with, and answers its size.
-fn fold_packet(alloc: Global, bytes: &[u8], outcomes: &mut Outcomes) -> Result<usize, NoMemory>
+fn fold_packet(bytes: &[u8], outcomes: &mut Outcomes) -> Result<usize, NoMemory>
     requires packet { (event : Event) × (behind : List ℕ) × Found SpellsEvent bytes.now event behind }
     ensures in_range { IfOk result (λ size. (0 < size) × (size ≤ length bytes.now)) }
     ensures size { (event : Event) (behind : List ℕ) → (found : Found SpellsEvent bytes.now event behind) → IfOk result (λ size. size ≡ length found.front) }
     ensures folded { (seen : List Event) (event : Event) (behind : List ℕ) → Found SpellsEvent bytes.now event behind → HasFolded outcomes.old seen → OnOk result (HasFolded outcomes.new (seen ++ event ∷ [])) }
 {
-    let (event, size) = decode_front(alloc, bytes)?;
-    outcomes.take(event)?;
-    Ok(size)
+    let packet = front_packet(bytes);
+    outcomes.hear(&packet)?;
+    Ok(packet.size())
 }

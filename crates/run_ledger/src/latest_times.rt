@@ -2,20 +2,18 @@
 
 ghost use Rattle.std.specs.Prelude.{◌≡◌, ◌≤◌, None, length, IfSome, IfOk, OnOk};
 ghost use Rattle.run_shelf.specs.Stores.{store_kinds, store_fault, FitsUnlessBroken, seen_store};
-ghost use Rattle.outcome_fold.specs.Answers.{times_of};
-ghost use Rattle.run_ledger.specs.Ledger.{times_after, replaced};
-ghost use Rattle.run_ledger.specs.Replacing.{ReplacedAt};
+ghost use Rattle.run_ledger.specs.Ledger.{times_after};
 ghost use Rattle.run_ledger.specs.Outcomes.{LedgerReads};
 ghost use Rattle.run_ledger.specs.Costs.{ReadsTo};
 ghost use Rattle.run_ledger.specs.SoFar.{SaysTo};
 
+use crate::entries::Entries;
 use crate::fault::LedgerFault;
+use crate::merging::replace_times;
 use crate::rows::rows_of;
 use edge_io::Shelf;
-use outcome_fold::Rows;
 use run_shelf::Store;
 use std::alloc::Global;
-use sub_number::{NoMemory, Text, TimeMap};
 
 // The time of each id that has one in some run before this number, in nanoseconds: that of the last run where it has one,
 // and there the longest of its times. Each run is read once, from the first on.
@@ -23,7 +21,7 @@ pub(crate) fn times_afresh<H: Shelf>(
     alloc: Global,
     store: &mut Store<'_, H>,
     end: u32,
-) -> Result<TimeMap, LedgerFault>
+) -> Result<Entries, LedgerFault>
     requires fits { FitsUnlessBroken (store_kinds store.old) (store_fault store.old) (H.seen store.old.shelf.now).told }
     requires open { store_fault store.old ≡ None }
     requires few { end ≤ length (store_kinds store.old) }
@@ -32,7 +30,7 @@ pub(crate) fn times_afresh<H: Shelf>(
     ensures reads { LedgerReads (seen_store store.old (H.seen store.old.shelf.now)) (seen_store store.new (H.seen store.new.shelf.now)) result }
     ensures time { IfSome (H.seen store.old.shelf.now).told (ReadsTo 0 end (H.clock store.old.shelf.now) (H.clock store.new.shelf.now)) }
 {
-    let mut latest = TimeMap::new(alloc);
+    let mut latest = Entries::new(alloc);
     take_times(alloc, store, &mut latest, 0, end)?;
     Ok(latest)
 }
@@ -41,7 +39,7 @@ pub(crate) fn times_afresh<H: Shelf>(
 pub(crate) fn take_times<H: Shelf>(
     alloc: Global,
     store: &mut Store<'_, H>,
-    latest: &mut TimeMap,
+    latest: &mut Entries,
     start: u32,
     end: u32,
 ) -> Result<(), LedgerFault>
@@ -57,31 +55,6 @@ pub(crate) fn take_times<H: Shelf>(
     for number in start..end {
         let rows = rows_of(alloc, store, number)?;
         replace_times(alloc, latest, &rows)?;
-    }
-    Ok(())
-}
-
-// Gives each id that has a time in these rows that time.
-pub(crate) fn replace_times(
-    alloc: Global,
-    latest: &mut TimeMap,
-    rows: &Rows,
-) -> Result<(), NoMemory>
-    ensures { OnOk result (latest.new ≡ replaced latest.old (times_of rows.now)) }
-{
-    let times = rows.times(alloc)?;
-    let ids = times.ids(alloc)?;
-    replace_each(latest, &times, ids.list())
-}
-
-// Gives each of these ids the time that it has in `times`, where it has one.
-fn replace_each(latest: &mut TimeMap, times: &TimeMap, ids: &[Text]) -> Result<(), NoMemory>
-    ensures { OnOk result (ReplacedAt ids.now latest.old times.now latest.new) }
-{
-    for id in ids {
-        if let Some(nanos) = times.get(id) {
-            latest.put(id, nanos)?;
-        }
     }
     Ok(())
 }

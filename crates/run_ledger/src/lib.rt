@@ -9,6 +9,7 @@
 //! - `rows`: the rows of one run of a store
 //! - `failing_set`, `taking`: the ids that fail after the runs of a store, told from the last full run on
 //! - `latest_times`: the times of the ids in the runs of a store, told from the first one on
+//! - `entries`, `longest`, `merging`: times as the bytes of their cache, and those of one run merged into them
 //! - `cutting`, `failing_cache`, `times_cache`: the two caches, written and read
 //! - `cached_failing`, `cached_times`: the failing set and the times, told with the help of their caches
 //! - `refreshing`: both caches, written anew for the runs as they are
@@ -20,6 +21,7 @@ mod cache_laws;
 mod cached_failing;
 mod cached_times;
 mod cutting;
+mod entries;
 mod failing_cache;
 mod failing_set;
 mod fault;
@@ -28,6 +30,8 @@ mod heard_run;
 mod lane_laws;
 mod latest_times;
 mod laws;
+mod longest;
+mod merging;
 mod refreshing;
 mod rows;
 mod run_reader;

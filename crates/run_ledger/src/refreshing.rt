@@ -2,9 +2,9 @@
 
 ghost use Rattle.std.specs.Prelude.{◌≡◌, ◌-◌, ◌<◌, None, true, length, IfSome, IfOk, OnOk};
 ghost use Rattle.std.specs.List.Sorted.{IsStrictlySortedBy};
+ghost use Rattle.edge_io.specs.Causes.{RisesExactlyIf};
 ghost use Rattle.edge_io.specs.Steps.{Goes};
 ghost use Rattle.outcome_fold.specs.Order.{text_cmp};
-ghost use Rattle.run_shelf.specs.Faults.{RisesExactlyIf};
 ghost use Rattle.run_shelf.specs.Outcomes.{TicksUpTo};
 ghost use Rattle.run_shelf.specs.Sides.{KeepsSide, PassesSide};
 ghost use Rattle.run_shelf.specs.Stores.{store_kinds, store_fault, FitsUnlessBroken, seen_store};
@@ -14,17 +14,18 @@ ghost use Rattle.run_ledger.specs.Outcomes.{LedgerReads, LedgerCloses, ledger_fa
 ghost use Rattle.run_ledger.specs.Refreshing.{AreFolds, PutsCaches, HoldBoth, KeepsButSides, PassesButSides, KeepsSound};
 
 use crate::cached_failing::{failing, failing_to};
-use crate::cached_times::{times, times_to};
+use crate::cached_times::{all_times, times_to};
+use crate::entries::Entries;
 use crate::failing_cache::write_failing_cache;
 use crate::fault::{LedgerFault, check_open};
-use crate::latest_times::replace_times;
+use crate::merging::replace_times;
 use crate::taking::take_run;
-use crate::times_cache::write_times_cache;
+use crate::times_cache::write_entries_cache;
 use edge_io::Shelf;
 use outcome_fold::{Rows, TextSet};
 use run_shelf::{Side, Store};
 use std::alloc::Global;
-use sub_number::{IdList, NoMemory, TimeMap};
+use sub_number::{IdList, NoMemory};
 
 /// Writes both caches for the runs as they are: that of the failing set, and then that of the times. What they are to hold is
 /// told as by `failing` and `times`, with the help of the caches that are there. Nothing changes but the two files, and that
@@ -80,7 +81,7 @@ pub fn refresh_behind<H: Shelf>(
 #[derive(Drop)]
 struct Folds {
     ids: IdList,
-    times: TimeMap,
+    times: Entries,
 }
 
 // Both, by the caches and the runs behind them.
@@ -91,7 +92,7 @@ fn fold_all<H: Shelf>(alloc: Global, store: &mut Store<'_, H>) -> Result<Folds, 
     ensures reads { LedgerReads (seen_store store.old (H.seen store.old.shelf.now)) (seen_store store.new (H.seen store.new.shelf.now)) result }
 {
     let ids = failing(alloc, store)?;
-    let times = times(alloc, store)?;
+    let times = all_times(alloc, store)?;
     Ok(Folds { ids, times })
 }
 
@@ -152,7 +153,7 @@ fn times_behind<H: Shelf>(
     alloc: Global,
     store: &mut Store<'_, H>,
     rows: &Rows,
-) -> Result<TimeMap, LedgerFault>
+) -> Result<Entries, LedgerFault>
     requires some { 0 < length (store_kinds store.old) }
     requires fits { FitsUnlessBroken (store_kinds store.old) (store_fault store.old) (H.seen store.old.shelf.now).told }
     requires open { store_fault store.old ≡ None }
@@ -172,7 +173,7 @@ fn put_caches<H: Shelf>(
     alloc: Global,
     store: &mut Store<'_, H>,
     ids: &IdList,
-    times: &TimeMap,
+    times: &Entries,
 ) -> Result<(), LedgerFault>
     requires fits { FitsUnlessBroken (store_kinds store.old) (store_fault store.old) (H.seen store.old.shelf.now).told }
     requires open { store_fault store.old ≡ None }
@@ -189,7 +190,7 @@ fn put_caches<H: Shelf>(
 {
     let covers = u64::from(store.runs());
     let failing = write_failing_cache(alloc, covers, ids)?;
-    let latest = write_times_cache(alloc, covers, times)?;
+    let latest = write_entries_cache(alloc, covers, times)?;
     put_cache(store, Side::Failing, failing.bytes())?;
     put_cache(store, Side::Times, latest.bytes())
 }

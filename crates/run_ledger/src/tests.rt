@@ -2,7 +2,7 @@
 
 ghost use Rattle.std.specs.Prelude.{IfSome};
 ghost use Rattle.packet_codec.specs.Canonical.{IsEvent, Fits};
-ghost use Rattle.run_ledger.specs.Hearing.{ArePackets};
+ghost use Rattle.packet_codec.specs.Packets.{ArePackets};
 
 use super::*;
 use edge_io::{Failed, MemShelf, Shelf};

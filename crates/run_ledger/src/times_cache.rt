@@ -1,20 +1,17 @@
 //! The cache of the times, written and read.
 
-ghost use Rattle.std.specs.Prelude.{◌≡◌, ◌↔◌, ◌++◌, ℕ, List, All, true, false, IsTrue, IfSome, IfNone, IfOk, OnOk, Ok};
+ghost use Rattle.std.specs.Prelude.{◌≡◌, ◌++◌, ℕ, All, IfSome, IfNone, IfOk, OnOk};
 ghost use Rattle.std.specs.List.{flat_map};
-ghost use Rattle.std.specs.Option.{option_copied};
-ghost use Rattle.std.specs.FinMap as fin;
 ghost use Rattle.std.specs.FinMap.{FinMap};
-ghost use Rattle.std.specs.declared.cmp.Ordering.TheVariants.{Less};
-ghost use Rattle.sub_number.specs.Texts.{IsShortText};
 ghost use Rattle.outcome_fold.specs.Order.{text_cmp};
-ghost use Rattle.run_ledger.specs.Caches.{times_cache, IsTimed, IsTimesCache};
-ghost use Rattle.run_ledger.specs.Cuts.{BeginsWithTime, AreTimeEntries, IsTimedAt, entry_of, entry_at};
+ghost use Rattle.run_ledger.specs.Caches.{heading, times_title, times_cache, IsTimed, IsTimesCache};
+ghost use Rattle.run_ledger.specs.Cuts.{AreTimeEntries, IsTimedAt, entry_of, entry_at};
 
-use crate::cutting::{cut, read_decimal, read_heading};
+use crate::cutting::read_heading;
+use crate::entries::{Entries, are_entries, map_of};
 use itoa::Buffer;
 use std::alloc::Global;
-use sub_number::{Bytes, NoMemory, Text, TextFault, TimeMap};
+use sub_number::{Bytes, NoMemory, Text, TimeMap};
 
 // The first line.
 const TITLE: &[u8] = b"subunit-times 1\n";
@@ -24,6 +21,13 @@ const TITLE: &[u8] = b"subunit-times 1\n";
 pub struct TimesCache {
     pub covers: u64,
     pub times: TimeMap,
+}
+
+/// The same, the times as entries.
+#[derive(Drop)]
+pub(crate) struct EntriesCache {
+    pub(crate) covers: u64,
+    pub(crate) times: Entries,
 }
 
 /// The bytes of the cache of these times, of so many runs. They are read again as that.
@@ -36,11 +40,35 @@ pub fn write_times_cache(alloc: Global, covers: u64, times: &TimeMap) -> Result<
 {
     let ids = times.ids(alloc)?;
     let mut bytes = Vec::new(alloc);
+    write_heading(covers, &mut bytes)?;
+    write_times(ids.list(), times, &mut bytes)?;
+    Ok(Bytes::from_vec(bytes))
+}
+
+/// The bytes of the cache of these times, of so many runs. The entries are copied as they are.
+///
+/// `NoMemory` comes only for want of memory.
+pub(crate) fn write_entries_cache(
+    alloc: Global,
+    covers: u64,
+    entries: &Entries,
+) -> Result<Bytes, NoMemory>
+    ensures form { IfOk result (λ bytes. IsTimesCache bytes covers entries.now) }
+{
+    let mut bytes = Vec::new(alloc);
+    write_heading(covers, &mut bytes)?;
+    bytes.extend_from_slice(entries.bytes())?;
+    Ok(Bytes::from_vec(bytes))
+}
+
+// The first two lines.
+fn write_heading(covers: u64, bytes: &mut Vec<u8>) -> Result<(), NoMemory>
+    ensures { OnOk result (bytes.new.items ≡ bytes.old.items ++ heading times_title covers) }
+{
     bytes.extend_from_slice(TITLE)?;
     bytes.extend_from_slice(Buffer::new().format(covers).as_bytes())?;
     bytes.push(b'\n')?;
-    write_times(ids.list(), times, &mut bytes)?;
-    Ok(Bytes::from_vec(bytes))
+    Ok(())
 }
 
 // Each id that has a time, and its time.
@@ -75,71 +103,37 @@ pub fn read_times_cache(alloc: Global, bytes: &[u8]) -> Result<Option<TimesCache
     ensures some { IfOk result (λ found. IfSome found (λ cache. IsTimesCache bytes.now cache.covers cache.times)) }
     ensures none { IfOk result (λ found. IfNone found ((covers : ℕ) (times : FinMap text_cmp ℕ) → IsTimesCache bytes.now covers times → ⊥)) }
 {
-    let Some((covers, rest)) = read_heading(TITLE, bytes) else {
+    let Some((covers, rest)) = read_entries(bytes) else {
         return Ok(None);
     };
-    let Some(times) = read_times(alloc, rest)? else {
-        return Ok(None);
-    };
+    let times = map_of(alloc, rest)?;
     Ok(Some(TimesCache { covers, times }))
 }
 
-// The times, where the bytes are ids in order, each with its time, and a zero byte behind each.
-fn read_times(alloc: Global, bytes: &[u8]) -> Result<Option<TimeMap>, NoMemory>
-    ensures some { IfOk result (λ found. IfSome found (AreTimeEntries bytes.now)) }
-    ensures none { IfOk result (λ found. IfNone found ((times : FinMap text_cmp ℕ) → AreTimeEntries bytes.now times → ⊥)) }
+/// The same, the times as entries, whose bytes are copied as they are.
+pub(crate) fn read_entries_cache(
+    alloc: Global,
+    bytes: &[u8],
+) -> Result<Option<EntriesCache>, NoMemory>
+    ensures some { IfOk result (λ found. IfSome found (λ cache. IsTimesCache bytes.now cache.covers cache.times)) }
+    ensures none { IfOk result (λ found. IfNone found ((covers : ℕ) (times : FinMap text_cmp ℕ) → IsTimesCache bytes.now covers times → ⊥)) }
 {
-    let mut times = TimeMap::new(alloc);
-    let mut last: Option<&[u8]> = None;
-    let mut rest = bytes;
-    while let Some((id, nanos, behind)) = next_time(rest) {
-        if !comes_after(last, id) {
-            return Ok(None);
-        }
-        if !put_time(alloc, &mut times, id, nanos)? {
-            return Ok(None);
-        }
-        last = Some(id);
-        rest = behind;
-    }
-    if rest.is_empty() {
-        Ok(Some(times))
+    let Some((covers, rest)) = read_entries(bytes) else {
+        return Ok(None);
+    };
+    let times = Entries::from_vec(Vec::from_slice(alloc, rest)?);
+    Ok(Some(EntriesCache { covers, times }))
+}
+
+// How many runs the cache covers, and the bytes of its entries.
+fn read_entries(bytes: &[u8]) -> Option<(u64, &[u8])>
+    ensures some { IfSome result (λ parts. (times : FinMap text_cmp ℕ) × AreTimeEntries parts.1.now times × IsTimesCache bytes.now parts.0 times) }
+    ensures none { IfNone result ((covers : ℕ) (times : FinMap text_cmp ℕ) → IsTimesCache bytes.now covers times → ⊥) }
+{
+    let (covers, rest) = read_heading(TITLE, bytes)?;
+    if are_entries(rest) {
+        Some((covers, rest))
     } else {
-        Ok(None)
-    }
-}
-
-// The id and the time with which the bytes begin, and what is behind them.
-fn next_time(bytes: &[u8]) -> Option<(&[u8], u64, &[u8])>
-    ensures some { IfSome result (λ timed. BeginsWithTime bytes.now timed.0.now timed.1 timed.2.now) }
-    ensures none { IfNone result ((id : List ℕ) (nanos : ℕ) (rest : List ℕ) → BeginsWithTime bytes.now id nanos rest → ⊥) }
-{
-    let (id, rest) = cut(0, bytes)?;
-    let (digits, behind) = cut(0, rest)?;
-    Some((id, read_decimal(digits)?, behind))
-}
-
-// Whether the id comes behind the last one, where there is one.
-fn comes_after(last: Option<&[u8]>, id: &[u8]) -> bool
-    ensures { IsTrue result ↔ IfSome (option_copied last.entry) (λ earlier. text_cmp earlier id.now ≡ Less) }
-{
-    match last {
-        Some(earlier) => earlier.cmp(id).is_lt(),
-        None => true,
-    }
-}
-
-// Gives the id this time, where it is a text. Answers whether it is.
-fn put_time(alloc: Global, times: &mut TimeMap, bytes: &[u8], nanos: u64) -> Result<bool, NoMemory>
-    ensures put { result ≡ Ok true → (times.new ≡ fin.insert times.old bytes.now nanos) × IsShortText bytes.now }
-    ensures not_put { result ≡ Ok false → IsShortText bytes.now → ⊥ }
-{
-    match Text::new(alloc, bytes) {
-        Ok(id) => {
-            times.put(&id, nanos)?;
-            Ok(true)
-        }
-        Err(TextFault::NotText) => Ok(false),
-        Err(TextFault::NoMemory) => Err(NoMemory),
+        None
     }
 }

@@ -9,7 +9,8 @@ use Rattle.edge_io.specs.Seen.{Seen}
 use Rattle.outcome_fold.specs.declared.row.Row.{Row}
 use Rattle.packet_codec.specs.Canonical.{canonical}
 use Rattle.packet_codec.specs.declared.event.Event.{Event}
-use Rattle.run_ledger.specs.Hearing.{HasHeard, joined}
+use Rattle.packet_codec.specs.Lanes.{joined}
+use Rattle.run_ledger.specs.Hearing.{HasHeard}
 use Rattle.run_ledger.specs.Reading.{AreRowsOf}
 use Rattle.run_ledger.proofs.FoldLemmas.{if_ok_then}
 use Rattle.run_shelf.specs.declared.faults.ShelfCall.{ShelfCall}

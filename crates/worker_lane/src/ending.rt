@@ -55,9 +55,9 @@ pub(crate) fn returncode_event(alloc: Global, lane: u32, text: Bytes) -> Result<
 fn plain_event(alloc: Global, text: Bytes) -> Result<Event, NoMemory>
     ensures { IfOk result (λ event. event ≡ event_of text) }
 {
-    let id = Text::new(alloc, b"process-returncode").map_err(|_| NoMemory)?;
-    let mime = Text::new(alloc, b"text/plain;charset=utf8").map_err(|_| NoMemory)?;
-    let name = Text::new(alloc, b"traceback").map_err(|_| NoMemory)?;
+    let id = Text::from_tested(alloc, b"process-returncode")?;
+    let mime = Text::from_tested(alloc, b"text/plain;charset=utf8")?;
+    let name = Text::from_tested(alloc, b"traceback")?;
     Ok(Event {
         stamp: None,
         id: Some(id),

@@ -68,12 +68,14 @@ own_more lane old packet new own is appended = record {
 -- packets under a lane are whole
 pub own_whole : (lane : ℕ) (lot : Lot) → IsOwn lane lot → IsWhole lot
 own_whole lane (End how) own = tt
-own_whole lane (Packet packets) own = record {
-  events = own.0.events;
-  are_events = each IsEvent (λ e is. is.is_event) own.0.events own.0.under;
-  fit = each Fits (λ e is. is.fits) own.0.events own.0.under;
-  packets = own.0.packets_are;
-}
+own_whole lane (Packet packets) own = (
+  own.0.events,
+  record {
+    are_events = each IsEvent (λ e is. is.is_event) own.0.events own.0.under;
+    fit = each Fits (λ e is. is.fits) own.0.events own.0.under;
+    packets = own.0.packets_are;
+  },
+)
   where
     each : (P : Event → Type 0) → ((e : Event) → IsEventOf lane e → P e) → (events : List Event) → AllByRecursion (IsEventOf lane) events → All P events
     each P one [] under = All-nil P

@@ -2,10 +2,11 @@
 
 ghost use Rattle.std.specs.Prelude.{◌≡◌, ◌∷◌, ◌++◌, [], ℕ, List, None, true, false, IsFalse};
 ghost use Rattle.edge_io.specs.Steps.{Goes, Grown};
+ghost use Rattle.packet_codec.specs.Packets.{ArePackets};
 ghost use Rattle.worker_lane.specs.declared.lot.Lot.TheVariants.{End};
 ghost use Rattle.worker_lane.specs.declared.lot.Ending.TheVariants.{NoMemory as without_memory};
 ghost use Rattle.worker_mux.specs.Callers.{IsCaller, GoesOn, KeepsTape, IsOpen, Tape, packet_of, piece_of, tape};
-ghost use Rattle.worker_mux.specs.Packets.{ArePackets, IsWhole};
+ghost use Rattle.worker_mux.specs.Packets.{IsWhole};
 ghost use Rattle.worker_mux.specs.Passes.{number_of, settled_lanes, entry_of, HasAll, IsOfLanes};
 ghost use Rattle.worker_mux.specs.Works.{IsOwnPass, IsPut, Drives, IsReadyOutcome};
 

@@ -1,7 +1,7 @@
 //! Who hears what is added to a run.
 
 ghost use Rattle.std.specs.Prelude.{◌∷◌, ◌++◌, [], ℕ, List, OnOk};
-ghost use Rattle.worker_mux.specs.Packets.{ArePackets};
+ghost use Rattle.packet_codec.specs.Packets.{ArePackets};
 
 use sub_number::NoMemory;
 

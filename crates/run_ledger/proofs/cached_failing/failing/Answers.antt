@@ -1,8 +1,9 @@
 use Rattle.std.proofs.Common.{◌≡◌, ◌≤◌, None, ℕ, List, length, IfSome, arith, subst}
 use Rattle.run_shelf.specs.Stores.{store_kinds, store_fault}
+use Rattle.run_ledger.specs.Cached.{SaysItsFailing}
 use Rattle.run_ledger.specs.Ledger.{IsFailingSet}
 use Rattle.run_ledger.specs.SoFar.{FailsTo}
-use Rattle.run_ledger.proofs.CachedLemmas.{SparesFailing, all_spared, all_behind}
+use Rattle.run_ledger.proofs.CachedLemmas.{SparesFailing, all_spared, all_behind, sound_failing_says}
 use Rattle.run_ledger.proofs.ClosesLemmas.{if_done}
 use Rattle.run_ledger.proofs.CostLemmas.{starts_within}
 use Rattle.run_ledger.proofs.LedgerLemmas.{fails_all}
@@ -16,7 +17,18 @@ returns-clause-ids g c sound =
     let state = (g.H.Shelf.seen c.args.store.now.shelf.now).told in
     let kinds = store_kinds c.args.store.now in
     let all : length kinds ≤ c.runs-end.result = omega (arith, c.runs-end.ensures) in
-    if_done (λ (ids : List (List ℕ)). IfSome state (FailsTo kinds c.runs-end.result ids)) (λ (ids : List (List ℕ)). IfSome state (IsFailingSet ids)) c.failing_to.result _ _ c.failing_to.ensures.reads.closes (c.failing_to.ensures.ids sound)
+    if_done (λ (ids : List (List ℕ)). IfSome state (FailsTo kinds c.runs-end.result ids)) (λ (ids : List (List ℕ)). IfSome state (IsFailingSet ids)) c.failing_to.result _ _ c.failing_to.ensures.reads.closes
+    (c.failing_to.ensures.ids (sound_failing_says state c.runs-end.result sound))
+    (λ open_still ids fails. fails_all state kinds c.runs-end.result ids all (c.requires.fits open_still) fails)
+
+pub returns-clause-ids_where_few : goal.returns-clause-ids_where_few
+returns-clause-ids_where_few g c says =
+    let state = (g.H.Shelf.seen c.args.store.now.shelf.now).told in
+    let kinds = store_kinds c.args.store.now in
+    let end : length kinds ≡ c.runs-end.result = omega (arith, c.runs-end.ensures) in
+    let all : length kinds ≤ c.runs-end.result = omega (arith, c.runs-end.ensures) in
+    if_done (λ (ids : List (List ℕ)). IfSome state (FailsTo kinds c.runs-end.result ids)) (λ (ids : List (List ℕ)). IfSome state (IsFailingSet ids)) c.failing_to.result _ _ c.failing_to.ensures.reads.closes
+    (c.failing_to.ensures.ids (subst (λ (n : ℕ). IfSome state (SaysItsFailing n)) end says))
     (λ open_still ids fails. fails_all state kinds c.runs-end.result ids all (c.requires.fits open_still) fails)
 
 pub returns-clause-spares : goal.returns-clause-spares

@@ -64,7 +64,7 @@ returns-then-spares-clause-ids g c sound =
     let same = same_state _ _ read.same in
     let covers = c.in-Some.cache.covers in
     let ids = c.in-Some.cache.ids in
-    let said = held_is_said _ covers ids sound (rw c.in-Some.is at c.in_ok-cache.ensures.some) in
+    let said = held_is_said _ covers c.args.end ids (c.spares.ensures.0 c.if-spares.true).few sound (rw c.in-Some.is at c.in_ok-cache.ensures.some) in
     let all = c.go_on.ensures.ids (subst (λ (state : Option Folder). IfSome state (λ s. SaidOfFirst failing_after s.disk.published covers ids)) (sym same) said) in
     subst (λ (state : Option Folder). IfOk c.go_on.result (λ found. IfSome state (FailsTo (store_kinds c.args.store.now) c.args.end found))) same
     (subst (λ (kinds : List Bool). IfOk c.go_on.result (λ found. IfSome (g.H.Shelf.seen c.read_cache.new.store.shelf.now).told (FailsTo kinds c.args.end found))) read.kinds all)

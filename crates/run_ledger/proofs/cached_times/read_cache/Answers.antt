@@ -9,14 +9,14 @@ returns-in_err-bytes-clause-reads g c = tells_side _ _ _ _ c.in_err-bytes.ensure
 pub returns-in_default-clause-reads : goal.returns-in_default-clause-reads
 returns-in_default-clause-reads g c = tells_done _ _ _ (found_reading _ _ _ c.in_ok-bytes.ensures.reads)
 
-pub returns-in_err-read_times_cache-clause-reads : goal.returns-in_err-read_times_cache-clause-reads
-returns-in_err-read_times_cache-clause-reads g c = tells_memory _ _ _ (found_reading _ _ _ c.in_ok-bytes.ensures.reads) c.from_residual-in_err-read_times_cache.ensures.1
+pub returns-in_err-read_entries_cache-clause-reads : goal.returns-in_err-read_entries_cache-clause-reads
+returns-in_err-read_entries_cache-clause-reads g c = tells_memory _ _ _ (found_reading _ _ _ c.in_ok-bytes.ensures.reads) c.from_residual-in_err-read_entries_cache.ensures.1
 
 pub returns-clause-none : goal.returns-clause-none
 returns-clause-none g c =
-    if_none c.in_ok-read_times_cache.field-0
+    if_none c.in_ok-read_entries_cache.field-0
     (λ none. holds_no_times _ c.in_ok-bytes.field-0 c.bytes-2.result.now (c.in-Some.is ∙ ap (λ (l : List ℕ). Some l) (sym c.bytes-2.ensures)) c.in_ok-bytes.ensures.found none)
-    c.in_ok-read_times_cache.ensures.none
+    c.in_ok-read_entries_cache.ensures.none
 
 pub returns-clause-reads : goal.returns-clause-reads
 returns-clause-reads g c = tells_done _ _ _ (found_reading _ _ _ c.in_ok-bytes.ensures.reads)

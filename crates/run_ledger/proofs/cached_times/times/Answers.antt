@@ -1,31 +1,8 @@
-use Rattle.std.proofs.Common.{◌≡◌, ◌≤◌, None, ℕ, length, IfSome, arith, subst}
-use Rattle.std.specs.FinMap.{FinMap}
-use Rattle.outcome_fold.specs.Order.{text_cmp}
-use Rattle.run_shelf.specs.Stores.{store_kinds, store_fault}
-use Rattle.run_ledger.specs.Ledger.{times_after, AreTimes}
-use Rattle.run_ledger.specs.SoFar.{SaysTo}
-use Rattle.run_ledger.proofs.CachedLemmas.{SparesTimes, all_times_spared, all_times_behind}
-use Rattle.run_ledger.proofs.ClosesLemmas.{if_done}
-use Rattle.run_ledger.proofs.LedgerLemmas.{says_all}
+use Rattle.run_ledger.proofs.ClosesLemmas.{done_telling, tells_memory, tells_again}
 use Rattle.run_ledger.proofs.cached_times.times.Goals as goal
 
-pub returns-clause-times : goal.returns-clause-times
-returns-clause-times g c sound =
-    let state = (g.H.Shelf.seen c.args.store.now.shelf.now).told in
-    let kinds = store_kinds c.args.store.now in
-    let all : length kinds ≤ c.runs-end.result = omega (arith, c.runs-end.ensures) in
-    if_done (λ (times : FinMap text_cmp ℕ). IfSome state (SaysTo times_after c.runs-end.result times)) (λ (times : FinMap text_cmp ℕ). IfSome state (AreTimes times)) c.times_to.result _ _ c.times_to.ensures.reads.closes (c.times_to.ensures.times sound)
-    (λ open_still times said. says_all times_after state kinds c.runs-end.result times all (c.requires.fits open_still) said)
+pub returns-in_err-entries-clause-reads : goal.returns-in_err-entries-clause-reads
+returns-in_err-entries-clause-reads g c = tells_again _ _ _ _ c.in_err-entries.ensures.reads c.from_residual.ensures.1
 
-pub returns-clause-spares : goal.returns-clause-spares
-returns-clause-spares g c sound =
-    let state = (g.H.Shelf.seen c.args.store.now.shelf.now).told in
-    let kinds = store_kinds c.args.store.now in
-    let before = g.H.Shelf.clock c.args.store.now.shelf.now in
-    let now = g.H.Shelf.clock c.times_to.new.store.shelf.now in
-    let end : c.runs-end.result ≡ length kinds = omega (arith, c.runs-end.ensures) in
-    all_times_spared state kinds (store_fault c.args.store.now ≡ None) before now c.requires.fits sound
-    (subst (λ (n : ℕ). IfSome state (SparesTimes (store_fault c.args.store.now ≡ None) n before now)) end c.times_to.ensures.spares)
-
-pub returns-clause-time : goal.returns-clause-time
-returns-clause-time g c = all_times_behind _ c.runs-end.result _ _ c.times_to.ensures.time
+pub returns-in_err-map_of-clause-reads : goal.returns-in_err-map_of-clause-reads
+returns-in_err-map_of-clause-reads g c = tells_memory _ _ _ (done_telling _ _ _ c.in_ok-entries.ensures.reads) c.from_residual-in_err-map_of.ensures.1

@@ -36,7 +36,7 @@ returns-then-cache-from-clause-times g c sound =
     let same = same_state _ _ read.same in
     let covers = c.in-Some.cache.covers in
     let times = c.in-Some.cache.times in
-    let said = held_times_said _ covers times sound (rw c.in-Some.is at c.in_ok-cache.ensures.some) in
+    let said = held_times_said _ covers c.args.end times (omega (arith, c.if-cache-from.true, c.from.ensures)) sound (rw c.in-Some.is at c.in_ok-cache.ensures.some) in
     subst (λ (state : Option Folder). IfOk c.go_on.result (λ found. IfSome state (SaysTo times_after c.args.end found))) same
     (c.go_on.ensures.times (subst (λ (state : Option Folder). IfSome state (λ s. SaidOfFirst times_after s.disk.published covers times)) (sym same) said))
 

@@ -1,6 +1,6 @@
 use Rattle.std.proofs.Common.{◌<◌, length, sym, subst, rules}
 use Rattle.std.proofs.lemmas.List.{take_rest}
-use Rattle.run_ledger.specs.Hearing.{ArePackets}
+use Rattle.packet_codec.specs.Packets.{ArePackets}
 use Rattle.run_ledger.proofs.HeardLemmas.{IsFoldedTo, packet_stands, packets_left, folded_none, folded_more, folded_all}
 use Rattle.run_ledger.proofs.heard_run.fold_packets.Goals as goal
 

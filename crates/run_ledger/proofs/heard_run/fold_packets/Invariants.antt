@@ -1,5 +1,5 @@
 use Rattle.std.proofs.Common.{length}
-use Rattle.run_ledger.specs.Hearing.{ArePackets}
+use Rattle.packet_codec.specs.Packets.{ArePackets}
 use Rattle.run_ledger.proofs.HeardLemmas.{IsFoldedTo}
 use Rattle.run_ledger.proofs.heard_run.fold_packets.Given as goal
 

@@ -2,7 +2,7 @@ use Rattle.std.proofs.Common.{◌≡◌, ◌+◌, ◌-◌, None, ap, subst, arit
 use Rattle.run_shelf.specs.Stores.{store_kinds, store_fault}
 use Rattle.run_ledger.specs.Ledger.{times_after}
 use Rattle.run_ledger.specs.SoFar.{SaysTo}
-use Rattle.run_ledger.proofs.CachedLemmas.{SparesTimes}
+use Rattle.run_ledger.proofs.CachedLemmas.{SparesTimes, sound_times_says}
 use Rattle.run_ledger.proofs.RefreshLemmas.{times_behind_all, two_for_times}
 use Rattle.run_ledger.proofs.refreshing.times_behind.Goals as goal
 
@@ -44,4 +44,4 @@ returns-clause-times g c at sound =
     let count : last + 1 ≡ length kinds = omega (arith, c.requires.some) in
     let last_is : c.runs-last.result - 1 ≡ last = ap (λ (n : ℕ). n - 1) c.runs-last.ensures in
     times_behind_all state kinds last count c.args.rows.now (c.requires.fits c.requires.open) at c.in_ok-latest.latest c.replace_times.new.latest
-    (subst (λ (n : ℕ). IfSome state (SaysTo times_after n c.in_ok-latest.latest)) last_is (c.in_ok-latest.ensures.times sound)) c.in_ok-replace_times.ensures
+    (subst (λ (n : ℕ). IfSome state (SaysTo times_after n c.in_ok-latest.latest)) last_is (c.in_ok-latest.ensures.times (sound_times_says state (c.runs-last.result - 1) sound))) c.in_ok-replace_times.ensures

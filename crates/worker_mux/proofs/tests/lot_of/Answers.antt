@@ -6,10 +6,11 @@ use Rattle.worker_mux.proofs.tests.lot_of.Goals as goal
 
 pub returns : goal.returns
 returns c =
-    let made : c.from_vec.result ≡ canonical c.args.event.now = search rules in
-    record {
-      events = c.args.event.now ∷ [];
-      are_events = All-cons IsEvent c.args.event.now [] c.requires.0 (All-nil IsEvent);
-      fit = All-cons Fits c.args.event.now [] c.requires.1 (All-nil Fits);
-      packets = made ∙ sym (append-nil (canonical c.args.event.now));
-    }
+    let made : c.from_vec.result ≡ canonical c.args.event.now = search rules in (
+      c.args.event.now ∷ [],
+      record {
+        are_events = All-cons IsEvent c.args.event.now [] c.requires.0 (All-nil IsEvent);
+        fit = All-cons Fits c.args.event.now [] c.requires.1 (All-nil Fits);
+        packets = made ∙ sym (append-nil (canonical c.args.event.now));
+      },
+    )

@@ -1,5 +1,5 @@
 use Rattle.run_ledger.proofs.TimedLemmas.{no_id, no_digits, no_time, has_time}
-use Rattle.run_ledger.proofs.times_cache.next_time.Goals as goal
+use Rattle.run_ledger.proofs.entries.next_time.Goals as goal
 
 pub returns-in_err-id-clause-none : goal.returns-in_err-id-clause-none
 returns-in_err-id-clause-none c = rw c.from_residual.ensures (no_id c.args.bytes.now c.in_err-id.ensures.none)

@@ -1,0 +1,7 @@
+use Rattle.std.proofs.Common.{◌≡◌, ◌++◌, map, drop}
+use Rattle.run_ledger.specs.Merging.{shown, last_of_each}
+use Rattle.run_ledger.proofs.longest.keep_longest.Given as goal
+
+-- those kept so far, and those that will be
+abbrev pub invariant-loop-place : goal.invariant-loop-place
+invariant-loop-place l = map shown l.longest.items ++ last_of_each (map shown (drop l.place l.sorted)) ≡ last_of_each (map shown l.sorted)

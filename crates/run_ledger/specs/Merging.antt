@@ -1,0 +1,93 @@
+-- Times as the bytes of a cache's entries, and the times of one run merged into them (docs/FORMATS.md, "Caches").
+use Rattle.std.specs.Prelude.{◌≡◌, ℕ, ◌==◌, Bool, true, List, [], ◌∷◌, ◌++◌, map, All, if◌then◌else◌}
+use Rattle.std.specs.FinMap as fin
+use Rattle.std.specs.FinMap.{FinMap}
+use Rattle.std.specs.List.{flat_map}
+use Rattle.std.specs.List.Sorted.{IsPermutation, IsSorted}
+use Rattle.std.specs.Option.{unwrap_or}
+use Rattle.std.specs.Ordering.{is_lt, is_eq, nat_cmp, ordering_then}
+use Rattle.std.specs.Str.Parse.{digits_value}
+use Rattle.std.specs.declared.cmp.Ordering.{Ordering}
+use Rattle.outcome_fold.specs.declared.row.Row.{Row}
+use Rattle.outcome_fold.specs.Order.{text_cmp}
+use Rattle.outcome_fold.specs.Answers.{timed_rows}
+use Rattle.run_ledger.specs.declared.longest.Timed.{Timed}
+use Rattle.run_ledger.specs.Caches.{time_entry, IsTimed}
+
+-- a byte more before the first piece, where there is one
+abbrev pub onto_first : ℕ → List (List ℕ) → List (List ℕ)
+onto_first byte [] = []
+onto_first byte (piece ∷ pieces) = (byte ∷ piece) ∷ pieces
+
+-- the pieces that a zero byte ends, each without it
+abbrev pub pieces : List ℕ → List (List ℕ)
+pieces [] = []
+pieces (byte ∷ bytes) = if byte == 0 then [] ∷ pieces bytes else onto_first byte (pieces bytes)
+
+-- each first one of two is an id, and the second one spells its time
+abbrev pub in_pairs : List (List ℕ) → List (List ℕ × ℕ)
+in_pairs [] = []
+in_pairs (id ∷ []) = []
+in_pairs (id ∷ digits ∷ more) = (id, digits_value 10 digits) ∷ in_pairs more
+
+-- the times that entries hold, told by their bytes
+unfoldable pub times_in : List ℕ → FinMap text_cmp ℕ
+times_in bytes = fin.from_entries (in_pairs (pieces bytes))
+
+-- the bytes are these entries, one after another
+pub record AreOf (bytes : List ℕ) (entries : List (List ℕ × ℕ)) : Type 0 where
+  pub is : bytes ≡ flat_map time_entry entries
+  pub each : All IsTimed entries
+
+-- the first of the entries has this id, and these bytes are those behind it
+abbrev pub BeginsWithEntry : (id behind : List ℕ) → List (List ℕ × ℕ) → Type 0
+BeginsWithEntry id behind [] = ⊥
+BeginsWithEntry id behind (one ∷ more) = (one.0 ≡ id) × AreOf behind more
+
+-- an id and its time, as the code keeps them
+abbrev pub shown : Timed → List ℕ × ℕ
+shown timed = (timed.id.now, timed.nanos)
+
+-- by id, and then by time
+abbrev pub timed_cmp : List ℕ × ℕ → List ℕ × ℕ → Ordering
+timed_cmp a b = ordering_then (text_cmp a.0 b.0) (nat_cmp a.1 b.1)
+
+-- the ids of the rows of tests that ran and have a time, each with it, in the order of the rows
+abbrev pub timed_of : List Row → List (List ℕ × ℕ)
+timed_of rows = map (λ row. (row.id, unwrap_or row.nanos 0)) (timed_rows rows)
+
+-- the same by id, and then by time
+pub record AreSorted (timed sorted : List (List ℕ × ℕ)) : Type 0 where
+  pub moved : IsPermutation timed sorted
+  pub ordered : IsSorted timed_cmp sorted
+
+-- whether those behind begin with a greater id, or there are none
+abbrev pub ends_before : List ℕ × ℕ → List (List ℕ × ℕ) → Bool
+ends_before one [] = true
+ends_before one (next ∷ more) = is_lt (text_cmp one.0 next.0)
+
+-- of those of one id, which stand one after another, the last
+abbrev pub last_of_each : List (List ℕ × ℕ) → List (List ℕ × ℕ)
+last_of_each [] = []
+last_of_each (one ∷ more) = if ends_before one more then one ∷ last_of_each more else last_of_each more
+
+-- the first entries whose ids are below this one
+abbrev pub below : List ℕ → List (List ℕ × ℕ) → List (List ℕ × ℕ)
+below id [] = []
+below id (one ∷ more) = if is_lt (text_cmp one.0 id) then one ∷ below id more else []
+
+-- the entries from the first on whose id is not below this one
+abbrev pub not_below : List ℕ → List (List ℕ × ℕ) → List (List ℕ × ℕ)
+not_below id [] = []
+not_below id (one ∷ more) = if is_lt (text_cmp one.0 id) then not_below id more else one ∷ more
+
+-- the entries behind one of this id, where they begin with one
+abbrev pub past : List ℕ → List (List ℕ × ℕ) → List (List ℕ × ℕ)
+past id [] = []
+past id (one ∷ more) = if is_eq (text_cmp one.0 id) then more else one ∷ more
+
+-- The later entries among the earlier ones, in order: each stands behind the earlier ones below it, in place of an earlier
+-- one of its id.
+abbrev pub merged : List (List ℕ × ℕ) → List (List ℕ × ℕ) → List (List ℕ × ℕ)
+merged earlier [] = earlier
+merged earlier (one ∷ more) = below one.0 earlier ++ one ∷ merged (past one.0 (not_below one.0 earlier)) more

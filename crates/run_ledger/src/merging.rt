@@ -1,0 +1,108 @@
+//! Times that replace earlier ones: both lists are in order, and are gone through once.
+
+ghost use Rattle.std.specs.Prelude.{◌≡◌, ◌++◌, ◌<◌, ◌≤◌, ℕ, List, [], map, length, IfSome, IfNone, IfOk, OnOk};
+ghost use Rattle.std.specs.List.{flat_map};
+ghost use Rattle.outcome_fold.specs.Answers.{times_of};
+ghost use Rattle.run_ledger.specs.Caches.{time_entry};
+ghost use Rattle.run_ledger.specs.Ledger.{replaced};
+ghost use Rattle.run_ledger.specs.Merging.{AreOf, BeginsWithEntry, shown, below, not_below, past, merged};
+
+use crate::cutting::cut;
+use crate::entries::Entries;
+use crate::longest::{Timed, longest_times};
+use itoa::Buffer;
+use outcome_fold::Rows;
+use std::alloc::Global;
+use sub_number::NoMemory;
+
+/// Gives each id that has a time in these rows that time. It takes one sort of the rows' times; the entries are gone
+/// through once, and those that stay are copied as they are, many at once.
+///
+/// `NoMemory` comes only for want of memory.
+pub(crate) fn replace_times(
+    alloc: Global,
+    latest: &mut Entries,
+    rows: &Rows,
+) -> Result<(), NoMemory>
+    ensures { OnOk result (latest.new ≡ replaced latest.old (times_of rows.now)) }
+{
+    let later = longest_times(alloc, rows.list())?;
+    let bytes = merge(alloc, latest.bytes(), &later)?;
+    *latest = Entries::from_vec(bytes);
+    Ok(())
+}
+
+// The later times among the earlier entries, in place of those of their ids.
+fn merge(alloc: Global, earlier: &[u8], later: &[Timed<'_>]) -> Result<Vec<u8>, NoMemory>
+    ensures { (entries : List (List ℕ × ℕ)) → AreOf earlier.now entries → IfOk result (λ bytes. bytes.items ≡ flat_map time_entry (merged entries (map shown later.now))) }
+{
+    let mut bytes = Vec::new(alloc);
+    let mut rest = earlier;
+    for timed in later {
+        rest = put_among(rest, timed, &mut bytes)?;
+    }
+    bytes.extend_from_slice(rest)?;
+    Ok(bytes)
+}
+
+// Puts the entries below this one to the end of the bytes, and then this one. Gives the entries above it.
+fn put_among<'b>(
+    entries: &'b [u8],
+    timed: &Timed<'_>,
+    bytes: &mut Vec<u8>,
+) -> Result<&'b [u8], NoMemory>
+    ensures rest { IfOk result (λ rest. (each : List (List ℕ × ℕ)) → AreOf entries.now each → AreOf rest.now (past timed.now.id.now (not_below timed.now.id.now each))) }
+    ensures bytes { OnOk result ((each : List (List ℕ × ℕ)) → AreOf entries.now each → bytes.new.items ≡ bytes.old.items ++ (flat_map time_entry (below timed.now.id.now each) ++ time_entry (shown timed.now))) }
+{
+    let rest = skip_below(entries, timed.id.bytes());
+    bytes.extend_from_slice(&entries[..entries.len() - rest.len()])?;
+    put_entry(timed, bytes)?;
+    Ok(skip_same(rest, timed.id.bytes()))
+}
+
+// The entries from the first on whose id is not below this one.
+fn skip_below<'b>(entries: &'b [u8], id: &[u8]) -> &'b [u8]
+    ensures rest { (each : List (List ℕ × ℕ)) → AreOf entries.now each → AreOf result.now (not_below id.now each) }
+    ensures short { length result.now ≤ length entries.now }
+{
+    let mut rest = entries;
+    while let Some((first, behind)) = first_entry(rest) {
+        if !first.cmp(id).is_lt() {
+            return rest;
+        }
+        rest = behind;
+    }
+    rest
+}
+
+// The entries behind one of this id, where they begin with one.
+fn skip_same<'b>(entries: &'b [u8], id: &[u8]) -> &'b [u8]
+    ensures { (each : List (List ℕ × ℕ)) → AreOf entries.now each → AreOf result.now (past id.now each) }
+{
+    match first_entry(entries) {
+        Some((first, behind)) if first.cmp(id).is_eq() => behind,
+        _ => entries,
+    }
+}
+
+// The id of the first entry, and the entries behind that one.
+fn first_entry(entries: &[u8]) -> Option<(&[u8], &[u8])>
+    ensures some { IfSome result (λ parts. (each : List (List ℕ × ℕ)) → AreOf entries.now each → BeginsWithEntry parts.0.now parts.1.now each) }
+    ensures none { IfNone result ((each : List (List ℕ × ℕ)) → AreOf entries.now each → each ≡ []) }
+    ensures short { IfSome result (λ parts. length parts.1.now < length entries.now) }
+{
+    let (id, rest) = cut(0, entries)?;
+    let (_, behind) = cut(0, rest)?;
+    Some((id, behind))
+}
+
+// Puts the id and its time to the end of the bytes, and a zero byte behind each.
+fn put_entry(timed: &Timed<'_>, bytes: &mut Vec<u8>) -> Result<(), NoMemory>
+    ensures { OnOk result (bytes.new.items ≡ bytes.old.items ++ time_entry (shown timed.now)) }
+{
+    bytes.extend_from_slice(timed.id.bytes())?;
+    bytes.push(0)?;
+    bytes.extend_from_slice(Buffer::new().format(timed.nanos).as_bytes())?;
+    bytes.push(0)?;
+    Ok(())
+}
