@@ -9,17 +9,17 @@ use Rattle.testr_cli.specs.Tasks.{Task, load, task_with}
 use Rattle.testr_cli.specs.declared.command.Command.{Command}
 use Rattle.testr_cli.specs.declared.command.Verb.{Verb}
 use Rattle.testr_cli.specs.declared.command.Verb.TheVariants.{Load, Run, ListTests, SelfTest}
-use Rattle.testr_cli.specs.declared.words.UsageFault.{UsageFault}
+use Rattle.testr_cli.specs.declared.words.UsageFault.TheVariants.{Words}
 use Rattle.testr_cli.specs.declared.answer.Verdict.{Verdict}
 use Rattle.testr_cli.specs.declared.answer.Refusal.{Refusal}
 use Rattle.testr_cli.specs.declared.answer.Refusal.TheVariants.{Usage, Memory}
 
-pub performs : (wrong : UsageFault) {read asked : Option Task} (before after : Work) (outcome : Result Verdict Refusal) → read ≡ asked → Performs wrong read before after outcome → Performs wrong asked before after outcome
-performs wrong before after outcome is done = subst (λ c. Performs wrong c before after outcome) is done
+pub performs : {read asked : Option Task} (before after : Work) (outcome : Result Verdict Refusal) → read ≡ asked → Performs read before after outcome → Performs asked before after outcome
+performs before after outcome is done = subst (λ c. Performs c before after outcome) is done
 
 -- words that are no command touch nothing
-pub refuses : (wrong : UsageFault) {asked : Option Task} (before : Work) → asked ≡ None → Performs wrong asked before before (Err (Usage wrong))
-refuses wrong before none = subst (λ c. Performs wrong c before before (Err (Usage wrong))) (sym none) (record { usage = refl; same = λ i. before })
+pub refuses : {asked : Option Task} (before : Work) → asked ≡ None → Performs asked before before (Err (Usage Words))
+refuses before none = subst (λ c. Performs c before before (Err (Usage Words))) (sym none) (record { usage = refl; same = λ i. before })
 
 -- a load has 64 names at most
 pub too_many : (c : Command) → 64 < length c.names → task_with Load c ≡ None

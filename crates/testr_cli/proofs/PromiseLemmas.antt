@@ -1,5 +1,5 @@
 -- An answer keeps all that is promised.
-use Rattle.std.proofs.Common.{◌≡◌, ◌⊎◌, inl, inr, ℕ, ◌≤◌, Bool, Option, None, Some, Result, Ok, Err, List, ◌∷◌, refl, sym, ap, subst, ◌∙◌, IsTrue, true, false, arith}
+use Rattle.std.proofs.Common.{◌≡◌, ◌⊎◌, inl, inr, ℕ, ◌≤◌, Bool, Option, None, Some, Result, Ok, Err, List, refl, sym, ap, subst, ◌∙◌, IsTrue, true, false, arith}
 use Rattle.edge_io.specs.Disk.{Folder, IsImage}
 use Rattle.edge_io.specs.Steps.{Goes, Stays}
 use Rattle.edge_io.proofs.Going.{goes_weaker}
@@ -8,14 +8,11 @@ use Rattle.run_ledger.specs.Refreshing.{KeepsSound}
 use Rattle.run_shelf.specs.Images.{MakesRepository, PassesOld, PassesFormat, HasFormatBeside}
 use Rattle.testr_cli.specs.Outside.{Outside, Work, work_of, shown, SomeRose, SameCounts, RisesAt}
 use Rattle.testr_cli.specs.Tasks.{Task, init, load, ask}
-use Rattle.testr_cli.specs.Words.{testr_word, asked_by}
 use Rattle.testr_cli.specs.Verdicts.{verdict_code}
 use Rattle.testr_cli.specs.Runs.{KeepsFiles}
 use Rattle.testr_cli.specs.Answer.{refusal_code, code_of, place_in, may_have_kept}
 use Rattle.testr_cli.specs.Stops.{PassesCommand, PassesLoad}
 use Rattle.testr_cli.specs.Program.{Performs, GivesUp, Answers, Promises, KeepsRuns, LoadsAll, AnswersQuestion, CanPerform, IsPerformed}
-use Rattle.testr_cli.specs.declared.words.UsageFault.{UsageFault}
-use Rattle.testr_cli.specs.declared.words.UsageFault.TheVariants.{Words}
 use Rattle.testr_cli.specs.declared.command.Question.{Question}
 use Rattle.testr_cli.specs.declared.answer.Verdict.{Verdict}
 use Rattle.testr_cli.specs.declared.answer.Verdict.TheVariants.{Passed, Failed}
@@ -40,23 +37,23 @@ stays None (Some t) same = cc
 stays (Some s) None same = cc
 stays (Some s) (Some t) same = cc
 
-module _ (fault : UsageFault) (a b : Work) where
-  refused : (command : Task) (r : Refusal) → Performs fault (Some command) a b (Err r) → IsRefused r a b
+module _ (a b : Work) where
+  refused : (command : Task) (r : Refusal) → Performs (Some command) a b (Err r) → IsRefused r a b
   refused init r done = subst (IsRefused r a) (sym done.rest) (init_refuses a.site a.spawner a.input a.out a.folder b.folder r done.at)
   refused (load partial names) r done = load_refuses partial names a b r done
   refused (ask question) r done = subst (IsRefused r a) (sym done.rest) (ask_refuses a.site a.spawner a.input question (shown a.folder a.out) (shown b.folder b.out) r done.at)
 
-  counted : (command : Task) (v : Verdict) → Performs fault (Some command) a b (Ok v) → SameCounts a b
+  counted : (command : Task) (v : Verdict) → Performs (Some command) a b (Ok v) → SameCounts a b
   counted init v done = subst (SameCounts a) (sym done.rest) (init_counts a.site a.spawner a.input a.out a.folder b.folder v done.at)
   counted (load partial names) v done = load_counts partial names a b v done
   counted (ask question) v done = subst (SameCounts a) (sym done.rest) (ask_counts a.site a.spawner a.input question (shown a.folder a.out) (shown b.folder b.out) v done.at)
 
-  counts_of : (command : Option Task) (outcome : Result Verdict Refusal) → Performs fault command a b outcome → RisesAt (place_in outcome) a b
+  counts_of : (command : Option Task) (outcome : Result Verdict Refusal) → Performs command a b outcome → RisesAt (place_in outcome) a b
   counts_of None outcome done = subst (λ (r : Result Verdict Refusal). RisesAt (place_in r) a b) (sym done.usage) (still_counts a b done.same)
   counts_of (Some command) (Ok v) done = counted command v done
   counts_of (Some command) (Err r) done = (refused command r done).counts
 
-  moments_of : (command : Option Task) (outcome : Result Verdict Refusal) → Performs fault command a b outcome → Goes a.folder.told b.folder.told (PassesCommand command a.site.told a.input.told)
+  moments_of : (command : Option Task) (outcome : Result Verdict Refusal) → Performs command a b outcome → Goes a.folder.told b.folder.told (PassesCommand command a.site.told a.input.told)
   moments_of None outcome done = stays a.folder.told b.folder.told (λ i. (done.same i).folder.told)
   moments_of (Some init) outcome done = init_moves a.folder b.folder outcome done.at
   moments_of (Some (load partial names)) outcome done = goes_weaker a.folder.told b.folder.told (LoadMoves partial names a.site.told a.input.told) (PassesLoad partial names a.site.told a.input.told) (load_moves partial names a b outcome done) (λ s t moves. moves.stops)
@@ -65,13 +62,13 @@ module _ (fault : UsageFault) (a b : Work) where
   quiet_sound : Goes a.folder.told b.folder.told Rests → Goes a.folder.told b.folder.told KeepsSound
   quiet_sound quiet = goes_weaker a.folder.told b.folder.told Rests KeepsSound quiet rests_sound
 
-  sound_of : (command : Option Task) (outcome : Result Verdict Refusal) → Performs fault command a b outcome → Goes a.folder.told b.folder.told KeepsSound
+  sound_of : (command : Option Task) (outcome : Result Verdict Refusal) → Performs command a b outcome → Goes a.folder.told b.folder.told KeepsSound
   sound_of None outcome done = quiet_sound (rests_same a.folder.told b.folder.told (λ i. (done.same i).folder.told))
   sound_of (Some init) outcome done = init_sound a.folder b.folder outcome done.at
   sound_of (Some (load partial names)) outcome done = goes_weaker a.folder.told b.folder.told (LoadMoves partial names a.site.told a.input.told) KeepsSound (load_moves partial names a b outcome done) (λ s t moves. moves.sound)
   sound_of (Some (ask question)) outcome done = quiet_sound (ask_quiet a.site a.spawner a.input question (shown a.folder a.out) (shown b.folder b.out) outcome done.at)
 
-  kept_of : (command : Option Task) (outcome : Result Verdict Refusal) → Performs fault command a b outcome → may_have_kept command outcome ≡ false → Goes a.folder.told b.folder.told KeepsRuns
+  kept_of : (command : Option Task) (outcome : Result Verdict Refusal) → Performs command a b outcome → may_have_kept command outcome ≡ false → Goes a.folder.told b.folder.told KeepsRuns
   kept_of None outcome done not = goes_weaker a.folder.told b.folder.told Rests KeepsRuns (rests_same a.folder.told b.folder.told (λ i. (done.same i).folder.told)) keeps_runs
   kept_of (Some init) outcome done not = init_keeps a.folder b.folder outcome done.at
   kept_of (Some (load partial names)) (Ok v) done not = cc
@@ -79,31 +76,31 @@ module _ (fault : UsageFault) (a b : Work) where
   kept_of (Some (ask question)) outcome done not = goes_weaker a.folder.told b.folder.told Rests KeepsRuns (ask_quiet a.site a.spawner a.input question (shown a.folder a.out) (shown b.folder b.out) outcome done.at) keeps_runs
 
   module _ (answer : ℕ) where
-    usage_of : (command : Option Task) (outcome : Result Verdict Refusal) → Performs fault command a b outcome → answer ≡ code_of outcome → (answer ≡ 2 → command ≡ None) × (command ≡ None → answer ≡ 2)
+    usage_of : (command : Option Task) (outcome : Result Verdict Refusal) → Performs command a b outcome → answer ≡ code_of outcome → (answer ≡ 2 → command ≡ None) × (command ≡ None → answer ≡ 2)
     usage_of None outcome done code = (λ two. refl, λ none. code ∙ ap code_of done.usage)
     usage_of (Some command) (Ok v) done code = (λ two. absurd (omega (arith, verdicts v, code, two)), λ none. cc)
     usage_of (Some command) (Err r) done code = (λ two. absurd (omega (arith, code, two, (refused command r done).least)), λ none. cc)
 
-    fault_of : (command : Option Task) (outcome : Result Verdict Refusal) → Performs fault command a b outcome → answer ≡ code_of outcome → answer ≡ 4 → SomeRose a b
+    fault_of : (command : Option Task) (outcome : Result Verdict Refusal) → Performs command a b outcome → answer ≡ code_of outcome → answer ≡ 4 → SomeRose a b
     fault_of None outcome done code four =
         let two = code ∙ ap code_of done.usage in
         absurd (omega (arith, two, four))
     fault_of (Some command) (Ok v) done code four = absurd (omega (arith, verdicts v, code, four))
     fault_of (Some command) (Err r) done code four = (refused command r done).fault (sym code ∙ four)
 
-    made_of : (outcome : Result Verdict Refusal) → Performs fault (Some init) a b outcome → answer ≡ code_of outcome → answer ≡ 0 → Goes a.folder.told b.folder.told MakesRepository
+    made_of : (outcome : Result Verdict Refusal) → Performs (Some init) a b outcome → answer ≡ code_of outcome → answer ≡ 0 → Goes a.folder.told b.folder.told MakesRepository
     made_of (Ok v) done code zero = init_made a.folder b.folder v done.at
     made_of (Err r) done code zero = absurd (omega (arith, code, zero, (refused init r done).least))
 
-    loaded_of : (partial : Bool) (names : List (List ℕ)) (outcome : Result Verdict Refusal) → Performs fault (Some (load partial names)) a b outcome → answer ≡ code_of outcome → answer ≤ 1 → LoadsAll partial names a b answer
+    loaded_of : (partial : Bool) (names : List (List ℕ)) (outcome : Result Verdict Refusal) → Performs (Some (load partial names)) a b outcome → answer ≡ code_of outcome → answer ≤ 1 → LoadsAll partial names a b answer
     loaded_of partial names (Ok v) done code less = subst (λ (n : ℕ). LoadsAll partial names a b n) (sym code) (load_did partial names a b v done)
     loaded_of partial names (Err r) done code less = absurd (omega (arith, code, less, (refused (load partial names) r done).least))
 
-    asked_of : (question : Question) (outcome : Result Verdict Refusal) → Performs fault (Some (ask question)) a b outcome → answer ≡ code_of outcome → answer ≤ 1 → AnswersQuestion question a b answer
+    asked_of : (question : Question) (outcome : Result Verdict Refusal) → Performs (Some (ask question)) a b outcome → answer ≡ code_of outcome → answer ≤ 1 → AnswersQuestion question a b answer
     asked_of question (Ok v) done code less = subst (λ (n : ℕ). AnswersQuestion question a b n) (sym code) (subst (λ (w : Work). AnswersQuestion question a w (verdict_code v)) (sym done.rest) (ask_did question a.site a.spawner a.input (shown a.folder a.out) (shown b.folder b.out) v done.at))
     asked_of question (Err r) done code less = absurd (omega (arith, code, less, (refused (ask question) r done).least))
 
-    five : (command : Task) (r : Refusal) → Performs fault (Some command) a b (Err r) → answer ≡ refusal_code r → (refusal_code r ≡ 3 → ⊥) → (SomeRose a b → ⊥) → answer ≡ 5
+    five : (command : Task) (r : Refusal) → Performs (Some command) a b (Err r) → answer ≡ refusal_code r → (refusal_code r ≡ 3 → ⊥) → (SomeRose a b → ⊥) → answer ≡ 5
     five command r done code three none = by answer (refusal_code r) code is.least is.most three (λ four. none (is.fault four))
       where
         is : IsRefused r a b
@@ -112,7 +109,7 @@ module _ (fault : UsageFault) (a b : Work) where
         by : (answer code : ℕ) → answer ≡ code → 3 ≤ code → code ≤ 5 → (code ≡ 3 → ⊥) → (code ≡ 4 → ⊥) → answer ≡ 5
         by answer code same least most three four = omega arith
 
-    complete_of : (command : Option Task) (outcome : Result Verdict Refusal) → Performs fault command a b outcome → answer ≡ code_of outcome → CanPerform command a → (SomeRose a b → ⊥) → IsPerformed command answer
+    complete_of : (command : Option Task) (outcome : Result Verdict Refusal) → Performs command a b outcome → answer ≡ code_of outcome → CanPerform command a → (SomeRose a b → ⊥) → IsPerformed command answer
     complete_of None outcome done code can none = can
     complete_of (Some init) (Ok v) done code can none = code ∙ init_passed a.folder b.folder v done.at
     complete_of (Some init) (Err r) done code can none = absurd (none ((refused init r done).fault (init_never a.folder b.folder r done.at can)))
@@ -138,36 +135,36 @@ module _ (a b : Work) (outcome : Result Verdict Refusal) (gives : GivesUp a b ou
   gave_up_moments (Some (load partial names)) = goes_weaker a.folder.told b.folder.told (LoadMoves partial names a.site.told a.input.told) (PassesLoad partial names a.site.told a.input.told) (quiet_moves partial names a.site.told a.input.told a.folder.told b.folder.told gave_up_quiet) (λ s t moves. moves.stops)
   gave_up_moments (Some (ask question)) = goes_weaker a.folder.told b.folder.told Rests PassesOld gave_up_quiet (λ s t rests. rests.old)
 
-module _ (reading : Bool) (wrong : UsageFault) (asked : Option Task) (before after : Outside) (answer : ℕ) where
+module _ (reading : Bool) (asked : Option Task) (before after : Outside) (answer : ℕ) where
   abbrev a : Work
   a = work_of before
 
   abbrev b : Work
   b = work_of after
 
-  as_named : {named : Task} (outcome : Result Verdict Refusal) → asked ≡ Some named → Performs wrong asked a b outcome → Performs wrong (Some named) a b outcome
-  as_named outcome is done = subst (λ c. Performs wrong c a b outcome) is done
+  as_named : {named : Task} (outcome : Result Verdict Refusal) → asked ≡ Some named → Performs asked a b outcome → Performs (Some named) a b outcome
+  as_named outcome is done = subst (λ c. Performs c a b outcome) is done
 
-  performed : (answers : Answers reading wrong asked before after answer) → Performs wrong asked a b answers.outcome → Promises reading wrong asked before after answer
+  performed : (answers : Answers reading asked before after answer) → Performs asked a b answers.outcome → Promises reading asked before after answer
   performed answers done =
       let outcome = answers.outcome in
       let code = answers.told.code in
       record {
         answers = answers;
-        counts = counts_of wrong a b asked outcome done;
-        usage = (usage_of wrong a b answer asked outcome done code).0;
-        no_command = λ none. inl ((usage_of wrong a b answer asked outcome done code).1 none);
-        fault = fault_of wrong a b answer asked outcome done code;
-        kept = kept_of wrong a b asked outcome done;
-        any_moment = moments_of wrong a b asked outcome done;
-        sound = sound_of wrong a b asked outcome done;
-        made = λ is. made_of wrong a b answer outcome (as_named outcome is done) code;
-        loaded = λ partial names is. loaded_of wrong a b answer partial names outcome (as_named outcome is done) code;
-        answered = λ question is. asked_of wrong a b answer question outcome (as_named outcome is done) code;
-        completeness = λ can none. inl (complete_of wrong a b answer asked outcome done code can none);
+        counts = counts_of a b asked outcome done;
+        usage = (usage_of a b answer asked outcome done code).0;
+        no_command = λ none. inl ((usage_of a b answer asked outcome done code).1 none);
+        fault = fault_of a b answer asked outcome done code;
+        kept = kept_of a b asked outcome done;
+        any_moment = moments_of a b asked outcome done;
+        sound = sound_of a b asked outcome done;
+        made = λ is. made_of a b answer outcome (as_named outcome is done) code;
+        loaded = λ partial names is. loaded_of a b answer partial names outcome (as_named outcome is done) code;
+        answered = λ question is. asked_of a b answer question outcome (as_named outcome is done) code;
+        completeness = λ can none. inl (complete_of a b answer asked outcome done code can none);
       }
 
-  gave_up : (answers : Answers reading wrong asked before after answer) → IsTrue reading → GivesUp a b answers.outcome → Promises reading wrong asked before after answer
+  gave_up : (answers : Answers reading asked before after answer) → IsTrue reading → GivesUp a b answers.outcome → Promises reading asked before after answer
   gave_up answers reads gives =
       let five : answer ≡ 5 = answers.told.code ∙ ap code_of gives.memory in
       record {
@@ -185,15 +182,15 @@ module _ (reading : Bool) (wrong : UsageFault) (asked : Option Task) (before aft
         completeness = λ can none. inr (reads, five);
       }
 
-  pub promises : Answers reading wrong asked before after answer → Promises reading wrong asked before after answer
+  pub promises : Answers reading asked before after answer → Promises reading asked before after answer
   promises answers = elim answers.done [
     | inl done ↦ performed answers done
     | inr given ↦ gave_up answers given.0 given.1
   ]
 
 -- what is promised without a reading of words is promised with one
-with_reading : {wrong : UsageFault} {asked : Option Task} {before after : Outside} {answer : ℕ} → Answers false wrong asked before after answer → Answers true wrong asked before after answer
-with_reading {wrong = wrong} {asked = asked} {before = before} {after = after} answers = record {
+with_reading : {asked : Option Task} {before after : Outside} {answer : ℕ} → Answers false asked before after answer → Answers true asked before after answer
+with_reading {asked = asked} {before = before} {after = after} answers = record {
   outcome = answers.outcome;
   done = only answers.done;
   told = answers.told;
@@ -203,11 +200,6 @@ with_reading {wrong = wrong} {asked = asked} {before = before} {after = after} a
     only (inl done) = inl done
     only (inr given) = absurd (cc)
 
-pub read_for : {wrong : UsageFault} {asked read : Option Task} → asked ≡ read → (before after : Outside) (answer : ℕ) → Promises false wrong asked before after answer → Promises true wrong read before after answer
-read_for {wrong = wrong} {asked = asked} is before after answer given =
-    subst (λ (o : Option Task). Promises true wrong o before after answer) is (promises true wrong asked before after answer (with_reading given.answers))
-
-pub behind_name : (rest behind : List (List ℕ)) → testr_word ∷ rest ≡ testr_word ∷ behind → (before after : Outside) (answer : ℕ) → Promises true Words (asked_by rest) before after answer → Promises true Words (asked_by behind) before after answer
-behind_name rest behind is before after answer given =
-    let same : rest ≡ behind = cc in
-    subst (λ (l : List (List ℕ)). Promises true Words (asked_by l) before after answer) same given
+pub read_for : {asked read : Option Task} → asked ≡ read → (before after : Outside) (answer : ℕ) → Promises false asked before after answer → Promises true read before after answer
+read_for {asked = asked} is before after answer given =
+    subst (λ (o : Option Task). Promises true o before after answer) is (promises true asked before after answer (with_reading given.answers))

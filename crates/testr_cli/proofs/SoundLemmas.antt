@@ -86,19 +86,23 @@ holds s t but has =
     record {
       runs = has.runs;
       shown = shows_still s.disk.published t.disk.published but has.runs has.shown;
-      ids = has.ids;
-      are_ids = (has.are_ids.0, rows_still s.disk.published t.disk.published has.are_ids.0 but has.are_ids.1, has.are_ids.2);
-      failing = record {
-        bytes = has.failing_bytes;
-        file = ap (λ (f : Files). f (side_name Failing)) files ∙ put_other first (side_name Times) has.times_bytes (side_name Failing) names_differ ∙ put_same s.disk.published (side_name Failing) has.failing_bytes;
-        form = has.failing;
+      held = record {
+        ids = has.ids;
+        failing = record {
+          bytes = has.failing_bytes;
+          file = ap (λ (f : Files). f (side_name Failing)) files ∙ put_other first (side_name Times) has.times_bytes (side_name Failing) names_differ ∙ put_same s.disk.published (side_name Failing) has.failing_bytes;
+          form = has.failing;
+        };
+        times = has.times;
+        timed = record {
+          bytes = has.times_bytes;
+          file = ap (λ (f : Files). f (side_name Times)) files ∙ put_same first (side_name Times) has.times_bytes;
+          form = has.timed;
+        };
       };
-      times = has.times;
-      are_times = (has.are_times.0, rows_still s.disk.published t.disk.published has.are_times.0 but has.are_times.1, has.are_times.2);
-      timed = record {
-        bytes = has.times_bytes;
-        file = ap (λ (f : Files). f (side_name Times)) files ∙ put_same first (side_name Times) has.times_bytes;
-        form = has.timed;
+      folds = record {
+        are_ids = (has.are_ids.0, rows_still s.disk.published t.disk.published has.are_ids.0 but has.are_ids.1, has.are_ids.2);
+        are_times = (has.are_times.0, rows_still s.disk.published t.disk.published has.are_times.0 but has.are_times.1, has.are_times.2);
       };
     }
 

@@ -4,12 +4,12 @@ use Rattle.std.specs.Prelude.{⊤, nat_le, if◌then◌else◌}
 use Rattle.edge_io.specs.Disk.{Files, Folder}
 use Rattle.edge_io.specs.Steps.{Goes}
 use Rattle.run_shelf.specs.Outcomes.{Surveys, TicksUpTo}
-use Rattle.run_shelf.specs.Repository.{Shows}
+use Rattle.run_shelf.specs.Repository.{Shows, IsRepository}
 use Rattle.run_shelf.specs.Sides.{side_name}
 use Rattle.run_shelf.specs.declared.side.Side.TheVariants.{Failing}
 use Rattle.run_ledger.specs.Caches.{IsSound}
 use Rattle.testr_cli.specs.Says.{OfBytes}
-use Rattle.testr_cli.specs.Sparing.{SparesRuns, SparesFor, SparesReads}
+use Rattle.testr_cli.specs.Sparing.{SparesRuns, SparesFor, LooksOnly, SparesReads}
 use Rattle.testr_cli.specs.Tasks.{Task, load, ask, task_with}
 use Rattle.testr_cli.specs.Words.{testr_word, asked_by}
 use Rattle.testr_cli.specs.declared.command.Command.{Command}
@@ -23,9 +23,25 @@ pub few_spare : (calls : ℕ) (told : Option Folder) (before now : ℕ) → Tick
 few_spare calls None before now few = λ sound. tt
 few_spare calls (Some s) before now few = λ sound covers ids holds runs shown. omega (arith, few)
 
+-- the folder was looked at, and that is all
+pub looked : (told : Option Folder) (before now : ℕ) → TicksUpTo 4 before now → LooksOnly told before now
+looked None before now few = tt
+looked (Some s) before now few = λ none. few
+
+-- the look found a repository
+pub found : (kinds : List Bool) (told opened : Option Folder) (before now : ℕ) → Goes told opened (Surveys kinds) → LooksOnly told before now
+found kinds None opened before now survey = tt
+found kinds (Some s) None before now survey = absurd survey
+found kinds (Some s) (Some t) before now survey = λ none.
+    let same : t.disk.published ≡ s.disk.published = ap (λ (x : Folder). x.disk.published) survey.settled in
+    absurd (none (subst IsRepository same survey.fits.repository))
+
 -- no call
 pub none_spare : (asked : Option Task) (told : Option Folder) (before now : ℕ) → now ≡ before → SparesReads asked told before now
-none_spare asked told before now same = λ list is. few_spare 6 told before now (omega (arith, same))
+none_spare asked told before now same = record {
+  failing = λ list is. few_spare 6 told before now (omega (arith, same));
+  looks = λ question is. looked told before now (omega (arith, same));
+}
 
 -- the folder was opened, and that is all
 pub opens_spare : (told : Option Folder) (before now : ℕ) → TicksUpTo 4 before now → SparesRuns 6 told before now
@@ -66,8 +82,45 @@ not_asked verb.Stats c list other is = cc
 not_asked verb.ListTests c list other is = cc
 not_asked verb.SelfTest c list other is = cc
 
-pub other_spare : (v : Verb) {w : Verb} (c : Command) (told : Option Folder) (before now : ℕ) → v ≡ w → IsOther w → SparesReads (task_with v c) told before now
-other_spare v c told before now is other = λ list asks. absurd (not_asked v c list (subst IsOther (sym is) other) asks)
+-- a question, but not that of the failing set
+pub other_spare : (v : Verb) {w : Verb} (c : Command) (told : Option Folder) (before now : ℕ) → v ≡ w → IsOther w → LooksOnly told before now → SparesReads (task_with v c) told before now
+other_spare v c told before now is other looks = record {
+  failing = λ list asks. absurd (not_asked v c list (subst IsOther (sym is) other) asks);
+  looks = λ question asks. looks;
+}
+
+-- a verb that asks nothing
+abbrev pub AsksNothing : Verb → Type 0
+AsksNothing verb.Last = ⊥
+AsksNothing verb.Failing = ⊥
+AsksNothing verb.Slowest = ⊥
+AsksNothing verb.Stats = ⊥
+AsksNothing other = ⊤
+
+no_question : (few : Bool) (c : Command) (question : Question) → (if few then Some (load c.partial c.names) else None) ≡ Some (ask question) → ⊥
+no_question true c question is = cc
+no_question false c question is = cc
+
+nothing_asked : (v : Verb) (c : Command) (question : Question) → AsksNothing v → task_with v c ≡ Some (ask question) → ⊥
+nothing_asked verb.Init c question silent is = cc
+nothing_asked verb.Load c question silent is = no_question (nat_le (length c.names) 64) c question is
+nothing_asked verb.Run c question silent is = cc
+nothing_asked verb.Last c question silent is = silent
+nothing_asked verb.Failing c question silent is = silent
+nothing_asked verb.Slowest c question silent is = silent
+nothing_asked verb.Stats c question silent is = silent
+nothing_asked verb.ListTests c question silent is = cc
+nothing_asked verb.SelfTest c question silent is = cc
+
+pub silent_spare : (v : Verb) {w : Verb} (c : Command) (told : Option Folder) (before now : ℕ) → v ≡ w → AsksNothing w → SparesReads (task_with v c) told before now
+silent_spare v c told before now is silent = record {
+  failing = λ list asks. absurd (nothing_asked v c (AsksFailing list) (subst AsksNothing (sym is) silent) asks);
+  looks = λ question asks. absurd (nothing_asked v c question (subst AsksNothing (sym is) silent) asks);
+}
+
+-- what the words ask for is the command's task
+pub read_spare : {asked read : Option Task} → asked ≡ read → (told : Option Folder) (before now : ℕ) → SparesReads asked told before now → SparesReads read told before now
+read_spare is told before now spares = subst (λ (o : Option Task). SparesReads o told before now) is spares
 
 -- the words behind the same name
 pub behind_spare : (rest behind : List (List ℕ)) (told : Option Folder) (before now : ℕ) → testr_word ∷ rest ≡ testr_word ∷ behind → SparesReads (asked_by rest) told before now → SparesReads (asked_by behind) told before now

@@ -31,7 +31,6 @@ use Rattle.testr_cli.specs.Init.{Inits}
 use Rattle.testr_cli.specs.Load.{Loads}
 use Rattle.testr_cli.specs.Ask.{Asks}
 use Rattle.testr_cli.specs.Stops.{PassesCommand}
-use Rattle.testr_cli.specs.declared.words.UsageFault.{UsageFault}
 use Rattle.testr_cli.specs.declared.words.UsageFault.TheVariants.{Words}
 use Rattle.filter_cli.specs.Outside.{outside as piped}
 use Rattle.filter_cli.specs.Promises.{Promises as FilterPromises}
@@ -43,16 +42,16 @@ use Rattle.testr_cli.specs.declared.answer.Refusal.TheVariants.{Usage, Memory}
 -- ---- the answer
 
 -- words that are no command are refused, and touch nothing
-pub record Refuses (fault : UsageFault) (before after : Work) (outcome : Result Verdict Refusal) : Type 0 where
-  pub usage : outcome ≡ Err (Usage fault)
+pub record Refuses (before after : Work) (outcome : Result Verdict Refusal) : Type 0 where
+  pub usage : outcome ≡ Err (Usage Words)
   pub same : after ≡ before
 
 -- what a command does to the parts that it touches; all else stays
-abbrev pub Performs : UsageFault → Option Task → Step Work Verdict Refusal
-Performs fault None = Refuses fault
-Performs fault (Some init) = At work_folder Inits
-Performs fault (Some (load partial names)) = Loads partial names
-Performs fault (Some (ask question)) = At work_shown (Asks question)
+abbrev pub Performs : Option Task → Step Work Verdict Refusal
+Performs None = Refuses
+Performs (Some init) = At work_folder Inits
+Performs (Some (load partial names)) = Loads partial names
+Performs (Some (ask question)) = At work_shown (Asks question)
 
 -- the line of a refusal went to the errors' sink: whole, or in part where that sink failed
 abbrev pub TellsLine : Result Verdict Refusal → Seen (List ℕ) → Seen (List ℕ) → Type 0
@@ -70,13 +69,13 @@ pub record GivesUp (before after : Work) (outcome : Result Verdict Refusal) : Ty
   pub same : after ≡ before
 
 -- what was asked for was done; or, where words were read for it, memory was wanting for them
-abbrev pub PerformsOrNot : (reading : Bool) → UsageFault → Option Task → Step Work Verdict Refusal
-PerformsOrNot reading fault asked before after outcome = Performs fault asked before after outcome ⊎ (IsTrue reading × GivesUp before after outcome)
+abbrev pub PerformsOrNot : (reading : Bool) → Option Task → Step Work Verdict Refusal
+PerformsOrNot reading asked before after outcome = Performs asked before after outcome ⊎ (IsTrue reading × GivesUp before after outcome)
 
 -- one outcome, which the steps of the command made, and its line and its status
-pub record Answers (reading : Bool) (wrong : UsageFault) (asked : Option Task) (before after : Outside) (answer : ℕ) : Type 0 where
+pub record Answers (reading : Bool) (asked : Option Task) (before after : Outside) (answer : ℕ) : Type 0 where
   pub outcome : Result Verdict Refusal
-  pub done : PerformsOrNot reading wrong asked (work_of before) (work_of after) outcome
+  pub done : PerformsOrNot reading asked (work_of before) (work_of after) outcome
   pub told : Tells outcome before.errors after.errors answer
 
 -- ---- what is kept
@@ -166,11 +165,11 @@ IsPerformed (Some (ask question)) answer = (answer ≤ 1) ⊎ (answer ≡ 5)
 
 -- ---- the promises
 
--- What each call promises that is asked for this, from the outside before it to that after it. Where nothing is asked for,
--- it says what is wrong. Where words were read for it, `reading`, memory may be wanting for them.
-pub record Promises (reading : Bool) (wrong : UsageFault) (asked : Option Task) (before after : Outside) (answer : ℕ) : Type 0 where
+-- What each call promises that is asked for this, from the outside before it to that after it. Nothing is asked for where
+-- words are no command. Where words were read for it, `reading`, memory may be wanting for them.
+pub record Promises (reading : Bool) (asked : Option Task) (before after : Outside) (answer : ℕ) : Type 0 where
   -- there is one outcome, which the command's steps made, and the status and the line on the errors' sink are its own
-  pub answers : Answers reading wrong asked before after answer
+  pub answers : Answers reading asked before after answer
   -- the count of that part's faults rose whose fault the outcome is, and no other
   pub counts : RisesAt (place_in answers.outcome) (work_of before) (work_of after)
   pub usage : answer ≡ 2 → asked ≡ None

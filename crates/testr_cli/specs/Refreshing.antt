@@ -1,15 +1,13 @@
 -- The step that brings the caches up to the runs (docs/FORMATS.md, "Caches").
 use Rattle.std.specs.Prelude.{ℕ, List, length, Result, OnOk}
-use Rattle.std.specs.FinMap.{FinMap}
 use Rattle.edge_io.specs.Causes.{RisesExactlyIf}
 use Rattle.edge_io.specs.Disk.{Folder}
 use Rattle.edge_io.specs.Seen.{Seen}
 use Rattle.edge_io.specs.Steps.{Goes}
-use Rattle.outcome_fold.specs.Order.{text_cmp}
 use Rattle.outcome_fold.specs.declared.row.Row.{Row}
-use Rattle.run_ledger.specs.Cached.{ReadsSound, HoldsFailing, HoldsTimes}
-use Rattle.run_ledger.specs.Ledger.{HasRowsAt, IsFailingSet, AreTimes}
-use Rattle.run_ledger.specs.Refreshing.{PutsCaches, KeepsButSides, PassesButSides, KeepsSound}
+use Rattle.run_ledger.specs.Cached.{ReadsSound}
+use Rattle.run_ledger.specs.Ledger.{HasRowsAt}
+use Rattle.run_ledger.specs.Refreshing.{PutsCaches, HoldBoth, AreFolds, KeepsButSides, PassesButSides, KeepsSound}
 use Rattle.run_shelf.specs.Repository.{Run, Shows}
 use Rattle.testr_cli.specs.Told.{tell_failed}
 use Rattle.testr_cli.specs.declared.told.TellFault.{TellFault}
@@ -28,12 +26,8 @@ pub record Refreshes (number : ℕ) (rows : List Row) (before after : Seen Folde
 pub record HoldsCaches (s : Folder) : Type 0 where
   pub runs : List Run
   pub shown : Shows s.disk.published runs
-  pub ids : List (List ℕ)
-  pub are_ids : IsFailingSet ids s
-  pub failing : HoldsFailing (length runs) ids s
-  pub times : FinMap text_cmp ℕ
-  pub are_times : AreTimes times s
-  pub timed : HoldsTimes (length runs) times s
+  pub held : HoldBoth (length runs) s
+  pub folds : AreFolds held.ids held.times s
 
 -- so it is then, where the files were sound
 abbrev pub BringsCaches : Folder → Folder → Type 0

@@ -48,7 +48,6 @@ use Rattle.testr_cli.specs.declared.answer.Refusal.TheVariants.{Keep, Refresh, R
 use Rattle.testr_cli.specs.declared.answer.Verdict.{Verdict}
 use Rattle.testr_cli.specs.declared.drawing.Drawing.{Drawing}
 use Rattle.testr_cli.specs.declared.selecting.Selected.{Selected}
-use Rattle.testr_cli.specs.declared.words.UsageFault.TheVariants.{Words}
 
 -- ---- the answer
 
@@ -224,7 +223,7 @@ suite_asked_by words = and_then (command_of words) suite_of
 pub record TestrPromises (words : List (List ℕ)) (before after : Outside) (answer : ℕ) : Type 0 where
   pub suite : (asked : Suite) → suite_asked_by words ≡ Some asked → SuitePromises asked before after answer
   pub selftest : (asked : Drawing) → drawing_asked_by words ≡ Some asked → SelfTestPromises asked before after answer
-  pub others : suite_asked_by words ≡ None → drawing_asked_by words ≡ None → Promises true Words (asked_by words) before after answer × (after.spawner ≡ before.spawner)
+  pub others : suite_asked_by words ≡ None → drawing_asked_by words ≡ None → Promises true (asked_by words) before after answer × (after.spawner ≡ before.spawner)
 
 -- What each call of the program promises for all its words: what `testr` does for those behind its name, and for others
 -- what the filters do, which also say where words are neither.

@@ -4,7 +4,7 @@ ghost use Rattle.std.specs.Prelude.{◌↔◌, IsTrue};
 ghost use Rattle.testr_cli.specs.Ask.{Asks};
 ghost use Rattle.testr_cli.specs.Outside.{shown};
 ghost use Rattle.testr_cli.specs.Says.{OfBytes};
-ghost use Rattle.testr_cli.specs.Sparing.{SparesFor};
+ghost use Rattle.testr_cli.specs.Sparing.{LooksOnly, SparesFor};
 
 use crate::command::Question;
 use crate::copying::copy_last;
@@ -27,6 +27,7 @@ pub fn ask<H: Shelf, O: Sink>(
         (shown (H.seen shelf.new) (O.seen out.new))
         result }
     ensures spares { SparesFor 6 question (H.seen shelf.old).told (H.clock shelf.old) (H.clock shelf.new) }
+    ensures looks { LooksOnly (H.seen shelf.old).told (H.clock shelf.old) (H.clock shelf.new) }
 {
     let found = open(alloc, shelf)?;
     have_run(question, &found)?;

@@ -5,6 +5,7 @@ use crate::tests::{
     repository, source,
 };
 use crate::tests_load::{FAIL, FAIL_KEPT};
+use crate::tests_run::{CONF, ENDED, call_in, has_started, project_of};
 use edge_io::{Failed, MemShelf, Shelf};
 use itoa::Buffer;
 use std::sync::Wait;
@@ -108,10 +109,17 @@ fn a_full_repository_takes_no_run(rt: HostRuntime) -> Result<(), Fail> {
     for number in 0..1_000_000u32 {
         publish_empty(&mut shelf, digits.format(number))?;
     }
+    let line = b"testr: the repository is full\n";
     let mut input = source(alloc, FOO, 12, &[])?;
     let told = call(&rt, &["testr", "load"], &mut shelf, &mut input)?;
-    assert!(rt; told.is(3, NOTHING, b"testr: the repository is full\n"));
+    assert!(rt; told.is(3, NOTHING, line));
     assert_eq!(rt; input.left().len(), 12);
+    // A pattern that is none is refused later, and a worker would pass.
+    let mut project = project_of(alloc, CONF, &[(FOO, ENDED)], &[], &[])?;
+    let told = call_in(&rt, &["testr", "run", "(p"], &mut shelf, &mut project, &[])?;
+    assert!(rt; told.is(3, NOTHING, line));
+    assert!(rt; has_started(&project, &[]));
+    assert_eq!(rt; shelf.length("1000000")?, None);
     Ok(())
 }
 

@@ -15,7 +15,6 @@ ghost use Rattle.testr_cli.specs.Suites.{Suite, run as run_asked, list as list_a
 ghost use Rattle.testr_cli.specs.Tasks.{task_of, task_with};
 ghost use Rattle.testr_cli.specs.Words.{testr_word, asked_by};
 ghost use Rattle.testr_cli.specs.declared.command.Verb.TheVariants.{Load};
-ghost use Rattle.testr_cli.specs.declared.words.UsageFault.TheVariants.{Words};
 
 use crate::ask::ask;
 use crate::command::{Command, Question, Verb};
@@ -143,7 +142,7 @@ fn follow<R: Threads + Wait + Sync, H: Shelf, S: Spawner, F: Site, I: Source, O:
         (outside (H.seen shelf.old) (F.seen site.old) (S.seen spawner.old) (I.seen input.old) (O.seen out.old) (E.seen err.old))
         (outside (H.seen shelf.new) (F.seen site.new) (S.seen spawner.new) (I.seen input.new) (O.seen out.new) (E.seen err.new))
         result }
-    ensures others { suite_of command.now ≡ None → drawing_asked_in command.now ≡ None → Promises false Words (task_of command.now)
+    ensures others { suite_of command.now ≡ None → drawing_asked_in command.now ≡ None → Promises false (task_of command.now)
         (outside (H.seen shelf.old) (F.seen site.old) (S.seen spawner.old) (I.seen input.old) (O.seen out.old) (E.seen err.old))
         (outside (H.seen shelf.new) (F.seen site.new) (S.seen spawner.new) (I.seen input.new) (O.seen out.new) (E.seen err.new))
         result }
@@ -190,7 +189,7 @@ fn obey<R: Threads + Wait + Sync, H: Shelf, S: Spawner, F: Site, I: Source, O: S
         (outside (H.seen shelf.old) (F.seen site.old) (S.seen spawner.old) (I.seen input.old) (O.seen out.old) (E.seen err.old))
         (outside (H.seen shelf.new) (F.seen site.new) (S.seen spawner.new) (I.seen input.new) (O.seen out.new) (E.seen err.new))
         result }
-    ensures others { suite_of command.now ≡ None → Promises false Words (task_of command.now)
+    ensures others { suite_of command.now ≡ None → Promises false (task_of command.now)
         (outside (H.seen shelf.old) (F.seen site.old) (S.seen spawner.old) (I.seen input.old) (O.seen out.old) (E.seen err.old))
         (outside (H.seen shelf.new) (F.seen site.new) (S.seen spawner.new) (I.seen input.new) (O.seen out.new) (E.seen err.new))
         result }
@@ -265,7 +264,7 @@ pub fn quiet<H: Shelf, F: Site, I: Source, O: Sink, E: Sink>(
     out: &mut O,
     err: &mut E,
 ) -> u8
-    ensures promises { (spawner : Seen Spawning) → Promises false Words (task_of command.now)
+    ensures promises { (spawner : Seen Spawning) → Promises false (task_of command.now)
         (outside (H.seen shelf.old) (F.seen site.old) spawner (I.seen input.old) (O.seen out.old) (E.seen err.old))
         (outside (H.seen shelf.new) (F.seen site.new) spawner (I.seen input.new) (O.seen out.new) (E.seen err.new))
         result }
@@ -284,7 +283,7 @@ fn perform<'a, H: Shelf, F: Site, I: Source, O: Sink>(
     input: &mut I,
     out: &mut O,
 ) -> Result<Verdict, Refusal<'a>>
-    ensures step { (spawner : Seen Spawning) → Performs Words (task_of command.now)
+    ensures step { (spawner : Seen Spawning) → Performs (task_of command.now)
         (work (H.seen shelf.old) (F.seen site.old) spawner (I.seen input.old) (O.seen out.old))
         (work (H.seen shelf.new) (F.seen site.new) spawner (I.seen input.new) (O.seen out.new))
         result }
@@ -317,7 +316,7 @@ fn load_named<'a, H: Shelf, F: Site, I: Source, O: Sink>(
     input: &mut I,
     out: &mut O,
 ) -> Result<Verdict, Refusal<'a>>
-    ensures { (spawner : Seen Spawning) → Performs Words (task_with Load command.now)
+    ensures { (spawner : Seen Spawning) → Performs (task_with Load command.now)
         (work (H.seen shelf.old) (F.seen site.old) spawner (I.seen input.old) (O.seen out.old))
         (work (H.seen shelf.new) (F.seen site.new) spawner (I.seen input.new) (O.seen out.new))
         result }

@@ -1,6 +1,6 @@
 use Rattle.std.proofs.Common.{refl}
 use Rattle.testr_cli.proofs.AskLemmas.{of_bytes, of_text, bytes_of_last, by_copy, by_text}
-use Rattle.testr_cli.proofs.SparingLemmas.{opens_spare, opened_spare, bytes_spare}
+use Rattle.testr_cli.proofs.SparingLemmas.{opens_spare, opened_spare, bytes_spare, looked, found}
 use Rattle.testr_cli.proofs.StepLemmas.{still_done, part_done, still_stops, part_stops, stopped, prints_as, gives}
 use Rattle.testr_cli.specs.Steps.{goes_on}
 use Rattle.testr_cli.proofs.ask.ask.Goals as goal
@@ -73,3 +73,26 @@ returns-in_err-print-clause-spares g c = λ list is. opened_spare _ _ _ _ _ _ c.
 
 pub returns-clause-spares : goal.returns-clause-spares
 returns-clause-spares g c = λ list is. opened_spare _ _ _ _ _ _ c.in_ok-found.ensures.step.found c.in_ok-found.ensures.time (c.in_ok-told.ensures.spares list is)
+
+-- ---- in a folder that is no repository
+
+pub returns-in_err-found-clause-looks : goal.returns-in_err-found-clause-looks
+returns-in_err-found-clause-looks g c = looked _ _ _ c.in_err-found.ensures.time
+
+pub returns-in_err-have_run-clause-looks : goal.returns-in_err-have_run-clause-looks
+returns-in_err-have_run-clause-looks g c = found _ _ _ _ _ c.in_ok-found.ensures.step.found
+
+pub returns-in_err-copy_last-clause-looks : goal.returns-in_err-copy_last-clause-looks
+returns-in_err-copy_last-clause-looks g c = found _ _ _ _ _ c.in_ok-found.ensures.step.found
+
+pub returns-then-is_of_bytes-clause-looks : goal.returns-then-is_of_bytes-clause-looks
+returns-then-is_of_bytes-clause-looks g c = found _ _ _ _ _ c.in_ok-found.ensures.step.found
+
+pub returns-in_err-told-clause-looks : goal.returns-in_err-told-clause-looks
+returns-in_err-told-clause-looks g c = found _ _ _ _ _ c.in_ok-found.ensures.step.found
+
+pub returns-in_err-print-clause-looks : goal.returns-in_err-print-clause-looks
+returns-in_err-print-clause-looks g c = found _ _ _ _ _ c.in_ok-found.ensures.step.found
+
+pub returns-clause-looks : goal.returns-clause-looks
+returns-clause-looks g c = found _ _ _ _ _ c.in_ok-found.ensures.step.found
