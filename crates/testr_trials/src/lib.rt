@@ -26,7 +26,11 @@ pub use scenes::{NamedFiles, Played, Scene, play};
 pub use told::Told;
 
 #[cfg(test)]
+mod tests_children;
+#[cfg(test)]
 mod tests_limits;
+#[cfg(test)]
+mod tests_recording;
 #[cfg(test)]
 mod tests_steps;
 #[cfg(test)]

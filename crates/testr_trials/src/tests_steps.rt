@@ -314,6 +314,15 @@ fn the_number_of_workers_comes_before_the_listing(rt: HostRuntime) -> Result<(),
         ),
         (
             Scene {
+                outputs: &[(b"x", ENDED)],
+                ..scene
+            },
+            1,
+            3,
+            NO_NUMBER,
+        ),
+        (
+            Scene {
                 outputs: &[(LONG_NUMBER, ENDED)],
                 ..scene
             },

@@ -195,6 +195,7 @@ fn the_first_line_of_a_list_that_is_no_text_is_named(rt: HostRuntime) -> Result<
             b"\xff\n\0".as_slice(),
             b"testr: l line 1: not an id\n".as_slice(),
         ),
+        (b"a\n\xff\nb\n", b"testr: l line 2: not an id\n"),
         (b"a\n\na\0b\n\xff\n", b"testr: l line 3: not an id\n"),
         (b"\n \xc3 \n", b"testr: l line 2: not an id\n"),
         (b"a\n\xed\xa0\x80", b"testr: l line 2: not an id\n"),
