@@ -1,7 +1,9 @@
 #!/bin/sh
 # Tries `testr` in a small project, whose tests are a shell script that prints recorded packets: it is listed, run by one
-# worker and by several, loaded from files, and its worker fails, is killed, prints much, or goes its own way. A case of
-# a command that the program does not have yet is skipped with a word.
+# worker and by several, loaded from files, and its worker fails, is killed, prints much, or goes its own way. A suite of
+# Python's own is listed and run too, and what is stored of it is read by Python, where `python3-subunit` and
+# `python3-testtools` of Debian are installed; else that case, as one of a command that the program does not have yet, is
+# skipped with a word.
 # usage: bench/projects.sh [CASE..]: by default all cases. The variable MEBIBYTES says how much the worker prints that
 # prints much: 1024, unless it is set, and so much room is needed on the disk.
 set -eu
@@ -243,6 +245,98 @@ def the_program_is_killed():
 
 
 # The caches.
+
+# A suite of Python's own, which `python3-subunit` and `python3-testtools` of Debian list and run.
+
+PYTHON = "/usr/bin/python3"
+SUITE_CONF = f"""[DEFAULT]
+test_command={PYTHON} -B -m subunit.run discover . $LISTOPT $IDOPTION
+test_id_option=--load-list $IDFILE
+test_list_option=--list
+"""
+SUITE = b"""import unittest
+
+
+class Small(unittest.TestCase):
+    def test_fails(self):
+        self.assertEqual(1, 2)
+
+    def test_passes(self):
+        pass
+
+    def test_passes_too(self):
+        pass
+
+    @unittest.skip("not today")
+    def test_skipped(self):
+        pass
+"""
+SUITE_ENDS = {"test_fails": "fail", "test_passes": "success", "test_passes_too": "success", "test_skipped": "skip"}
+# Reads a stream as the reference implementation does, and prints each test that ended and how.
+SUITE_READER = """import subunit, sys, testtools
+class Ends(testtools.StreamResult):
+    def status(self, test_id=None, test_status=None, **rest):
+        if test_status not in (None, "inprogress", "exists"):
+            print(test_id, test_status)
+subunit.ByteStreamToStreamResult(sys.stdin.buffer).run(Ends())
+"""
+
+
+def ends_read_by_python(folder):
+    stored = run(folder, "last", "--subunit")
+    check(stored[2] == b"", f"last --subunit says {stored[2]}")
+    read = subprocess.run([PYTHON, "-c", SUITE_READER], input=stored[1], capture_output=True, timeout=LIMIT, check=True)
+    return sorted(read.stdout.decode().splitlines())
+
+
+def check_suite(answer, tests, ended):
+    status, out, err = answer
+    lines = out.decode().splitlines()
+    check(status == 1 and err == b"" and lines[-1] == ended, f"the suite answers {answer}")
+    check(lines[1] == "FAIL: test_small.Small.test_fails" and "AssertionError: 1 != 2" in lines, f"the report is {lines}")
+    check(lines[-2].startswith(f"Ran {tests} tests in "), f"the count is {lines[-2]}")
+
+
+@case
+def a_suite_of_python_runs():
+    need_command("run")
+    there = os.path.exists(PYTHON) and subprocess.run([PYTHON, "-c", "import subunit, testtools"], capture_output=True).returncode == 0
+    need(there, "python3-subunit and python3-testtools are not installed")
+    folder = project(conf=SUITE_CONF)
+    write(folder, "test_small.py", SUITE)
+    ids = [f"test_small.Small.{name}" for name in SUITE_ENDS]
+    check_answer(run(folder, "list-tests"), 0, "".join(f"{name}\n" for name in ids).encode(), "list-tests")
+    ends = sorted(f"test_small.Small.{name} {end}" for name, end in SUITE_ENDS.items())
+    check_suite(run(folder, "run"), 4, "FAILED (id=0, failures=1, skips=1)")
+    check(ends_read_by_python(folder) == ends, "Python reads other ends of the run")
+    check_answer(run(folder, "failing"), 1, b"FAIL: test_small.Small.test_fails\nfailures=1\n", "failing")
+    check_suite(run(folder, "run", "--failing"), 1, "FAILED (id=1, failures=1)")
+    check_suite(run(folder, "run", "--parallel", "--concurrency=2"), 4, "FAILED (id=2, failures=1, skips=1)")
+    check(ends_read_by_python(folder) == ends, "Python reads other ends of the run of two workers")
+    check_clean(folder)
+
+
+def drawn(seed, lanes, tests):
+    """The summary of drawn outputs, by the rule of docs/FORMATS.md."""
+    state, failed, skipped, millis = seed % 2**31, 0, 0, 0
+    for _ in range(lanes * tests):
+        state = (state * 1103515245 + 12345) % 2**31
+        value = state // 65536
+        failed += value % 7 == 0
+        skipped += value % 7 == 1
+        millis += value % 1000
+    ended = f"failures={failed}, skips={skipped}" if failed else f"skips={skipped}"
+    return f"Ran {lanes * tests} tests in {millis // 1000}.{millis % 1000:03}s\n{'FAILED' if failed else 'PASSED'} (id=0, {ended})\n".encode()
+
+
+@case
+def drawn_outputs_are_summed_up_the_same_each_time():
+    need_command("selftest", "7", "1", "1")
+    folder = project()
+    check_answer(run(folder, "selftest", "7", "2", "2"), 0, b"Ran 4 tests in 2.912s\nPASSED (id=0, skips=1)\n", "selftest 7 2 2")
+    for _ in range(2):
+        check_answer(run(folder, "selftest", "7", "4", "1000"), 1, drawn(7, 4, 1000), "selftest 7 4 1000")
+
 
 @case
 def caches_hold_what_the_runs_say():
