@@ -554,7 +554,7 @@ def cache_is_garbage():
     home = home_of(4)
     for name in caches.NAMES:
         other = caches.NAMES[name == caches.NAMES[0]]
-        for bytes in list(damaged(home.moments[-1][name], home.moments[-1][other])) + [os.urandom(100_000)]:
+        for bytes in list(damaged(home.moments[-1][name], home.moments[-1][other])) + [os.urandom(100_000), b"\0" * (1 << 20)]:
             put(home, name, bytes)
             home.check_failing()
             home.load_well()
