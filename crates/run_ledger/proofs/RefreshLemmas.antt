@@ -24,7 +24,7 @@ use Rattle.run_shelf.specs.Holds.{FitsFolder}
 use Rattle.run_shelf.specs.Images.{ReadsFile}
 use Rattle.run_shelf.specs.Outcomes.{KeepFails}
 use Rattle.run_shelf.specs.Repository.{Run, Shows}
-use Rattle.run_shelf.specs.Sides.{side_name, SameButSides, HasSideBeside, PassesSide, KeepsSide, PutFails}
+use Rattle.run_shelf.specs.Sides.{side_name, SameButSides, KeepsButSides, PassesButSides, HasSideBeside, PassesSide, KeepsSide, PutFails}
 use Rattle.run_shelf.proofs.Joining.{rest_images}
 use Rattle.run_shelf.proofs.RunLemmas.{past_items, none_is_not_some}
 use Rattle.run_shelf.proofs.SameLemmas.{same_put, same_itself, same_then}
@@ -32,7 +32,7 @@ use Rattle.run_shelf.proofs.ShowsLemmas.{shown, kinds_of_runs}
 use Rattle.run_ledger.specs.Cached.{ReadsSound}
 use Rattle.run_ledger.specs.Caches.{IsFailingCache, IsTimesCache, SaidOfFirst, IsSound}
 use Rattle.run_ledger.specs.Ledger.{RunRows, ShowRows, HasRowsAt, failing_behind, failing_after, IsFailingSet, times_after, replaced, AreTimes}
-use Rattle.run_ledger.specs.Refreshing.{AreFolds, PutsCaches, HoldBoth, KeepsButSides, PassesButSides, KeepsSound}
+use Rattle.run_ledger.specs.Refreshing.{AreFolds, PutsCaches, HoldBoth, KeepsSound}
 use Rattle.run_ledger.specs.SoFar.{SaysTo, FailsTo}
 use Rattle.run_ledger.specs.Starts.{IsStart}
 use Rattle.run_ledger.proofs.CacheLemmas.{one_failing}

@@ -1,11 +1,11 @@
 -- What a refresh of the caches leaves (docs/FORMATS.md, "Caches").
-use Rattle.std.specs.Prelude.{◌≡◌, ◌⊎◌, ℕ, List, length}
+use Rattle.std.specs.Prelude.{◌≡◌, ℕ, List, length}
 use Rattle.std.specs.FinMap.{FinMap}
-use Rattle.edge_io.specs.Disk.{put, Folder, IsImage, at_rest}
+use Rattle.edge_io.specs.Disk.{put, Folder, at_rest}
 use Rattle.edge_io.specs.Moments.{LeavesOnly, Passes}
 use Rattle.outcome_fold.specs.Order.{text_cmp}
 use Rattle.run_shelf.specs.Repository.{Run, Shows}
-use Rattle.run_shelf.specs.Sides.{side_name, SameButSides}
+use Rattle.run_shelf.specs.Sides.{side_name}
 use Rattle.run_shelf.specs.declared.side.Side.TheVariants.{Failing, Times}
 use Rattle.run_ledger.specs.Cached.{HoldsFailing, HoldsTimes}
 use Rattle.run_ledger.specs.Caches.{IsFailingCache, IsTimesCache, IsSound}
@@ -14,15 +14,6 @@ use Rattle.run_ledger.specs.Ledger.{IsFailingSet, AreTimes}
 -- where each stop at the first moment leaves sound files, so does a stop at each later one
 abbrev pub KeepsSound : Folder → Folder → Type 0
 KeepsSound s t = LeavesOnly IsSound s.disk → Passes IsSound s t
-
--- a stop at each moment leaves what one at the first might have left, or files that differ from those read then in the
--- caches alone
-abbrev pub PassesButSides : Folder → Folder → Type 0
-PassesButSides s t = Passes (λ image. IsImage s.disk image ⊎ SameButSides s.disk.published image) s t
-
--- reads give files that differ in the caches alone
-abbrev pub KeepsButSides : Folder → Folder → Type 0
-KeepsButSides s t = SameButSides s.disk.published t.disk.published
 
 -- Both caches stand beside the files as they were, for good. They are of their forms, cover all runs that were shown, and
 -- hold what these say together.

@@ -6,12 +6,12 @@ ghost use Rattle.edge_io.specs.Causes.{RisesExactlyIf};
 ghost use Rattle.edge_io.specs.Steps.{Goes};
 ghost use Rattle.outcome_fold.specs.Order.{text_cmp};
 ghost use Rattle.run_shelf.specs.Outcomes.{TicksUpTo};
-ghost use Rattle.run_shelf.specs.Sides.{KeepsSide, PassesSide};
+ghost use Rattle.run_shelf.specs.Sides.{KeepsSide, PassesSide, KeepsButSides, PassesButSides};
 ghost use Rattle.run_shelf.specs.Stores.{store_kinds, store_fault, FitsUnlessBroken, seen_store};
 ghost use Rattle.run_ledger.specs.Cached.{ReadsSound};
 ghost use Rattle.run_ledger.specs.Ledger.{HasRowsAt, IsFailingSet, AreTimes, failing_behind as after_run};
 ghost use Rattle.run_ledger.specs.Outcomes.{LedgerReads, LedgerCloses, ledger_failed};
-ghost use Rattle.run_ledger.specs.Refreshing.{AreFolds, PutsCaches, HoldBoth, KeepsButSides, PassesButSides, KeepsSound};
+ghost use Rattle.run_ledger.specs.Refreshing.{AreFolds, PutsCaches, HoldBoth, KeepsSound};
 
 use crate::cached_failing::{failing, failing_to};
 use crate::cached_times::{all_times, times_to};

@@ -23,6 +23,15 @@ side_name Times = codes "times.set"
 pub record SameButSides (files image : Files) : Type 0 where
   pub each : (name : List ℕ) → name ≢ side_name Failing → name ≢ side_name Times → image name ≡ files name
 
+-- a stop at each moment leaves what one at the first might have left, or files that differ from those read then in the
+-- caches alone
+abbrev pub PassesButSides : Folder → Folder → Type 0
+PassesButSides s t = Passes (λ image. IsImage s.disk image ⊎ SameButSides s.disk.published image) s t
+
+-- reads give files that differ in the caches alone
+abbrev pub KeepsButSides : Folder → Folder → Type 0
+KeepsButSides s t = SameButSides s.disk.published t.disk.published
+
 -- what the file holds, and none where it is not there
 abbrev pub HoldsSide : Side → Option (List ℕ) → Folder → Type 0
 HoldsSide side found s = found ≡ s.disk.published (side_name side)

@@ -48,4 +48,11 @@ impl IdList {
     {
         &self.ids
     }
+
+    /// The ids, the oldest first, moved out.
+    pub fn into_list(self) -> Vec<Text>
+        ensures { result.items ≡ self }
+    {
+        self.ids
+    }
 }

@@ -12,13 +12,13 @@ use Rattle.run_ledger.specs.Cached.{ReadsSound}
 use Rattle.run_ledger.specs.Caches.{IsSound}
 use Rattle.run_ledger.specs.Ledger.{HasRowsAt, RunRows, ShowRows}
 use Rattle.run_ledger.specs.Reading.{AreRowsOf}
-use Rattle.run_ledger.specs.Refreshing.{PutsCaches, KeepsButSides, PassesButSides, KeepsSound}
+use Rattle.run_ledger.specs.Refreshing.{PutsCaches, KeepsSound}
 use Rattle.run_ledger.proofs.SoundLemmas.{sound_beside}
 use Rattle.run_shelf.specs.Holds.{FitsFolder}
 use Rattle.run_shelf.specs.Images.{HasRunBeside, KeepsRun, PassesRun}
 use Rattle.run_shelf.specs.Outcomes.{Surveys}
 use Rattle.run_shelf.specs.Repository.{Run, run_of, run_at, most_runs, Shows, IsRepository}
-use Rattle.run_shelf.specs.Sides.{side_name, SameButSides}
+use Rattle.run_shelf.specs.Sides.{side_name, SameButSides, KeepsButSides, PassesButSides}
 use Rattle.run_shelf.specs.declared.side.Side.TheVariants.{Failing, Times}
 use Rattle.run_shelf.proofs.Joining.{at_rest_images}
 use Rattle.run_shelf.proofs.RunLemmas.{last_item, put_other}

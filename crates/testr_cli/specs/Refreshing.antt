@@ -7,7 +7,8 @@ use Rattle.edge_io.specs.Steps.{Goes}
 use Rattle.outcome_fold.specs.declared.row.Row.{Row}
 use Rattle.run_ledger.specs.Cached.{ReadsSound}
 use Rattle.run_ledger.specs.Ledger.{HasRowsAt}
-use Rattle.run_ledger.specs.Refreshing.{PutsCaches, HoldBoth, AreFolds, KeepsButSides, PassesButSides, KeepsSound}
+use Rattle.run_ledger.specs.Refreshing.{PutsCaches, HoldBoth, AreFolds, KeepsSound}
+use Rattle.run_shelf.specs.Sides.{KeepsButSides, PassesButSides}
 use Rattle.run_shelf.specs.Repository.{Run, Shows}
 use Rattle.testr_cli.specs.Told.{tell_failed}
 use Rattle.testr_cli.specs.declared.told.TellFault.{TellFault}

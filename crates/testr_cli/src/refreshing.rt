@@ -5,7 +5,7 @@ ghost use Rattle.edge_io.specs.Causes.{RisesExactlyIf};
 ghost use Rattle.edge_io.specs.Steps.{Goes};
 ghost use Rattle.run_ledger.specs.Cached.{ReadsSound};
 ghost use Rattle.run_ledger.specs.Ledger.{HasRowsAt};
-ghost use Rattle.run_ledger.specs.Refreshing.{PutsCaches, KeepsButSides, PassesButSides, KeepsSound};
+ghost use Rattle.run_ledger.specs.Refreshing.{PutsCaches, KeepsSound};
 ghost use Rattle.run_shelf.specs.Holds.{kinds_of, FitsWhereTold};
 ghost use Rattle.run_shelf.specs.Stores.{store_kinds, store_fault, FitsUnlessBroken};
 ghost use Rattle.testr_cli.specs.Refreshing.{Refreshes};
