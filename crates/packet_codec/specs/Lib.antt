@@ -11,3 +11,4 @@ pub mod Sight
 pub mod Heading
 pub mod Lanes
 pub mod Packets
+pub mod Retagging

@@ -11,6 +11,7 @@
 //! - `known`: the event of a packet that is known to stand at the front of some bytes
 //! - `sizes`, `encoding`: the shortest spelling and its size
 //! - `routing`: an event under a lane's route
+//! - `respelling`: a packet written from its parts, as it is or changed
 //! - `laws`, `canonical_law`: what holds of all spellings
 //! - `lane_laws`: what holds of all events under lanes
 #![tactic(auto)]
@@ -28,6 +29,7 @@ mod laws;
 mod looking;
 mod packet;
 mod parts;
+mod respelling;
 mod routing;
 mod sizes;
 mod stamp;
