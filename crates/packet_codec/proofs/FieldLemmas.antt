@@ -1,13 +1,11 @@
 -- What the parts of a packet say of its event, one by one.
-use Rattle.std.proofs.Common.{◌≡◌, ℕ, ◌%◌, Option, Some, None, List, refl, ap, sym, ◌∙◌, subst}
+use Rattle.std.proofs.Common.{◌≡◌, ℕ, ◌%◌, Option, Some, None, List, refl, ap, ◌∙◌, subst}
 use Rattle.std.specs.Prelude.{option_map, IfSome, IfOk, Result, All}
 use Rattle.sub_number.specs.Texts.{IsShortText}
 use Rattle.packet_codec.specs.declared.event.FilePart.{FilePart}
 use Rattle.packet_codec.specs.declared.event.Event.{Event}
 use Rattle.packet_codec.specs.declared.header.Header.{Header}
 use Rattle.packet_codec.specs.declared.parts.Parts.{Parts}
-use Rattle.packet_codec.specs.declared.stamp.Stamp.{Stamp}
-use Rattle.packet_codec.specs.declared.status.Status.{Status}
 use Rattle.packet_codec.specs.Packet.{SpellsEvent}
 use Rattle.packet_codec.specs.Shapes.{ShowsTags, bytes_of, file_of, file_from, status_from, event_from}
 use Rattle.packet_codec.specs.Told.{IsTold}

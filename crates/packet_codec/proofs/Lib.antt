@@ -10,6 +10,7 @@ pub mod LookLemmas
 pub mod MergeLemmas
 pub mod PacketLemmas
 pub mod PartsLemmas
+pub mod RespelledLemmas
 pub mod RoutingLemmas
 pub mod RunsLeft
 pub mod ShapeLemmas

@@ -116,7 +116,7 @@ file_there : (o : Option (List ℕ × List ℕ)) → is_some (option_map file_fr
 file_there None = refl
 file_there (Some file) = refl
 
-file_again : (o : Option FilePart) → option_map file_from (parts_of_file o) ≡ o
+pub file_again : (o : Option FilePart) → option_map file_from (parts_of_file o) ≡ o
 file_again None = refl
 file_again (Some file) = refl
 

@@ -2,7 +2,7 @@
 use Rattle.std.proofs.Common.{◌≡◌, ℕ, ◌+◌, ◌<◌, ◌≤◌, List, [], ◌∷◌, ◌++◌, length, take, get_or, Fits, w8, refl, sym, ◌∙◌, ap, arith}
 use Rattle.std.specs.Prelude.{All}
 use Rattle.std.specs.List.{flat_map}
-use Rattle.std.proofs.lemmas.List.{length-append, take-take, take_at}
+use Rattle.std.proofs.lemmas.List.{length-append, length-take, take-take, take_at}
 use Rattle.std.proofs.lemmas.List.Elements.{All-from_get_or}
 use Rattle.sub_number.specs.Numbers.{shortest_number}
 use Rattle.packet_codec.specs.declared.event.Event.{Event}
@@ -15,6 +15,12 @@ pub kept_behind : (old middle new more : List ℕ) → middle ≡ old ++ more �
 kept_behind old middle new more grown kept =
     let longer : length old ≤ length middle = omega (arith, ap length grown, length-append old more) in
     sym (take-take (length old) (length middle) new longer) ∙ ap (take (length old)) (kept ∙ grown) ∙ take_at old more (length old) refl
+
+-- what is kept twice is kept
+pub kept_twice : (old middle new : List ℕ) → take (length old) middle ≡ old → take (length middle) new ≡ middle → take (length old) new ≡ old
+kept_twice old middle new first second =
+    let longer : length old ≤ length middle = omega (arith, ap length first, length-take (length old) middle) in
+    sym (take-take (length old) (length middle) new longer) ∙ ap (take (length old)) second ∙ first
 
 pub texts_count : (texts : List (List ℕ)) → length texts ≤ length (flat_map canonical_text texts)
 texts_count [] = omega arith

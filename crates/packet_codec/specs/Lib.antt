@@ -12,3 +12,4 @@ pub mod Heading
 pub mod Lanes
 pub mod Packets
 pub mod Retagging
+pub mod Respelled

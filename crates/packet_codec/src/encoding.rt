@@ -55,17 +55,19 @@ fn put_body(event: &Event, size: u32, out: &mut Vec<u8>) -> Result<(), NoMemory>
     ensures ok { OnOk result (out.new.items ≡ out.old.items ++ canonical_body event.now) }
     ensures kept { take (length out.old.items) out.new.items ≡ out.old.items }
 {
-    put_flags(event, out)?;
-    write_number(out, size)?;
+    put_head(first_byte(event), second_byte(event), size, out)?;
     put_fields(event, out)
 }
 
-fn put_flags(event: &Event, out: &mut Vec<u8>) -> Result<(), NoMemory>
-    ensures ok { OnOk result (out.new.items ≡ out.old.items ++ signature ∷ first_flags event.now ∷ second_flags event.now ∷ []) }
+// The signature, the flags and the size of the packet.
+#[tactic(auto, using(crate::proofs::WritingLemmas::kept_behind))]
+pub(crate) fn put_head(first: u8, second: u8, size: u32, out: &mut Vec<u8>) -> Result<(), NoMemory>
+    requires { size < 2 ^ 30 }
+    ensures ok { OnOk result (out.new.items ≡ out.old.items ++ signature ∷ first ∷ second ∷ shortest_number size) }
     ensures kept { take (length out.old.items) out.new.items ≡ out.old.items }
 {
-    out.extend_from_slice(&[SIGNATURE, first_byte(event), second_byte(event)])?;
-    Ok(())
+    out.extend_from_slice(&[SIGNATURE, first, second])?;
+    write_number(out, size)
 }
 
 // Version 2, and which fields there are.
@@ -89,7 +91,7 @@ fn second_byte(event: &Event) -> u8
         + event.status.number()
 }
 
-fn bit(set: bool, weight: u8) -> u8
+pub(crate) fn bit(set: bool, weight: u8) -> u8
     ensures { result ≡ flag set weight }
 {
     if set { weight } else { 0 }
@@ -109,7 +111,7 @@ fn put_fields(event: &Event, out: &mut Vec<u8>) -> Result<(), NoMemory>
     put_optional_text(&event.route, out)
 }
 
-fn put_stamp(stamp: &Option<Stamp>, out: &mut Vec<u8>) -> Result<(), NoMemory>
+pub(crate) fn put_stamp(stamp: &Option<Stamp>, out: &mut Vec<u8>) -> Result<(), NoMemory>
     ensures ok { OnOk result (out.new.items ≡ out.old.items ++ canonical_optional canonical_stamp stamp.now) }
     ensures kept { take (length out.old.items) out.new.items ≡ out.old.items }
 {
@@ -138,7 +140,7 @@ fn put_text(text: &Text, out: &mut Vec<u8>) -> Result<(), NoMemory>
 }
 
 // Their count, and the bytes.
-fn put_bytes(bytes: &[u8], out: &mut Vec<u8>) -> Result<(), NoMemory>
+pub(crate) fn put_bytes(bytes: &[u8], out: &mut Vec<u8>) -> Result<(), NoMemory>
     requires { length bytes.now < 2 ^ 30 }
     ensures ok { OnOk result (out.new.items ≡ out.old.items ++ canonical_text bytes.now) }
     ensures kept { take (length out.old.items) out.new.items ≡ out.old.items }

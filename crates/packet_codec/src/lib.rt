@@ -11,12 +11,14 @@
 //! - `known`: the event of a packet that is known to stand at the front of some bytes
 //! - `sizes`, `encoding`: the shortest spelling and its size
 //! - `routing`: an event under a lane's route
-//! - `respelling`: a packet written from its parts, as it is or changed
+//! - `respelling`: a packet written from its parts, as it is or with a `change`; it stands on `respelled_size` and
+//!   `respelled_bytes`
 //! - `laws`, `canonical_law`: what holds of all spellings
 //! - `lane_laws`: what holds of all events under lanes
 #![tactic(auto)]
 
 mod canonical_law;
+mod change;
 mod decoding;
 mod encoding;
 mod event;
@@ -29,6 +31,8 @@ mod laws;
 mod looking;
 mod packet;
 mod parts;
+mod respelled_bytes;
+mod respelled_size;
 mod respelling;
 mod routing;
 mod sizes;

@@ -7,6 +7,7 @@ ghost use Rattle.sub_number.specs.Numbers.{shortest_number};
 ghost use Rattle.sub_number.specs.Texts.{IsShortText};
 ghost use Rattle.packet_codec.specs.Routing.{under, route_under};
 ghost use Rattle.packet_codec.specs.Canonical.{canonical_optional, canonical_text, canonical_stamp, canonical_tags, canonical_file, canonical_fields, canonical_size, packet_size, largest_packet, Fits, IsEvent};
+ghost use Rattle.packet_codec.specs.Shapes.{bytes_of};
 
 use crate::event::{Event, FilePart};
 use crate::stamp::Stamp;
@@ -44,12 +45,12 @@ pub fn routed_size(event: &Event, lane: u32) -> u128
     ensures text { result ≤ largest_packet → IsShortText (route_under lane event.now.route) }
     ensures event { IsEvent event.now }
 {
-    whole_size(front_size(event) + route_size(&event.route, lane))
+    whole_size(front_size(event) + text_route_size(&event.route, lane))
 }
 
 // The size of a packet whose fields have so many bytes.
-fn whole_size(fields: u128) -> u128
-    requires { fields < 2 ^ 100 }
+pub(crate) fn whole_size(fields: u128) -> u128
+    requires { fields < 2 ^ 127 }
     ensures { result ≡ packet_size fields }
 {
     if fields + 8 < 1 << 6 {
@@ -76,7 +77,7 @@ fn front_size(event: &Event) -> u128
 }
 
 // A count of 2^30 or more has no spelling, and is reckoned as four bytes.
-fn count_size(count: usize) -> u128
+pub(crate) fn count_size(count: usize) -> u128
     ensures size { result ≡ length (shortest_number count) }
     ensures small { result ≤ 4 }
 {
@@ -96,7 +97,7 @@ fn text_size(text: &Text) -> u128
 }
 
 // Their count, and the bytes.
-fn bytes_size(bytes: &[u8]) -> u128
+pub(crate) fn bytes_size(bytes: &[u8]) -> u128
     ensures size { result ≡ length (canonical_text bytes.now) }
     ensures small { result ≤ length bytes.now + 4 }
     ensures bytes { All (λ byte. byte < 256) bytes.now }
@@ -115,7 +116,7 @@ fn optional_text_size(text: &Option<Text>) -> u128
     }
 }
 
-fn stamp_size(stamp: &Option<Stamp>) -> u128
+pub(crate) fn stamp_size(stamp: &Option<Stamp>) -> u128
     ensures size { result ≡ length (canonical_optional canonical_stamp stamp.now) }
     ensures small { result ≤ 8 }
     ensures seconds { IfSome stamp.now (λ stamp. stamp.seconds < 2 ^ 32) }
@@ -168,18 +169,38 @@ fn file_size(file: &Option<FilePart>) -> u128
 }
 
 // The field of the route that the event would have under the lane.
-fn route_size(route: &Option<Text>, lane: u32) -> u128
+fn text_route_size(route: &Option<Text>, lane: u32) -> u128
     requires { lane < 64 }
     ensures size { result ≡ length (canonical_text (route_under lane route.now)) }
-    ensures small { result < 2 ^ 32 }
+    ensures small { result < 2 ^ 66 }
     ensures text { IfSome route.now IsShortText }
 {
-    let digits = lane_digits(lane);
-    let count = match route {
-        Some(route) => digits + 1 + route.bytes().len(),
-        None => digits,
-    };
+    match route {
+        Some(route) => route_size(Some(route.bytes()), lane),
+        None => route_size(None, lane),
+    }
+}
+
+// The same of a route where it stands.
+pub(crate) fn route_size(route: Option<&[u8]>, lane: u32) -> u128
+    requires { lane < 64 }
+    ensures size { result ≡ length (canonical_text (route_under lane (bytes_of route.entry))) }
+    ensures small { result < 2 ^ 66 }
+{
+    let count = route_length(route, lane);
     count_size(count) + count as u128
+}
+
+// How many bytes a route has under the lane.
+pub(crate) fn route_length(route: Option<&[u8]>, lane: u32) -> usize
+    requires { lane < 64 }
+    ensures { result ≡ length (route_under lane (bytes_of route.entry)) }
+{
+    let digits = lane_digits(lane);
+    match route {
+        Some(route) => digits + 1 + route.len(),
+        None => digits,
+    }
 }
 
 // How many digits the lane's number has.
