@@ -1,6 +1,6 @@
 -- What the parts of a packet say of its event, one by one.
-use Rattle.std.proofs.Common.{◌≡◌, ℕ, ◌%◌, Option, Some, None, List, refl, ap, ◌∙◌, subst}
-use Rattle.std.specs.Prelude.{option_map, IfSome, IfOk, Result, All}
+use Rattle.std.proofs.Common.{◌≡◌, ℕ, ◌%◌, Option, Some, None, List, refl, ap, sym, ◌∙◌, subst}
+use Rattle.std.specs.Prelude.{option_map, IfSome, IfOk, Result, All, ◌↔◌}
 use Rattle.sub_number.specs.Texts.{IsShortText}
 use Rattle.packet_codec.specs.declared.event.FilePart.{FilePart}
 use Rattle.packet_codec.specs.declared.event.Event.{Event}
@@ -52,6 +52,13 @@ module _ (p : List ℕ) (header : Header) (parts : Parts) (is : IsTold p header 
 
     pub tags_made : {E : Type 0} (r : Result (Option (List (List ℕ))) E) → ((tags : Option (List (List ℕ))) → ShowsTags parts.tags tags → IfOk r (λ made. made ≡ tags)) → IfOk r (λ made. made ≡ e.tags)
     tags_made r copied = subst (λ (tags : Option (List (List ℕ))). IfOk r (λ made. made ≡ tags)) (ap (λ (event : Event). event.tags) made) (copied is.contents.1.1.0 is.shown.tags)
+
+    pub tags_same : {T : Type 0} (texts : List (List ℕ)) → ((tags : Option (List (List ℕ))) → ShowsTags parts.tags tags → T ↔ tags ≡ Some texts) → T ↔ e.tags ≡ Some texts
+    tags_same {T = T} texts each = subst (λ (tags : Option (List (List ℕ))). T ↔ tags ≡ Some texts) (ap (λ (event : Event). event.tags) made) (each is.contents.1.1.0 is.shown.tags)
+
+-- what stands there is the text exactly where the event's is
+pub same_text : {T A : Type 0} (a b text : A) → a ≡ b → T ↔ a ≡ text → T ↔ b ≡ text
+same_text {T = T} {A = A} a b text is = subst (λ (o : A). T ↔ o ≡ text) is
 
 -- a text that is a copy of what stands there is what it is
 pub copied : {E : Type 0} (a b : Option (List ℕ)) (r : Result (Option (List ℕ)) E) → a ≡ b → IfOk r (λ text. text ≡ a) → IfOk r (λ text. text ≡ b)

@@ -1,6 +1,6 @@
 -- A list of runs read one after another: what is still to be read.
-use Rattle.std.proofs.Common.{◌≡◌, ℕ, ◌+◌, ◌<◌, ◌≤◌, ◌↔◌, true, false, Option, Some, None, List, [], ◌∷◌, ◌++◌, length, All, refl, ap, ◌∙◌, append_assoc, arith}
-use Rattle.std.proofs.lemmas.List.{nil_from_length}
+use Rattle.std.proofs.Common.{◌≡◌, ℕ, zero, suc, ◌+◌, ◌<◌, ◌≤◌, ◌↔◌, true, false, Option, Some, None, List, [], ◌∷◌, ◌++◌, length, take, drop, get_or, All, refl, sym, ap, ◌∙◌, append_assoc, arith}
+use Rattle.std.proofs.lemmas.List.{append-nil, nil_from_length, take_all, take_more}
 use Rattle.std.proofs.lemmas.List.Elements.{All-cons, All-head, All-tail}
 use Rattle.std.specs.Prelude.{IfNone, IsSome, IsTrue}
 use Rattle.sub_number.specs.Texts.{IsText, IsShortText}
@@ -83,6 +83,40 @@ next_text bytes after run count i are less l found =
 
 pub copied_next : (before after others all : List (List ℕ)) (run text : List ℕ) → after ≡ before ++ text ∷ [] → text ≡ run → before ++ (run ∷ others) ≡ all → after ++ others ≡ all
 copied_next before after others all run text pushed same whole = ap (λ (l : List (List ℕ)). l ++ others) pushed ∙ append_assoc before (text ∷ []) others ∙ ap (λ (t : List ℕ). before ++ (t ∷ others)) same ∙ whole
+
+-- ---- the tags that they are compared with
+
+-- those before are the same, and so are those that are left where all are
+abbrev pub SameBefore : List (List ℕ) → ℕ → List (List ℕ) → List (List ℕ) → Type 0
+SameBefore texts i all left = take i texts ++ left ≡ all
+
+at_place : (i : ℕ) (texts others : List (List ℕ)) (run text : List ℕ) → i < length texts → take i texts ++ (run ∷ others) ≡ texts → get_or texts i text ≡ run
+at_place i [] others run text less same = absurd (omega (arith, less))
+at_place zero (t ∷ texts) others run text less same = sym (ap (λ (l : List (List ℕ)). get_or l 0 text) same)
+at_place (suc i) (t ∷ texts) others run text less same = at_place i texts others run text (omega (arith, less)) (ap (λ (l : List (List ℕ)). drop 1 l) same)
+
+pub same_next : (texts all others : List (List ℕ)) (i : ℕ) (run text : List ℕ) → i < length texts → text ≡ get_or texts i text → run ≡ text → SameBefore texts i all (run ∷ others) → SameBefore texts (i + 1) all others
+same_next texts all others i run text less is same before =
+    ap (λ (l : List (List ℕ)). l ++ others) (take_more texts i text less) ∙ append_assoc (take i texts) (get_or texts i text ∷ []) others
+    ∙ ap (λ (t : List ℕ). take i texts ++ (t ∷ others)) (sym is ∙ sym same) ∙ before
+
+-- one of them is another
+pub no_same : (bytes after run text : List ℕ) (texts all : List (List ℕ)) (count i : ℕ) → AreBytes bytes → i < count → i < length texts → text ≡ get_or texts i text → Left bytes count i (SameBefore texts i all) → Found Run bytes run after → (run ≡ text → ⊥) → all ≡ texts → ⊥
+no_same bytes after run text texts all count i are less in_texts is l found other same =
+    let next = next_found bytes count i (SameBefore texts i all) less l in
+    let at = found_same Run run_free bytes next.2 after next.0 run are next.4 found in
+    let whole : take i texts ++ (run ∷ next.1) ≡ texts = ap (λ (t : List ℕ). take i texts ++ (t ∷ next.1)) (sym at.value) ∙ ap (λ (l : List (List ℕ)). take i texts ++ l) (sym next.3) ∙ l.holds ∙ same in
+    other (sym (at_place i texts next.1 run text in_texts whole) ∙ sym is)
+
+pub same_all : (bytes : List ℕ) (texts all : List (List ℕ)) (count i : ℕ) → length texts ≡ count → count ≤ i → Left bytes count i (SameBefore texts i all) → all ≡ texts
+same_all bytes texts all count i size end l =
+    sym (left_end bytes count i (SameBefore texts i all) end l) ∙ append-nil (take i texts) ∙ take_all i texts (omega (arith, size, end))
+
+pub other_size : (bytes : List ℕ) (texts all : List (List ℕ)) (count : ℕ) → (length texts ≡ count → ⊥) → ShowsRuns count bytes all → all ≡ texts → ⊥
+other_size bytes texts all count other shown same = other (sym (ap length same) ∙ shown.1.size)
+
+pub same_some : {T A : Type 0} (a b : A) → T ↔ a ≡ b → T ↔ Some a ≡ Some b
+same_some a b same = (λ t. ap Some (same.0 t), λ is. same.1 cc)
 
 -- ---- a value that is there
 
