@@ -10,6 +10,7 @@ pub mod OutcomeLemmas
 pub mod AnswerLemmas
 pub mod CountLemmas
 pub mod OpenLemmas
+pub mod HeldLemmas
 pub mod TextLemmas
 pub mod TotalLemmas
 pub mod LawLemmas

@@ -43,7 +43,7 @@ gone_at : (b : Bool) (s : Started) (o : Option Started) → cond b None (cond b 
 gone_at true s o = refl
 gone_at false s o = refl
 
-remove_insert : (m : Open) (t : TestKey) (s : Started) → fin.remove (fin.insert m t s) t ≡ fin.remove m t
+pub remove_insert : (m : Open) (t : TestKey) (s : Started) → fin.remove (fin.insert m t s) t ≡ fin.remove m t
 remove_insert m t s = same_map tests_total exact_tests _ _ (λ q.
     get-remove tests_total (fin.insert m t s) t q ∙ ap (cond (eq_by_cmp test_cmp q t) None) (get-insert tests_total m t s q)
     ∙ gone_at (eq_by_cmp test_cmp q t) s (fin.get m q) ∙ sym (get-remove tests_total m t q))

@@ -6,18 +6,13 @@ use Rattle.packet_codec.specs.declared.event.Event.{Event}
 use Rattle.outcome_fold.specs.declared.test_key.TestKey.{TestKey}
 use Rattle.outcome_fold.specs.declared.part.Started.{Started}
 use Rattle.outcome_fold.specs.declared.part.Said.{Said}
-use Rattle.outcome_fold.specs.Order.{in_byte_order}
 use Rattle.outcome_fold.specs.Parts.{test_of, text_in, text_limit}
-use Rattle.outcome_fold.specs.Started.{next_tags, after, Says, fresh_said, after_said, text_by}
+use Rattle.outcome_fold.specs.Started.{after, Says, IsBut, fresh_said, after_said, text_by}
 use Rattle.outcome_fold.specs.Folded.{extended, extended_by}
-
-tags_said : (old : List (List ℕ)) (tags : Option (List (List ℕ))) → unwrap_or (option_map in_byte_order tags) old ≡ next_tags old tags
-tags_said old None = refl
-tags_said old (Some tags) = refl
 
 said_is : (s : Started) (said : Said) (e : Event) → Says said e → after_said s said ≡ after s e
 said_is s said e says =
-    let tags = ap (λ (t : Option (List (List ℕ))). unwrap_or t s.tags) says.tags ∙ tags_said s.tags e.tags in
+    let tags = ap (λ (t : Option (List (List ℕ))). unwrap_or t s.tags) says.tags in
     let text = ap (λ (t : List ℕ). take text_limit (s.text ++ t)) says.text in
     λ i. record { start = s.start; tags = tags i; text = text i }
 
@@ -45,3 +40,7 @@ no_test e none = ap (option_map (at_route e.route)) none
 
 pub test_said : (e : Event) (route : Option (List ℕ)) (id : List ℕ) → Some id ≡ e.id → route ≡ e.route → Some (at_route route id) ≡ test_of e
 test_said e route id some same = ap (λ (r : Option (List ℕ)). Some (at_route r id)) same ∙ ap (option_map (at_route e.route)) some
+
+-- the tags were moved out too
+pub but_tags : (e left : Event) (tags : Option (List (List ℕ))) → IsBut e left → IsBut e (record { stamp = left.stamp; id = left.id; tags = tags; runnable = left.runnable; status = left.status; mime = left.mime; file = left.file; eof = left.eof; route = left.route })
+but_tags e left tags but = record { stamp = but.stamp; status = but.status; mime = but.mime; file = but.file }

@@ -5,11 +5,14 @@ use Rattle.std.specs.FinMap.{same_map, contains_key-keys}
 use Rattle.std.specs.Ordering.{eq_by_cmp}
 use Rattle.std.specs.BTreeMap.{is_at}
 use Rattle.std.specs.Cmp.{eq_by_cmp_equiv}
-use Rattle.std.specs.List.{filter, list_any}
-use Rattle.std.specs.List.Sorted.{IsStrictlySortedBy}
+use Rattle.std.specs.Prelude.{nat_eq}
+use Rattle.std.specs.Cmp.Lexicographic.{pointwise, texts_ties}
+use Rattle.std.specs.List.{filter, list_any, dedup, dedup_from}
+use Rattle.std.specs.List.Sorted.{IsStrictlySortedBy, IsSorted, IsPermutation}
 use Rattle.std.proofs.lemmas.List.{take_more}
 use Rattle.std.proofs.lemmas.List.Folds.{list_any-append}
-use Rattle.std.proofs.lemmas.List.Kept.{IsStrictlySortedBy-filter}
+use Rattle.std.proofs.lemmas.List.Kept.{IsStrictlySortedBy-filter, IsStrictlySortedBy-dedup}
+use Rattle.std.proofs.lemmas.List.Sorted.{list_any-IsPermutation}
 use Rattle.std.proofs.lemmas.Map.Views.{any-filter_same}
 use Rattle.outcome_fold.specs.Order.{text_cmp, text_table, in_byte_order, among, without}
 use Rattle.outcome_fold.proofs.TableLemmas.{get-table, tied_is, any_push, keys_in_order}
@@ -134,3 +137,28 @@ without_more texts others other =
     neither true false = refl
     neither false true = refl
     neither false false = refl
+
+-- ---- texts that were sorted, and of which each was kept once
+
+twice : (a : Bool) (r : Bool) → (a || r) ≡ (a || (a || r))
+twice true r = refl
+twice false r = refl
+
+from_next : (p : List ℕ → Bool) (k x : List ℕ) (xs : List (List ℕ)) (b : Bool) → pointwise nat_eq x k ≡ b → ((y : List ℕ) → list_any p (dedup_from (pointwise nat_eq) y xs) ≡ (p y || list_any p xs))
+    → list_any p (cond b (dedup_from (pointwise nat_eq) k xs) (k ∷ dedup_from (pointwise nat_eq) x xs)) ≡ (p k || (p x || list_any p xs))
+from_next p k x xs true tie rest = rest k ∙ twice (p k) (list_any p xs) ∙ ap (λ t. p k || (p t || list_any p xs)) (sym (tied_is exact_texts x k (sym (texts_ties x k) ∙ tie)))
+from_next p k x xs false tie rest = ap (λ b. p k || b) (rest x)
+
+any_from : (p : List ℕ → Bool) (xs : List (List ℕ)) (k : List ℕ) → list_any p (dedup_from (pointwise nat_eq) k xs) ≡ (p k || list_any p xs)
+any_from p [] k = refl
+any_from p (x ∷ xs) k = from_next p k x xs (pointwise nat_eq x k) refl (any_from p xs)
+
+any_dedup : (p : List ℕ → Bool) (xs : List (List ℕ)) → list_any p (dedup (pointwise nat_eq) xs) ≡ list_any p xs
+any_dedup p [] = refl
+any_dedup p (x ∷ xs) = any_from p xs x
+
+pub ordered_by_sort : (texts sorted kept : List (List ℕ)) → IsPermutation texts sorted → IsSorted text_cmp sorted → kept ≡ dedup (pointwise nat_eq) sorted → kept ≡ in_byte_order texts
+ordered_by_sort texts sorted kept moved order is =
+    let strictly : IsStrictlySortedBy text_cmp kept = subst (IsStrictlySortedBy text_cmp) (sym is) (IsStrictlySortedBy-dedup texts_total texts_ties sorted order) in
+    sym (ordered_already kept strictly)
+    ∙ same_order kept texts (λ q. ap (λ l. among l q) is ∙ any_dedup (eq_by_cmp text_cmp q) sorted ∙ sym (list_any-IsPermutation (eq_by_cmp text_cmp q) texts sorted moved))

@@ -12,14 +12,11 @@ use Rattle.outcome_fold.specs.declared.part.Started.{Started}
 use Rattle.outcome_fold.specs.Order.{test_cmp, text_cmp, text_table, in_byte_order}
 use Rattle.outcome_fold.specs.Parts.{test_of, speaks_of, events_of_test, ended_by, completes, last_part, instant, elapsed, last_tags, text_in, text_limit}
 use Rattle.outcome_fold.specs.Rows.{completed_row, row_completing}
-use Rattle.outcome_fold.specs.Started.{next_tags, started_of, open_table}
+use Rattle.outcome_fold.specs.Started.{started_of, open_table}
 use Rattle.outcome_fold.specs.Folded.{extended, row_at}
 use Rattle.outcome_fold.proofs.OrderLemmas.{tests_total, exact_tests}
 use Rattle.outcome_fold.proofs.TableLemmas.{tied_is, any_push, none_of_length}
 use Rattle.outcome_fold.proofs.FoldLemmas.{filter_push, append_none, last_part_ends, last_part_goes, part_at, said, get-open_table}
-
-no_tags : in_byte_order [] ≡ []
-no_tags = ap (λ (es : List (List ℕ × Unit {0})). map (λ e. e.0) es) (none_of_length (fin.entries (text_table [])) (sym (len-entries (text_table [])) ∙ len-empty text_cmp (Unit {0})))
 
 pub take_again : (n : ℕ) (xs ys : List ℕ) → take n (take n xs ++ ys) ≡ take n (xs ++ ys)
 take_again zero xs ys = refl
@@ -39,22 +36,14 @@ last_tags_at (Some tags) (x ∷ es) e is =
     ap (λ b. cond b (last_tags (es ++ e ∷ [])) (unwrap_or x.tags [])) (any_push (λ e. is_some e.tags) es e ∙ ap (λ t. cond (is_some t) true (list_any (λ e. is_some e.tags) es)) is)
     ∙ last_tags_at (Some tags) es e is
 
-tags_next : (tags : Option (List (List ℕ))) (old : List (List ℕ)) → in_byte_order (unwrap_or tags old) ≡ next_tags (in_byte_order old) tags
-tags_next None old = refl
-tags_next (Some tags) old = refl
-
-tags_first : (tags : Option (List (List ℕ))) → in_byte_order (unwrap_or tags []) ≡ next_tags [] tags
-tags_first None = no_tags
-tags_first (Some tags) = refl
-
 -- a part with one event more
 pub started_push : (part : List Event) (e : Event) → started_of (part ++ e ∷ []) ≡ extended (said part) e
 started_push [] e =
-    let tags = tags_first e.tags in
+    let tags = last_tags_at e.tags [] e refl in
     let text : take text_limit (text_in e.mime e.file ++ []) ≡ take text_limit (text_in e.mime e.file) = ap (take text_limit) (append_none (text_in e.mime e.file)) in
     λ i. record { start = option_map instant e.stamp; tags = tags i; text = text i }
 started_push (x ∷ es) e =
-    let tags = ap in_byte_order (last_tags_at e.tags (x ∷ es) e refl) ∙ tags_next e.tags (last_tags (x ∷ es)) in
+    let tags = last_tags_at e.tags (x ∷ es) e refl in
     let piece = λ (e : Event). text_in e.mime e.file in
     let text : take text_limit (flat_map piece (x ∷ es ++ e ∷ [])) ≡ take text_limit (take text_limit (flat_map piece (x ∷ es)) ++ piece e) =
     ap (take text_limit) (flat_map_push piece (x ∷ es) e) ∙ sym (take_again text_limit (flat_map piece (x ∷ es)) (piece e)) in

@@ -7,16 +7,25 @@ use Rattle.outcome_fold.specs.declared.row.Ended.{Ended}
 use Rattle.outcome_fold.specs.declared.test_key.TestKey.{TestKey}
 use Rattle.outcome_fold.specs.declared.part.Started.{Started}
 use Rattle.outcome_fold.specs.declared.row.Row.{Row}
+use Rattle.outcome_fold.specs.declared.fold.Held.{Held}
 use Rattle.outcome_fold.specs.declared.fold.Fold.{Fold}
-use Rattle.outcome_fold.specs.Order.{test_cmp}
+use Rattle.outcome_fold.specs.Order.{test_cmp, in_byte_order}
 use Rattle.outcome_fold.specs.Rows.{is_failure}
 use Rattle.outcome_fold.specs.declared.part.Said.{Said}
 use Rattle.outcome_fold.specs.Parts.{test_of, ended_by}
 use Rattle.outcome_fold.specs.Started.{fresh, after, open_table, Says, fresh_said, after_said}
 
+-- what the parts of the open tests say, by test, but for the one that is held
+abbrev pub others_in : Fold → FinMap test_cmp Started
+others_in fold = map.from_entries {R = test_cmp} fold.others.entries
+
+abbrev pub with_held : Option Held → FinMap test_cmp Started → FinMap test_cmp Started
+with_held None others = others
+with_held (Some held) others = map.insert others held.key held.part
+
 -- what the parts of the open tests say, by test
 abbrev pub open_in : Fold → FinMap test_cmp Started
-open_in fold = map.from_entries {R = test_cmp} fold.open.entries
+open_in fold = with_held fold.held (others_in fold)
 
 -- the fold has taken these events
 abbrev pub HasSeen : Fold → List Event → Type 0
@@ -48,7 +57,7 @@ row_at test how nanos s = record {
   id = test.id;
   route = test.route;
   ended = how;
-  tags = s.tags;
+  tags = in_byte_order s.tags;
   nanos = nanos;
   text = if is_failure how then s.text else [];
 }

@@ -5,13 +5,9 @@ use Rattle.std.specs.Option.{option_map, unwrap_or}
 use Rattle.packet_codec.specs.declared.event.Event.{Event}
 use Rattle.outcome_fold.specs.declared.part.Started.{Started}
 use Rattle.outcome_fold.specs.declared.part.Said.{Said}
-use Rattle.outcome_fold.specs.Order.{test_cmp, in_byte_order, table}
-use Rattle.outcome_fold.specs.Parts.{instant, start_of, tags_of, is_text_type, text_in, text_limit, text_of, events_of_test, last_part}
+use Rattle.outcome_fold.specs.Order.{test_cmp, table}
+use Rattle.outcome_fold.specs.Parts.{instant, start_of, last_tags, is_text_type, text_in, text_limit, text_of, events_of_test, last_part}
 use Rattle.outcome_fold.specs.Rows.{open_tests}
-
-abbrev pub next_tags : List (List ℕ) → Option (List (List ℕ)) → List (List ℕ)
-next_tags old None = old
-next_tags old (Some tags) = in_byte_order tags
 
 -- before the first event, which is this one
 abbrev pub fresh : Event → Started
@@ -19,12 +15,12 @@ fresh e = record { start = option_map instant e.stamp; tags = []; text = [] }
 
 -- after one event more
 abbrev pub after : Started → Event → Started
-after s e = record { start = s.start; tags = next_tags s.tags e.tags; text = take text_limit (s.text ++ text_in e.mime e.file) }
+after s e = record { start = s.start; tags = unwrap_or e.tags s.tags; text = take text_limit (s.text ++ text_in e.mime e.file) }
 
 -- this is what the event says of its test
 pub record Says (said : Said) (e : Event) : Type 0 where
   pub instant : said.instant ≡ option_map instant e.stamp
-  pub tags : said.tags ≡ option_map in_byte_order e.tags
+  pub tags : said.tags ≡ e.tags
   pub text : said.text.now ≡ text_in e.mime e.file
 
 -- the same as `text_in`, by the bytes of the file
@@ -49,7 +45,7 @@ after_said s said = record { start = s.start; tags = unwrap_or said.tags s.tags;
 
 -- what a whole part says
 abbrev pub started_of : List Event → Started
-started_of part = record { start = start_of part; tags = tags_of part; text = text_of part }
+started_of part = record { start = start_of part; tags = last_tags part; text = text_of part }
 
 -- what the last parts of the open tests say
 abbrev pub open_table : List Event → FinMap test_cmp Started

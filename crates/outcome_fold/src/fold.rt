@@ -2,27 +2,42 @@
 
 ghost use Rattle.outcome_fold.specs.Rows as rows_are;
 ghost use Rattle.std.specs.FinMap as map;
-ghost use Rattle.std.specs.Prelude.{◌≡◌, List, [], ◌∷◌, ◌++◌, false, IfOk, OnOk, OnErr, is_some, if◌then◌else◌};
+ghost use Rattle.std.specs.Prelude.{◌≡◌, List, [], ◌∷◌, ◌++◌, Option, None, Some, false, IsTrue, IsSomeAnd, IfOk, OnOk, OnErr, is_some, if◌then◌else◌};
 ghost use Rattle.packet_codec.specs.Packet.{SpellsEvent};
 ghost use Rattle.packet_codec.specs.declared.event.Event.{Event as AnEvent};
 ghost use Rattle.outcome_fold.specs.Rows.{is_failure, completed_row, open_rows};
-ghost use Rattle.outcome_fold.specs.Folded.{HasSeen, Speaks, open_in, extended_by, with_extended, row_at};
+ghost use Rattle.outcome_fold.specs.Parts as parts;
+ghost use Rattle.outcome_fold.specs.Started.{after};
+ghost use Rattle.outcome_fold.specs.declared.fold.Held.{Held as AHeld};
+ghost use Rattle.outcome_fold.specs.Folded.{HasSeen, Speaks, open_in, others_in, extended_by, with_extended, row_at};
 ghost use Rattle.outcome_fold.specs.Outcome.{HasFolded};
 
-use crate::part::{KeptText, Said, Started, elapsed, moved_tags, said_by, said_in, said_with};
+use crate::part::{KeptText, Said, Started, elapsed, instant_in, said_by, said_in, said_with};
 use crate::row::{Ended, Row, ended_by};
 use crate::rows::{Rows, by_route};
 use crate::test_key::{TestKey, key_in, key_of, take_key};
+use crate::text_set::in_order;
 use packet_codec::{Event, Packet};
 use std::alloc::Global;
 use std::collections::BTreeMap;
 use sub_number::{Bytes, NoMemory};
 
+// A test that is open, and what its part says.
+#[derive(Drop)]
+struct Held {
+    key: TestKey,
+    part: Started,
+}
+
 /// The tests that are open, over all routes, while events are folded into rows.
+///
+/// Most tests end before the next one begins. So the one that was begun last is held beside the table of the others, and
+/// its packets are told by what stands in them: no key is made of them, and no place in the table is looked for.
 #[derive(Drop)]
 pub struct Fold {
     alloc: Global,
-    open: BTreeMap<TestKey, Started>,
+    held: Option<Held>,
+    others: BTreeMap<TestKey, Started>,
 }
 
 impl Fold {
@@ -32,18 +47,39 @@ impl Fold {
     {
         Fold {
             alloc,
-            open: BTreeMap::new(alloc),
+            held: None,
+            others: BTreeMap::new(alloc),
         }
     }
 
-    // Whether the test is open. Where it is, its part takes what the event says.
-    fn extend(&mut self, key: &TestKey, said: &mut Said<'_>) -> Result<bool, NoMemory>
-        ensures was_open { IfOk result (λ was_open. was_open ≡ is_some (map.get (open_in self.old) key.now)) }
-        ensures kept { IfOk result (λ was_open. was_open ≡ false → said.new ≡ said.old) }
-        ensures ok { OnOk result (open_in self.new ≡ with_extended (open_in self.old) key.now said.old) }
+    // Puts the test that is held among the others.
+    #[inline(never)]
+    fn put_down(&mut self) -> Result<(), NoMemory>
+        ensures ok { OnOk result ((self.new.held ≡ None) × (others_in self.new ≡ open_in self.old)) }
         ensures err { OnErr result (open_in self.new ≡ open_in self.old) }
     {
-        match self.open.get_mut(key) {
+        let Some(Held { key, part }) = self.held.take() else {
+            return Ok(());
+        };
+        match self.others.insert(key, part) {
+            Ok(_) => Ok(()),
+            Err(failed) => {
+                let (key, part) = failed.value;
+                self.held = Some(Held { key, part });
+                Err(NoMemory)
+            }
+        }
+    }
+
+    // Whether the test is among the others. Where it is, its part takes what the event says.
+    fn extend(&mut self, key: &TestKey, said: &mut Said<'_>) -> Result<bool, NoMemory>
+        ensures was_open { IfOk result (λ was_open. was_open ≡ is_some (map.get (others_in self.old) key.now)) }
+        ensures kept { IfOk result (λ was_open. was_open ≡ false → said.new ≡ said.old) }
+        ensures ok { OnOk result (others_in self.new ≡ with_extended (others_in self.old) key.now said.old) }
+        ensures err { OnErr result (others_in self.new ≡ others_in self.old) }
+        ensures held { self.new.held ≡ self.old.held }
+    {
+        match self.others.get_mut(key) {
             Some(started) => {
                 started.take(said)?;
                 Ok(true)
@@ -52,30 +88,32 @@ impl Fold {
         }
     }
 
-    // Takes what an event says that does not complete its test, which is open then. Each of the two steps has a frame of
-    // its own, so that an event pays for the one that it takes.
+    // Takes what an event says that does not complete its test, which is open then. Where it was not, it is held. Each of
+    // the two steps has a frame of its own, so that an event pays for the one that it takes.
     #[inline(never)]
     fn go_on(&mut self, key: TestKey, mut said: Said<'_>) -> Result<(), NoMemory>
-        ensures ok { OnOk result (open_in self.new ≡ map.insert (open_in self.old) key (extended_by (map.get (open_in self.old) key) said.entry)) }
-        ensures err { OnErr result (open_in self.new ≡ open_in self.old) }
+        requires { self.old.held ≡ None }
+        ensures ok { OnOk result (open_in self.new ≡ map.insert (others_in self.old) key (extended_by (map.get (others_in self.old) key) said.entry)) }
+        ensures err { OnErr result (open_in self.new ≡ others_in self.old) }
     {
         if self.extend(&key, &mut said)? {
             return Ok(());
         }
-        let started = Started::begun(self.alloc, said)?;
-        self.open.insert(key, started)?;
+        let part = Started::begun(self.alloc, said)?;
+        self.held = Some(Held { key, part });
         Ok(())
     }
 
     // What the part of the test says with this, and the test is no longer open.
     #[inline(never)]
     fn finish(&mut self, key: &TestKey, mut said: Said<'_>) -> Result<Started, NoMemory>
-        ensures part { IfOk result (λ started. started ≡ extended_by (map.get (open_in self.old) key.now) said.entry) }
-        ensures ok { OnOk result (open_in self.new ≡ map.remove (open_in self.old) key.now) }
-        ensures err { OnErr result (open_in self.new ≡ open_in self.old) }
+        requires { self.old.held ≡ None }
+        ensures part { IfOk result (λ started. started ≡ extended_by (map.get (others_in self.old) key.now) said.entry) }
+        ensures ok { OnOk result (open_in self.new ≡ map.remove (others_in self.old) key.now) }
+        ensures err { OnErr result (open_in self.new ≡ others_in self.old) }
     {
         if self.extend(key, &mut said)? {
-            Ok(self.open.remove(key).unwrap())
+            Ok(self.others.remove(key).unwrap())
         } else {
             Started::begun(self.alloc, said)
         }
@@ -92,6 +130,7 @@ impl Fold {
         ensures ok { (seen : List AnEvent) (e : AnEvent) → HasSeen self.old seen → Speaks e key ended said.entry → OnOk result (HasSeen self.new (seen ++ e ∷ [])) }
         ensures err { OnErr result (open_in self.new ≡ open_in self.old) }
     {
+        self.put_down()?;
         let instant = said.instant;
         match ended {
             Some(ended) => {
@@ -104,6 +143,80 @@ impl Fold {
                 Ok(None)
             }
         }
+    }
+}
+
+// The test that is held hears its packets.
+impl Fold {
+    // Whether the packet's event speaks of the test that is held.
+    #[inline(always)]
+    fn holds(&self, packet: &Packet<'_>) -> bool
+        ensures { (e : AnEvent) → SpellsEvent packet.now e → IsTrue result → IsSomeAnd self.now.held (λ held. parts.test_of e ≡ Some held.key) }
+    {
+        match &self.held {
+            Some(held) => packet.has_id(&held.key.id) && packet.has_route(&held.key.route),
+            None => false,
+        }
+    }
+
+    // Its part takes what the packet's event says.
+    #[inline(always)]
+    fn extend_held(&mut self, packet: &Packet<'_>) -> Result<(), NoMemory>
+        ensures ok { (e : AnEvent) (held : AHeld) → SpellsEvent packet.now e → self.old.held ≡ Some held → OnOk result (self.new.held ≡ Some (record { key = held.key; part = after held.part e })) }
+        ensures err { OnErr result (self.new.held ≡ self.old.held) }
+        ensures others { others_in self.new ≡ others_in self.old }
+    {
+        if let Some(held) = &mut self.held {
+            held.part.hear(self.alloc, packet)?;
+        }
+        Ok(())
+    }
+
+    // The test that is held, and it is no longer open: nothing is held, and it is not among the others.
+    #[inline(always)]
+    fn let_go(&mut self) -> Option<Held>
+        ensures held { result ≡ self.old.held }
+        ensures rest { (held : AHeld) → self.old.held ≡ Some held → open_in self.new ≡ map.remove (open_in self.old) held.key }
+    {
+        let held = self.held.take()?;
+        self.others.remove(&held.key);
+        Some(held)
+    }
+
+    // Takes the packet's event, which speaks of the test that is held, and ends it so, or not.
+    #[inline(always)]
+    fn hear_held(
+        &mut self,
+        packet: &Packet<'_>,
+        ended: Option<Ended>,
+    ) -> Result<Option<Row>, NoMemory>
+        ensures row { (seen : List AnEvent) (e : AnEvent) (held : AHeld) → SpellsEvent packet.now e → HasSeen self.old seen → self.old.held ≡ Some held → parts.test_of e ≡ Some held.key → ended ≡ parts.ended_by e.status → IfOk result (λ row. row ≡ completed_row seen e) }
+        ensures ok { (seen : List AnEvent) (e : AnEvent) (held : AHeld) → SpellsEvent packet.now e → HasSeen self.old seen → self.old.held ≡ Some held → parts.test_of e ≡ Some held.key → ended ≡ parts.ended_by e.status → OnOk result (HasSeen self.new (seen ++ e ∷ [])) }
+        ensures err { OnErr result (open_in self.new ≡ open_in self.old) }
+    {
+        self.extend_held(packet)?;
+        let Some(ended) = ended else {
+            return Ok(None);
+        };
+        let Some(Held { key, part }) = self.let_go() else {
+            return Ok(None);
+        };
+        let nanos = elapsed(part.start, instant_in(packet));
+        Ok(Some(row_of(self.alloc, key, ended, nanos, part)))
+    }
+
+    // Takes the packet's event, whatever test it speaks of.
+    #[inline(never)]
+    fn hear_other(&mut self, packet: &Packet<'_>) -> Result<Option<Row>, NoMemory>
+        ensures row { (seen : List AnEvent) (e : AnEvent) → SpellsEvent packet.now e → HasSeen self.old seen → IfOk result (λ row. row ≡ completed_row seen e) }
+        ensures ok { (seen : List AnEvent) (e : AnEvent) → SpellsEvent packet.now e → HasSeen self.old seen → OnOk result (HasSeen self.new (seen ++ e ∷ [])) }
+        ensures err { OnErr result (open_in self.new ≡ open_in self.old) }
+    {
+        let Some(key) = key_in(self.alloc, packet)? else {
+            return Ok(None);
+        };
+        let said = said_in(self.alloc, packet)?;
+        self.tell(key, ended_by(packet.status()), said)
     }
 }
 
@@ -135,7 +248,7 @@ impl Fold {
         let Some(key) = take_key(&mut event) else {
             return Ok(None);
         };
-        let tags = moved_tags(self.alloc, event.tags.take())?;
+        let tags = event.tags.take();
         self.tell(key, ended_by(event.status), said_with(tags, &event))
     }
 
@@ -148,11 +261,10 @@ impl Fold {
         ensures ok { (seen : List AnEvent) (e : AnEvent) → SpellsEvent packet.now e → HasSeen self.old seen → OnOk result (HasSeen self.new (seen ++ e ∷ [])) }
         ensures err { OnErr result (open_in self.new ≡ open_in self.old) }
     {
-        let Some(key) = key_in(self.alloc, packet)? else {
-            return Ok(None);
-        };
-        let said = said_in(self.alloc, packet)?;
-        self.tell(key, ended_by(packet.status()), said)
+        if self.holds(packet) {
+            return self.hear_held(packet, ended_by(packet.status()));
+        }
+        self.hear_other(packet)
     }
 
     /// Ends the fold, and gives a row for each open test, by route, no route first, and then by id.
@@ -161,9 +273,11 @@ impl Fold {
     pub fn close(self) -> Result<Vec<Row>, NoMemory>
         ensures { (seen : List AnEvent) → HasSeen self seen → IfOk result (λ rows. rows.items ≡ open_rows seen) }
     {
-        let mut rows = Vec::new(self.alloc);
-        for (key, started) in self.open {
-            rows.push(row_of(self.alloc, key, Ended::Open, None, started))?;
+        let mut fold = self;
+        fold.put_down()?;
+        let mut rows = Vec::new(fold.alloc);
+        for (key, started) in fold.others {
+            rows.push(row_of(fold.alloc, key, Ended::Open, None, started))?;
         }
         Ok(rows)
     }
@@ -194,7 +308,7 @@ fn row_of(alloc: Global, key: TestKey, ended: Ended, nanos: Option<u64>, started
         id,
         route,
         ended,
-        tags,
+        tags: in_order(tags),
         nanos,
         text: row_text(alloc, ended, text),
     }

@@ -25,7 +25,7 @@ pub use part::{KeptText, elapsed, instant_in, instant_of, text_heard, text_in};
 pub use row::{Counts, Ended, Row, ended_by};
 pub use rows::Rows;
 pub use test_key::{TestKey, key_in, key_of};
-pub use text_set::{TextSet, into_sorted, sorted_tags};
+pub use text_set::{TextSet, in_order, sorted_tags};
 
 #[cfg(test)]
 mod tests;

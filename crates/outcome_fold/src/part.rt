@@ -4,13 +4,13 @@ ghost use Rattle.outcome_fold.specs.Parts as parts;
 ghost use Rattle.std.specs.Prelude.{◌≡◌, IfOk, OnOk, OnErr, [], ◌++◌, take};
 ghost use Rattle.outcome_fold.specs.Parts.{text_limit};
 ghost use Rattle.std.specs.Option.{option_map};
-ghost use Rattle.outcome_fold.specs.Order.{in_byte_order};
-ghost use Rattle.outcome_fold.specs.Started.{Says, IsBut, after_said, fresh_said, text_by};
+ghost use Rattle.std.specs.Option.{unwrap_or};
+ghost use Rattle.outcome_fold.specs.Started.{Says, IsBut, after, after_said, fresh_said, text_by};
 ghost use Rattle.packet_codec.specs.Packet.{SpellsEvent};
 ghost use Rattle.packet_codec.specs.Shapes.{bytes_of};
 ghost use Rattle.packet_codec.specs.declared.event.Event.{Event as AnEvent};
 
-use crate::text_set::{into_sorted, sorted_tags};
+use crate::text_set::copies_of;
 use packet_codec::{Event, Packet, Stamp, Tags};
 use std::alloc::Global;
 use std::marker::Model;
@@ -70,7 +70,7 @@ impl KeptText {
 pub struct Started {
     /// The instant of the first event, in nanoseconds since 1970 in UTC, where it has one.
     pub start: Option<u64>,
-    /// The tags of the last event that has tags, in the order of their bytes, each once.
+    /// The tags of the last event that has tags, as it has them.
     pub tags: Tags,
     /// The first bytes of the files of text, joined.
     pub text: KeptText,
@@ -148,7 +148,7 @@ pub fn text_heard<'p>(packet: &'p Packet<'_>) -> &'p [u8]
 pub(crate) struct Said<'a> {
     /// When it happened, in nanoseconds since 1970 in UTC, where it has a stamp.
     pub(crate) instant: Option<u64>,
-    /// Its tags in the order of their bytes, each once, where it has tags.
+    /// Its tags, where it has tags.
     pub(crate) tags: Option<Tags>,
     /// The bytes of its file of text.
     pub(crate) text: &'a [u8],
@@ -167,9 +167,9 @@ pub(crate) fn said_by(alloc: Global, event: &Event) -> Result<Said<'_>, NoMemory
     })
 }
 
-/// What an event says that has these tags, in order, and else is like this one.
+/// What an event says that has these tags, and else is like this one.
 pub(crate) fn said_with(tags: Option<Tags>, event: &Event) -> Said<'_>
-    ensures { (whole : AnEvent) → IsBut whole event.now → tags ≡ option_map in_byte_order whole.tags → Says result whole }
+    ensures { (whole : AnEvent) → IsBut whole event.now → tags ≡ whole.tags → Says result whole }
 {
     Said {
         instant: instant_of(event),
@@ -185,34 +185,48 @@ pub(crate) fn said_with(tags: Option<Tags>, event: &Event) -> Said<'_>
 pub(crate) fn said_in<'p>(alloc: Global, packet: &'p Packet<'_>) -> Result<Said<'p>, NoMemory>
     ensures { (e : AnEvent) → SpellsEvent packet.now e → IfOk result (λ said. Says said e) }
 {
-    let own = packet.tags(alloc)?;
-    let tags = moved_tags(alloc, own)?;
     Ok(Said {
         instant: instant_in(packet),
-        tags,
+        tags: packet.tags(alloc)?,
         text: text_heard(packet),
     })
 }
 
-// The tags of an event in the order of their bytes, each once, where it has tags.
+// Copies of the tags of an event, where it has tags.
 fn new_tags(alloc: Global, tags: &Option<Tags>) -> Result<Option<Tags>, NoMemory>
-    ensures { IfOk result (λ sorted. sorted ≡ option_map in_byte_order tags.now) }
+    ensures { IfOk result (λ copies. copies ≡ tags.now) }
 {
     match tags {
-        Some(tags) => Ok(Some(sorted_tags(alloc, tags.list())?)),
+        Some(tags) => Ok(Some(copies_of(alloc, tags.list())?)),
         None => Ok(None),
     }
 }
 
-/// The tags of an event in the order of their bytes, each once, where it has tags. Where they are in order they are moved.
-///
-/// `NoMemory` comes only for want of memory.
-pub(crate) fn moved_tags(alloc: Global, tags: Option<Tags>) -> Result<Option<Tags>, NoMemory>
-    ensures { IfOk result (λ sorted. sorted ≡ option_map in_byte_order tags) }
+// The tags of the packet's event, where it has some and they are not these.
+#[inline(always)]
+fn other_tags(alloc: Global, kept: &Tags, packet: &Packet<'_>) -> Result<Option<Tags>, NoMemory>
+    ensures { (e : AnEvent) → SpellsEvent packet.now e → IfOk result (λ tags. unwrap_or tags kept.now ≡ unwrap_or e.tags kept.now) }
 {
-    match tags {
-        Some(tags) => Ok(Some(into_sorted(alloc, tags)?)),
-        None => Ok(None),
+    if packet.has_tags(kept) {
+        return Ok(None);
+    }
+    packet.tags(alloc)
+}
+
+impl Started {
+    /// Takes what the packet's event says, one more of the part. Tags that are the same as before are not copied.
+    ///
+    /// `NoMemory` comes only for want of memory, and then all is as before.
+    pub(crate) fn hear(&mut self, alloc: Global, packet: &Packet<'_>) -> Result<(), NoMemory>
+        ensures ok { (e : AnEvent) → SpellsEvent packet.now e → OnOk result (self.new ≡ after self.old e) }
+        ensures err { OnErr result (self.new ≡ self.old) }
+    {
+        let tags = other_tags(alloc, &self.tags, packet)?;
+        self.text.append(text_heard(packet))?;
+        if let Some(tags) = tags {
+            self.tags = tags;
+        }
+        Ok(())
     }
 }
 

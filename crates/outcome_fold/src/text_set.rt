@@ -125,29 +125,26 @@ impl TextSet {
     }
 }
 
-/// The tags in the order of their bytes, each once. Each is copied once, and where they are so already, that is all.
+/// The tags in the order of their bytes, each once. Each is copied once.
 ///
 /// `NoMemory` comes only for want of memory.
 pub fn sorted_tags(alloc: Global, tags: &[Text]) -> Result<Tags, NoMemory>
     ensures { IfOk result (λ sorted. sorted ≡ in_byte_order tags.now) }
 {
-    if are_in_order(tags) {
-        copies_of(alloc, tags)
-    } else {
-        set_of(alloc, tags)?.into_tags(alloc)
-    }
+    Ok(in_order(copies_of(alloc, tags)?))
 }
 
-/// The tags in the order of their bytes, each once. Where they are so already they are moved, and none is copied.
-///
-/// `NoMemory` comes only for want of memory.
-pub fn into_sorted(alloc: Global, tags: Tags) -> Result<Tags, NoMemory>
-    ensures { IfOk result (λ sorted. sorted ≡ in_byte_order tags) }
+/// The tags in the order of their bytes, each once. None is copied, and no memory is taken.
+pub fn in_order(tags: Tags) -> Tags
+    ensures { result ≡ in_byte_order tags }
 {
     if are_in_order(tags.list()) {
-        return Ok(tags);
+        return tags;
     }
-    set_of(alloc, tags.list())?.into_tags(alloc)
+    let mut list = tags.into_list();
+    list.sort_unstable();
+    list.dedup();
+    Tags::from_list(list)
 }
 
 // Whether each tag is greater than the one before it.
@@ -157,8 +154,10 @@ fn are_in_order(tags: &[Text]) -> bool
     tags.is_sorted_by(|a, b| a < b)
 }
 
-// Copies of the tags, in their order.
-fn copies_of(alloc: Global, tags: &[Text]) -> Result<Tags, NoMemory>
+/// Copies of the tags, in their order.
+///
+/// `NoMemory` comes only for want of memory.
+pub(crate) fn copies_of(alloc: Global, tags: &[Text]) -> Result<Tags, NoMemory>
     ensures { IfOk result (λ copies. copies ≡ tags.now) }
 {
     let mut copies = Tags::new(alloc);
@@ -166,13 +165,4 @@ fn copies_of(alloc: Global, tags: &[Text]) -> Result<Tags, NoMemory>
         copies.push(tag.copy()?)?;
     }
     Ok(copies)
-}
-
-// The set of copies of the tags.
-fn set_of(alloc: Global, tags: &[Text]) -> Result<TextSet, NoMemory>
-    ensures { IfOk result (λ tag_set. tag_set ≡ in_byte_order tags.now) }
-{
-    let mut tag_set = TextSet::new(alloc);
-    tag_set.insert_all(tags)?;
-    Ok(tag_set)
 }

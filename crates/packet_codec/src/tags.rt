@@ -39,6 +39,20 @@ impl Tags {
         self.tags.push(tag).map_err(|failed| failed.value)
     }
 
+    /// The tags of this list, in its order.
+    pub fn from_list(tags: Vec<Text>) -> Self
+        ensures { result ≡ tags.items }
+    {
+        Tags { tags }
+    }
+
+    /// The tags, in their order, moved out.
+    pub fn into_list(self) -> Vec<Text>
+        ensures { result.items ≡ self }
+    {
+        self.tags
+    }
+
     /// The tags, in their order.
     pub fn list(&self) -> &[Text]
         ensures { result.now ≡ self.now }

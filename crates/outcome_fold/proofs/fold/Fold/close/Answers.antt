@@ -9,4 +9,4 @@ returns c seen has =
     let none : c.loop-key.key-iterator ≡ [] = rest_all (λ x. x) _ _ _ c.in-None.is c.next.ensures.steps in
     let all : c.loop-key.rows.items ≡ map row_of_open c.into_iter-key-iterator.result = sym (append-nil c.loop-key.rows.items) ∙ ap (λ rest. c.loop-key.rows.items ++ map row_of_open rest) (sym none) ∙ c.loop-key.invariant in
     let gives = c.into_iter-key-iterator.ensures.into_iter_gives in
-    all ∙ ap (map row_of_open) gives.0 ∙ rows_at_end seen _ gives.5 has
+    all ∙ ap (map row_of_open) gives.0 ∙ rows_at_end seen _ gives.5 (c.in_ok-put_down.ensures.ok.1 ∙ has)

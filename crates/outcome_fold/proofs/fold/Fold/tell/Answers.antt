@@ -1,18 +1,18 @@
 use Rattle.std.proofs.Common.{sym, ◌∙◌}
 use Rattle.std.specs.FinMap as map
-use Rattle.outcome_fold.specs.Folded.{open_in, extended_by}
+use Rattle.outcome_fold.specs.Folded.{others_in, extended_by}
 use Rattle.outcome_fold.proofs.AddLemmas.{goes_on, is_closed, is_row}
 use Rattle.outcome_fold.proofs.SaidLemmas.{extended_is}
 use Rattle.outcome_fold.proofs.fold.Fold.tell.Goals as goal
 
 pub returns-in_ok-started-in-Some-clause-row : goal.returns-in_ok-started-in-Some-clause-row
 returns-in_ok-started-in-Some-clause-row c = λ seen e has sp.
-    is_row seen e _ c.args.key c.in-Some.ended c.in_ok-started-in-Some.started _ _ _ has sp.test_is (sym c.in-Some.is ∙ sp.how_is) (c.in_ok-started-in-Some.ensures.part ∙ extended_is (map.get (open_in c.args.self.now) c.args.key) c.args.said e sp.says) sp.says.instant c.elapsed-nanos.ensures c.row_of.ensures
+    is_row seen e (others_in c.put_down.new.self) c.args.key c.in-Some.ended c.in_ok-started-in-Some.started _ _ _ (c.in_ok-put_down.ensures.ok.1 ∙ has) sp.test_is (sym c.in-Some.is ∙ sp.how_is) (c.in_ok-started-in-Some.ensures.part ∙ extended_is (map.get (others_in c.put_down.new.self) c.args.key) c.args.said e sp.says) sp.says.instant c.elapsed-nanos.ensures c.row_of.ensures
 
 pub returns-in_ok-started-in-Some-clause-ok : goal.returns-in_ok-started-in-Some-clause-ok
 returns-in_ok-started-in-Some-clause-ok c = λ seen e has sp.
-    is_closed seen e _ _ c.args.key c.in-Some.ended has sp.test_is (sym c.in-Some.is ∙ sp.how_is) c.in_ok-started-in-Some.ensures.ok
+    is_closed seen e (others_in c.put_down.new.self) _ c.args.key c.in-Some.ended (c.in_ok-put_down.ensures.ok.1 ∙ has) sp.test_is (sym c.in-Some.is ∙ sp.how_is) c.in_ok-started-in-Some.ensures.ok
 
 pub returns-in_ok-go_on-in-None-clause-ok : goal.returns-in_ok-go_on-in-None-clause-ok
 returns-in_ok-go_on-in-None-clause-ok c = λ seen e has sp.
-    goes_on seen e _ _ c.args.key (extended_by (map.get (open_in c.args.self.now) c.args.key) c.args.said) has sp.test_is (sym c.in-None.is ∙ sp.how_is) (extended_is (map.get (open_in c.args.self.now) c.args.key) c.args.said e sp.says) c.in_ok-go_on-in-None.ensures.ok
+    goes_on seen e (others_in c.put_down.new.self) _ c.args.key (extended_by (map.get (others_in c.put_down.new.self) c.args.key) c.args.said) (c.in_ok-put_down.ensures.ok.1 ∙ has) sp.test_is (sym c.in-None.is ∙ sp.how_is) (extended_is (map.get (others_in c.put_down.new.self) c.args.key) c.args.said e sp.says) c.in_ok-go_on-in-None.ensures.ok
