@@ -9,7 +9,7 @@ ghost use Rattle.outcome_fold.specs.Rows as rows;
 
 use crate::part_row::{kept_text, last_tags, start_of};
 use outcome_fold::{
-    Ended, Row, TestKey, elapsed, instant_in, into_sorted, sorted_tags, text_heard,
+    Ended, Row, TestKey, elapsed, in_order, instant_in, sorted_tags, text_heard,
 };
 use packet_codec::{Event, Packet, Tags};
 use std::alloc::Global;
@@ -32,7 +32,7 @@ fn tags_with(alloc: Global, part: &[Event], packet: &Packet<'_>) -> Result<Tags,
 {
     let own = packet.tags(alloc)?;
     match own {
-        Some(tags) => into_sorted(alloc, tags),
+        Some(tags) => Ok(in_order(tags)),
         None => sorted_tags(alloc, last_tags(part)),
     }
 }
