@@ -162,3 +162,8 @@ ordered_by_sort texts sorted kept moved order is =
     let strictly : IsStrictlySortedBy text_cmp kept = subst (IsStrictlySortedBy text_cmp) (sym is) (IsStrictlySortedBy-dedup texts_total texts_ties sorted order) in
     sym (ordered_already kept strictly)
     ∙ same_order kept texts (λ q. ap (λ l. among l q) is ∙ any_dedup (eq_by_cmp text_cmp q) sorted ∙ sym (list_any-IsPermutation (eq_by_cmp text_cmp q) texts sorted moved))
+
+-- a set into which some texts were put, and one more
+pub one_put : (old texts now new : List (List ℕ)) (text : List ℕ) → new ≡ in_byte_order (text ∷ now) → now ≡ in_byte_order (old ++ texts) → new ≡ in_byte_order (old ++ (texts ++ text ∷ []))
+one_put old texts now new text put is =
+    put ∙ ap (λ l. in_byte_order (text ∷ l)) is ∙ order_push (old ++ texts) text ∙ ap in_byte_order (append_assoc old texts (text ∷ []))

@@ -60,6 +60,17 @@ impl TextSet {
         Ok(())
     }
 
+    /// Adds the text, which is moved, where it is not in the set yet.
+    ///
+    /// `NoMemory` comes only for want of memory, and then the set is as before.
+    pub fn put(&mut self, text: Text) -> Result<(), NoMemory>
+        ensures ok { OnOk result (self.new ≡ in_byte_order (text ∷ self.old)) }
+        ensures err { OnErr result (self.new ≡ self.old) }
+    {
+        self.texts.insert(text)?;
+        Ok(())
+    }
+
     /// Takes the text out, where it is in the set.
     pub fn remove(&mut self, text: &Text)
         ensures { self.new ≡ without self.old (text.now ∷ []) }
@@ -85,6 +96,19 @@ impl TextSet {
         self.are_in_order();
         for text in texts {
             self.insert(text)?;
+        }
+        Ok(())
+    }
+
+    /// Adds each of the ids, which are moved, that is not in the set yet.
+    ///
+    /// `NoMemory` comes only for want of memory. Nothing is known then of the set.
+    pub fn put_all(&mut self, ids: IdList) -> Result<(), NoMemory>
+        ensures { OnOk result (self.new ≡ in_byte_order (self.old ++ ids)) }
+    {
+        self.are_in_order();
+        for id in ids.into_list() {
+            self.put(id)?;
         }
         Ok(())
     }
