@@ -1,5 +1,5 @@
 -- What rows say, row by row.
-use Rattle.std.proofs.Common.{◌≡◌, ℕ, ◌+◌, ◌<◌, Bool, true, false, ◌&&◌, ◌||◌, cond, List, [], ◌∷◌, ◌++◌, Option, Some, None, take, length, get_or, is_some, max, refl, sym, ◌∙◌, ap, append_assoc, arith, true≢false}
+use Rattle.std.proofs.Common.{◌≡◌, ℕ, ◌+◌, ◌<◌, Bool, true, false, ◌&&◌, ◌||◌, not, cond, List, [], ◌∷◌, ◌++◌, Option, Some, None, take, length, get_or, is_some, max, refl, sym, ◌∙◌, ap, append_assoc, arith, true≢false}
 use Rattle.std.specs.Ordering.{eq_by_cmp}
 use Rattle.std.specs.Option.{unwrap_or}
 use Rattle.std.specs.Cmp.{eq_by_cmp_equiv}
@@ -7,9 +7,9 @@ use Rattle.std.specs.FinMap as fin
 use Rattle.std.specs.List.{filter, list_any, flat_map}
 use Rattle.std.proofs.lemmas.List.Elements.{filter_more}
 use Rattle.outcome_fold.specs.declared.row.Row.{Row}
-use Rattle.outcome_fold.specs.Order.{text_cmp, table, among, in_byte_order}
-use Rattle.outcome_fold.specs.Answers.{ids_of, row_fails, failing_of, seen_tags_of, has_failure, is_run, longest, longest_times, times_of}
-use Rattle.outcome_fold.proofs.SetLemmas.{among_order, order_push, order_append}
+use Rattle.outcome_fold.specs.Order.{text_cmp, table, among, in_byte_order, without}
+use Rattle.outcome_fold.specs.Answers.{ids_of, row_fails, failing_of, seen_tags_of, has_failure, passed_of, is_run, longest, longest_times, times_of}
+use Rattle.outcome_fold.proofs.SetLemmas.{among_order, order_push, order_append, without_more, without_order}
 use Rattle.outcome_fold.proofs.FoldLemmas.{append_none}
 use Rattle.outcome_fold.proofs.GroupLemmas.{map_push}
 use Rattle.outcome_fold.proofs.OrderLemmas.{texts_total, exact_texts}
@@ -27,6 +27,16 @@ set_takes p rows i row below is passes =
 pub set_skips : (p : Row → Bool) (rows : List Row) (i : ℕ) (row : Row) → i < length rows → row ≡ get_or rows i row → p row ≡ false → in_byte_order (ids_of (filter p (take i rows))) ≡ in_byte_order (ids_of (filter p (take (i + 1) rows)))
 set_skips p rows i row below is fails =
     ap (λ l. in_byte_order (ids_of l)) (sym (filter_at p rows i row below is ∙ ap (λ b. filter p (take i rows) ++ cond b (row ∷ []) []) fails ∙ append_none (filter p (take i rows))))
+
+-- the same of the ids that are taken out of a set
+pub taken_out : (p : Row → Bool) (old : List (List ℕ)) (rows : List Row) (i : ℕ) (row : Row) → i < length rows → row ≡ get_or rows i row → p row ≡ true → without (without old (ids_of (filter p (take i rows)))) (row.id ∷ []) ≡ without old (ids_of (filter p (take (i + 1) rows)))
+taken_out p old rows i row below is passes =
+    without_more old (ids_of (filter p (take i rows))) row.id ∙ ap (without old) (sym (map_push (λ row. row.id) (filter p (take i rows)) row))
+    ∙ ap (λ l. without old (ids_of l)) (sym (filter_at p rows i row below is ∙ ap (λ b. filter p (take i rows) ++ cond b (row ∷ []) []) passes))
+
+pub left_in : (p : Row → Bool) (old : List (List ℕ)) (rows : List Row) (i : ℕ) (row : Row) → i < length rows → row ≡ get_or rows i row → p row ≡ false → without old (ids_of (filter p (take i rows))) ≡ without old (ids_of (filter p (take (i + 1) rows)))
+left_in p old rows i row below is fails =
+    ap (λ l. without old (ids_of l)) (sym (filter_at p rows i row below is ∙ ap (λ b. filter p (take i rows) ++ cond b (row ∷ []) []) fails ∙ append_none (filter p (take i rows))))
 
 fails_at : (rows : List Row) (id : List ℕ) → list_any (eq_by_cmp text_cmp id) (ids_of (filter row_fails rows)) ≡ has_failure rows id
 fails_at [] id = refl
@@ -102,3 +112,10 @@ timed_takes rows i row n below is some =
 pub timed_skips : (rows : List Row) (i : ℕ) (row : Row) → i < length rows → row ≡ get_or rows i row → None ≡ cond (is_run row) row.nanos None → times_of (take (i + 1) rows) ≡ times_of (take i rows)
 timed_skips rows i row below is none =
     ap longest_times (filter_at is_timed rows i row below is ∙ ap (λ b. filter is_timed (take i rows) ++ cond b (row ∷ []) []) (timed_neither (is_run row) row.nanos none) ∙ append_none (filter is_timed (take i rows)))
+
+-- what a partial run makes of the failing ids
+pub changed : (rows : List Row) (failing ids old kept new : List (List ℕ)) → failing ≡ failing_of rows → ids ≡ failing → kept ≡ without old (ids_of (filter (λ row. is_run row && not (among failing row.id)) rows)) → new ≡ in_byte_order (kept ++ ids) → new ≡ in_byte_order (without old (passed_of rows) ++ failing_of rows)
+changed rows failing ids old kept new failing-is ids-is kept-is new-is =
+    new-is ∙ (λ i. in_byte_order (kept-is i ++ (ids-is ∙ failing-is) i))
+    ∙ ap (λ l. in_byte_order (without old (ids_of l) ++ failing_of rows)) (λ i. filter (λ row. is_run row && not ((ap (λ l. among l row.id) failing-is ∙ among_failing rows row.id) i)) rows)
+    ∙ ap (λ l. in_byte_order (l ++ failing_of rows)) (sym (without_order old (ids_of (filter (λ row. is_run row && not (has_failure rows row.id)) rows))))

@@ -167,3 +167,7 @@ ordered_by_sort texts sorted kept moved order is =
 pub one_put : (old texts now new : List (List ℕ)) (text : List ℕ) → new ≡ in_byte_order (text ∷ now) → now ≡ in_byte_order (old ++ texts) → new ≡ in_byte_order (old ++ (texts ++ text ∷ []))
 one_put old texts now new text put is =
     put ∙ ap (λ l. in_byte_order (text ∷ l)) is ∙ order_push (old ++ texts) text ∙ ap in_byte_order (append_assoc old texts (text ∷ []))
+
+-- which texts are left does not depend on the order of the others
+pub without_order : (texts others : List (List ℕ)) → without texts (in_byte_order others) ≡ without texts others
+without_order texts others = λ i. filter (λ text. not (among_order others text i)) texts

@@ -6,7 +6,7 @@ ghost use Rattle.std.specs.FinMap as map;
 ghost use Rattle.std.specs.Prelude.{◌≡◌, IfOk, OnOk, None, ◌&&◌, not, max, if◌then◌else◌, ◌+◌, ◌≤◌, ◌<◌, ◌^◌, ◌||◌, Some, is_some, List, [], ◌∷◌, ◌++◌};
 ghost use Rattle.std.specs.Option.{unwrap_or};
 ghost use Rattle.std.specs.List.{filter};
-ghost use Rattle.outcome_fold.specs.Order.{among, in_byte_order};
+ghost use Rattle.outcome_fold.specs.Order.{among, in_byte_order, without};
 ghost use Rattle.outcome_fold.specs.declared.row.Row.{Row as ARow};
 ghost use Rattle.outcome_fold.specs.Grouped.{groups_in, joined_groups};
 
@@ -67,6 +67,16 @@ impl Rows {
         passed_list(alloc, &self.rows)
     }
 
+    /// Takes the ids of `passed_ids` out of the set, and adds those of `failing_ids`: what a partial run makes of the
+    /// failing tests.
+    ///
+    /// `NoMemory` comes only for want of memory. Nothing is known then of the set.
+    pub fn change_failing(&self, alloc: Global, failed: &mut TextSet) -> Result<(), NoMemory>
+        ensures { OnOk result (failed.new ≡ in_byte_order (without failed.old (answers.passed_of self.now) ++ answers.failing_of self.now)) }
+    {
+        change_set(alloc, &self.rows, failed)
+    }
+
     /// Each id of a test that ran and has a time, with the longest of its times in nanoseconds.
     ///
     /// `NoMemory` comes only for want of memory.
@@ -114,6 +124,15 @@ fn has_passed(failing: &TextSet, row: &Row) -> bool
     is_run(row) && !failing.contains(&row.id)
 }
 
+// Takes the ids out of the set that passed, and adds those that fail.
+fn change_set(alloc: Global, rows: &[Row], failed: &mut TextSet) -> Result<(), NoMemory>
+    ensures { OnOk result (failed.new ≡ in_byte_order (without failed.old (answers.passed_of rows.now) ++ answers.failing_of rows.now)) }
+{
+    let failing = failing_set(alloc, rows)?;
+    remove_passed(&failing, rows, failed);
+    failed.put_all(failing.into_ids(alloc)?)
+}
+
 // The ids of the rows of tests that ran and are not among the failing ones.
 fn passed_set(alloc: Global, failing: &TextSet, rows: &[Row]) -> Result<TextSet, NoMemory>
     ensures { IfOk result (λ ids. ids ≡ in_byte_order (answers.ids_of (filter (λ row. answers.is_run row && not (among failing.now row.id)) rows.now))) }
@@ -125,6 +144,17 @@ fn passed_set(alloc: Global, failing: &TextSet, rows: &[Row]) -> Result<TextSet,
         }
     }
     Ok(ids)
+}
+
+// Takes the ids of the same rows out of the set.
+fn remove_passed(failing: &TextSet, rows: &[Row], ids: &mut TextSet)
+    ensures { ids.new ≡ without ids.old (answers.ids_of (filter (λ row. answers.is_run row && not (among failing.now row.id)) rows.now)) }
+{
+    for row in rows {
+        if has_passed(failing, row) {
+            ids.remove(&row.id);
+        }
+    }
 }
 
 fn passed_list(alloc: Global, rows: &[Row]) -> Result<IdList, NoMemory>

@@ -116,7 +116,7 @@ fn go_on<H: Shelf>(
         return Ok(ids);
     }
     let mut failed = TextSet::new(alloc);
-    failed.insert_all(ids.list())?;
+    failed.put_all(ids)?;
     take_runs(alloc, store, &mut failed, covers as u32, end)?;
     Ok(failed.into_ids(alloc)?)
 }

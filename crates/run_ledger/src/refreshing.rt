@@ -132,18 +132,18 @@ fn failing_behind<H: Shelf>(
     let last = store.runs() - 1;
     if store.partial(last) {
         let earlier = failing_to(alloc, store, last)?;
-        Ok(add_partial(alloc, &earlier, rows)?)
+        Ok(add_partial(alloc, earlier, rows)?)
     } else {
         Ok(rows.failing_ids(alloc)?)
     }
 }
 
 // The failing set after one partial run more.
-fn add_partial(alloc: Global, earlier: &IdList, rows: &Rows) -> Result<IdList, NoMemory>
-    ensures { IfOk result (λ ids. IsStrictlySortedBy text_cmp earlier.now → ids ≡ after_run earlier.now (record { partial = true; rows = rows.now })) }
+fn add_partial(alloc: Global, earlier: IdList, rows: &Rows) -> Result<IdList, NoMemory>
+    ensures { IfOk result (λ ids. IsStrictlySortedBy text_cmp earlier → ids ≡ after_run earlier (record { partial = true; rows = rows.now })) }
 {
     let mut failed = TextSet::new(alloc);
-    failed.insert_all(earlier.list())?;
+    failed.put_all(earlier)?;
     take_run(alloc, &mut failed, true, rows)?;
     failed.into_ids(alloc)
 }

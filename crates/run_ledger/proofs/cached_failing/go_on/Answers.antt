@@ -17,7 +17,7 @@ returns-clause-ids g c said =
     let kinds = store_kinds c.args.store.now in
     let covers = c.args.cache.covers in
     let ids = c.args.cache.ids in
-    let set : c.insert_all.new.self ≡ ids = set_of ids c.list.result.now c.insert_all.new.self c.new-failed.result c.list.ensures c.new-failed.ensures c.requires.ordered c.in_ok-insert_all.ensures in
+    let set : c.put_all.new.self ≡ ids = set_of ids ids c.put_all.new.self c.new-failed.result refl c.new-failed.ensures c.requires.ordered c.in_ok-put_all.ensures in
     let begin : IfSome state (FailsTo kinds covers ids) = says_fails state kinds covers ids (said_to failing_after state kinds covers ids (c.requires.fits c.requires.open) said) in
     subst (λ (l : List (List ℕ)). IfSome state (FailsTo kinds c.args.end l)) (sym c.in_ok-into_ids.ensures)
     (c.in_ok-take_runs.ensures.ids (subst (λ (l : List (List ℕ)). IfSome state (FailsTo kinds covers l)) (sym set) begin))
@@ -33,7 +33,7 @@ returns-then-covers-from-clause-ids g c said =
 pub returns-then-covers-from-clause-time : goal.returns-then-covers-from-clause-time
 returns-then-covers-from-clause-time g c = costs_nothing _ c.args.cache.covers c.args.end _ _ (omega arith) (omega (arith, c.if-covers-from.true, c.from.ensures))
 
-pub returns-in_err-insert_all-clause-time : goal.returns-in_err-insert_all-clause-time
-returns-in_err-insert_all-clause-time g c =
+pub returns-in_err-put_all-clause-time : goal.returns-in_err-put_all-clause-time
+returns-in_err-put_all-clause-time g c =
     let covers = c.args.cache.covers in
     costs_up_to _ covers covers c.args.end _ _ c.requires.order (costs_nothing _ covers covers _ _ (omega arith) (omega arith))

@@ -1,4 +1,4 @@
-use Rattle.std.proofs.Common.{◌≡◌, ◌∙◌, ap, true, List, ℕ}
+use Rattle.std.proofs.Common.{◌≡◌, ◌∙◌, refl, ap, true, List, ℕ}
 use Rattle.std.specs.List.Sorted.{IsStrictlySortedBy}
 use Rattle.outcome_fold.specs.Order.{text_cmp}
 use Rattle.run_ledger.specs.Ledger.{failing_behind}
@@ -8,9 +8,9 @@ use Rattle.run_ledger.proofs.refreshing.add_partial.Goals as goal
 
 pub returns : goal.returns
 returns c =
-    let earlier = c.args.earlier.now in
+    let earlier = c.args.earlier in
     let rows = c.args.rows.now in
     if_ok_then (λ (ids : List (List ℕ)). ids ≡ c.take_run.new.failed) (λ (ids : List (List ℕ)). IsStrictlySortedBy text_cmp earlier → ids ≡ failing_behind earlier (record { partial = true; rows = rows })) c.into_ids.result c.into_ids.ensures
     (λ ids is ordered.
     is ∙ c.in_ok-take_run.ensures
-    ∙ ap (λ (l : List (List ℕ)). failing_behind l (record { partial = true; rows = rows })) (set_of earlier c.list.result.now c.insert_all.new.self c.new-failed.result c.list.ensures c.new-failed.ensures ordered c.in_ok-insert_all.ensures))
+    ∙ ap (λ (l : List (List ℕ)). failing_behind l (record { partial = true; rows = rows })) (set_of earlier earlier _ c.new-failed.result refl c.new-failed.ensures ordered c.in_ok-put_all.ensures))
