@@ -141,37 +141,17 @@ fn the_next_packet_is_owned(rt: HostRuntime) -> Result<(), Fail> {
     Ok(())
 }
 
-// Whether the event has this id, or none, and this route.
-fn is_under(event: &Event, id: Option<&[u8]>, route: &[u8]) -> Option<bool> {
-    let same = match (&event.id, id) {
-        (Some(own), Some(id)) => own.bytes() == id,
-        (None, None) => true,
-        _ => false,
-    };
-    Some(same && event.route.as_ref()?.bytes() == route)
-}
-
 #[test]
-fn events_are_handed_out_as_they_are_recorded(rt: HostRuntime) -> Result<(), Fail> {
+fn packets_are_appended_one_by_one(rt: HostRuntime) -> Result<(), Fail> {
     let mut scribe = Scribe::new(rt.alloc(), 0).ok().ok_or("no memory")?;
     let mut out = Vec::new(rt.alloc());
     fed(&mut scribe, b"ab\xb3\x29\x03\x0c\x03foo\x45\x9d\xfe\x10").ok_or("no room")?;
-    let ab = scribe.next_event_into(&mut out).ok().ok_or("no memory")?;
-    let ab = ab.ok_or("no event")?;
-    assert_eq!(rt; is_under(&ab, None, b"0"), Some(true));
+    assert!(rt; scribe.next_into(&mut out).ok().ok_or("no memory")?);
     assert!(rt; out.as_slice() == AB_UNDER_0);
-    out.clear();
-    let foo = scribe.next_event_into(&mut out).ok().ok_or("no memory")?;
-    let foo = foo.ok_or("no event")?;
-    assert_eq!(rt; is_under(&foo, Some(b"foo"), b"0"), Some(true));
-    assert!(rt; out.as_slice() == FOO_UNDER_0);
-    assert!(rt;
-        scribe
-            .next_event_into(&mut out)
-            .ok()
-            .ok_or("no memory")?
-            .is_none()
-    );
+    assert!(rt; scribe.next_into(&mut out).ok().ok_or("no memory")?);
+    assert!(rt; out.starts_with(AB_UNDER_0) && out.ends_with(FOO_UNDER_0));
+    assert_eq!(rt; out.len(), AB_UNDER_0.len() + FOO_UNDER_0.len());
+    assert!(rt; !scribe.next_into(&mut out).ok().ok_or("no memory")?);
     Ok(())
 }
 
