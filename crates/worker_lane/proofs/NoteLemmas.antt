@@ -1,5 +1,5 @@
 -- The events that are recorded of a note.
-use Rattle.std.proofs.Common.{◌≡◌, ℕ, ◌<◌, ◌≤◌, Bool, true, false, List, [], ◌∷◌, ◌++◌, length, map, take, All, inl, inr, ap, arith}
+use Rattle.std.proofs.Common.{◌≡◌, ℕ, ◌<◌, ◌≤◌, Bool, true, false, Option, List, [], ◌∷◌, ◌++◌, length, map, take, All, inl, inr, ap, arith}
 use Rattle.std.proofs.lemmas.Bool.{cases_lt, cond-true, cond-false, le-leb, lt-leb}
 use Rattle.std.proofs.lemmas.List.{length-take, length-map, append-nil}
 use Rattle.std.proofs.lemmas.List.Elements.{All-nil, All-cons, All-append, All-map, All-weaker}
@@ -17,7 +17,7 @@ use Rattle.stream_reader.specs.Notes.{HasNotes, AreFullRuns}
 use Rattle.stream_reader.specs.Stream.{Gives, IsMadeOf, AreMadeOf}
 use Rattle.stream_reader.specs.declared.first.First.{First}
 use Rattle.stream_reader.specs.declared.first.First.TheVariants as found
-use Rattle.stream_reader.specs.First.{FirstIs, IsMadeBy}
+use Rattle.stream_reader.specs.First.{FirstIs}
 use Rattle.stream_reader.proofs.FrontLemmas.{are_before, are_behind}
 use Rattle.stream_reader.proofs.NotesLemmas.{are_full}
 use Rattle.stream_reader.proofs.ExistLemmas.{some_notes}
@@ -28,12 +28,11 @@ use Rattle.worker_lane.proofs.EventLemmas.{spelled_is_event, canonical_bytes, st
 
 -- ---- a foreign note is short
 
-pub made_is_short : (ended : Bool) (bytes : List ℕ) (first : First) (given : Note) → FirstIs ended bytes first → IsMadeBy bytes first given → IsShortNote given
-made_is_short ended bytes (found.Packet size) (note.Event e) is made = spelled_fits (take size bytes) e made
-made_is_short ended bytes (found.Packet size) (note.Foreign run) is made = absurd made
-made_is_short ended bytes (found.Foreign size behind) (note.Event e) is made = absurd made
-made_is_short ended bytes (found.Foreign size behind) (note.Foreign run) is made = omega (arith, is.1.short, ap length made, length-take size bytes)
-made_is_short ended bytes found.Nothing given is made = absurd made
+-- the bytes of a run at the front are few
+pub run_is_short : (ended : Bool) (bytes front : List ℕ) (first : First) (size : ℕ) (behind : Option ℕ) → FirstIs ended bytes first → first ≡ found.Foreign size behind → front ≡ take size bytes → length front ≤ 65536
+run_is_short ended bytes front first size behind is first-is front-is =
+    let run : FirstIs ended bytes (found.Foreign size behind) = rw first-is at is in
+    omega (arith, run.1.short, ap length front-is, length-take size bytes)
 
 whole_front : (ended : Bool) (bytes rest : List ℕ) (given others : List Note) → Gives ended bytes given rest → HasNotes rest others → (whole : List ℕ) × HasNotes whole (given ++ others)
 whole_front false bytes rest given others first h = (bytes ++ [], first.notes [] others (All-nil (λ byte. byte < 256)) (rw (append-nil rest) h))

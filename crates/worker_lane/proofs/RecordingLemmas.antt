@@ -10,12 +10,14 @@ use Rattle.packet_codec.specs.Canonical.{canonical}
 use Rattle.packet_codec.specs.Grammar.{AreBytes}
 use Rattle.stream_reader.specs.declared.note.Note.{Note}
 use Rattle.stream_reader.specs.Notes.{HasDecided}
+use Rattle.stream_reader.specs.First.{IsMadeBy}
 use Rattle.stream_reader.specs.Stream.{Held, Gives, GivesNote}
+use Rattle.stream_reader.specs.declared.first.First.{First}
 use Rattle.stream_reader.proofs.FrontLemmas.{are_both}
 use Rattle.stream_reader.proofs.TurnLemmas.{begin_fed, begin_decided, begin_ended, end_whole, gives_none, gives_then}
 use Rattle.worker_lane.specs.Recorded.{recorded_note, recorded_events, IsRecorded}
-use Rattle.worker_lane.specs.Scribing.{Scribing, holding, TakesNote, IsAsBefore, GivesEvent, GivesThis, GivesPacket, HasNone, most_left, Recording, GivesPackets, IsRecordedSoFar}
-use Rattle.worker_lane.specs.Waiting.{PutsFirst}
+use Rattle.worker_lane.specs.Scribing.{Scribing, holding, TakesNote, IsAsBefore, GivesEvent, GivesThis, GivesOne, GivesPacket, HasNone, most_left, Recording, GivesPackets, IsRecordedSoFar}
+use Rattle.worker_lane.specs.Waiting.{PutsFirst, PutsOne, PutsNote}
 use Rattle.worker_lane.proofs.NoteLemmas.{recorded_count}
 
 -- ---- bytes fed, and the end
@@ -101,13 +103,14 @@ first_given before after old event new lane held first = record {
   has_packet = first.has_packet;
 }
 
-pub first_if_given : {E : Type 0} (result : Result (Option Event) E) (before after : Scribing) (old new : List ℕ) → after.lane ≡ before.lane → after.held ≡ before.held → IfOk result (λ answer. IfSome answer (λ event. PutsFirst event before.waiting old after.waiting new)) → IfOk result (λ answer. IfSome answer (λ event. GivesThis before old event after new))
-first_if_given (Ok (Some event)) before after old new lane held first = first_given before after old event new lane held first
-first_if_given (Ok None) before after old new lane held first = tt
-first_if_given (Err fault) before after old new lane held first = tt
+pub first_if_given : {E : Type 0} (result : Result Bool E) (before after : Scribing) (old new : List ℕ) → after.lane ≡ before.lane → after.held ≡ before.held → IfOk result (λ given. given ≡ true → PutsOne before.waiting old after.waiting new) → IfOk result (λ given. given ≡ true → GivesOne before old after new)
+first_if_given (Ok given) before after old new lane held puts = λ some.
+    let first = puts some in
+    (first.0, first_given before after old first.0 new lane held first.1)
+first_if_given (Err fault) before after old new lane held puts = tt
 
 -- the first event of the next note was given
-pub note_given : (before after : Scribing) (given : Note) (event : Event) (left : List Event) (old new : List ℕ) → before.waiting ≡ [] → GivesNote before.held given after.held → after.held.ended ≡ before.held.ended → after.lane ≡ before.lane → after.waiting ≡ left → PutsFirst event (recorded_note before.lane given) old left new → GivesThis before old event after new
+note_given : (before after : Scribing) (given : Note) (event : Event) (left : List Event) (old new : List ℕ) → before.waiting ≡ [] → GivesNote before.held given after.held → after.held.ended ≡ before.held.ended → after.lane ≡ before.lane → after.waiting ≡ left → PutsFirst event (recorded_note before.lane given) old left new → GivesThis before old event after new
 note_given before after given event left old new none step ended lane left-is first =
     let taken : Scribing = record { lane = before.lane; waiting = recorded_note before.lane given; held = after.held } in
     record {
@@ -119,6 +122,15 @@ note_given before after given event left old new none step ended lane left-is fi
       new_is = first.new_is;
       has_packet = first.has_packet;
     }
+
+-- so it is of what is first, once it is passed
+pub first_note_given : (before between after : Scribing) (first : First) (old new : List ℕ) → before.waiting ≡ [] → between.held ≡ before.held → between.lane ≡ before.lane → PutsNote before.lane before.held.bytes first old between.waiting new → ((given : Note) → IsMadeBy between.held.bytes first given → GivesNote between.held given after.held) → after.held.ended ≡ between.held.ended → after.lane ≡ between.lane → after.waiting ≡ between.waiting → GivesOne before old after new
+first_note_given before between after first old new none held lane puts passed ended same_lane left =
+    let made : IsMadeBy between.held.bytes first puts.note = rw (ap (λ (h : Held). h.bytes) held) puts.made in
+    let step : GivesNote before.held puts.note after.held = rw held at (passed puts.note made) in (
+      puts.puts.0,
+      note_given before after puts.note puts.puts.0 between.waiting old new none step (ended ∙ ap (λ (h : Held). h.ended) held) (same_lane ∙ lane) left puts.puts.1,
+    )
 
 -- and it was given as its packet
 pub as_packet : (before after : Scribing) (old : List ℕ) (event : Event) (new : List ℕ) → GivesThis before old event after new → GivesPacket before old after new
@@ -209,10 +221,17 @@ given_shorter before after event g = shorter g.waiting g.ready g.first
       length-append t.given.front waiting.held.bytes,
     )
 
-pub shorter_if_given : {E : Type 0} (result : Result (Option Event) E) (before after : Scribing) (old new : List ℕ) → IfOk result (λ answer. IfSome answer (λ event. GivesThis before old event after new)) → IfOk result (λ answer. IfSome answer (λ event. most_left after < most_left before))
-shorter_if_given (Ok (Some event)) before after old new gives = given_shorter before after event gives.given
-shorter_if_given (Ok None) before after old new gives = tt
+pub shorter_if_given : {E : Type 0} (result : Result Bool E) (before after : Scribing) (old new : List ℕ) → IfOk result (λ given. given ≡ true → GivesOne before old after new) → IfOk result (λ given. given ≡ true → most_left after < most_left before)
+shorter_if_given (Ok given) before after old new gives = λ some.
+    let one = gives some in
+    given_shorter before after one.0 one.1.given
 shorter_if_given (Err refused) before after old new gives = tt
+
+pub packet_if_given : {E : Type 0} (result : Result Bool E) (before after : Scribing) (old new : List ℕ) → IfOk result (λ given. given ≡ true → GivesOne before old after new) → IfOk result (λ given. given ≡ true → GivesPacket before old after new)
+packet_if_given (Ok given) before after old new gives = λ some.
+    let one = gives some in
+    as_packet before after old one.0 new one.1
+packet_if_given (Err refused) before after old new gives = tt
 
 -- ---- a piece of a stream
 

@@ -3,21 +3,26 @@ use Rattle.std.proofs.Common.{◌≡◌, ℕ, ◌+◌, ◌-◌, ◌<◌, ◌≤�
 use Rattle.std.proofs.lemmas.Bool.{cases_lt}
 use Rattle.std.proofs.lemmas.List.{length-append, length-map, length-take, length-drop, drop-drop, drop_all, take_all}
 use Rattle.packet_codec.specs.declared.event.Event.{Event}
-use Rattle.std.specs.Prelude.{IsTrue, Result, Ok, Err, IfOk, Option, Some, None, IfNone}
+use Rattle.std.specs.Prelude.{IsTrue, Result, Ok, Err, IfOk, Option}
 use Rattle.std.specs.Int.{w32, to_be_bytes}
 use Rattle.sub_number.specs.Checksum.{crc32}
-use Rattle.packet_codec.specs.Canonical.{canonical, canonical_body, canonical_size}
+use Rattle.packet_codec.specs.Canonical.{canonical, canonical_body, canonical_size, Fits}
+use Rattle.packet_codec.specs.Grammar.{AreBytes}
+use Rattle.packet_codec.specs.Header.{BeginsWithPacket}
+use Rattle.packet_codec.specs.Packet.{SpellsEvent}
+use Rattle.packet_codec.proofs.LaneLemmas.{is_event_under}
 use Rattle.packet_codec.specs.Routing.{under}
+use Rattle.stream_reader.specs.declared.first.First.{First}
+use Rattle.stream_reader.specs.declared.first.First.TheVariants as found
 use Rattle.stream_reader.specs.declared.note.Note.{Note}
 use Rattle.stream_reader.specs.declared.note.Note.TheVariants as note
 use Rattle.worker_lane.specs.declared.waiting.Spelling.{Spelling}
 use Rattle.worker_lane.specs.declared.waiting.Waiting.{Waiting}
 use Rattle.worker_lane.specs.declared.waiting.Waiting.TheVariants as waits
-use Rattle.worker_lane.specs.declared.waiting.Made.{Made}
-use Rattle.worker_lane.specs.declared.waiting.Made.TheVariants as makes
 use Rattle.worker_lane.specs.Recorded.{pieces_of, stdout_under, recorded_event, recorded_note, HasPacket}
-use Rattle.worker_lane.specs.Waiting.{waiting_events, made_events, pieces_left, HasPiecesLeft, IsSound, IsSoundMade, PutsFirst}
+use Rattle.worker_lane.specs.Waiting.{waiting_events, pieces_left, HasPiecesLeft, IsSound, PutsOne, PutsNote}
 use Rattle.worker_lane.proofs.PiecesLemmas.{pieces_first}
+use Rattle.worker_lane.proofs.EventLemmas.{spelled_is_event}
 use Rattle.worker_lane.proofs.NoteLemmas.{recorded_whole, recorded_in_pieces}
 
 -- the slice that is taken is the next piece
@@ -52,39 +57,65 @@ next_pieces bytes given next some is =
     pieces_first (drop given bytes) (omega (arith, length-drop given bytes)) ∙ ap (λ (l : List ℕ). take 65536 (drop given bytes) ∷ pieces_of l) rest
 
 -- a piece was appended
-puts_next : (lane : ℕ) (event : Event) (spelling after : Spelling) (old new : List ℕ) → HasPiecesLeft spelling → after ≡ record { bytes = spelling.bytes; given = min (spelling.given + 65536) (length spelling.bytes.items) } → event ≡ stdout_under lane (take 65536 (drop spelling.given spelling.bytes.items)) → HasPacket event → new ≡ old ++ canonical event → PutsFirst event (pieces_left lane spelling) old (pieces_left lane after) new
-puts_next lane event spelling after old new some after-is event-is packet grown = rw after-is (record {
-  events_are = ap (map (stdout_under lane)) (next_pieces spelling.bytes.items spelling.given (min (spelling.given + 65536) (length spelling.bytes.items)) some refl)
-      ∙ ap (λ (e : Event). e ∷ map (stdout_under lane) (pieces_of (drop (min (spelling.given + 65536) (length spelling.bytes.items)) spelling.bytes.items))) (sym event-is);
-  new_is = grown;
-  has_packet = packet;
-})
-
-pub puts_piece : (lane : ℕ) (event : Event) (waiting : Waiting) (spelling after : Spelling) (old new : List ℕ) → waiting ≡ waits.Pieces spelling → IsSound waiting → after ≡ record { bytes = spelling.bytes; given = min (spelling.given + 65536) (length spelling.bytes.items) } → event ≡ stdout_under lane (take 65536 (drop spelling.given spelling.bytes.items)) → HasPacket event → new ≡ old ++ canonical event → PutsFirst event (waiting_events lane waiting) old (pieces_left lane after) new
-puts_piece lane event w spelling after old new waiting-is sound after-is event-is packet grown =
-    let some : HasPiecesLeft spelling = rw waiting-is at sound in
-    rw waiting-is (puts_next lane event spelling after old new some after-is event-is packet grown)
+pub puts_piece : (lane : ℕ) (spelling after : Spelling) (piece old new : List ℕ) → HasPiecesLeft spelling → piece ≡ take 65536 (drop spelling.given spelling.bytes.items) → after ≡ record { bytes = spelling.bytes; given = min (spelling.given + 65536) (length spelling.bytes.items) } → HasPacket (stdout_under lane piece) → new ≡ old ++ canonical (stdout_under lane piece) → PutsOne (pieces_left lane spelling) old (pieces_left lane after) new
+puts_piece lane spelling after piece old new some piece-is after-is packet grown = rw after-is (
+  stdout_under lane piece,
+  record {
+    events_are = ap (map (stdout_under lane)) (next_pieces spelling.bytes.items spelling.given (min (spelling.given + 65536) (length spelling.bytes.items)) some refl)
+        ∙ ap (λ (p : List ℕ). stdout_under lane p ∷ map (stdout_under lane) (pieces_of (drop (min (spelling.given + 65536) (length spelling.bytes.items)) spelling.bytes.items))) (sym piece-is);
+    new_is = grown;
+    has_packet = packet;
+  },
+)
 
 -- none is left
-pub none_left : (lane : ℕ) (spelling : Spelling) → length spelling.bytes.items ≤ spelling.given → pieces_left lane spelling ≡ []
+none_left : (lane : ℕ) (spelling : Spelling) → length spelling.bytes.items ≤ spelling.given → pieces_left lane spelling ≡ []
 none_left lane spelling all = ap (λ (l : List ℕ). map (stdout_under lane) (pieces_of l)) (drop_all spelling.given spelling.bytes.items all)
 
-pub puts_last_piece : (lane : ℕ) (event : Event) (events : List Event) (spelling : Spelling) (left : Waiting) (old new : List ℕ) → PutsFirst event events old (pieces_left lane spelling) new → length spelling.bytes.items ≤ spelling.given → left ≡ waits.Nothing → PutsFirst event events old (waiting_events lane left) new
-puts_last_piece lane event events spelling left old new first all left-is = rw left-is (rw (none_left lane spelling all) at first)
+pub puts_last_piece : (lane : ℕ) (events : List Event) (spelling : Spelling) (left : Waiting) (old new : List ℕ) → PutsOne events old (pieces_left lane spelling) new → length spelling.bytes.items ≤ spelling.given → left ≡ waits.Nothing → PutsOne events old (waiting_events lane left) new
+puts_last_piece lane events spelling left old new first all left-is = rw left-is (rw (none_left lane spelling all) at first)
 
-pub puts_made_piece : (lane : ℕ) (event : Event) (made : Made) (spelling after : Spelling) (left : Waiting) (old new : List ℕ) → made ≡ makes.Pieces spelling → IsSoundMade made → after ≡ record { bytes = spelling.bytes; given = min (spelling.given + 65536) (length spelling.bytes.items) } → event ≡ stdout_under lane (take 65536 (drop spelling.given spelling.bytes.items)) → HasPacket event → new ≡ old ++ canonical event → waiting_events lane left ≡ pieces_left lane after → PutsFirst event (made_events lane made) old (waiting_events lane left) new
-puts_made_piece lane event m spelling after left old new made-is sound after-is event-is packet grown left-is =
-    let some : HasPiecesLeft spelling = rw made-is at sound in
-    rw (made-is, left-is) (puts_next lane event spelling after old new some after-is event-is packet grown)
+-- ---- a packet was put, whole or in pieces
 
-pub puts_whole : (lane : ℕ) (made : Made) (event : Event) (old new : List ℕ) → made ≡ makes.Whole event → IsSoundMade made → new ≡ old ++ canonical event → PutsFirst event (made_events lane made) old [] new
-puts_whole lane m event old new made-is sound grown =
-    let packet : HasPacket event = rw made-is at sound in
-    rw made-is (record { events_are = refl; new_is = grown; has_packet = packet })
+pub puts_whole : (lane : ℕ) (bytes : List ℕ) (e : Event) (left : List Event) (old new : List ℕ) → lane < 64 → AreBytes bytes → SpellsEvent bytes e → left ≡ [] → Fits (under lane e) → new ≡ old ++ canonical (under lane e) → PutsOne (recorded_event lane e) old left new
+puts_whole lane bytes e left old new small are spelled none fits grown = (
+  under lane e,
+  record {
+    events_are = recorded_whole lane e fits.size ∙ ap (λ (l : List Event). under lane e ∷ l) (sym none);
+    new_is = grown;
+    has_packet = record { is_event = is_event_under lane e small (spelled_is_event bytes e are spelled) fits; fits = fits };
+  },
+)
+
+too_long : (lane : ℕ) (e : Event) → (Fits (under lane e) → ⊥) → 4194303 < canonical_size (under lane e)
+too_long lane e long = elim (cases_lt 4194303 (canonical_size (under lane e))) [
+  | inl large ↦ large
+  | inr small ↦ absurd (long (record { size = small }))
+]
+
+pub puts_in_pieces : (lane : ℕ) (e : Event) (first spelling : Spelling) (left : Waiting) (old new : List ℕ) → (Fits (under lane e) → ⊥) → first.bytes.items ≡ canonical e → first.given ≡ 0 → PutsOne (pieces_left lane first) old (pieces_left lane spelling) new → waiting_events lane left ≡ pieces_left lane spelling → PutsOne (recorded_event lane e) old (waiting_events lane left) new
+puts_in_pieces lane e first spelling left old new long bytes-is given-is puts left-is =
+    let all : pieces_left lane first ≡ recorded_event lane e =
+    (λ i. map (stdout_under lane) (pieces_of (drop (given-is i) (bytes-is i)))) ∙ sym (recorded_in_pieces lane e (too_long lane e long)) in
+    rw left-is (rw all at puts)
+
+-- ---- the first packet of a note was put
+
+pub puts_packet_note : (lane : ℕ) (bytes packet : List ℕ) (first : First) (size : ℕ) (left : List Event) (old new : List ℕ) → BeginsWithPacket bytes size → first ≡ found.Packet size → packet ≡ take size bytes → ((e : Event) → SpellsEvent packet e → PutsOne (recorded_event lane e) old left new) → PutsNote lane bytes first old left new
+puts_packet_note lane bytes packet first size left old new begins first-is packet-is puts =
+    let (e, spelled) = begins.packet in
+    rw first-is (record { note = note.Event e; made = spelled; puts = puts e (rw packet-is spelled) })
+
+pub puts_foreign_note : (lane : ℕ) (bytes run : List ℕ) (first : First) (size : ℕ) (behind : Option ℕ) (left : List Event) (old new : List ℕ) → first ≡ found.Foreign size behind → run ≡ take size bytes → left ≡ [] → HasPacket (stdout_under lane run) → new ≡ old ++ canonical (stdout_under lane run) → PutsNote lane bytes first old left new
+puts_foreign_note lane bytes run first size behind left old new first-is run-is none packet grown = rw first-is (record {
+  note = note.Foreign run;
+  made = run-is;
+  puts = (stdout_under lane run, record { events_are = ap (λ (l : List Event). stdout_under lane run ∷ l) (sym none); new_is = grown; has_packet = packet });
+})
 
 -- ---- something is waiting, unless it is nothing
 
-spelling_some : (e : Event) → 0 < length (canonical e)
+pub spelling_some : (e : Event) → 0 < length (canonical e)
 spelling_some e = omega (arith, length-append (canonical_body e) (to_be_bytes w32 (crc32 (canonical_body e))))
 
 some_pieces : (lane : ℕ) (bytes : List ℕ) → 0 < length bytes → 0 < length (map (stdout_under lane) (pieces_of bytes))
@@ -118,7 +149,6 @@ nothing_waiting lane waiting test (to, from) is_true =
     ap (waiting_events lane) is
 
 -- where some event is waiting, it is given
-pub never_none : {E : Type 0} (Q : Type 0) (result : Result (Option Event) E) (P : Type 0) → (P → ⊥) → IfOk result (λ answer. IfNone answer P) → IfOk result (λ answer. IfNone answer Q)
-never_none Q (Ok None) P some otherwise = absurd (some otherwise)
-never_none Q (Ok (Some event)) P some otherwise = tt
+pub never_none : {E : Type 0} (Q : Type 0) (result : Result Bool E) (P : Type 0) → (P → ⊥) → IfOk result (λ given. given ≡ false → P) → IfOk result (λ given. given ≡ false → Q)
+never_none Q (Ok given) P some otherwise = λ none. absurd (some (otherwise none))
 never_none Q (Err fault) P some otherwise = tt

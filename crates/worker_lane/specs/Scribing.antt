@@ -45,6 +45,10 @@ pub record GivesThis (before : Scribing) (old : List ℕ) (event : Event) (after
   pub new_is : new ≡ old ++ canonical event
   pub has_packet : HasPacket event
 
+-- some event was given so
+abbrev pub GivesOne : Scribing → List ℕ → Scribing → List ℕ → Type 0
+GivesOne before old after new = (event : Event) × GivesThis before old event after new
+
 -- it was given as its packet, behind what was written before
 pub record GivesPacket (before : Scribing) (old : List ℕ) (after : Scribing) (new : List ℕ) : Type 0 where
   pub event : Event

@@ -2,14 +2,14 @@
 use Rattle.std.specs.Prelude.{◌≡◌, ℕ, ◌<◌, ◌≤◌, ⊤, List, [], ◌∷◌, ◌++◌, length, drop, map}
 use Rattle.packet_codec.specs.declared.event.Event.{Event}
 use Rattle.packet_codec.specs.Canonical.{Fits, canonical}
+use Rattle.stream_reader.specs.declared.first.First.{First}
 use Rattle.stream_reader.specs.declared.note.Note.{Note}
 use Rattle.stream_reader.specs.declared.note.Note.TheVariants as note
+use Rattle.stream_reader.specs.First.{IsMadeBy}
 use Rattle.worker_lane.specs.declared.waiting.Spelling.{Spelling}
 use Rattle.worker_lane.specs.declared.waiting.Waiting.{Waiting}
 use Rattle.worker_lane.specs.declared.waiting.Waiting.TheVariants as waiting
-use Rattle.worker_lane.specs.declared.waiting.Made.{Made}
-use Rattle.worker_lane.specs.declared.waiting.Made.TheVariants as made
-use Rattle.worker_lane.specs.Recorded.{pieces_of, stdout_under, longest_piece, HasPacket}
+use Rattle.worker_lane.specs.Recorded.{pieces_of, stdout_under, longest_piece, recorded_note, HasPacket}
 
 -- the pieces of the spelling that were not given yet
 abbrev pub pieces_left : (lane : ℕ) → Spelling → List Event
@@ -18,10 +18,6 @@ pieces_left lane spelling = map (stdout_under lane) (pieces_of (drop spelling.gi
 abbrev pub waiting_events : (lane : ℕ) → Waiting → List Event
 waiting_events lane waiting.Nothing = []
 waiting_events lane (waiting.Pieces spelling) = pieces_left lane spelling
-
-abbrev pub made_events : (lane : ℕ) → Made → List Event
-made_events lane (made.Whole event) = event ∷ []
-made_events lane (made.Pieces spelling) = pieces_left lane spelling
 
 -- the note can be encoded, or held in one packet
 abbrev pub IsShortNote : Note → Type 0
@@ -36,13 +32,18 @@ abbrev pub IsSound : Waiting → Type 0
 IsSound waiting.Nothing = ⊤
 IsSound (waiting.Pieces spelling) = HasPiecesLeft spelling
 
--- each event can be encoded, and there is one
-abbrev pub IsSoundMade : Made → Type 0
-IsSoundMade (made.Whole event) = HasPacket event
-IsSoundMade (made.Pieces spelling) = HasPiecesLeft spelling
-
 -- this event is the first; it was appended as its packet, and the others are waiting
 pub record PutsFirst (event : Event) (events : List Event) (old : List ℕ) (left : List Event) (new : List ℕ) : Type 0 where
   pub events_are : events ≡ event ∷ left
   pub new_is : new ≡ old ++ canonical event
   pub has_packet : HasPacket event
+
+-- some event is the first, and so on
+abbrev pub PutsOne : (events : List Event) → List ℕ → (left : List Event) → List ℕ → Type 0
+PutsOne events old left new = (event : Event) × PutsFirst event events old left new
+
+-- so it is of the events that are recorded of the note that is first
+pub record PutsNote (lane : ℕ) (bytes : List ℕ) (first : First) (old : List ℕ) (left : List Event) (new : List ℕ) : Type 0 where
+  pub note : Note
+  pub made : IsMadeBy bytes first note
+  pub puts : PutsOne (recorded_note lane note) old left new

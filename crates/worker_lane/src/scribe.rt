@@ -3,18 +3,21 @@
 ghost use Rattle.std.specs.Prelude.{◌≡◌, ◌<◌, ◌≤◌, ◌+◌, ℕ, List, [], ◌++◌, ◌↔◌, true, false, pos, None, length, map, IfOk, OnErr, IfSome, IfNone};
 ghost use Rattle.std.specs.Option.{option_to_list};
 ghost use Rattle.packet_codec.specs.Canonical.{canonical};
+ghost use Rattle.stream_reader.specs.First.{FirstIs, IsCandidate, IsForeignAtFront};
 ghost use Rattle.stream_reader.specs.Room.{room};
+ghost use Rattle.stream_reader.specs.declared.first.First.TheVariants.{Packet as APacket, Nothing as NoNote};
 ghost use Rattle.worker_lane.specs.Endings.{ending_events, IsPacketOf};
 ghost use Rattle.worker_lane.specs.declared.lot.Ending.TheVariants.{Exit, NoMemory as without_memory};
-ghost use Rattle.worker_lane.specs.Scribing.{holding, GivesThis, GivesPacket, HasNone, most_left, Recording};
+ghost use Rattle.worker_lane.specs.Scribing.{holding, GivesOne, GivesPacket, HasNone, most_left, Recording};
+ghost use Rattle.worker_lane.specs.Waiting.{PutsNote};
 
 use crate::ending::{ending_text, returncode_event};
 use crate::lot::Ending;
-use crate::waiting::{Waiting, is_nothing, put_first, put_note, wait_for};
-use packet_codec::{Event, encode};
+use crate::waiting::{Waiting, are_bytes, is_nothing, put_first, put_packet, put_stdout};
+use packet_codec::{Header, encode};
 use std::alloc::Global;
 use std::marker::Model;
-use stream_reader::Reader;
+use stream_reader::{First, Reader, Seen};
 use sub_number::{Bytes, NoMemory};
 
 /// What a stream becomes when it is recorded under a lane: for each note of the stream, packets under the lane's route.
@@ -87,27 +90,16 @@ impl Scribe {
         self.reader.held()
     }
 
-    /// Appends the next recorded packet, and answers true. False comes where there is none: before the end, until more
-    /// bytes are fed; behind the end, where all were given. After false before the end at most 4,259,837 bytes are held.
+    /// Appends the next recorded packet, and answers true: under the lane, where it fits there, from the parts that were
+    /// read, and else as a piece of the file `stdout`. False comes where there is none: before the end, until more bytes
+    /// are fed; behind the end, where all were given. After false before the end at most 4,259,837 bytes are held.
     ///
     /// `NoMemory` comes only for want of memory, and leaves the scribe and `out` as before.
     pub fn next_into(&mut self, out: &mut Vec<u8>) -> Result<bool, NoMemory>
         ensures given { IfOk result (λ given. given ≡ true → GivesPacket self.old out.old.items self.new out.new.items) }
+        ensures packet { IfOk result (λ given. given ≡ true → GivesOne self.old out.old.items self.new out.new.items) }
         ensures shorter { IfOk result (λ given. given ≡ true → most_left self.new < most_left self.old) }
         ensures none { IfOk result (λ given. given ≡ false → HasNone self.old × (self.new ≡ self.old) × (out.new.items ≡ out.old.items)) }
-        ensures err { OnErr result ((self.new ≡ self.old) × (out.new.items ≡ out.old.items)) }
-    {
-        Ok(self.next_event_into(out)?.is_some())
-    }
-
-    /// Appends the next recorded packet, and hands out its event, as it is recorded: under the lane, or a piece of the
-    /// file `stdout`. So whoever writes the packet need not read it again. None comes where `next_into` answers false.
-    ///
-    /// `NoMemory` comes only for want of memory, and leaves the scribe and `out` as before.
-    pub fn next_event_into(&mut self, out: &mut Vec<u8>) -> Result<Option<Event>, NoMemory>
-        ensures some { IfOk result (λ answer. IfSome answer (λ event. GivesThis self.old out.old.items event self.new out.new.items)) }
-        ensures shorter { IfOk result (λ answer. IfSome answer (λ event. most_left self.new < most_left self.old)) }
-        ensures none { IfOk result (λ answer. IfNone answer (HasNone self.old × (self.new ≡ self.old) × (out.new.items ≡ out.old.items))) }
         ensures err { OnErr result ((self.new ≡ self.old) × (out.new.items ≡ out.old.items)) }
     {
         self.put_next(out)
@@ -151,33 +143,121 @@ impl Scribe {
 }
 
 impl Scribe {
-    fn put_next(&mut self, out: &mut Vec<u8>) -> Result<Option<Event>, NoMemory>
-        ensures some { IfOk result (λ answer. IfSome answer (λ event. GivesThis self.old out.old.items event self.new out.new.items)) }
-        ensures none { IfOk result (λ answer. IfNone answer (HasNone self.old × (self.new ≡ self.old) × (out.new.items ≡ out.old.items))) }
+    #[inline(always)]
+    fn put_next(&mut self, out: &mut Vec<u8>) -> Result<bool, NoMemory>
+        ensures some { IfOk result (λ some. some ≡ true → GivesOne self.old out.old.items self.new out.new.items) }
+        ensures none { IfOk result (λ some. some ≡ false → HasNone self.old × (self.new ≡ self.old) × (out.new.items ≡ out.old.items)) }
         ensures err { OnErr result ((self.new ≡ self.old) × (out.new.items ≡ out.old.items)) }
     {
         if is_nothing(&self.waiting) {
-            self.put_first_of_note(out)
+            self.put_note(out)
         } else {
             put_first(self.alloc, self.lane, &mut self.waiting, out)
         }
     }
 
-    // The first packet of the next note. The note is taken only once the packet is written.
-    fn put_first_of_note(&mut self, out: &mut Vec<u8>) -> Result<Option<Event>, NoMemory>
+    // The first packet of the next note. The note is passed only once the packet is written. So of each function below.
+    #[inline(always)]
+    fn put_note(&mut self, out: &mut Vec<u8>) -> Result<bool, NoMemory>
         requires { self.old.waiting ≡ [] }
-        ensures some { IfOk result (λ answer. IfSome answer (λ event. GivesThis self.old out.old.items event self.new out.new.items)) }
-        ensures none { IfOk result (λ answer. IfNone answer (HasNone self.old × (self.new ≡ self.old) × (out.new.items ≡ out.old.items))) }
+        ensures some { IfOk result (λ some. some ≡ true → GivesOne self.old out.old.items self.new out.new.items) }
+        ensures none { IfOk result (λ some. some ≡ false → HasNone self.old × (self.new ≡ self.old) × (out.new.items ≡ out.old.items)) }
         ensures err { OnErr result ((self.new ≡ self.old) × (out.new.items ≡ out.old.items)) }
     {
-        let made = self.reader.first_made()?;
-        let first = made.first();
-        let Some(note) = self.reader.note(made)? else {
+        match self.reader.first_seen() {
+            Seen::Candidate(header, sum) => self.put_candidate(header, sum, out),
+            Seen::Told(first) => self.put_told(first, out),
+        }
+    }
+
+    // The same where a candidate stands.
+    #[inline(always)]
+    fn put_candidate(
+        &mut self,
+        header: Header,
+        sum: u32,
+        out: &mut Vec<u8>,
+    ) -> Result<bool, NoMemory>
+        requires none { self.old.waiting ≡ [] }
+        requires candidate { IsCandidate self.old.held.bytes header sum }
+        ensures some { IfOk result (λ some. some ≡ true → GivesOne self.old out.old.items self.new out.new.items) }
+        ensures none { IfOk result (λ some. some ≡ false → HasNone self.old × (self.new ≡ self.old) × (out.new.items ≡ out.old.items)) }
+        ensures err { OnErr result ((self.new ≡ self.old) × (out.new.items ≡ out.old.items)) }
+    {
+        if let Some(size) = self.put_where_packet(header, sum, out)? {
+            self.reader.pass(First::Packet(size));
+            return Ok(true);
+        }
+        let first = self.reader.foreign_front();
+        self.put_told(first, out)
+    }
+
+    // The same where what is first is told.
+    #[inline(never)]
+    fn put_told(&mut self, first: First, out: &mut Vec<u8>) -> Result<bool, NoMemory>
+        requires none { self.old.waiting ≡ [] }
+        requires first { FirstIs self.old.held.ended self.old.held.bytes first }
+        ensures some { IfOk result (λ some. some ≡ true → GivesOne self.old out.old.items self.new out.new.items) }
+        ensures none { IfOk result (λ some. some ≡ false → HasNone self.old × (self.new ≡ self.old) × (out.new.items ≡ out.old.items)) }
+        ensures err { OnErr result ((self.new ≡ self.old) × (out.new.items ≡ out.old.items)) }
+    {
+        if !self.put_first_of(first, out)? {
+            return Ok(false);
+        }
+        self.reader.pass(first);
+        Ok(true)
+    }
+
+    // Appends the first packet of what is recorded of the packet that the candidate is, and gives the candidate's size.
+    // None comes exactly where it is no packet. The note is not passed yet.
+    #[inline(always)]
+    fn put_where_packet(
+        &mut self,
+        header: Header,
+        sum: u32,
+        out: &mut Vec<u8>,
+    ) -> Result<Option<usize>, NoMemory>
+        requires none { self.old.waiting ≡ [] }
+        requires candidate { IsCandidate self.old.held.bytes header sum }
+        ensures lane { self.new.lane ≡ self.old.lane }
+        ensures held { self.new.held ≡ self.old.held }
+        ensures some { IfOk result (λ answer. IfSome answer (λ size. PutsNote self.old.lane self.old.held.bytes (APacket size) out.old.items self.new.waiting out.new.items)) }
+        ensures first { IfOk result (λ answer. IfSome answer (λ size. FirstIs self.old.held.ended self.old.held.bytes (APacket size))) }
+        ensures none { IfOk result (λ answer. IfNone answer (IsForeignAtFront self.old.held.ended self.old.held.bytes × (self.new ≡ self.old) × (out.new.items ≡ out.old.items))) }
+        ensures err { OnErr result ((self.new ≡ self.old) × (out.new.items ≡ out.old.items)) }
+    {
+        let Some(packet) = self.reader.packet(header, sum) else {
             return Ok(None);
         };
-        let (event, left) = put_note(self.alloc, self.lane, note, out)?;
-        self.reader.pass(first);
-        wait_for(&mut self.waiting, left);
-        Ok(Some(event))
+        let size = packet.size();
+        are_bytes(self.reader.front(size));
+        put_packet(self.alloc, self.lane, &packet, &mut self.waiting, out)?;
+        Ok(Some(size))
+    }
+
+    // Appends the first packet of what is recorded of the note that is first. False comes exactly where there is none. The
+    // note is not passed yet.
+    fn put_first_of(&mut self, first: First, out: &mut Vec<u8>) -> Result<bool, NoMemory>
+        requires none { self.old.waiting ≡ [] }
+        requires first { FirstIs self.old.held.ended self.old.held.bytes first }
+        ensures lane { self.new.lane ≡ self.old.lane }
+        ensures held { self.new.held ≡ self.old.held }
+        ensures some { IfOk result (λ some. some ≡ true → PutsNote self.old.lane self.old.held.bytes first out.old.items self.new.waiting out.new.items) }
+        ensures none { IfOk result (λ some. some ≡ false → (first ≡ NoNote) × (self.new ≡ self.old) × (out.new.items ≡ out.old.items)) }
+        ensures err { OnErr result ((self.new ≡ self.old) × (out.new.items ≡ out.old.items)) }
+    {
+        match first {
+            First::Packet(size) => {
+                are_bytes(self.reader.front(size));
+                let packet = self.reader.known(size);
+                put_packet(self.alloc, self.lane, &packet, &mut self.waiting, out)?;
+                Ok(true)
+            }
+            First::Foreign(size, _) => {
+                put_stdout(self.alloc, self.lane, self.reader.front(size), out)?;
+                Ok(true)
+            }
+            First::Nothing => Ok(false),
+        }
     }
 }
