@@ -2,6 +2,7 @@ pub mod PiecesLemmas
 pub mod EventLemmas
 pub mod NoteLemmas
 pub mod RecordingLemmas
+pub mod StdoutLemmas
 pub mod WaitingLemmas
 pub mod EndingLemmas
 pub mod RestLemmas

@@ -5,6 +5,7 @@
 //!
 //! - `scribe`: the bytes fed, and the packets that are recorded of them
 //! - `waiting`: what is still to be given of a note
+//! - `stdout`: bytes as a packet
 //! - `whole`: all packets of a stream
 //! - `laws`: what holds of all that is recorded
 //! - `lane_laws`: what holds of several streams that are recorded, each under its lane
@@ -22,6 +23,7 @@ mod lot;
 mod process;
 mod scribe;
 mod stage;
+mod stdout;
 mod waiting;
 mod whole;
 

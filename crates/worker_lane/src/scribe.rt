@@ -13,7 +13,8 @@ ghost use Rattle.worker_lane.specs.Waiting.{PutsNote};
 
 use crate::ending::{ending_text, returncode_event};
 use crate::lot::Ending;
-use crate::waiting::{Waiting, are_bytes, is_nothing, put_first, put_packet, put_stdout};
+use crate::stdout::{are_bytes, put_stdout};
+use crate::waiting::{Waiting, is_nothing, put_first, put_packet};
 use packet_codec::{Header, encode};
 use std::alloc::Global;
 use std::marker::Model;
@@ -152,7 +153,7 @@ impl Scribe {
         if is_nothing(&self.waiting) {
             self.put_note(out)
         } else {
-            put_first(self.alloc, self.lane, &mut self.waiting, out)
+            put_first(self.lane, &mut self.waiting, out)
         }
     }
 
@@ -254,7 +255,7 @@ impl Scribe {
                 Ok(true)
             }
             First::Foreign(size, _) => {
-                put_stdout(self.alloc, self.lane, self.reader.front(size), out)?;
+                put_stdout(self.lane, self.reader.front(size), out)?;
                 Ok(true)
             }
             First::Nothing => Ok(false),

@@ -2,18 +2,18 @@
 
 ghost use Rattle.std.specs.Prelude.{◌≡◌, ◌↔◌, IsTrue, ◌<◌, ◌≤◌, ◌+◌, [], ◌++◌, length, min, ℕ, true, false, IfOk, OnOk, OnErr};
 ghost use Rattle.packet_codec.specs.declared.event.Event.{Event as AnEvent};
-ghost use Rattle.packet_codec.specs.Canonical.{Fits, canonical};
+ghost use Rattle.packet_codec.specs.Canonical.{Fits};
 ghost use Rattle.packet_codec.specs.Grammar.{AreBytes};
 ghost use Rattle.packet_codec.specs.Packet.{IsPacket, SpellsEvent};
 ghost use Rattle.packet_codec.specs.Routing.{under};
-ghost use Rattle.worker_lane.specs.Recorded.{longest_piece, stdout_under, recorded_event, HasPacket};
+ghost use Rattle.worker_lane.specs.Recorded.{longest_piece, recorded_event};
 ghost use Rattle.worker_lane.specs.Waiting.{waiting_events, pieces_left, IsSound, PutsOne};
 ghost use Rattle.worker_lane.specs.declared.waiting.Waiting.TheVariants.{Nothing};
 
-use packet_codec::{Event, Packet, encode, reroute};
+use crate::stdout::put_stdout;
+use packet_codec::Packet;
 use std::alloc::Global;
-use stream_reader::stdout_event;
-use sub_number::{Bytes, NoMemory};
+use sub_number::NoMemory;
 
 // The most bytes of one piece of an event that does not fit.
 const LONGEST_PIECE: usize = 65_536;
@@ -51,7 +51,6 @@ fn wait_for(waiting: &mut Waiting, next: Waiting)
 /// Appends the packet of the next event, and answers true. False comes where nothing is waiting.
 #[inline(never)]
 pub(crate) fn put_first(
-    alloc: Global,
     lane: u32,
     waiting: &mut Waiting,
     out: &mut Vec<u8>,
@@ -66,7 +65,7 @@ pub(crate) fn put_first(
     let Waiting::Pieces(spelling) = waiting else {
         return Ok(false);
     };
-    put_piece(alloc, lane, spelling, out)?;
+    put_piece(lane, spelling, out)?;
     if spelling.given < spelling.bytes.len() {
         return Ok(true);
     }
@@ -120,7 +119,7 @@ fn put_in_pieces(
     let mut bytes = Vec::new(alloc);
     packet.put_shortest(&mut bytes)?;
     let mut spelling = Spelling { bytes, given: 0 };
-    put_piece(alloc, lane, &mut spelling, out)?;
+    put_piece(lane, &mut spelling, out)?;
     wait_for(waiting, left_of(spelling));
     Ok(())
 }
@@ -138,12 +137,7 @@ fn left_of(spelling: Spelling) -> Waiting
 }
 
 // Appends the packet of the next piece.
-fn put_piece(
-    alloc: Global,
-    lane: u32,
-    spelling: &mut Spelling,
-    out: &mut Vec<u8>,
-) -> Result<(), NoMemory>
+fn put_piece(lane: u32, spelling: &mut Spelling, out: &mut Vec<u8>) -> Result<(), NoMemory>
     requires lane { lane < 64 }
     requires some { spelling.old.given < length spelling.old.bytes.items }
     ensures ok { OnOk result (spelling.new ≡ record { bytes = spelling.old.bytes; given = min (spelling.old.given + longest_piece) (length spelling.old.bytes.items) }) }
@@ -152,42 +146,7 @@ fn put_piece(
 {
     let size = (spelling.bytes.len() - spelling.given).min(LONGEST_PIECE);
     let end = spelling.given + size;
-    put_stdout(alloc, lane, &spelling.bytes[spelling.given..end], out)?;
+    put_stdout(lane, &spelling.bytes[spelling.given..end], out)?;
     spelling.given = end;
     Ok(())
-}
-
-/// What holds of the bytes of each slice: the type tells it.
-#[inline(always)]
-pub(crate) fn are_bytes(bytes: &[u8])
-    ensures { AreBytes bytes.now }
-{}
-
-/// Appends the packet of the bytes as a piece of the file `stdout`, under the lane.
-#[inline(never)]
-pub(crate) fn put_stdout(
-    alloc: Global,
-    lane: u32,
-    bytes: &[u8],
-    out: &mut Vec<u8>,
-) -> Result<(), NoMemory>
-    requires lane { lane < 64 }
-    requires short { length bytes.now ≤ longest_piece }
-    ensures ok { OnOk result (out.new.items ≡ out.old.items ++ canonical (stdout_under lane bytes.now)) }
-    ensures has_packet { HasPacket (stdout_under lane bytes.now) }
-    ensures err { OnErr result (out.new.items ≡ out.old.items) }
-{
-    are_bytes(bytes);
-    let event = stdout_of(alloc, lane, bytes)?;
-    encode(&event, out)
-}
-
-// The event of the bytes as a piece of the file `stdout`, under the lane.
-fn stdout_of(alloc: Global, lane: u32, bytes: &[u8]) -> Result<Event, NoMemory>
-    requires { lane < 64 }
-    ensures { IfOk result (λ event. event ≡ stdout_under lane bytes.now) }
-{
-    let mut event = stdout_event(alloc, Bytes::new(alloc, bytes)?)?;
-    reroute(alloc, &mut event, lane)?;
-    Ok(event)
 }
