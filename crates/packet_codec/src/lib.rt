@@ -62,4 +62,6 @@ mod tests_both_ways;
 #[cfg(test)]
 mod tests_reading;
 #[cfg(test)]
+mod tests_respelling;
+#[cfg(test)]
 mod tests_writing;
