@@ -29,3 +29,5 @@ pub use text_set::{TextSet, in_order, sorted_tags};
 
 #[cfg(test)]
 mod tests;
+#[cfg(test)]
+mod tests_hearing;
