@@ -1,3 +1,4 @@
 pub mod HeldLemmas
 pub mod PartLemmas
 pub mod SiftLemmas
+pub mod TagLemmas

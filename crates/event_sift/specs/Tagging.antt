@@ -1,22 +1,15 @@
 -- The tags that an event gets (docs/FORMATS.md, "subunit-tags").
-use Rattle.std.specs.Prelude.{ℕ, Option, None, Some, List, [], ◌++◌, length, nat_le, ◌==◌, if◌then◌else◌}
+use Rattle.std.specs.Prelude.{ℕ, Option, None, List, [], ◌++◌, nat_le, if◌then◌else◌}
 use Rattle.std.specs.Option.{unwrap_or}
 use Rattle.packet_codec.specs.declared.event.Event.{Event}
 use Rattle.packet_codec.specs.Canonical.{canonical_size, largest_packet}
+use Rattle.packet_codec.specs.Retagging.{if_any, with_tags}
 use Rattle.outcome_fold.specs.Order.{in_byte_order, without}
 use Rattle.event_sift.specs.declared.tagger.Tagger.{Tagger}
-
--- no tags, where there are none
-abbrev pub if_any : List (List ℕ) → Option (List (List ℕ))
-if_any tags = if length tags == 0 then None else Some tags
 
 -- the event's tags and the added ones, in the order of their bytes, each once, without the removed ones
 abbrev pub tags_with : (add remove : List (List ℕ)) → Option (List (List ℕ)) → List (List ℕ)
 tags_with add remove tags = without (in_byte_order (unwrap_or tags [] ++ add)) remove
-
--- the event with these tags
-abbrev pub with_tags : Event → Option (List (List ℕ)) → Event
-with_tags e tags = record e { tags = tags }
 
 -- an event that would no longer fit into a packet stays as it is
 abbrev pub where_fits : Event → Event → Event

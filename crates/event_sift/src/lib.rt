@@ -10,11 +10,12 @@
 //! - `last_event`: the same where the last one stands in a packet
 //! - `sift`: what is released as events come, and at the end
 //! - `whole`: what is released of a whole list of events
-//! - `tagger`: the tags of an event
+//! - `tagger`: the tags of an event; `lent_tags`: lists of tags that are lent
 #![tactic(auto)]
 
 mod held;
 mod last_event;
+mod lent_tags;
 mod part;
 mod part_row;
 mod predicate;

@@ -1,10 +1,12 @@
 //! The tags of an event.
 
-ghost use Rattle.std.specs.Prelude.{◌≡◌, ◌++◌, [], IfOk, OnOk, OnErr};
+ghost use Rattle.std.specs.Prelude.{◌≡◌, ◌++◌, [], Some, IfOk, OnOk, OnErr};
 ghost use Rattle.std.specs.Option.{unwrap_or};
+ghost use Rattle.packet_codec.specs.Retagging.{if_any, lent_bytes};
 ghost use Rattle.outcome_fold.specs.Order.{in_byte_order};
-ghost use Rattle.event_sift.specs.Tagging.{if_any, plain_tags, tags_with, tagged};
+ghost use Rattle.event_sift.specs.Tagging.{plain_tags, tags_with, tagged};
 
+use crate::lent_tags::{put_in_order, put_texts, take_out};
 use outcome_fold::TextSet;
 use packet_codec::{Event, Tags, fits};
 use std::alloc::Global;
@@ -53,6 +55,20 @@ impl Tagger {
         ensures { IfOk result (λ tags. tags ≡ plain_tags self.now) }
     {
         self.tags(&None)
+    }
+
+    /// The tags that an event gets which has these: the tags and the added ones without the removed ones, in the order of
+    /// their bytes, each once. All are lent, and none is copied.
+    ///
+    /// `NoMemory` comes only for want of memory.
+    pub fn tags_for<'t>(&'t self, own: Vec<&'t [u8]>) -> Result<Vec<&'t [u8]>, NoMemory>
+        ensures { IfOk result (λ tags. lent_bytes tags.items ≡ tags_with self.now.add self.now.remove (Some (lent_bytes own.entry.items))) }
+    {
+        let mut tags = own;
+        put_in_order(&mut tags);
+        put_texts(&mut tags, self.add.list())?;
+        take_out(&mut tags, self.remove.list());
+        Ok(tags)
     }
 
     /// Gives the event its tags and the added ones without the removed ones, in the order of their bytes, each once, and
