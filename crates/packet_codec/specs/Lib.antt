@@ -13,3 +13,4 @@ pub mod Lanes
 pub mod Packets
 pub mod Retagging
 pub mod Respelled
+pub mod Pieces

@@ -8,12 +8,11 @@ ghost use Rattle.packet_codec.specs.Packet.{signature};
 ghost use Rattle.packet_codec.specs.Canonical.{canonical_optional, canonical_text, canonical_stamp, canonical_tags, canonical_file, canonical_fields, canonical_body, canonical, canonical_size, Fits};
 
 use crate::event::{Event, FilePart};
+use crate::header::SIGNATURE;
 use crate::sizes::size;
 use crate::stamp::Stamp;
 use crate::tags::Tags;
 use sub_number::{NoMemory, Text, crc_of, write_number};
-
-const SIGNATURE: u8 = 0xb3;
 
 /// Appends the shortest spelling of the event (the Subunit README, "Packet format"), with zlib's CRC-32 at its end.
 ///

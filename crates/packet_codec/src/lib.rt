@@ -11,6 +11,7 @@
 //! - `known`: the event of a packet that is known to stand at the front of some bytes
 //! - `sizes`, `encoding`: the shortest spelling and its size
 //! - `routing`: an event under a lane's route
+//! - `piece`: a piece of a file as a packet under a lane's route
 //! - `respelling`: a packet written from its parts, as it is or with a `change`; it stands on `respelled_size` and
 //!   `respelled_bytes`
 //! - `laws`, `canonical_law`: what holds of all spellings
@@ -31,6 +32,7 @@ mod laws;
 mod looking;
 mod packet;
 mod parts;
+mod piece;
 mod respelled_bytes;
 mod respelled_size;
 mod respelling;
@@ -51,6 +53,7 @@ pub use lane_laws::lanes_are_apart;
 pub use laws::{fronts_are_one, packets_are_one_event};
 pub use looking::{Heading, Sight, head_of, look, look_by, see, see_by};
 pub use packet::{Packet, known_packet};
+pub use piece::put_piece_under;
 pub use routing::reroute;
 pub use sizes::{fits, routed_size, size};
 pub use stamp::Stamp;

@@ -2,7 +2,6 @@ pub mod PiecesLemmas
 pub mod EventLemmas
 pub mod NoteLemmas
 pub mod RecordingLemmas
-pub mod StdoutLemmas
 pub mod WaitingLemmas
 pub mod EndingLemmas
 pub mod RestLemmas

@@ -1,0 +1,69 @@
+//! Bytes as a packet: a piece of a file, under a lane. No event is made of them.
+
+ghost use Rattle.std.specs.Prelude.{◌≡◌, ◌<◌, ◌++◌, List, ℕ, OnOk, OnErr};
+ghost use Rattle.packet_codec.specs.Canonical.{canonical, Fits};
+ghost use Rattle.packet_codec.specs.Flags.{first_flags, second_flags};
+ghost use Rattle.packet_codec.specs.Pieces.{piece_of};
+ghost use Rattle.packet_codec.specs.Routing.{under};
+ghost use Rattle.packet_codec.specs.Shapes.{ShowsParts, contents_of};
+
+use crate::change::Change;
+use crate::header::Header;
+use crate::parts::{FileBytes, Parts};
+use crate::respelled_bytes::put_changed;
+use crate::respelled_size::fields_size;
+use crate::sizes::whole_size;
+use sub_number::NoMemory;
+
+/// Appends the shortest spelling of the event that has this piece of a file of this name and nothing else, under the
+/// route of a lane. It fits.
+///
+/// `NoMemory` comes only for want of memory, and `out` is then as before.
+pub fn put_piece_under(
+    lane: u32,
+    name: &[u8],
+    bytes: &[u8],
+    out: &mut Vec<u8>,
+) -> Result<(), NoMemory>
+    requires lane { lane < 64 }
+    requires fits { Fits (under lane (piece_of name.now bytes.now)) }
+    ensures ok { OnOk result (out.new.items ≡ out.old.items ++ canonical (under lane (piece_of name.now bytes.now))) }
+    ensures err { OnErr result (out.new.items ≡ out.old.items) }
+{
+    let parts = piece_parts(name, bytes);
+    let change = Change::Lane(lane);
+    let size = whole_size(fields_size(&parts, change));
+    let start = out.len();
+    let done = put_changed(piece_header(), size as u32, &parts, change, out);
+    if done.is_err() {
+        out.truncate(start);
+    }
+    done
+}
+
+// The flag bytes of a runnable event that has a file. Nothing else of a header matters where a packet is written.
+#[inline(always)]
+fn piece_header() -> Header
+    ensures { (name bytes : List ℕ) → (result.first ≡ first_flags (piece_of name bytes)) × (result.second ≡ second_flags (piece_of name bytes)) }
+{
+    Header {
+        first: 0x21,
+        second: 0x40,
+        size: 0,
+        start: 0,
+    }
+}
+
+#[inline(always)]
+fn piece_parts<'a>(name: &'a [u8], bytes: &'a [u8]) -> Parts<'a>
+    ensures { ShowsParts result (contents_of (piece_of name.now bytes.now)) }
+{
+    Parts {
+        stamp: None,
+        id: None,
+        tags: None,
+        mime: None,
+        file: Some(FileBytes { name, bytes }),
+        route: None,
+    }
+}
