@@ -1,5 +1,5 @@
 -- The table of the open tests, as the calls of the code change it.
-use Rattle.std.proofs.Common.{◌≡◌, Bool, true, false, cond, List, Option, Some, None, is_some, refl, sym, ◌∙◌, ap, true≢false}
+use Rattle.std.proofs.Common.{◌≡◌, Bool, true, false, cond, List, Option, Some, None, is_some, length, refl, sym, ◌∙◌, ap, true≢false}
 use Rattle.std.specs.BTreeMap.{is_at}
 use Rattle.std.specs.Map.{lookup}
 use Rattle.std.specs.FinMap as fin
@@ -13,7 +13,7 @@ use Rattle.outcome_fold.specs.Order.{test_cmp}
 use Rattle.outcome_fold.specs.Started.{after_said}
 use Rattle.outcome_fold.specs.Folded.{extended_by, with_extended}
 use Rattle.outcome_fold.proofs.OrderLemmas.{tests_total, exact_tests}
-use Rattle.outcome_fold.proofs.TableLemmas.{inserted, tied_is, lookup_in_map}
+use Rattle.outcome_fold.proofs.TableLemmas.{inserted, none_of_length, tied_is, lookup_in_map}
 
 abbrev Open : Type 0
 Open = FinMap test_cmp Started
@@ -36,7 +36,7 @@ none_at : (m : Open) (t q : TestKey) (b : Bool) → eq_by_cmp test_cmp q t ≡ b
 none_at m t q true tie is = sym is ∙ ap (fin.get m) (sym (tied_is exact_tests q t tie))
 none_at m t q false tie is = refl
 
-remove_none : (m : Open) (t : TestKey) → fin.get m t ≡ None → fin.remove m t ≡ m
+pub remove_none : (m : Open) (t : TestKey) → fin.get m t ≡ None → fin.remove m t ≡ m
 remove_none m t is = same_map tests_total exact_tests _ _ (λ q. get-remove tests_total m t q ∙ none_at m t q (eq_by_cmp test_cmp q t) refl is)
 
 gone_at : (b : Bool) (s : Started) (o : Option Started) → cond b None (cond b (Some s) o) ≡ cond b None o
@@ -50,6 +50,10 @@ remove_insert m t s = same_map tests_total exact_tests _ _ (λ q.
 
 found : (old : Entries) (t : TestKey) (part : Started) → Some part ≡ lookup (is_at (test_cmp t)) old → fin.get (fin.from_entries {R = test_cmp} old) t ≡ Some part
 found old t part is = sym (lookup_in_map tests_total t old) ∙ sym is
+
+-- where there is no other test, none is found
+pub no_others : (es : Entries) (t : TestKey) → length es ≡ 0 → fin.get (fin.from_entries {R = test_cmp} es) t ≡ None
+no_others es t none = sym (lookup_in_map tests_total t es) ∙ ap (lookup (is_at (test_cmp t))) (none_of_length es none)
 
 -- a part that took an event where it stands
 pub taken_through : (old new : Entries) (t : TestKey) (part next : Started) (e : Said) → Writes old new t next → Some part ≡ lookup (is_at (test_cmp t)) old → next ≡ after_said part e → fin.from_entries {R = test_cmp} new ≡ with_extended (fin.from_entries {R = test_cmp} old) t e

@@ -6,8 +6,8 @@ use Rattle.packet_codec.specs.declared.event.Event.{Event}
 use Rattle.outcome_fold.specs.declared.test_key.TestKey.{TestKey}
 use Rattle.outcome_fold.specs.declared.part.Started.{Started}
 use Rattle.outcome_fold.specs.declared.part.Said.{Said}
-use Rattle.outcome_fold.specs.Parts.{test_of, text_in, text_limit}
-use Rattle.outcome_fold.specs.Started.{after, Says, IsBut, fresh_said, after_said, text_by}
+use Rattle.outcome_fold.specs.Parts.{test_of, text_by, text_in, text_limit}
+use Rattle.outcome_fold.specs.Started.{after, Says, IsBut, fresh_said, after_said}
 use Rattle.outcome_fold.specs.Folded.{extended, extended_by}
 
 said_is : (s : Started) (said : Said) (e : Event) → Says said e → after_said s said ≡ after s e
@@ -23,13 +23,8 @@ extended_is None said e says =
 extended_is (Some s) said e says = said_is s said e says
 
 -- the text of an event whose MIME type and whose file's bytes are these
-text_by_is : (mime : Option (List ℕ)) (file : Option FilePart) → text_by mime (option_map (λ (file : FilePart). file.bytes) file) ≡ text_in mime file
-text_by_is None file = refl
-text_by_is (Some mime) None = refl
-text_by_is (Some mime) (Some file) = refl
-
 pub text_said : (mime bytes : Option (List ℕ)) (text : List ℕ) (e : Event) → text ≡ text_by mime bytes → mime ≡ e.mime → bytes ≡ option_map (λ (file : FilePart). file.bytes) e.file → text ≡ text_in e.mime e.file
-text_said mime bytes text e is type piece = is ∙ ap (λ (m : Option (List ℕ)). text_by m bytes) type ∙ ap (text_by e.mime) piece ∙ text_by_is e.mime e.file
+text_said mime bytes text e is type piece = is ∙ ap (λ (m : Option (List ℕ)). text_by m bytes) type ∙ ap (text_by e.mime) piece
 
 abbrev at_route : Option (List ℕ) → List ℕ → TestKey
 at_route route id = record { route = route; id = id }

@@ -70,11 +70,15 @@ tags_of part = in_byte_order (last_tags part)
 abbrev pub is_text_type : List ℕ → Bool
 is_text_type mime = starts_with nat_eq mime (codes "text/")
 
--- the bytes of the event's file, where it has a MIME type that begins with text/
+-- the bytes of a file, where there is one and a MIME type that begins with text/
+abbrev pub text_by : Option (List ℕ) → Option (List ℕ) → List ℕ
+text_by None bytes = []
+text_by (Some mime) None = []
+text_by (Some mime) (Some bytes) = if is_text_type mime then bytes else []
+
+-- the same of the event's file
 abbrev pub text_in : Option (List ℕ) → Option FilePart → List ℕ
-text_in None file = []
-text_in (Some mime) None = []
-text_in (Some mime) (Some file) = if is_text_type mime then file.bytes else []
+text_in mime file = text_by mime (option_map (λ file. file.bytes) file)
 
 -- the bytes of a text that are kept
 abbrev pub text_limit : ℕ

@@ -1,12 +1,12 @@
 -- What the events of a part say together, event by event (docs/FORMATS.md, "The fold").
-use Rattle.std.specs.Prelude.{◌≡◌, ℕ, Option, None, Some, List, [], ◌++◌, take, if◌then◌else◌}
+use Rattle.std.specs.Prelude.{◌≡◌, ℕ, Option, None, Some, List, [], ◌++◌, take}
 use Rattle.std.specs.FinMap.{FinMap}
 use Rattle.std.specs.Option.{option_map, unwrap_or}
 use Rattle.packet_codec.specs.declared.event.Event.{Event}
 use Rattle.outcome_fold.specs.declared.part.Started.{Started}
 use Rattle.outcome_fold.specs.declared.part.Said.{Said}
 use Rattle.outcome_fold.specs.Order.{test_cmp, table}
-use Rattle.outcome_fold.specs.Parts.{instant, start_of, last_tags, is_text_type, text_in, text_limit, text_of, events_of_test, last_part}
+use Rattle.outcome_fold.specs.Parts.{instant, start_of, last_tags, text_in, text_limit, text_of, events_of_test, last_part}
 use Rattle.outcome_fold.specs.Rows.{open_tests}
 
 -- before the first event, which is this one
@@ -22,12 +22,6 @@ pub record Says (said : Said) (e : Event) : Type 0 where
   pub instant : said.instant ≡ option_map instant e.stamp
   pub tags : said.tags ≡ e.tags
   pub text : said.text.now ≡ text_in e.mime e.file
-
--- the same as `text_in`, by the bytes of the file
-abbrev pub text_by : Option (List ℕ) → Option (List ℕ) → List ℕ
-text_by None bytes = []
-text_by (Some mime) None = []
-text_by (Some mime) (Some bytes) = if is_text_type mime then bytes else []
 
 -- The second event is the first one, of which the id, the route and the tags may have been moved out.
 pub record IsBut (whole left : Event) : Type 0 where

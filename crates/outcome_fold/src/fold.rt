@@ -52,9 +52,21 @@ impl Fold {
         }
     }
 
-    // Puts the test that is held among the others.
-    #[inline(never)]
+    // Puts the test that is held, if there is one, among the others.
+    #[inline(always)]
     fn put_down(&mut self) -> Result<(), NoMemory>
+        ensures ok { OnOk result ((self.new.held ≡ None) × (others_in self.new ≡ open_in self.old)) }
+        ensures err { OnErr result (open_in self.new ≡ open_in self.old) }
+    {
+        match &self.held {
+            Some(_) => self.put_among_others(),
+            None => Ok(()),
+        }
+    }
+
+    // The same, with a frame of its own.
+    #[inline(never)]
+    fn put_among_others(&mut self) -> Result<(), NoMemory>
         ensures ok { OnOk result ((self.new.held ≡ None) × (others_in self.new ≡ open_in self.old)) }
         ensures err { OnErr result (open_in self.new ≡ open_in self.old) }
     {
@@ -79,6 +91,9 @@ impl Fold {
         ensures err { OnErr result (others_in self.new ≡ others_in self.old) }
         ensures held { self.new.held ≡ self.old.held }
     {
+        if self.others.is_empty() {
+            return Ok(false);
+        }
         match self.others.get_mut(key) {
             Some(started) => {
                 started.take(said)?;
@@ -172,6 +187,18 @@ impl Fold {
         Ok(())
     }
 
+    // Takes the test out of the others, if it is among them.
+    #[inline(always)]
+    fn forget(&mut self, key: &TestKey)
+        ensures others { others_in self.new ≡ map.remove (others_in self.old) key.now }
+        ensures held { self.new.held ≡ self.old.held }
+    {
+        if self.others.is_empty() {
+            return;
+        }
+        self.others.remove(key);
+    }
+
     // The test that is held, and it is no longer open: nothing is held, and it is not among the others.
     #[inline(always)]
     fn let_go(&mut self) -> Option<Held>
@@ -179,7 +206,7 @@ impl Fold {
         ensures rest { (held : AHeld) → self.old.held ≡ Some held → open_in self.new ≡ map.remove (open_in self.old) held.key }
     {
         let held = self.held.take()?;
-        self.others.remove(&held.key);
+        self.forget(&held.key);
         Some(held)
     }
 

@@ -2,10 +2,9 @@
 
 ghost use Rattle.outcome_fold.specs.Parts as parts;
 ghost use Rattle.std.specs.Prelude.{◌≡◌, IfOk, OnOk, OnErr, [], ◌++◌, take};
-ghost use Rattle.outcome_fold.specs.Parts.{text_limit};
-ghost use Rattle.std.specs.Option.{option_map};
-ghost use Rattle.std.specs.Option.{unwrap_or};
-ghost use Rattle.outcome_fold.specs.Started.{Says, IsBut, after, after_said, fresh_said, text_by};
+ghost use Rattle.outcome_fold.specs.Parts.{text_by, text_limit};
+ghost use Rattle.std.specs.Option.{option_map, unwrap_or};
+ghost use Rattle.outcome_fold.specs.Started.{Says, IsBut, after, after_said, fresh_said};
 ghost use Rattle.packet_codec.specs.Packet.{SpellsEvent};
 ghost use Rattle.packet_codec.specs.Shapes.{bytes_of};
 ghost use Rattle.packet_codec.specs.declared.event.Event.{Event as AnEvent};

@@ -2,7 +2,7 @@ use Rattle.std.proofs.Common.{◌∙◌, ap}
 use Rattle.outcome_fold.specs.Folded.{others_in, with_held}
 use Rattle.outcome_fold.proofs.TableLemmas.{inserted}
 use Rattle.outcome_fold.proofs.OrderLemmas.{tests_total, exact_tests}
-use Rattle.outcome_fold.proofs.fold.Fold.put_down.Goals as goal
+use Rattle.outcome_fold.proofs.fold.Fold.put_among_others.Goals as goal
 
 pub returns-in-Ok-clause-ok : goal.returns-in-Ok-clause-ok
 returns-in-Ok-clause-ok c =
