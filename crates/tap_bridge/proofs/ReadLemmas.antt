@@ -1,5 +1,7 @@
 -- What a reader knows, one line more.
-use Rattle.std.proofs.Common.{◌≡◌, ℕ, ◌+◌, ◌-◌, max, Bool, true, false, cond, not, Option, Some, None, List, [], ◌∷◌, ◌++◌, map, take, drop, length, refl, sym, ◌∙◌, ap, append_assoc, arith, length-append}
+use Rattle.std.proofs.Common.{◌≡◌, ℕ, ◌+◌, ◌-◌, ◌≤◌, ◌&&◌, max, nat_eq, eqb-true, le-ltb, is_some, subst, Bool, true, false, cond, not, Option, Some, None, List, [], ◌∷◌, ◌++◌, map, take, drop, length, refl, sym, ◌∙◌, ap, append_assoc, arith, length-append}
+use Rattle.std.specs.Prelude.{codes}
+use Rattle.std.proofs.lemmas.Bool.{and_parts, cond-false}
 use Rattle.std.proofs.lemmas.List.{reverse-append, take_at, drop_all, take-append-le, drop-append-le, append-nil, map_push}
 use Rattle.std.proofs.lemmas.List.Elements.{filter-append, filter_map-append}
 use Rattle.std.proofs.lemmas.List.Sums.{fold_push}
@@ -8,9 +10,10 @@ use Rattle.std.specs.Option.{option_map, option_to_list}
 use Rattle.tap_bridge.specs.declared.plan.Plan.{Plan}
 use Rattle.tap_bridge.specs.declared.waiting.Waiting.{Waiting as Kept}
 use Rattle.tap_bridge.specs.declared.reader.TapReader.{TapReader}
-use Rattle.tap_bridge.specs.Grammar.{Test, plan, test, comment, bail_out, other}
-use Rattle.tap_bridge.specs.Events.{Input, line, too_long, one_more, number_in, number_after, next_number, planned, is_heading, comment_in, waiting_with, waiting, with_newline, comment_limit, events_at, events_behind, events_so_far, input_of}
-use Rattle.tap_bridge.specs.Kept.{Knows, kept_of}
+use Rattle.tap_bridge.specs.Blanks.{trim}
+use Rattle.tap_bridge.specs.Grammar.{Test, Line, plan, test, comment, bail_out, other, begins, plan_of, test_of, line_with, line_of}
+use Rattle.tap_bridge.specs.Events.{Input, line, too_long, longest_line, without_return, one_more, number_in, number_after, next_number, planned, is_awaited, is_heading, comment_in, waiting_with, waiting, with_newline, comment_limit, events_at, events_behind, events_so_far, input_of}
+use Rattle.tap_bridge.specs.Kept.{Knows, HasRead, kept_of}
 use Rattle.tap_bridge.proofs.CommentLemmas.{comment_push}
 
 -- The last heading.
@@ -161,3 +164,57 @@ behind_push before (y ∷ xs) x =
 -- the events before the end, one line more
 pub so_far_push : (lines : List (List ℕ)) (bytes : List ℕ) → events_so_far (lines ++ bytes ∷ []) ≡ events_so_far lines ++ events_at (map input_of lines) (input_of bytes)
 so_far_push lines bytes = ap (events_behind []) (map_push input_of lines bytes) ∙ behind_push [] (map input_of lines) (input_of bytes)
+
+-- Comment lines.
+
+-- a line that is not too long
+pub input_is_line : (bytes : List ℕ) → length bytes ≤ longest_line → input_of bytes ≡ line (line_of (without_return bytes))
+input_is_line bytes few = cond-false _ _ _ (le-ltb longest_line (length bytes) few)
+
+-- and is known to be this
+pub input_meant : (bytes short : List ℕ) (this : Line) → length bytes ≤ longest_line → short ≡ without_return bytes → this ≡ line_of short → input_of bytes ≡ line this
+input_meant bytes short this few cut is = input_is_line bytes few ∙ ap (λ l. line (line_of l)) (sym cut) ∙ ap line (sym is)
+
+-- a line that begins with `#`
+pub comment_is : (bytes : List ℕ) → begins (codes "#") bytes ≡ true → line_of bytes ≡ comment bytes
+comment_is [] is = absurd cc
+comment_is (byte ∷ bytes) is =
+    let sign : byte ≡ 35 = sym (eqb-true 35 byte ((and_parts (nat_eq 35 byte) true is).0)) in
+    rw sign refl
+
+with_parts : (p : Option Plan) (t : Option Test) (bytes : List ℕ) → begins (codes "#") bytes ≡ false → comment_in (line (line_with p t bytes)) ≡ None
+with_parts (Some p) t bytes not_it = refl
+with_parts None (Some t) bytes not_it = refl
+with_parts None None bytes not_it =
+    ap (λ b. comment_in (line (cond b (comment bytes) (cond (begins (codes "Bail out!") bytes) (bail_out (trim bytes)) (other bytes))))) not_it
+    ∙ either (begins (codes "Bail out!") bytes)
+  where
+    either : (b : Bool) → comment_in (line (cond b (bail_out (trim bytes)) (other bytes))) ≡ None
+    either true = refl
+    either false = refl
+
+-- a line that does not
+pub comment_is_not : (bytes : List ℕ) → begins (codes "#") bytes ≡ false → comment_in (line (line_of bytes)) ≡ None
+comment_is_not bytes not_it = with_parts (plan_of bytes) (test_of bytes) bytes not_it
+
+-- a line that is not too long, and what is left of it without a carriage return
+module _ (bytes short : List ℕ) (few : length bytes ≤ longest_line) (cut : short ≡ without_return bytes) where
+  input_is : input_of bytes ≡ line (line_of short)
+  input_is = input_is_line bytes few ∙ ap (λ l. line (line_of l)) (sym cut)
+
+  input_is_comment : begins (codes "#") short ≡ true → input_of bytes ≡ line (comment short)
+  input_is_comment is = input_is ∙ ap line (comment_is short is)
+
+  pub awaited : (before : List Input) → begins (codes "#") short ≡ true → is_awaited before (input_of bytes) ≡ is_some (waiting before)
+  awaited before is = ap (λ i. is_some (comment_in i) && is_some (waiting before)) (input_is_comment is)
+
+  pub not_awaited : (before : List Input) → begins (codes "#") short ≡ false → is_awaited before (input_of bytes) ≡ false
+  not_awaited before is_not = ap (λ c. is_some c && is_some (waiting before)) (ap comment_in input_is ∙ comment_is_not short is_not)
+
+  pub comment_read : (reader : TapReader) (lines : List (List ℕ)) → begins (codes "#") short ≡ true → Knows reader (map input_of lines ++ line (comment short) ∷ []) → HasRead reader (lines ++ bytes ∷ [])
+  comment_read reader lines is known = subst (Knows reader) (ap (λ i. map input_of lines ++ i ∷ []) (sym (input_is_comment is)) ∙ sym (map_push input_of lines bytes)) known
+
+  pub comment_gives_none : (lines : List (List ℕ)) → begins (codes "#") short ≡ true → events_at (map input_of lines) (line (comment short)) ≡ [] → events_so_far (lines ++ bytes ∷ []) ≡ events_so_far lines
+  comment_gives_none lines is none =
+      so_far_push lines bytes ∙ ap (λ i. events_so_far lines ++ events_at (map input_of lines) i) (input_is_comment is)
+      ∙ ap (λ events. events_so_far lines ++ events) none ∙ append-nil (events_so_far lines)

@@ -106,6 +106,10 @@ waiting_with next behind (Some (too_long bytes)) = None
 abbrev pub waiting : List Input → Option Waiting
 waiting lines = waiting_with (next_number (before_last is_heading lines)) (after_last is_heading lines) (last_or None (filter is_heading lines))
 
+-- the line is a comment of a test that waits behind these lines
+abbrev pub is_awaited : List Input → Input → Bool
+is_awaited before this = is_some (comment_in this) && is_some (waiting before)
+
 -- Events.
 
 abbrev pub mime_type : List ℕ

@@ -12,6 +12,9 @@ use sub_number::{Bytes, NoMemory, Text};
 /// The bytes of a comment that are kept.
 const COMMENT_LIMIT: usize = 65_536;
 
+/// Room for the comment of most tests, so that it is taken once.
+const FIRST_ROOM: usize = 256;
+
 /// The first bytes of some lines, `COMMENT_LIMIT` at most. Contracts see them as a list of bytes.
 #[derive(Drop)]
 pub(crate) struct Comment {
@@ -54,6 +57,9 @@ impl Comment {
     pub(crate) fn add_line(&mut self, line: &[u8]) -> Result<(), NoMemory>
         ensures { OnOk result (self.new ≡ take comment_limit (self.old ++ with_newline line.now)) }
     {
+        if self.bytes.is_empty() {
+            self.bytes.reserve(FIRST_ROOM)?;
+        }
         let done = put_line(line, &mut self.bytes);
         self.bytes.truncate(COMMENT_LIMIT);
         done

@@ -76,7 +76,8 @@ fn missing_event(alloc: Global, number: u64) -> Result<Event, NoMemory>
     ensures event { IfOk result (λ event. event ≡ spec.missing_event number) }
     ensures fits { IfOk result Fits }
 {
-    let id = test_id(alloc, number, b"")?;
+    let mut name = Vec::with_capacity(alloc, 32)?;
+    let id = test_id(alloc, number, b"", &mut name)?;
     let file = FilePart {
         name: Text::from_tested(alloc, b"tap meta")?,
         bytes: Bytes::new(alloc, b"test missing from TAP output")?,

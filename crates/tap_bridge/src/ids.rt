@@ -91,16 +91,21 @@ fn describe(description: &[u8], name: &mut Vec<u8>) -> Result<(), NoMemory>
     Ok(())
 }
 
-/// The id of the test of this number and description.
+/// The id of the test of this number and description. `name` lends its room.
 ///
 /// `NoMemory` comes only for want of memory.
-pub(crate) fn test_id(alloc: Global, number: u64, description: &[u8]) -> Result<TestId, NoMemory>
+pub(crate) fn test_id(
+    alloc: Global,
+    number: u64,
+    description: &[u8],
+    name: &mut Vec<u8>,
+) -> Result<TestId, NoMemory>
     requires { length description.now ≤ longest_line }
     ensures { IfOk result (λ id. id ≡ spec.id_of (spec.test_name number description.now)) }
 {
-    let mut name = Vec::with_capacity(alloc, description.len() + 32)?;
+    name.clear();
     name.extend_from_slice(b"test ")?;
     name.extend_from_slice(Buffer::new().format(number).as_bytes())?;
-    describe(description, &mut name)?;
-    id_of(alloc, &name)
+    describe(description, name)?;
+    id_of(alloc, name)
 }

@@ -1,6 +1,6 @@
 //! Lines of the Test Anything Protocol in turn, and the events that they give.
 
-ghost use Rattle.std.specs.Prelude.{◌≡◌, ℕ, None, List, [], ◌∷◌, ◌++◌, ◌≤◌, length, map, All, IfOk, OnOk};
+ghost use Rattle.std.specs.Prelude.{◌≡◌, ℕ, None, true, false, is_some, List, [], ◌∷◌, ◌++◌, ◌≤◌, length, map, All, IfOk, OnOk, if◌then◌else◌};
 ghost use Rattle.std.specs.Option.{unwrap_or};
 ghost use Rattle.packet_codec.specs.Canonical.{Fits};
 ghost use Rattle.stream_reader.specs.Notes.{stdout_event};
@@ -29,6 +29,8 @@ pub struct TapReader {
     next: u64,
     tests: Option<u32>,
     waiting: Option<Waiting>,
+    // The last test's name, kept for its room.
+    name: Vec<u8>,
 }
 
 impl TapReader {
@@ -41,97 +43,110 @@ impl TapReader {
             next: 1,
             tests: None,
             waiting: None,
+            name: Vec::new(alloc),
         }
     }
 
-    // The event of the waiting test, where one waits. Then none waits.
-    fn give_waiting(&mut self) -> Result<Vec<Event>, NoMemory>
-        ensures events { IfOk result (λ events. events.items ≡ kept_events self.old.waiting) }
-        ensures fits { IfOk result (λ events. All Fits events.items) }
+    // Appends the event of the waiting test, where one waits. Then none waits.
+    fn give_waiting(&mut self, events: &mut Vec<Event>) -> Result<(), NoMemory>
+        ensures events { OnOk result (events.new.items ≡ events.old.items ++ kept_events self.old.waiting) }
+        ensures fits { All Fits events.old.items → OnOk result (All Fits events.new.items) }
         ensures rest { OnOk result (self.new ≡ record self.old { waiting = None }) }
     {
-        // Most lines give one event, for which an empty list would take room for several.
-        let mut events = Vec::with_capacity(self.alloc, 1)?;
         if let Some(waiting) = self.waiting.take() {
             events.push(waiting.into_event(self.alloc)?)?;
         }
-        Ok(events)
+        Ok(())
     }
 
-    fn take_plan(&mut self, plan: Plan) -> Result<Vec<Event>, NoMemory>
-        ensures events { (before : List spec.Input) → Knows self.old before → IfOk result (λ events. events.items ≡ spec.events_at before (spec.line (grammar.plan plan))) }
-        ensures fits { IfOk result (λ events. All Fits events.items) }
+    fn take_plan(&mut self, plan: Plan, events: &mut Vec<Event>) -> Result<(), NoMemory>
+        ensures events { (before : List spec.Input) → Knows self.old before → OnOk result (events.new.items ≡ events.old.items ++ spec.events_at before (spec.line (grammar.plan plan))) }
+        ensures fits { All Fits events.old.items → OnOk result (All Fits events.new.items) }
         ensures read { (before : List spec.Input) → Knows self.old before → OnOk result (Knows self.new (before ++ spec.line (grammar.plan plan) ∷ [])) }
     {
-        let mut events = self.give_waiting()?;
-        add_skipped_file(self.alloc, plan, &mut events)?;
+        self.give_waiting(events)?;
+        add_skipped_file(self.alloc, plan, events)?;
         self.tests = Some(plan.tests);
-        Ok(events)
+        Ok(())
     }
 
-    fn take_test(&mut self, test: &TestLine<'_>) -> Result<Vec<Event>, NoMemory>
+    fn take_test(&mut self, test: &TestLine<'_>, events: &mut Vec<Event>) -> Result<(), NoMemory>
         requires { length test.now.description.now ≤ spec.longest_line }
-        ensures events { (before : List spec.Input) → Knows self.old before → IfOk result (λ events. events.items ≡ spec.events_at before (spec.line (grammar.test (test_meant test.now)))) }
-        ensures fits { IfOk result (λ events. All Fits events.items) }
+        ensures events { (before : List spec.Input) → Knows self.old before → OnOk result (events.new.items ≡ events.old.items ++ spec.events_at before (spec.line (grammar.test (test_meant test.now)))) }
+        ensures fits { All Fits events.old.items → OnOk result (All Fits events.new.items) }
         ensures read { (before : List spec.Input) → Knows self.old before → OnOk result (Knows self.new (before ++ spec.line (grammar.test (test_meant test.now)) ∷ [])) }
     {
         let number = number_in(self.next, test.number);
-        let mut events = self.give_waiting()?;
-        add_missing(self.alloc, self.next, number, &mut events)?;
-        self.waiting = Some(Waiting::begun(self.alloc, number, test)?);
+        self.give_waiting(events)?;
+        add_missing(self.alloc, self.next, number, events)?;
+        self.waiting = Some(Waiting::begun(self.alloc, number, test, &mut self.name)?);
         self.next = self.next.max(number.saturating_add(1));
-        Ok(events)
+        Ok(())
     }
 
-    fn take_comment(&mut self, line: &[u8]) -> Result<Vec<Event>, NoMemory>
-        requires { length line.now ≤ spec.longest_line }
-        ensures events { (before : List spec.Input) → Knows self.old before → IfOk result (λ events. events.items ≡ spec.events_at before (spec.line (grammar.comment line.now))) }
-        ensures fits { IfOk result (λ events. All Fits events.items) }
+    // Adds the comment line to the waiting test, and answers whether one waits.
+    fn add_comment(&mut self, line: &[u8]) -> Result<bool, NoMemory>
+        ensures events { (before : List spec.Input) → Knows self.old before → IfOk result (λ added. spec.events_at before (spec.line (grammar.comment line.now)) ≡ (if added then [] else stdout_event (spec.with_newline line.now) ∷ [])) }
         ensures read { (before : List spec.Input) → Knows self.old before → OnOk result (Knows self.new (before ++ spec.line (grammar.comment line.now) ∷ [])) }
+        ensures waits { (before : List spec.Input) → Knows self.old before → IfOk result (λ added. added ≡ is_some (spec.waiting before)) }
+        ensures left { IfOk result (λ added. added ≡ false → self.new ≡ self.old) }
     {
         match &mut self.waiting {
             Some(waiting) => {
                 waiting.comment.add_line(line)?;
-                Ok(Vec::new(self.alloc))
+                Ok(true)
             }
-            None => output(self.alloc, line),
+            None => Ok(false),
         }
     }
 
-    fn take_bail_out(&mut self, id: &[u8]) -> Result<Vec<Event>, NoMemory>
+    fn take_comment(&mut self, line: &[u8], events: &mut Vec<Event>) -> Result<(), NoMemory>
+        requires { length line.now ≤ spec.longest_line }
+        ensures events { (before : List spec.Input) → Knows self.old before → OnOk result (events.new.items ≡ events.old.items ++ spec.events_at before (spec.line (grammar.comment line.now))) }
+        ensures fits { All Fits events.old.items → OnOk result (All Fits events.new.items) }
+        ensures read { (before : List spec.Input) → Knows self.old before → OnOk result (Knows self.new (before ++ spec.line (grammar.comment line.now) ∷ [])) }
+    {
+        if self.add_comment(line)? {
+            return Ok(());
+        }
+        add_output(self.alloc, line, events)?;
+        Ok(())
+    }
+
+    fn take_bail_out(&mut self, id: &[u8], events: &mut Vec<Event>) -> Result<(), NoMemory>
         requires { length id.now ≤ spec.longest_line }
-        ensures events { (before : List spec.Input) → Knows self.old before → IfOk result (λ events. events.items ≡ spec.events_at before (spec.line (grammar.bail_out id.now))) }
-        ensures fits { IfOk result (λ events. All Fits events.items) }
+        ensures events { (before : List spec.Input) → Knows self.old before → OnOk result (events.new.items ≡ events.old.items ++ spec.events_at before (spec.line (grammar.bail_out id.now))) }
+        ensures fits { All Fits events.old.items → OnOk result (All Fits events.new.items) }
         ensures read { (before : List spec.Input) → Knows self.old before → OnOk result (Knows self.new (before ++ spec.line (grammar.bail_out id.now) ∷ [])) }
     {
-        let mut events = self.give_waiting()?;
+        self.give_waiting(events)?;
         events.push(bail_out_event(self.alloc, id)?)?;
-        Ok(events)
+        Ok(())
     }
 
-    fn take_other(&mut self, line: &[u8]) -> Result<Vec<Event>, NoMemory>
+    fn take_other(&mut self, line: &[u8], events: &mut Vec<Event>) -> Result<(), NoMemory>
         requires { length line.now ≤ spec.longest_line }
-        ensures events { (before : List spec.Input) → Knows self.old before → IfOk result (λ events. events.items ≡ spec.events_at before (spec.line (grammar.other line.now))) }
-        ensures fits { IfOk result (λ events. All Fits events.items) }
+        ensures events { (before : List spec.Input) → Knows self.old before → OnOk result (events.new.items ≡ events.old.items ++ spec.events_at before (spec.line (grammar.other line.now))) }
+        ensures fits { All Fits events.old.items → OnOk result (All Fits events.new.items) }
         ensures read { (before : List spec.Input) → Knows self.old before → OnOk result (Knows self.new (before ++ spec.line (grammar.other line.now) ∷ [])) }
     {
-        let events = output(self.alloc, line)?;
-        Ok(events)
+        add_output(self.alloc, line, events)?;
+        Ok(())
     }
 
-    // Takes the next line, without its newline.
-    fn take_line(&mut self, line: &[u8]) -> Result<Vec<Event>, NoMemory>
+    // Takes the next line, without its newline, and appends what it gives.
+    fn take_line(&mut self, line: &[u8], events: &mut Vec<Event>) -> Result<(), NoMemory>
         requires { length line.now ≤ spec.longest_line }
-        ensures events { (before : List spec.Input) → Knows self.old before → IfOk result (λ events. events.items ≡ spec.events_at before (spec.input_of line.now)) }
-        ensures fits { IfOk result (λ events. All Fits events.items) }
+        ensures events { (before : List spec.Input) → Knows self.old before → OnOk result (events.new.items ≡ events.old.items ++ spec.events_at before (spec.input_of line.now)) }
+        ensures fits { All Fits events.old.items → OnOk result (All Fits events.new.items) }
         ensures read { (before : List spec.Input) → Knows self.old before → OnOk result (Knows self.new (before ++ spec.input_of line.now ∷ [])) }
     {
         match line_of(without_return(line)) {
-            Line::Plan(plan) => self.take_plan(plan),
-            Line::Test(test) => self.take_test(&test),
-            Line::Comment(comment) => self.take_comment(comment),
-            Line::BailOut(id) => self.take_bail_out(id),
-            Line::Other(other) => self.take_other(other),
+            Line::Plan(plan) => self.take_plan(plan, events),
+            Line::Test(test) => self.take_test(&test, events),
+            Line::Comment(comment) => self.take_comment(comment, events),
+            Line::BailOut(id) => self.take_bail_out(id, events),
+            Line::Other(other) => self.take_other(other, events),
         }
     }
 
@@ -147,8 +162,43 @@ impl TapReader {
         ensures fits { IfOk result (λ events. All Fits events.items) }
         ensures read { (lines : List (List ℕ)) → HasRead self.old lines → OnOk result (HasRead self.new (lines ++ line.now ∷ [])) }
     {
-        let events = self.take_line(line)?;
+        // Most lines give one event at most, for which an empty list would take room for several.
+        let mut events = Vec::with_capacity(self.alloc, 1)?;
+        self.take_line(line, &mut events)?;
         Ok(events)
+    }
+
+    /// The same as `line`, but what the line decides is appended to a list, which a caller of many lines may keep.
+    ///
+    /// `NoMemory` comes only for want of memory, and then the reader is given up: nothing is said of what it knows.
+    pub fn line_into(&mut self, line: &[u8], events: &mut Vec<Event>) -> Result<(), NoMemory>
+        requires { length line.now ≤ spec.longest_line }
+        ensures events { (lines : List (List ℕ)) → HasRead self.old lines → OnOk result (events.new.items ≡ events.old.items ++ spec.events_at (map spec.input_of lines) (spec.input_of line.now)) }
+        ensures fits { All Fits events.old.items → OnOk result (All Fits events.new.items) }
+        ensures read { (lines : List (List ℕ)) → HasRead self.old lines → OnOk result (HasRead self.new (lines ++ line.now ∷ [])) }
+    {
+        self.take_line(line, events)?;
+        Ok(())
+    }
+
+    /// Takes the next line, without its newline, where it is a comment line and a test waits for it, and answers whether
+    /// it was taken. Such a line decides nothing, so that a caller of many lines asks this first. Where the line was not
+    /// taken nothing has changed, and one of the calls above is to take it.
+    ///
+    /// `NoMemory` comes only for want of memory, and then the reader is given up: nothing is said of what it knows.
+    pub fn comment(&mut self, line: &[u8]) -> Result<bool, NoMemory>
+        requires { length line.now ≤ spec.longest_line }
+        ensures which { (lines : List (List ℕ)) → HasRead self.old lines → IfOk result (λ taken. taken ≡ spec.is_awaited (map spec.input_of lines) (spec.input_of line.now)) }
+        ensures read { (lines : List (List ℕ)) → HasRead self.old lines → IfOk result (λ taken. taken ≡ true → HasRead self.new (lines ++ line.now ∷ [])) }
+        ensures nothing { (lines : List (List ℕ)) → HasRead self.old lines → IfOk result (λ taken. taken ≡ true → spec.events_so_far (lines ++ line.now ∷ []) ≡ spec.events_so_far lines) }
+        ensures left { IfOk result (λ taken. taken ≡ false → self.new ≡ self.old) }
+    {
+        let bytes = without_return(line);
+        if !bytes.starts_with(b"#") {
+            return Ok(false);
+        }
+        let added = self.add_comment(bytes)?;
+        Ok(added)
     }
 
     /// Ends the lines, and gives what the end decides: the event of the test that waits, and of each test that the plan
@@ -160,7 +210,8 @@ impl TapReader {
         ensures fits { IfOk result (λ events. All Fits events.items) }
         ensures whole { (lines : List (List ℕ)) → HasRead self lines → IfOk result (λ events. spec.tap_events lines ≡ spec.events_so_far lines ++ events.items) }
     {
-        let mut events = self.give_waiting()?;
+        let mut events = Vec::with_capacity(self.alloc, 1)?;
+        self.give_waiting(&mut events)?;
         if let Some(tests) = self.tests {
             add_missing(self.alloc, self.next, u64::from(tests) + 1, &mut events)?;
         }
@@ -168,15 +219,14 @@ impl TapReader {
     }
 }
 
-// The event of a line that is no part of a test.
-fn output(alloc: Global, line: &[u8]) -> Result<Vec<Event>, NoMemory>
+// Appends the event of a line that is no part of a test.
+fn add_output(alloc: Global, line: &[u8], events: &mut Vec<Event>) -> Result<(), NoMemory>
     requires { length line.now ≤ spec.longest_line }
-    ensures events { IfOk result (λ events. events.items ≡ stdout_event (spec.with_newline line.now) ∷ []) }
-    ensures fits { IfOk result (λ events. All Fits events.items) }
+    ensures events { OnOk result (events.new.items ≡ events.old.items ++ stdout_event (spec.with_newline line.now) ∷ []) }
+    ensures fits { All Fits events.old.items → OnOk result (All Fits events.new.items) }
 {
-    let mut events = Vec::with_capacity(alloc, 1)?;
     events.push(output_event(alloc, line)?)?;
-    Ok(events)
+    Ok(())
 }
 
 // The test's own number, or else the next one.

@@ -38,15 +38,20 @@ fn comment_with(alloc: Global, reason: &[u8]) -> Result<Comment, NoMemory>
 }
 
 impl Waiting {
-    /// The test of the line, which has this number.
+    /// The test of the line, which has this number. `name` lends its room.
     ///
     /// `NoMemory` comes only for want of memory.
-    pub(crate) fn begun(alloc: Global, number: u64, test: &TestLine<'_>) -> Result<Self, NoMemory>
+    pub(crate) fn begun(
+        alloc: Global,
+        number: u64,
+        test: &TestLine<'_>,
+        name: &mut Vec<u8>,
+    ) -> Result<Self, NoMemory>
         requires { length test.now.description.now ≤ longest_line }
         ensures { IfOk result (λ waiting. waiting ≡ kept_of (record { number = number; shown = test_meant test.now; comments = [] })) }
     {
         Ok(Waiting {
-            id: test_id(alloc, number, test.description)?,
+            id: test_id(alloc, number, test.description, name)?,
             status: status_of(test.passed, test.directive),
             comment: comment_with(alloc, test.reason)?,
         })

@@ -8,7 +8,7 @@ use Rattle.tap_bridge.proofs.reader.TapReader.take_test.Goals as goal
 
 pub returns-clause-read : goal.returns-clause-read
 returns-clause-read c before known =
-    let rest = c.in_ok-events.ensures.rest in
+    let rest = c.in_ok-give_waiting.ensures.rest in
     let stays = ap (λ (r : TapReader). r.next) rest in
     let number : c.number_in-number.result ≡ number_in c.args.self.now.next (test_meant c.args.test.now) = c.number_in-number.ensures in
     let next : c.max-self.result ≡ max c.args.self.now.next (one_more (number_in c.args.self.now.next (test_meant c.args.test.now))) = search rules in

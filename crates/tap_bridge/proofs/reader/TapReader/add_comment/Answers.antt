@@ -1,7 +1,7 @@
 use Rattle.std.proofs.Common.{ap, refl, Some, sym, ◌∙◌}
 use Rattle.std.specs.Option.{option_map}
 use Rattle.tap_bridge.proofs.ReadLemmas.{knows_comment, commented}
-use Rattle.tap_bridge.proofs.reader.TapReader.take_comment.Goals as goal
+use Rattle.tap_bridge.proofs.reader.TapReader.add_comment.Goals as goal
 
 pub returns-in_ok-add_line-in-Some-clause-read : goal.returns-in_ok-add_line-in-Some-clause-read
 returns-in_ok-add_line-in-Some-clause-read c before known =
