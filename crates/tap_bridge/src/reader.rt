@@ -20,9 +20,9 @@ use sub_number::NoMemory;
 
 /// What is known of the lines that were read: the next number, the plan, and the test that waits for its comments.
 ///
-/// The events that its calls of `line` give, one after another, and then those of `close` are the events of the lines,
-/// as docs/FORMATS.md says under "TAP". A line of more than 65,536 bytes is no line of the protocol: what reads the
-/// lines gives its pieces itself, and no call is made for it.
+/// The events that its calls of `line` and `line_into` give, one after another, and then those of `close` are the
+/// events of the lines, as docs/FORMATS.md says under "TAP"; a line that `comment` takes gives none. A line of more than
+/// 65,536 bytes is no line of the protocol: what reads the lines gives its pieces itself, and no call is made for it.
 #[derive(Drop)]
 pub struct TapReader {
     alloc: Global,
@@ -181,9 +181,9 @@ impl TapReader {
         Ok(())
     }
 
-    /// Takes the next line, without its newline, where it is a comment line and a test waits for it, and answers whether
-    /// it was taken. Such a line decides nothing, so that a caller of many lines asks this first. Where the line was not
-    /// taken nothing has changed, and one of the calls above is to take it.
+    /// Takes the next line, without its newline, where it is a comment line and a test waits for it, and answers
+    /// whether it was taken. Such a line decides nothing, so that a caller of many lines asks this first. Where the line
+    /// was not taken nothing has changed, and one of the calls above is to take it.
     ///
     /// `NoMemory` comes only for want of memory, and then the reader is given up: nothing is said of what it knows.
     pub fn comment(&mut self, line: &[u8]) -> Result<bool, NoMemory>
