@@ -276,6 +276,105 @@ fn a_comment_keeps_its_first_bytes(rt: HostRuntime) -> Result<(), Fail> {
     Ok(())
 }
 
+// The same by a reader that is asked first whether a line is a comment of the waiting test, and else gives into a list
+// that is kept.
+fn shown_kept(alloc: Global, lines: &[u8]) -> Option<Vec<u8>> {
+    let mut text = Vec::new(alloc);
+    let mut events = Vec::new(alloc);
+    let mut reader = TapReader::new(alloc);
+    for line in lines.split(|byte| *byte == b'\n') {
+        if line.len() > 65_536 {
+            return None;
+        }
+        if !reader.comment(line).ok()? {
+            events.clear();
+            reader.line_into(line, &mut events).ok()?;
+            show_all(&events, &mut text)?;
+        }
+    }
+    show_all(&reader.close().ok()?, &mut text)?;
+    Some(text)
+}
+
+// Whether the lines give these events both ways.
+fn gives_both(alloc: Global, lines: &[u8], text: &[u8]) -> bool {
+    match shown_kept(alloc, lines) {
+        Some(shown) => shown.as_slice() == text && gives(alloc, lines, text),
+        None => false,
+    }
+}
+
+const BLOCK: &[u8] =
+    b"1..2\nnot ok 1 - a\n# ---\n# at: b\r\n#\n#\r\n# ...\nok 2\n  ---\n  at: c\n# d";
+
+const BLOCK_EVENTS: &[u8] =
+    b"fail test 1 - a <tap comment:# ---\n# at: b\n#\n#\n# ...\n\nunset <stdout:  ---\n\nunset <stdout:  at: c\n\nsuccess test 2 <tap comment:# d\n\n";
+
+#[test]
+fn comments_are_taken_on_their_own(rt: HostRuntime) -> Result<(), Fail> {
+    let alloc = rt.alloc();
+    assert!(rt; gives_both(alloc, BLOCK, BLOCK_EVENTS));
+    assert!(rt;
+        gives_both(
+            alloc,
+            b"# early\nok # SKIP x\n# one\nmore\n # no\n#two",
+            b"unset <stdout:# early\n\nunset <stdout:more\n\nunset <stdout: # no\n\nskip test 1 <tap comment:x\n# one\n#two\n\n"
+        )
+    );
+    assert!(rt;
+        gives_both(
+            alloc,
+            b"ok\n1..1\n# late\nBail out!\n# later",
+            b"success test 1\nunset <stdout:# late\n\nfail Bail out!\nunset <stdout:# later\n\n"
+        )
+    );
+    Ok(())
+}
+
+// What is kept of a test's comment of three such lines.
+fn kept_of(alloc: Global, line: &[u8], on_its_own: bool) -> Option<Vec<u8>> {
+    if line.len() > 65_536 {
+        return None;
+    }
+    let mut text = Vec::new(alloc);
+    let mut reader = TapReader::new(alloc);
+    reader.line(b"ok").ok()?;
+    for _ in 0..3 {
+        if on_its_own {
+            if !reader.comment(line).ok()? {
+                return None;
+            }
+        } else {
+            reader.line(line).ok()?;
+        }
+    }
+    let events = reader.close().ok()?;
+    if let Some(file) = &events.first()?.file {
+        text.extend_from_slice(file.bytes.bytes()).ok()?;
+    }
+    Some(text)
+}
+
+// The first bytes of three such lines are kept, both ways.
+fn keeps_first_bytes(alloc: Global) -> Option<bool> {
+    let line = vec![in alloc; b'#'; 30_000].ok()?;
+    let mut whole = Vec::new(alloc);
+    for _ in 0..3 {
+        whole.extend_from_slice(&line).ok()?;
+        whole.push(b'\n').ok()?;
+    }
+    whole.truncate(65_536);
+    let one = kept_of(alloc, &line, true)?;
+    let other = kept_of(alloc, &line, false)?;
+    Some(one.as_slice() == whole.as_slice() && other.as_slice() == whole.as_slice())
+}
+
+#[test]
+fn a_comment_taken_on_its_own_keeps_its_first_bytes(rt: HostRuntime) -> Result<(), Fail> {
+    assert_eq!(rt; keeps_first_bytes(rt.alloc()), Some(true));
+    Ok(())
+}
+
 fn row(alloc: Global, id: &[u8], ended: Ended) -> Option<Row> {
     Some(Row {
         id: Text::new(alloc, id).ok()?,
