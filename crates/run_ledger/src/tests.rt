@@ -66,7 +66,7 @@ fn says(alloc: Global, run: &mut Vec<u8>, id: u8, status: Status, second: u32) -
 }
 
 // A run in which two tests end so.
-#[tactic(auto, using(crate::proofs::HeardLemmas::no_packets))]
+#[tactic(auto, using(crate::proofs::WrittenLemmas::no_packets))]
 fn ended(alloc: Global, a: u8, first: Status, b: u8, second: Status) -> Option<Vec<u8>>
     ensures { IfSome result (λ run. ArePackets run.items) }
 {
@@ -274,7 +274,7 @@ fn fail_when_heard(alloc: Global, first: &[u8], second: &[u8]) -> Option<IdList>
     requires first { ArePackets first.now }
     requires second { ArePackets second.now }
 {
-    let mut run = HeardRun::new(alloc);
+    let mut run = WrittenRun::new(alloc);
     run.hear(first).ok()?;
     run.hear(second).ok()?;
     run.close().ok()?.failing_ids(alloc).ok()

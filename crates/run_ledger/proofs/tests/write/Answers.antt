@@ -1,4 +1,4 @@
-use Rattle.run_ledger.proofs.HeardLemmas.{packets_more}
+use Rattle.run_ledger.proofs.WrittenLemmas.{packets_more}
 use Rattle.run_ledger.proofs.tests.write.Goals as goal
 
 pub returns : goal.returns
