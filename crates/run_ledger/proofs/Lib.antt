@@ -8,7 +8,6 @@ pub mod ReplaceLemmas
 pub mod UniqueLemmas
 pub mod ExistLemmas
 mod WrittenLemmas
-mod HeardLemmas
 pub mod BehindLemmas
 pub mod FormLemmas
 pub mod HeadLemmas

@@ -1,12 +1,19 @@
--- Events that are folded as they are written.
-use Rattle.std.proofs.Common.{◌≡◌, ℕ, List, [], ◌∷◌, ◌++◌, Result, Ok, Err, IfOk, OnOk, OnErr, All, refl, sym, ap, ◌∙◌, subst}
+-- Events that are folded as their packets are written.
+use Rattle.std.proofs.Common.{◌≡◌, ℕ, ◌<◌, List, [], ◌∷◌, ◌++◌, Result, Ok, Err, IfOk, OnOk, All, length, drop, refl, sym, ap, ◌∙◌, append_assoc, subst, arith}
 use Rattle.std.specs.List.{flat_map}
-use Rattle.std.proofs.lemmas.List.{flat_map_more}
-use Rattle.std.proofs.lemmas.List.Elements.{All-nil, All-cons, All-append}
+use Rattle.std.proofs.lemmas.List.{length-append, append-nil, drop_at, flat_map_more}
+use Rattle.std.proofs.lemmas.List.Concat.{flat_map-append}
+use Rattle.std.proofs.lemmas.List.Elements.{All-nil, All-cons, All-append, All-head, All-tail}
 use Rattle.packet_codec.specs.declared.event.Event.{Event}
 use Rattle.packet_codec.specs.Canonical.{IsEvent, Fits, canonical}
-use Rattle.stream_reader.specs.Notes.{HasEvents}
+use Rattle.packet_codec.specs.Grammar.{Found}
+use Rattle.packet_codec.specs.Packet.{SpellsEvent}
+use Rattle.packet_codec.specs.Packets.{ArePackets, ArePacketsOf}
+use Rattle.packet_codec.proofs.SpellingLemmas.{canonical_spells}
+use Rattle.stream_reader.proofs.FrontLemmas.{packet_some}
 use Rattle.stream_reader.proofs.NotesLemmas.{packets_of, notes_of_packets, events_of_packets, cut_of_written}
+use Rattle.stream_reader.specs.Notes.{HasEvents}
+use Rattle.outcome_fold.specs.declared.fold.Outcomes.{Outcomes}
 use Rattle.outcome_fold.specs.declared.row.Row.{Row}
 use Rattle.outcome_fold.specs.Outcome.{HasFolded}
 use Rattle.outcome_fold.specs.Rows.{rows_of}
@@ -15,31 +22,109 @@ use Rattle.run_ledger.specs.Reading.{AreRowsOf}
 use Rattle.run_ledger.specs.Writing.{HasWritten}
 use Rattle.run_ledger.proofs.FoldLemmas.{if_ok_then}
 
-pub written_none : (new : WrittenRun) → HasFolded new.outcomes [] → HasWritten new []
-written_none new folded = record { events = []; are_events = All-nil IsEvent; fit = All-nil Fits; packets = refl; folded = folded }
+-- ---- the packets of a piece, one after another
 
-pub written_more : {T E : Type 0} (r : Result T E) (run : List ℕ) (old new : WrittenRun) (event : Event) → IsEvent event → Fits event → HasWritten old run → ((seen : List Event) → HasFolded old.outcomes seen → OnOk r (HasFolded new.outcomes (seen ++ event ∷ []))) → OnOk r (HasWritten new (run ++ canonical event))
-written_more (Err e) run old new event is fits w step = tt
-written_more (Ok x) run old new event is fits w step = record {
-  events = w.events ++ event ∷ [];
-  are_events = All-append IsEvent w.events (event ∷ []) w.are_events (All-cons IsEvent event [] is (All-nil IsEvent));
-  fit = All-append Fits w.events (event ∷ []) w.fit (All-cons Fits event [] fits (All-nil Fits));
-  packets = ap (λ (l : List ℕ). l ++ canonical event) w.packets ∙ flat_map_more canonical [] w.events event;
-  folded = step w.events w.folded;
+-- the packet of the first one stands at the front
+abbrev first_found : (event : Event) (events : List Event) (bytes : List ℕ) → ArePacketsOf (event ∷ events) bytes → Found SpellsEvent bytes event (flat_map canonical events)
+first_found event events bytes are = record { front = canonical event; parts = are.packets; spelled = canonical_spells event (All-head IsEvent event events are.are_events) (All-head Fits event events are.fit) }
+
+-- behind it stand those of the others
+others_are : (event : Event) (events : List Event) (bytes : List ℕ) (size : ℕ) → ArePacketsOf (event ∷ events) bytes → size ≡ length (canonical event) → ArePacketsOf events (drop size bytes)
+others_are event events bytes size are is = record {
+  are_events = All-tail IsEvent event events are.are_events;
+  fit = All-tail Fits event events are.fit;
+  packets = ap (drop size) are.packets ∙ drop_at (canonical event) (flat_map canonical events) size (sym is);
 }
 
-pub written_same : {T E : Type 0} (r : Result T E) (run : List ℕ) (old new : WrittenRun) → HasWritten old run → ((seen : List Event) → HasFolded old.outcomes seen → OnErr r (HasFolded new.outcomes seen)) → OnErr r (HasWritten new run)
-written_same (Err e) run old new w step = record { events = w.events; are_events = w.are_events; fit = w.fit; packets = w.packets; folded = step w.events w.folded }
-written_same (Ok x) run old new w step = tt
+no_event : (bytes : List ℕ) → 0 < length bytes → ArePacketsOf [] bytes → ⊥
+no_event bytes some are = omega (arith, some, ap length are.packets)
+
+pub packet_stands : (bytes : List ℕ) → 0 < length bytes → ArePackets bytes → (event : Event) × (behind : List ℕ) × Found SpellsEvent bytes event behind
+packet_stands bytes some ([], are) = absurd (no_event bytes some are)
+packet_stands bytes some (event ∷ events, are) = (event, flat_map canonical events, first_found event events bytes are)
+
+-- the size of the packet at the front
+abbrev IsFrontSize : (bytes : List ℕ) (size : ℕ) → Type 0
+IsFrontSize bytes size = (event : Event) (behind : List ℕ) → (found : Found SpellsEvent bytes event behind) → size ≡ length found.front
+
+pub packets_left : (left : List ℕ) (size : ℕ) → 0 < length left → IsFrontSize left size → ArePackets left → ArePackets (drop size left)
+packets_left left size some is ([], are) = absurd (no_event left some are)
+packets_left left size some is (event ∷ events, are) = (events, others_are event events left size are (is event (flat_map canonical events) (first_found event events left are)))
+
+-- some of the events were folded, and what is left is the packets of the others
+abbrev pub IsFoldedTo : (bytes left : List ℕ) (old now : Outcomes) → Type 0
+IsFoldedTo bytes left old now = (seen events : List Event) → ArePacketsOf events bytes → HasFolded old seen → (done : List Event) × (others : List Event) × (events ≡ done ++ others) × ArePacketsOf others left × HasFolded now (seen ++ done)
+
+pub folded_none : (bytes : List ℕ) (old : Outcomes) → IsFoldedTo bytes bytes old old
+folded_none bytes old seen events are folded = ([], events, refl, are, rw (append-nil seen) folded)
+
+-- one packet more was folded
+pub folded_more : (bytes left : List ℕ) (old now new : Outcomes) (size : ℕ) → 0 < length left → IsFrontSize left size → ((seen : List Event) (event : Event) (behind : List ℕ) → Found SpellsEvent left event behind → HasFolded now seen → HasFolded new (seen ++ event ∷ []))
+    → IsFoldedTo bytes left old now → IsFoldedTo bytes (drop size left) old new
+folded_more bytes left old now new size some is step so_far seen events are folded = more (so_far seen events are folded)
+  where
+    more : (done : List Event) × (others : List Event) × (events ≡ done ++ others) × ArePacketsOf others left × HasFolded now (seen ++ done) → (done : List Event) × (others : List Event) × (events ≡ done ++ others) × ArePacketsOf others (drop size left) × HasFolded new (seen ++ done)
+    more (done, [], parts, rest, now_folded) = absurd (no_event left some rest)
+    more (done, event ∷ others, parts, rest, now_folded) =
+        let found = first_found event others left rest in (
+          done ++ event ∷ [],
+          others,
+          parts ∙ sym (append_assoc done (event ∷ []) others),
+          others_are event others left size rest (is event (flat_map canonical others) found),
+          rw (← append_assoc seen done (event ∷ [])) (step (seen ++ done) event (flat_map canonical others) found now_folded),
+        )
+
+-- where none is left, all were folded
+pub folded_all : (bytes left : List ℕ) (old now : Outcomes) → length left ≡ 0 → IsFoldedTo bytes left old now → (seen events : List Event) → ArePacketsOf events bytes → HasFolded old seen → HasFolded now (seen ++ events)
+folded_all bytes left old now none so_far seen events are folded = all (so_far seen events are folded)
+  where
+    some_bytes : (event : Event) → IsEvent event → Fits event → 0 < length (canonical event)
+    some_bytes event is fits = packet_some (canonical event) event (canonical_spells event is fits)
+
+    all : (done : List Event) × (others : List Event) × (events ≡ done ++ others) × ArePacketsOf others left × HasFolded now (seen ++ done) → HasFolded now (seen ++ events)
+    all (done, [], parts, rest, now_folded) = rw (parts ∙ append-nil done) now_folded
+    all (done, event ∷ others, parts, rest, now_folded) = absurd (omega (arith, none, some_bytes event (All-head IsEvent event others rest.are_events) (All-head Fits event others rest.fit), ap length rest.packets, length-append (canonical event) (flat_map canonical others)))
+
+-- ---- packets behind others
+
+packets_both : (events more : List Event) (bytes piece whole : List ℕ) → whole ≡ bytes ++ piece → ArePacketsOf events bytes → ArePacketsOf more piece → ArePacketsOf (events ++ more) whole
+packets_both events more bytes piece whole is are also = record {
+  are_events = All-append IsEvent events more are.are_events also.are_events;
+  fit = All-append Fits events more are.fit also.fit;
+  packets = is ∙ (λ i. are.packets i ++ also.packets i) ∙ sym (flat_map-append canonical events more);
+}
+
+-- one packet more
+pub packets_more : (bytes whole : List ℕ) (event : Event) → IsEvent event → Fits event → whole ≡ bytes ++ canonical event → ArePackets bytes → ArePackets whole
+packets_more bytes whole event is fits parts (events, are) =
+    let one : ArePacketsOf (event ∷ []) (canonical event) = record { are_events = All-cons IsEvent event [] is (All-nil IsEvent); fit = All-cons Fits event [] fits (All-nil Fits); packets = sym (append-nil (canonical event)) } in
+    (events ++ event ∷ [], packets_both events (event ∷ []) bytes (canonical event) whole parts are one)
+
+pub no_packets : ArePackets []
+no_packets = ([], record { are_events = All-nil IsEvent; fit = All-nil Fits; packets = refl })
+
+-- ---- a run that is written
 
 -- the packets, as a stream, are the events
 pub events_again : (events : List Event) → All IsEvent events → All Fits events → HasEvents (flat_map canonical events) events
 events_again events are fit = (_, record { pieces = packets_of events; cut = cut_of_written events are fit; made = sym (notes_of_packets events) }, sym (events_of_packets events))
 
+pub written_none : (new : WrittenRun) → HasFolded new.outcomes [] → HasWritten new []
+written_none new folded = record { events = []; packets = record { are_events = All-nil IsEvent; fit = All-nil Fits; packets = refl }; folded = folded }
+
+pub written_more : {T E : Type 0} (r : Result T E) (old new : WrittenRun) (run written : List ℕ) → ArePackets written → HasWritten old run
+    → ((seen events : List Event) → ArePacketsOf events written → HasFolded old.outcomes seen → OnOk r (HasFolded new.outcomes (seen ++ events))) → OnOk r (HasWritten new (run ++ written))
+written_more (Err e) old new run written are has step = tt
+written_more (Ok x) old new run written (events, are) has step = record {
+  events = has.events ++ events;
+  packets = packets_both has.events events run written (run ++ written) refl has.packets are;
+  folded = step has.events events are has.folded;
+}
+
 pub written_rows : {E : Type 0} (r : Result (List Row) E) (run : List ℕ) (w : WrittenRun) → HasWritten w run → ((seen : List Event) → HasFolded w.outcomes seen → IfOk r (λ rows. rows ≡ rows_of seen)) → IfOk r (AreRowsOf run)
 written_rows r run w has close =
     if_ok_then _ (AreRowsOf run) r (close has.events has.folded) (λ rows is. record {
       events = has.events;
-      told = subst (λ (l : List ℕ). HasEvents l has.events) (sym has.packets) (events_again has.events has.are_events has.fit);
+      told = subst (λ (l : List ℕ). HasEvents l has.events) (sym has.packets.packets) (events_again has.events has.packets.are_events has.packets.fit);
       folded = is;
     })

@@ -6,7 +6,6 @@ pub mod Ledger
 pub mod Starts
 pub mod SoFar
 pub mod Writing
-pub mod Hearing
 pub mod Behind
 pub mod Caches
 pub mod Cuts

@@ -4,7 +4,7 @@
 //! stand in docs/FORMATS.md, "Streams", "The fold" and "What the runs say together".
 //!
 //! - `run_reader`, `folding`: the rows of one run, read in pieces
-//! - `written_run`, `heard_run`: the rows of one run, told while it is written
+//! - `written_run`: the rows of one run, told while it is written
 //! - `fault`: why nothing is said of the runs of a store
 //! - `rows`: the rows of one run of a store
 //! - `failing_set`, `taking`: the ids that fail after the runs of a store, told from the last full run on
@@ -26,7 +26,6 @@ mod failing_cache;
 mod failing_set;
 mod fault;
 mod folding;
-mod heard_run;
 mod lane_laws;
 mod latest_times;
 mod laws;
@@ -44,7 +43,6 @@ pub use cached_failing::failing;
 pub use cached_times::times;
 pub use failing_cache::{FailingCache, read_failing_cache, write_failing_cache};
 pub use fault::LedgerFault;
-pub use heard_run::HeardRun;
 pub use lane_laws::lanes_are_read_in_turn;
 pub use laws::runs_have_one_list_of_rows;
 pub use refreshing::{refresh, refresh_behind};

@@ -1,7 +1,7 @@
 use Rattle.std.proofs.Common.{ap, ◌∙◌, sym, subst, List, ℕ}
 use Rattle.std.specs.Prelude.{length}
 use Rattle.packet_codec.specs.Packet.{SpellsEvent}
-use Rattle.run_ledger.proofs.heard_run.fold_packet.Goals as goal
+use Rattle.run_ledger.proofs.written_run.fold_packet.Goals as goal
 
 pub returns-clause-size : goal.returns-clause-size
 returns-clause-size c = λ event behind found. c.size.ensures.size ∙ ap length (c.front_packet-packet.ensures.only event behind found)

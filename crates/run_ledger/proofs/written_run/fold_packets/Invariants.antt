@@ -1,7 +1,7 @@
 use Rattle.std.proofs.Common.{length}
 use Rattle.packet_codec.specs.Packets.{ArePackets}
-use Rattle.run_ledger.proofs.HeardLemmas.{IsFoldedTo}
-use Rattle.run_ledger.proofs.heard_run.fold_packets.Given as goal
+use Rattle.run_ledger.proofs.WrittenLemmas.{IsFoldedTo}
+use Rattle.run_ledger.proofs.written_run.fold_packets.Given as goal
 
 -- the packets so far were folded, and packets are left
 abbrev pub invariant-loop-left : goal.invariant-loop-left

@@ -1,8 +1,8 @@
 use Rattle.std.proofs.Common.{◌<◌, length, sym, subst, rules}
 use Rattle.std.proofs.lemmas.List.{take_rest}
 use Rattle.packet_codec.specs.Packets.{ArePackets}
-use Rattle.run_ledger.proofs.HeardLemmas.{IsFoldedTo, packet_stands, packets_left, folded_none, folded_more, folded_all}
-use Rattle.run_ledger.proofs.heard_run.fold_packets.Goals as goal
+use Rattle.run_ledger.proofs.WrittenLemmas.{IsFoldedTo, packet_stands, packets_left, folded_none, folded_more, folded_all}
+use Rattle.run_ledger.proofs.written_run.fold_packets.Goals as goal
 
 pub loop-left-init : goal.loop-left-init
 loop-left-init c = record { folded = folded_none _ _; packets = c.requires.packets }
