@@ -1,6 +1,7 @@
 -- The rows of what is recorded of a run's lanes, from what was heard.
-use Rattle.std.proofs.Common.{◌≡◌, ℕ, ◌≤◌, List, [], ◌∷◌, ◌++◌, Option, None, Some, Result, Ok, Err, IfOk, IfErr, map, refl, sym, ap, ◌∙◌, subst}
+use Rattle.std.proofs.Common.{◌≡◌, ℕ, ◌≤◌, List, [], ◌∷◌, ◌++◌, Option, None, Some, Result, Ok, Err, IfOk, IfErr, OnOk, map, refl, sym, ap, ◌∙◌, subst}
 use Rattle.std.specs.List.{flat_map}
+use Rattle.std.proofs.lemmas.List.{flat_map_more}
 use Rattle.std.proofs.lemmas.List.Concat.{flat_map-append}
 use Rattle.sub_number.specs.declared.memory.NoMemory as memory
 use Rattle.edge_io.specs.Causes.{Rose, RisesExactlyIf}
@@ -10,12 +11,13 @@ use Rattle.outcome_fold.specs.declared.row.Row.{Row}
 use Rattle.packet_codec.specs.Canonical.{canonical}
 use Rattle.packet_codec.specs.declared.event.Event.{Event}
 use Rattle.packet_codec.specs.Lanes.{joined}
-use Rattle.run_ledger.specs.Hearing.{HasHeard}
 use Rattle.run_ledger.specs.Reading.{AreRowsOf}
+use Rattle.run_ledger.specs.Writing.{HasWritten}
+use Rattle.run_ledger.specs.declared.written_run.WrittenRun.{WrittenRun}
 use Rattle.run_ledger.proofs.FoldLemmas.{if_ok_then}
 use Rattle.run_shelf.specs.declared.faults.ShelfCall.{ShelfCall}
 use Rattle.run_shelf.specs.declared.faults.ShelfCall.TheVariants.{Append}
-use Rattle.suite_run.specs.Recording.{AddsRows, RecordsLanes, TellsOfAppend, lanes_answer, lanes_failed}
+use Rattle.suite_run.specs.Recording.{AddsRows, HasHeard, RecordsLanes, TellsOfAppend, lanes_answer, lanes_failed}
 use Rattle.suite_run.specs.declared.recording.Ear.{Ear}
 use Rattle.suite_run.specs.declared.recording.LanesRefusal.{LanesRefusal}
 use Rattle.worker_lane.specs.declared.lot.Lot.{Lot}
@@ -27,6 +29,11 @@ joined_packets : (groups : List (List Event)) → joined (map (flat_map canonica
 joined_packets [] = refl
 joined_packets (group ∷ groups) = ap (λ l. flat_map canonical group ++ l) (joined_packets groups) ∙ sym (flat_map-append canonical group (flat_map (λ g. g) groups))
 
+-- one piece more
+pub heard_more : {T E : Type 0} (result : Result T E) (pieces : List (List ℕ)) (piece : List ℕ) (run : WrittenRun) → OnOk result (HasWritten run (joined pieces ++ piece)) → OnOk result (HasHeard run (pieces ++ piece ∷ []))
+heard_more (Ok done) pieces piece run has = rw (flat_map_more (λ (l : List ℕ). l) [] pieces piece) has
+heard_more (Err lack) pieces piece run has = tt
+
 module _ (rests : List (Option (List Lot))) (old new : Option Folder) where
   -- the ear heard a merge as it was added
   abbrev HeardAll : Ear → Type 0
@@ -34,14 +41,14 @@ module _ (rests : List (Option (List Lot))) (old new : Option Folder) where
 
   -- the rows are those of all that was heard, in whatever pieces
   abbrev GivesRows : {E : Type 0} → Ear → Result (List Row) E → Type 0
-  GivesRows ear rows = (pieces : List (List ℕ)) → HasHeard ear.run pieces → IfOk rows (AreRowsOf (joined pieces))
+  GivesRows ear rows = (run : List ℕ) → HasWritten ear.run run → IfOk rows (AreRowsOf run)
 
   pub rows_of_heard : {E F : Type 0} (heard : Result Ear F) (ear : Ear) (rows : Result (List Row) E) → heard ≡ Ok ear → GivesRows ear rows → IfOk heard HeardAll → IfOk rows (AddsRows rests old new)
   rows_of_heard heard ear rows is gives all =
       let h : HeardAll ear = rw is at all in
       let pieces : List (List ℕ) = map (flat_map canonical) h.groups in
       let bytes : joined pieces ≡ flat_map canonical h.merge.events = joined_packets h.groups ∙ ap (flat_map canonical) h.parts in
-      if_ok_then (AreRowsOf (joined pieces)) (AddsRows rests old new) rows (gives pieces h.heard) (λ list is. record {
+      if_ok_then (AreRowsOf (joined pieces)) (AddsRows rests old new) rows (gives (joined pieces) h.heard) (λ list is. record {
         merge = h.merge;
         rows_are = subst (λ l. AreRowsOf l list) bytes is;
       })

@@ -1,5 +1,5 @@
 -- What is recorded of a run's lanes, and its rows.
-use Rattle.std.specs.Prelude.{◌≡◌, ⊤, Bool, true, false, Option, Some, None, List, Result, Ok, Err, IfOk, IfErr}
+use Rattle.std.specs.Prelude.{◌≡◌, ⊤, ℕ, Bool, true, false, Option, Some, None, List, Result, Ok, Err, IfOk, IfErr}
 use Rattle.std.specs.List.{flat_map}
 use Rattle.sub_number.specs.declared.memory.NoMemory as memory
 use Rattle.edge_io.specs.Causes.{RisesExactlyIf}
@@ -8,7 +8,10 @@ use Rattle.edge_io.specs.Seen.{Seen}
 use Rattle.edge_io.specs.Steps.{Goes}
 use Rattle.outcome_fold.specs.declared.row.Row.{Row}
 use Rattle.packet_codec.specs.Canonical.{canonical}
+use Rattle.packet_codec.specs.Lanes.{joined}
 use Rattle.run_ledger.specs.Reading.{AreRowsOf}
+use Rattle.run_ledger.specs.Writing.{HasWritten}
+use Rattle.run_ledger.specs.declared.written_run.WrittenRun.{WrittenRun}
 use Rattle.run_shelf.specs.Drafts.{SameButDraft}
 use Rattle.run_shelf.specs.declared.faults.ShelfCall.{ShelfCall}
 use Rattle.run_shelf.specs.declared.faults.ShelfCall.TheVariants.{Append}
@@ -26,6 +29,10 @@ lanes_failed (Err NoMemory) = false
 abbrev pub TellsOfAppend : LanesRefusal → Type 0
 TellsOfAppend (Shelf call) = call ≡ Append
 TellsOfAppend NoMemory = ⊤
+
+-- these pieces were heard, one after another
+abbrev pub HasHeard : WrittenRun → List (List ℕ) → Type 0
+HasHeard run pieces = HasWritten run (joined pieces)
 
 -- behind the draft stand the packets of a merge, and these are the rows of their bytes
 pub record AddsRows (rests : List (Option (List Lot))) (old new : Option Folder) (rows : List Row) : Type 0 where

@@ -6,15 +6,14 @@ ghost use Rattle.edge_io.specs.Disk.{Folder};
 ghost use Rattle.edge_io.specs.Steps.{HasDraft};
 ghost use Rattle.run_shelf.specs.Holds.{kinds_of, HasRoom, FitsWhereTold};
 ghost use Rattle.run_shelf.specs.Repository.{most_runs};
-ghost use Rattle.suite_run.specs.Recording.{AddsRows, RecordsLanes, lanes_answer};
-ghost use Rattle.run_ledger.specs.Hearing.{HasHeard};
+ghost use Rattle.suite_run.specs.Recording.{AddsRows, HasHeard, RecordsLanes, lanes_answer};
 ghost use Rattle.worker_lane.specs.Lanes.{rest, lane_number};
 ghost use Rattle.worker_lane.specs.declared.lot.Lot.{Lot};
 ghost use Rattle.worker_mux.specs.Runs.{HearsMerge};
 
 use edge_io::{Child, Shelf};
 use outcome_fold::Rows;
-use run_ledger::HeardRun;
+use run_ledger::WrittenRun;
 use run_shelf::{Found, Recorder, Recording, ShelfCall};
 use std::alloc::Global;
 use std::sync::Wait;
@@ -66,7 +65,7 @@ pub fn record_lanes<R: Threads + Wait + Sync, C: Child + Send + Drop, H: Shelf>(
     };
     let mut recorder = Recorder { shelf, recording };
     let ear = Ear {
-        run: HeardRun::new(alloc),
+        run: WrittenRun::new(alloc),
     };
     let heard = run_lanes_heard(rt, alloc, lanes, &mut recorder, ear);
     let Recorder { shelf, recording } = recorder;
@@ -87,7 +86,7 @@ fn hand_back<H: Shelf>(shelf: &mut H)
 // Hears the packets that are added to a run, and folds their events.
 #[derive(Drop)]
 struct Ear {
-    run: HeardRun,
+    run: WrittenRun,
 }
 
 impl Listener for Ear {
