@@ -1,15 +1,17 @@
 -- What is recorded, one piece after another.
-use Rattle.std.proofs.Common.{◌≡◌, ℕ, ◌<◌, true, Option, Some, None, List, [], ◌++◌, Result, Ok, Err, sym, ap, subst, ◌∙◌, append_assoc, length, length-append, arith}
-use Rattle.std.specs.Prelude.{IfSome, IfNone, IfErr, IsErrAnd}
-use Rattle.std.proofs.lemmas.List.{append-nil}
+use Rattle.std.proofs.Common.{◌≡◌, ℕ, ◌-◌, ◌<◌, Bool, true, false, Option, Some, None, List, [], ◌∷◌, ◌++◌, Result, Ok, Err, take, drop, refl, sym, ap, subst, ◌∙◌, append_assoc, length, length-append, arith}
+use Rattle.std.specs.Prelude.{IfSome, IfErr, IsErrAnd}
+use Rattle.std.proofs.lemmas.List.{append-nil, drop_at, take_rest}
+use Rattle.std.proofs.lemmas.List.Elements.{All-nil, All-cons}
 use Rattle.std.proofs.lemmas.Result.{err_from_is_err_and}
 use Rattle.edge_io.specs.Causes.{Rose}
 use Rattle.edge_io.specs.Disk.{Folder}
 use Rattle.edge_io.specs.Seen.{Seen}
 use Rattle.edge_io.specs.Steps.{Goes, Grown}
 use Rattle.outcome_fold.specs.declared.row.Row.{Row}
-use Rattle.packet_codec.specs.declared.event.Event.{Event}
+use Rattle.packet_codec.specs.Canonical.{IsEvent, Fits, canonical}
 use Rattle.packet_codec.specs.Grammar.{AreBytes}
+use Rattle.packet_codec.specs.Packets.{ArePackets}
 use Rattle.run_ledger.specs.Reading.{AreRowsOf}
 use Rattle.run_ledger.specs.Writing.{HasWritten}
 use Rattle.run_ledger.specs.declared.written_run.WrittenRun.{WrittenRun}
@@ -17,8 +19,8 @@ use Rattle.run_shelf.specs.Drafts.{SameButDraft}
 use Rattle.run_shelf.proofs.DraftLemmas.{goes_grown_then}
 use Rattle.stream_reader.proofs.FrontLemmas.{are_both}
 use Rattle.worker_lane.specs.Recorded.{IsRecorded}
-use Rattle.worker_lane.specs.Scribing.{Scribing, holding, Recording, GivesThis, GivesPackets, HasNone}
-use Rattle.worker_lane.proofs.RecordingLemmas.{as_packet, packets_none, packets_one, recording_ended, recording_whole}
+use Rattle.worker_lane.specs.Scribing.{Scribing, holding, Recording, GivesOne, GivesPacket, GivesPackets, HasNone}
+use Rattle.worker_lane.proofs.RecordingLemmas.{packets_none, packets_one, recording_ended, recording_whole}
 use Rattle.testr_cli.specs.Outside.{Fed, fed}
 use Rattle.testr_cli.specs.Recording.{most_bytes, ReadsFew, ReadsTooMany, NoneFailed, WritesPackets, HasRecordCause, HasWriteCause, RecordsInput, RecordsPieces, RecordsAll, Records}
 use Rattle.testr_cli.specs.declared.recording.RecordFault.{RecordFault}
@@ -51,9 +53,20 @@ pub none_given : (before after : Scribing) (old new : List ℕ) → after ≡ be
 none_given before after old new same kept = rw (same, kept) (packets_none before old)
 
 -- the next one was given, if there was one
-pub given_by : (answer : Option Event) (before after : Scribing) (old new : List ℕ) → IfSome answer (λ event. GivesThis before old event after new) → IfNone answer (HasNone before × (after ≡ before) × (new ≡ old)) → GivesPackets before old after new
-given_by (Some event) before after old new some none = packets_one before after old new (as_packet before after old event new some)
-given_by None before after old new some none = none_given before after old new none.1 none.2
+pub given_by : (answer : Bool) (before after : Scribing) (old new : List ℕ) → (answer ≡ true → GivesPacket before old after new) → (answer ≡ false → HasNone before × (after ≡ before) × (new ≡ old)) → GivesPackets before old after new
+given_by true before after old new some none = packets_one before after old new (some refl)
+given_by false before after old new some none = none_given before after old new (none refl).1 (none refl).2
+
+-- what was appended of it is its packet
+pub packet_appended : (before after : Scribing) (old new slice : List ℕ) (start : ℕ) → GivesOne before old after new → start ≡ length old → slice ≡ new → ArePackets (take (length slice - start) (drop start slice))
+packet_appended before after old new slice start (event, g) start-is slice-is = rw (start-is, slice-is, take_rest new (length old)) (
+  event ∷ [],
+  record {
+    are_events = All-cons IsEvent event [] g.has_packet.is_event (All-nil IsEvent);
+    fit = All-cons Fits event [] g.has_packet.fits (All-nil Fits);
+    packets = ap (drop (length old)) g.new_is ∙ drop_at old (canonical event) (length old) refl ∙ sym (append-nil (canonical event));
+  },
+)
 
 -- nothing was gathered
 pub folds_nothing : (rows : WrittenRun) (packets run : List ℕ) → packets ≡ [] → HasWritten rows run → HasWritten rows (run ++ packets)

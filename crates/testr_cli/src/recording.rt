@@ -1,5 +1,5 @@
-//! Records an input as it is read: each piece of it becomes packets, whose events are folded as they are given, and which
-//! are written behind the draft. A piece may decide very many, so they are written as soon as they have `PIECE` bytes: less
+//! Records an input as it is read: each piece of it becomes packets, which are folded as they are given, and are
+//! written behind the draft. A piece may decide very many, so they are written as soon as they have `PIECE` bytes: less
 //! than that and one packet are held at most.
 
 ghost use Rattle.std.specs.Prelude.{◌≡◌, ℕ, ◌<◌, ◌≤◌, List, [], ◌++◌, true, false, length, IfOk, IfErr, OnOk};
@@ -216,7 +216,7 @@ fn gather_packets(
     Ok(false)
 }
 
-// Appends the next packet, folds its event, and answers true; false where no more are decided by now.
+// Appends the next packet, folds it from where it stands then, and answers true; false where no more are decided by now.
 fn gather_next(
     scribe: &mut Scribe,
     rows: &mut WrittenRun,
@@ -228,10 +228,11 @@ fn gather_next(
     ensures shorter { IfOk result (λ more. more ≡ true → most_left scribe.new < most_left scribe.old) }
     ensures none { IfOk result (λ more. more ≡ false → HasNone scribe.old × (scribe.new ≡ scribe.old) × (packets.new.items ≡ packets.old.items)) }
 {
-    let Some(event) = scribe.next_event_into(packets)? else {
+    let start = packets.len();
+    if !scribe.next_into(packets)? {
         return Ok(false);
-    };
-    rows.add(event)?;
+    }
+    rows.hear(&packets[start..])?;
     Ok(true)
 }
 

@@ -1,14 +1,18 @@
-use Rattle.testr_cli.proofs.RecordLemmas.{none_given, given_by}
+use Rattle.std.proofs.Common.{rules}
+use Rattle.testr_cli.proofs.RecordLemmas.{none_given, given_by, packet_appended}
 use Rattle.testr_cli.proofs.recording.gather_next.Goals as goal
 
-pub returns-in_err-event-clause-given : goal.returns-in_err-event-clause-given
-returns-in_err-event-clause-given c = none_given _ _ _ _ c.in_err-event.ensures.err.0 c.in_err-event.ensures.err.1
+pub hear-requires : goal.hear-requires
+hear-requires c = record { packets = packet_appended _ _ _ _ _ _ (c.in_ok-next_into.ensures.packet c.if-not-branch.false) (search rules) c.deref.ensures.value }
 
-pub returns-in_default-clause-given : goal.returns-in_default-clause-given
-returns-in_default-clause-given c = given_by _ _ _ _ _ c.in_ok-event.ensures.some c.in_ok-event.ensures.none
+pub returns-in_err-next_into-clause-given : goal.returns-in_err-next_into-clause-given
+returns-in_err-next_into-clause-given c = none_given _ _ _ _ c.in_err-next_into.ensures.err.0 c.in_err-next_into.ensures.err.1
 
-pub returns-in_err-add-clause-given : goal.returns-in_err-add-clause-given
-returns-in_err-add-clause-given c = given_by _ _ _ _ _ c.in_ok-event.ensures.some c.in_ok-event.ensures.none
+pub returns-then-not-branch-clause-given : goal.returns-then-not-branch-clause-given
+returns-then-not-branch-clause-given c = given_by _ _ _ _ _ c.in_ok-next_into.ensures.given c.in_ok-next_into.ensures.none
+
+pub returns-in_err-hear-clause-given : goal.returns-in_err-hear-clause-given
+returns-in_err-hear-clause-given c = given_by _ _ _ _ _ c.in_ok-next_into.ensures.given c.in_ok-next_into.ensures.none
 
 pub returns-clause-given : goal.returns-clause-given
-returns-clause-given c = given_by _ _ _ _ _ c.in_ok-event.ensures.some c.in_ok-event.ensures.none
+returns-clause-given c = given_by _ _ _ _ _ c.in_ok-next_into.ensures.given c.in_ok-next_into.ensures.none
