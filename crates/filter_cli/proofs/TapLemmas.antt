@@ -8,10 +8,11 @@ use Rattle.packet_codec.specs.declared.event.Event.{Event}
 use Rattle.packet_codec.specs.Canonical.{canonical, Fits}
 use Rattle.stream_reader.specs.Notes.{stdout_event}
 use Rattle.tap_bridge.specs.declared.reader.TapReader.{TapReader}
-use Rattle.tap_bridge.specs.Events.{longest_line, pieces_of, events_so_far, tap_events}
+use Rattle.tap_bridge.specs.Events.{longest_line, pieces_of, input_of, events_at, events_so_far, tap_events}
 use Rattle.tap_bridge.specs.Kept.{HasRead}
 use Rattle.tap_bridge.proofs.SizeLemmas.{stdout_fits}
 use Rattle.tap_bridge.proofs.LongLines.{one_piece, too_long_is_read, too_long_gives}
+use Rattle.tap_bridge.proofs.ReadLemmas.{so_far_push}
 use Rattle.filter_cli.specs.Pipe.{Adds}
 use Rattle.filter_cli.specs.Lines.{IsPlain, ArePlain, ended, IsSplit, last_line}
 use Rattle.filter_cli.specs.Tap.{IsTapFiltered}
@@ -122,6 +123,20 @@ taken_line lines line shown old new before after events h read gives grown = rec
   grown = grown;
   holds = record { taken = read; made = ap (λ (l : List ℕ). l ++ packets_of events) h.made ∙ sym (packets_then (events_so_far lines) events) ∙ ap packets_of (sym gives) };
 }
+
+-- a line that the reader took, which gave nothing
+pub taken_comment : (lines : List (List ℕ)) (line shown old : List ℕ) (before after : TapReader) → HasTaken before lines shown → HasRead after (lines ++ line ∷ [])
+    → events_so_far (lines ++ line ∷ []) ≡ events_so_far lines → Adds old old (λ more. HasTaken after (lines ++ line ∷ []) (shown ++ more))
+taken_comment lines line shown old before after h read gives =
+    taken_line lines line shown old old before after [] h read (gives ∙ sym (append-nil (events_so_far lines))) (sym (append-nil old))
+
+-- a line that the reader took, whose events were put into an empty list
+pub taken_events : (lines : List (List ℕ)) (line shown old new : List ℕ) (before after : TapReader) (cleared events : List Event) → HasTaken before lines shown → HasRead after (lines ++ line ∷ [])
+    → cleared ≡ [] → events ≡ cleared ++ events_at (map input_of lines) (input_of line) → new ≡ old ++ packets_of events → Adds old new (λ more. HasTaken after (lines ++ line ∷ []) (shown ++ more))
+taken_events lines line shown old new before after cleared events h read none is grown =
+    let gives = events_at (map input_of lines) (input_of line) in
+    taken_line lines line shown old new before after events h read
+    (so_far_push lines line ∙ ap (λ (l : List Event). events_so_far lines ++ l) (sym (is ∙ ap (λ (l : List Event). l ++ gives) none))) grown
 
 -- a line that was too long, of which this is left
 pub taken_long : (reader : TapReader) (held : List ℕ) (long : Bool) (fed shown old new : List ℕ) → long ≡ true → new ≡ old ++ packets_of (map stdout_event (last_line held)) → (h : HasTapped reader held long fed shown)

@@ -13,6 +13,7 @@ use crate::filter::Filter;
 use crate::open_line::OpenLine;
 use crate::packets::put_events;
 use memchr::memchr;
+use packet_codec::Event;
 use std::alloc::Global;
 use sub_number::NoMemory;
 use tap_bridge::TapReader;
@@ -25,6 +26,8 @@ use tap_bridge::TapReader;
 pub(crate) struct TapToSubunit {
     reader: TapReader,
     line: OpenLine,
+    // What a line gave, kept for its room.
+    events: Vec<Event>,
 }
 
 impl TapToSubunit {
@@ -39,6 +42,7 @@ impl TapToSubunit {
         TapToSubunit {
             reader: TapReader::new(alloc),
             line: OpenLine::new(alloc),
+            events: Vec::new(alloc),
         }
     }
 
@@ -52,7 +56,7 @@ impl TapToSubunit {
         ensures tapped { (fed shown : List ℕ) → HasTapped self.old.reader self.old.line.held.items self.old.line.long fed shown → OnOk result (Adds text.old.items text.new.items (λ more. HasTapped self.new.reader [] false (fed ++ (end.now ++ 10 ∷ [])) (shown ++ more))) }
     {
         if self.line.is_new() {
-            take_line(&mut self.reader, end, text)?;
+            take_line(&mut self.reader, end, &mut self.events, text)?;
             return Ok(());
         }
         self.line.add(end, text)?;
@@ -71,7 +75,7 @@ impl TapToSubunit {
             self.line.give_rest(text)?;
             return Ok(());
         }
-        take_line(&mut self.reader, &self.line.held, text)?;
+        take_line(&mut self.reader, &self.line.held, &mut self.events, text)?;
         self.line.held.clear();
         Ok(())
     }
@@ -89,13 +93,38 @@ impl TapToSubunit {
     }
 }
 
-// Takes a whole line, and appends what it gives.
-fn take_line(reader: &mut TapReader, line: &[u8], text: &mut Vec<u8>) -> Result<(), NoMemory>
+// Takes a whole line, and appends what it gives. Most lines of some streams are comments, which give nothing.
+fn take_line(
+    reader: &mut TapReader,
+    line: &[u8],
+    events: &mut Vec<Event>,
+    text: &mut Vec<u8>,
+) -> Result<(), NoMemory>
     requires { length line.now ≤ longest_line }
     ensures { (lines : List (List ℕ)) (shown : List ℕ) → HasTaken reader.old lines shown → OnOk result (Adds text.old.items text.new.items (λ more. HasTaken reader.new (lines ++ line.now ∷ []) (shown ++ more))) }
 {
-    let events = reader.line(line)?;
-    put_events(&events, text)?;
+    let taken = reader.comment(line)?;
+    if taken {
+        return Ok(());
+    }
+    give_line(reader, line, events, text)?;
+    Ok(())
+}
+
+// The same of any line. It stands apart, so that a comment does not pay for its locals.
+#[inline(never)]
+fn give_line(
+    reader: &mut TapReader,
+    line: &[u8],
+    events: &mut Vec<Event>,
+    text: &mut Vec<u8>,
+) -> Result<(), NoMemory>
+    requires { length line.now ≤ longest_line }
+    ensures { (lines : List (List ℕ)) (shown : List ℕ) → HasTaken reader.old lines shown → OnOk result (Adds text.old.items text.new.items (λ more. HasTaken reader.new (lines ++ line.now ∷ []) (shown ++ more))) }
+{
+    events.clear();
+    reader.line_into(line, events)?;
+    put_events(events, text)?;
     Ok(())
 }
 
@@ -128,6 +157,7 @@ impl Filter for TapToSubunit {
         let TapToSubunit {
             reader,
             line: _line,
+            events: _events,
         } = filter;
         let events = reader.close()?;
         put_events(&events, text)?;
