@@ -1,5 +1,5 @@
 -- The first of repeated ids.
-use Rattle.std.proofs.Common.{◌≡◌, ℕ, ◌+◌, ◌<◌, take, length, get_or, Bool, true, false, not, ◌||◌, cond, List, [], ◌∷◌, ◌++◌, refl, sym, ap, ◌∙◌, subst}
+use Rattle.std.proofs.Common.{◌≡◌, ℕ, Bool, true, false, not, ◌||◌, cond, List, [], ◌∷◌, ◌++◌, refl, sym, ap, ◌∙◌, subst}
 use Rattle.std.specs.Ordering.{eq_by_cmp}
 use Rattle.std.specs.List.{AllByRecursion, IsDistinct, filter}
 use Rattle.std.specs.Str.{bytes_eq}
@@ -10,7 +10,7 @@ use Rattle.std.proofs.lemmas.Map.Text.{is_eq-slice_cmp}
 use Rattle.outcome_fold.specs.Order.{text_cmp, among, without, in_byte_order}
 use Rattle.outcome_fold.proofs.TableLemmas.{tied_is, any_push}
 use Rattle.outcome_fold.proofs.OrderLemmas.{exact_texts}
-use Rattle.outcome_fold.proofs.SetLemmas.{same_order, among_order, order_push, take_one_more}
+use Rattle.outcome_fold.proofs.SetLemmas.{same_order, among_order, order_push}
 use Rattle.suite_plan.specs.Firsts.{firsts}
 use Rattle.suite_plan.specs.FirstIds.{HasFirsts}
 use Rattle.suite_plan.specs.declared.first_ids.FirstIds.{FirstIds}
@@ -119,8 +119,3 @@ firsts_same (id ∷ ids) distinct = ap (λ l. id ∷ without l (id ∷ [])) (fir
 
 pub has_distinct : (found : FirstIds) (ids : List (List ℕ)) → HasFirsts found ids → IsDistinct bytes_eq found.ids
 has_distinct found ids has = subst (IsDistinct bytes_eq) (sym has.ids_are) (firsts_distinct ids)
-
--- ---- the ids of a list, in turn
-
-pub has_more : (found : FirstIds) (ids : List (List ℕ)) (i : ℕ) (item id : List ℕ) → i < length ids → item ≡ get_or ids i item → id ≡ item → HasFirsts found (take i ids ++ id ∷ []) → HasFirsts found (take (i + 1) ids)
-has_more found ids i item id below is same has = subst (HasFirsts found) (ap (λ (x : List ℕ). take i ids ++ x ∷ []) same ∙ sym (take_one_more ids i item below is)) has

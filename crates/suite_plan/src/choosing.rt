@@ -10,27 +10,27 @@ use crate::first_ids::firsts;
 use outcome_fold::TextSet;
 use partition_times::{Filters, pick};
 use std::alloc::Global;
-use sub_number::{IdList, NoMemory};
+use sub_number::{IdList, NoMemory, Text};
 
-/// The ids, in their order, that stand among the others too.
+/// The ids, in their order, that stand among the others too. They are moved.
 ///
 /// `NoMemory` comes only for want of memory.
-pub fn in_both(alloc: Global, ids: &IdList, others: &IdList) -> Result<IdList, NoMemory>
-    ensures { IfOk result (λ both. both ≡ ids_in_both ids.now others.now) }
+pub fn in_both(alloc: Global, ids: IdList, others: &IdList) -> Result<IdList, NoMemory>
+    ensures { IfOk result (λ both. both ≡ ids_in_both ids others.now) }
 {
     let mut known = TextSet::new(alloc);
     known.insert_all(others.list())?;
-    those_in(alloc, ids, &known)
+    those_in(alloc, ids.into_list(), &known)
 }
 
-// The ids, in their order, that are in the set.
-fn those_in(alloc: Global, ids: &IdList, known: &TextSet) -> Result<IdList, NoMemory>
-    ensures { IfOk result (λ both. both ≡ ids_in_both ids.now known.now) }
+// The ids, in their order, that are in the set. They are moved.
+fn those_in(alloc: Global, ids: Vec<Text>, known: &TextSet) -> Result<IdList, NoMemory>
+    ensures { IfOk result (λ both. both ≡ ids_in_both ids.items known.now) }
 {
     let mut both = IdList::new(alloc);
-    for id in ids.list() {
-        if known.contains(id) {
-            both.push(id.copy()?)?;
+    for id in ids {
+        if known.contains(&id) {
+            both.push(id)?;
         }
     }
     Ok(both)
@@ -61,7 +61,7 @@ pub fn choose(alloc: Global, ids: IdList, filters: &Filters) -> Result<IdList, N
 fn choose_firsts(alloc: Global, ids: IdList, filters: &Filters) -> Result<IdList, NoMemory>
     ensures { IfOk result (λ chosen. chosen ≡ chosen_of filters.now ids) }
 {
-    firsts(alloc, &picked(alloc, ids, filters)?)
+    firsts(alloc, picked(alloc, ids, filters)?)
 }
 
 // The ids that are given without a listing: of the failing ids those that a load list has, or the failing ids, or those of
@@ -74,7 +74,7 @@ fn choose_given(
     ensures { IfOk result (λ given. given ≡ given_ids failing listed) }
 {
     match (failing, listed) {
-        (Some(failing), Some(listed)) => Ok(Some(in_both(alloc, &failing, &listed)?)),
+        (Some(failing), Some(listed)) => Ok(Some(in_both(alloc, failing, &listed)?)),
         (Some(failing), None) => Ok(Some(failing)),
         (None, listed) => Ok(listed),
     }

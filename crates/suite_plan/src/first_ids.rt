@@ -41,9 +41,7 @@ impl FirstIds {
             return Ok(());
         }
         self.seen.insert(&id)?;
-        let Ok(()) = self.ids.push(id) else {
-            return Err(NoMemory);
-        };
+        self.ids.push(id)?;
         Ok(())
     }
 
@@ -56,23 +54,23 @@ impl FirstIds {
     }
 }
 
-/// The ids in their order, of repeats the first. So each stands once.
+/// The ids in their order, of repeats the first. So each stands once. They are moved.
 ///
 /// `NoMemory` comes only for want of memory.
-pub fn firsts(alloc: Global, ids: &IdList) -> Result<IdList, NoMemory>
-    ensures firsts { IfOk result (λ list. list ≡ firsts ids.now) }
+pub fn firsts(alloc: Global, ids: IdList) -> Result<IdList, NoMemory>
+    ensures firsts { IfOk result (λ list. list ≡ firsts ids) }
     ensures distinct { IfOk result (λ list. IsDistinct bytes_eq list) }
 {
-    Ok(gather(alloc, ids.list())?.into_ids())
+    Ok(gather(alloc, ids.into_list())?.into_ids())
 }
 
 // All of the ids, one after another.
-fn gather(alloc: Global, ids: &[Text]) -> Result<FirstIds, NoMemory>
-    ensures { IfOk result (λ found. HasFirsts found ids.now) }
+fn gather(alloc: Global, ids: Vec<Text>) -> Result<FirstIds, NoMemory>
+    ensures { IfOk result (λ found. HasFirsts found ids.items) }
 {
     let mut found = FirstIds::new(alloc);
     for id in ids {
-        found.add(id.copy()?)?;
+        found.add(id)?;
     }
     Ok(found)
 }

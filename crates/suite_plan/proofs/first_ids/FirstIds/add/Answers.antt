@@ -11,4 +11,4 @@ returns-then-contains c =
 pub returns : goal.returns
 returns c =
     let is : false ≡ among c.args.self.now.seen c.args.id = rw c.if-contains.false at c.contains.ensures in
-    λ ids has. has_new c.args.self.now _ ids c.args.id is c.in_ok-insert.ensures.ok c.in-Ok.ensures.ok has
+    λ ids has. has_new c.args.self.now _ ids c.args.id is c.in_ok-insert.ensures.ok c.in_ok-push.ensures.ok has
