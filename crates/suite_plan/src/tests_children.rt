@@ -242,7 +242,7 @@ fn firsts_of(alloc: Global, letters: &[u8]) -> Option<Vec<u8>> {
     for letter in letters {
         ids.push(Text::new(alloc, &[*letter]).ok()?).ok()?;
     }
-    spaced(alloc, &firsts(alloc, &ids).ok()?)
+    spaced(alloc, &firsts(alloc, ids).ok()?)
 }
 
 fn are_firsts(alloc: Global, letters: &[u8], wanted: &[u8]) -> Option<bool> {

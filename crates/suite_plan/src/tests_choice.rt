@@ -215,7 +215,7 @@ fn listing_of(alloc: Global, texts: Option<&str>) -> Option<Option<IdList>>
     ensures { IfSome result (λ ids. IfSome ids (IsDistinct bytes_eq)) }
 {
     match texts {
-        Some(texts) => Some(Some(firsts(alloc, &ids_of(alloc, texts)?).ok()?)),
+        Some(texts) => Some(Some(firsts(alloc, ids_of(alloc, texts)?).ok()?)),
         None => Some(None),
     }
 }
