@@ -8,9 +8,7 @@ ghost use Rattle.outcome_fold.specs.Parts as parts;
 ghost use Rattle.outcome_fold.specs.Rows as rows;
 
 use crate::part_row::{kept_text, last_tags, start_of};
-use outcome_fold::{
-    Ended, Row, TestKey, elapsed, in_order, instant_in, sorted_tags, text_heard,
-};
+use outcome_fold::{Ended, Row, TestKey, elapsed, in_order, instant_in, sorted_tags, text_heard};
 use packet_codec::{Event, Packet, Tags};
 use std::alloc::Global;
 use sub_number::{Bytes, NoMemory};

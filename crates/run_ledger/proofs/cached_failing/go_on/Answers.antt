@@ -1,4 +1,4 @@
-use Rattle.std.proofs.Common.{◌≡◌, sym, arith, List, ℕ, IfSome, subst}
+use Rattle.std.proofs.Common.{◌≡◌, refl, sym, arith, List, ℕ, IfSome, subst}
 use Rattle.run_shelf.specs.Stores.{store_kinds}
 use Rattle.run_ledger.specs.Ledger.{failing_after}
 use Rattle.run_ledger.specs.SoFar.{FailsTo}
