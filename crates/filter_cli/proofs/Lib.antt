@@ -19,3 +19,4 @@ pub mod NewlineLemmas
 pub mod TapPrefix
 pub mod TapRowLemmas
 pub mod TapTextLemmas
+pub mod TaggedLemmas
