@@ -1,7 +1,6 @@
 -- The rows of what is recorded of a run's lanes, from what was heard.
-use Rattle.std.proofs.Common.{◌≡◌, ℕ, ◌≤◌, List, [], ◌∷◌, ◌++◌, Option, None, Some, Result, Ok, Err, IfOk, IfErr, OnOk, map, refl, sym, ap, ◌∙◌, subst}
+use Rattle.std.proofs.Common.{◌≡◌, ℕ, ◌≤◌, List, [], ◌∷◌, ◌++◌, Option, None, Some, Result, Ok, Err, IfOk, IfErr, map, refl, sym, ap, ◌∙◌, subst}
 use Rattle.std.specs.List.{flat_map}
-use Rattle.std.proofs.lemmas.List.{flat_map_more}
 use Rattle.std.proofs.lemmas.List.Concat.{flat_map-append}
 use Rattle.sub_number.specs.declared.memory.NoMemory as memory
 use Rattle.edge_io.specs.Causes.{Rose, RisesExactlyIf}
@@ -13,7 +12,6 @@ use Rattle.packet_codec.specs.declared.event.Event.{Event}
 use Rattle.packet_codec.specs.Lanes.{joined}
 use Rattle.run_ledger.specs.Reading.{AreRowsOf}
 use Rattle.run_ledger.specs.Writing.{HasWritten}
-use Rattle.run_ledger.specs.declared.written_run.WrittenRun.{WrittenRun}
 use Rattle.run_ledger.proofs.FoldLemmas.{if_ok_then}
 use Rattle.run_shelf.specs.declared.faults.ShelfCall.{ShelfCall}
 use Rattle.run_shelf.specs.declared.faults.ShelfCall.TheVariants.{Append}
@@ -28,11 +26,6 @@ use Rattle.worker_mux.specs.Runs.{HearsMerge}
 joined_packets : (groups : List (List Event)) → joined (map (flat_map canonical) groups) ≡ flat_map canonical (flat_map (λ group. group) groups)
 joined_packets [] = refl
 joined_packets (group ∷ groups) = ap (λ l. flat_map canonical group ++ l) (joined_packets groups) ∙ sym (flat_map-append canonical group (flat_map (λ g. g) groups))
-
--- one piece more
-pub heard_more : {T E : Type 0} (result : Result T E) (pieces : List (List ℕ)) (piece : List ℕ) (run : WrittenRun) → OnOk result (HasWritten run (joined pieces ++ piece)) → OnOk result (HasHeard run (pieces ++ piece ∷ []))
-heard_more (Ok done) pieces piece run has = rw (flat_map_more (λ (l : List ℕ). l) [] pieces piece) has
-heard_more (Err lack) pieces piece run has = tt
 
 module _ (rests : List (Option (List Lot))) (old new : Option Folder) where
   -- the ear heard a merge as it was added
