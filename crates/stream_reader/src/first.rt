@@ -30,7 +30,7 @@ pub enum Seen {
 /// What the first note of the bytes held is made of. A packet is its event by now, made from the parts that were found
 /// as it was tested; foreign bytes still stand where they are held.
 #[derive(Drop)]
-pub enum Made {
+pub(crate) enum Made {
     /// The event of a packet of this many bytes.
     Event(Event, usize),
     /// This many foreign bytes, and the size of the packet behind them, if one was seen there.
@@ -41,7 +41,7 @@ pub enum Made {
 
 impl Made {
     /// The same without the event.
-    pub fn first(&self) -> First
+    pub(crate) fn first(&self) -> First
         ensures { result ≡ first_of self.now }
     {
         match self {

@@ -20,7 +20,7 @@ mod run;
 mod whole;
 
 pub use buffer::{MOST_HELD, ROOM};
-pub use first::{First, Made, Seen};
+pub use first::{First, Seen};
 pub use laws::{notes_in_turn, notes_of_streams};
 pub use note::{Note, stdout_event};
 pub use reader::Reader;

@@ -173,46 +173,12 @@ impl Reader {
         self.first_run(1)
     }
 
-    /// What the first note of the bytes held is made of; of a packet its event, made from the parts that were found as
-    /// the packet was tested. So neither is looked for a second time. For foreign bytes it takes no memory.
-    ///
-    /// `NoMemory` comes only for want of memory, and leaves the reader as before.
-    pub fn first_made(&mut self) -> Result<Made, NoMemory>
-        ensures same { self.new ≡ self.old }
-        ensures first { IfOk result (λ made. FirstIs self.old.ended self.old.bytes (first_of made)) }
-        ensures event { IfOk result (HasEvent self.old.bytes) }
-    {
-        match self.first_seen() {
-            Seen::Candidate(header, sum) => self.made_by(header, sum),
-            Seen::Told(first) => self.made_of(first),
-        }
-    }
-
     /// The first bytes held.
     pub fn front(&self, size: usize) -> &[u8]
         requires { size ≤ length self.now.bytes }
         ensures { result.now ≡ take size self.now.bytes }
     {
         &self.buffer.held()[..size]
-    }
-
-    /// The note of what `first_made` told. None where there is nothing.
-    ///
-    /// `NoMemory` comes only for want of memory.
-    pub fn note(&self, made: Made) -> Result<Option<Note>, NoMemory>
-        requires first { FirstIs self.now.ended self.now.bytes (first_of made) }
-        requires event { HasEvent self.now.bytes made }
-        ensures some { IfOk result (λ answer. IfSome answer (IsMadeBy self.now.bytes (first_of made))) }
-        ensures none { IfOk result (λ answer. IfNone answer (first_of made ≡ Nothing)) }
-    {
-        match made {
-            Made::Event(event, _) => Ok(Some(Note::Event(event))),
-            Made::Foreign(size, _) => {
-                let bytes = Bytes::new(self.alloc, self.front(size))?;
-                Ok(Some(Note::Foreign(bytes)))
-            }
-            Made::Nothing => Ok(None),
-        }
     }
 
     /// The note of this was given: its bytes are let go of. Where there is nothing the reader is as before.
@@ -266,6 +232,36 @@ impl Reader {
             Front::More => First::Nothing,
             Front::Packet(size) => First::Foreign(run.count, Some(size)),
             Front::No => First::Foreign(run.count, None),
+        }
+    }
+
+    // What the first note of the bytes held is made of; of a packet its event, made from the parts that were found as the
+    // packet was tested. So neither is looked for a second time.
+    fn first_made(&mut self) -> Result<Made, NoMemory>
+        ensures same { self.new ≡ self.old }
+        ensures first { IfOk result (λ made. FirstIs self.old.ended self.old.bytes (first_of made)) }
+        ensures event { IfOk result (HasEvent self.old.bytes) }
+    {
+        match self.first_seen() {
+            Seen::Candidate(header, sum) => self.made_by(header, sum),
+            Seen::Told(first) => self.made_of(first),
+        }
+    }
+
+    // The note of what `first_made` told. None where there is nothing.
+    fn note(&self, made: Made) -> Result<Option<Note>, NoMemory>
+        requires first { FirstIs self.now.ended self.now.bytes (first_of made) }
+        requires event { HasEvent self.now.bytes made }
+        ensures some { IfOk result (λ answer. IfSome answer (IsMadeBy self.now.bytes (first_of made))) }
+        ensures none { IfOk result (λ answer. IfNone answer (first_of made ≡ Nothing)) }
+    {
+        match made {
+            Made::Event(event, _) => Ok(Some(Note::Event(event))),
+            Made::Foreign(size, _) => {
+                let bytes = Bytes::new(self.alloc, self.front(size))?;
+                Ok(Some(Note::Foreign(bytes)))
+            }
+            Made::Nothing => Ok(None),
         }
     }
 
