@@ -104,9 +104,9 @@ fn same_answer(row: &Option<Row>, other: &Option<Row>) -> bool {
 // Whether a fold that hears the packets gives what one gives that is given the events.
 fn folds_alike(alloc: Global, all: &[Told]) -> Option<bool> {
     let (mut hearing, mut adding) = (Fold::new(alloc), Fold::new(alloc));
-    let mut seconds = 0;
+    let mut seconds = 0u32;
     for told in all {
-        seconds = (seconds + 1) % 60;
+        seconds = seconds.wrapping_add(1);
         let event = event_of(alloc, told, seconds)?;
         let row = heard(&mut hearing, &spelled(alloc, &event)?)?;
         if !same_answer(&row, &adding.add(&event).ok()?) {
