@@ -198,45 +198,6 @@ fn tags_are_sorted_added_and_removed(rt: HostRuntime) -> Result<(), Fail> {
     Ok(())
 }
 
-// Slices of one byte each.
-fn slices<'n>(alloc: Global, names: &'n [u8]) -> Option<Vec<&'n [u8]>> {
-    let mut list = Vec::new(alloc);
-    for at in 0..names.len() {
-        list.push(&names[at..at + 1]).ok()?;
-    }
-    Some(list)
-}
-
-// Whether an event with the tags, which are lent, gets the wanted ones.
-fn gets_lent(alloc: Global, add: &[u8], remove: &[u8], own: &[u8], wanted: &[u8]) -> Option<bool> {
-    let tagger = Tagger::new(alloc, tags(alloc, add)?, tags(alloc, remove)?);
-    let given = tagger.tags_for(slices(alloc, own)?).ok()?;
-    Some(
-        given.len() == wanted.len()
-            && given
-                .iter()
-                .zip(wanted.iter())
-                .all(|(tag, name)| *tag == [*name].as_slice()),
-    )
-}
-
-// 70 tags from the last to the first.
-const FALLING: &[u8] = b"~}|{zyxwvutsrqponmlkjihgfedcba`_^]\\[ZYXWVUTSRQPONMLKJIHGFEDCBA@?>=<;:9";
-
-// Those without the last one, behind one that is less.
-const RISING: &[u8] = b"89:;<=>?@ABCDEFGHIJKLMNOPQRSTUVWXYZ[\\]^_`abcdefghijklmnopqrstuvwxyz{|}";
-
-#[test]
-fn lent_tags_are_sorted_added_and_removed(rt: HostRuntime) -> Result<(), Fail> {
-    let alloc = rt.alloc();
-    assert_eq!(rt; gets_lent(alloc, b"d", b"", b"cacb", b"abcd"), Some(true));
-    assert_eq!(rt; gets_lent(alloc, b"ca", b"d", b"bd", b"abc"), Some(true));
-    assert_eq!(rt; gets_lent(alloc, b"xa", b"x", b"ac", b"ac"), Some(true));
-    assert_eq!(rt; gets_lent(alloc, b"", b"a", b"a", b""), Some(true));
-    assert_eq!(rt; gets_lent(alloc, b"8", b"~", FALLING, RISING), Some(true));
-    Ok(())
-}
-
 // The packet of success foo with the tag bar, by which bar becomes foo.
 fn retagged_packet(alloc: Global) -> Option<bool> {
     let mut add = Tags::new(alloc);
