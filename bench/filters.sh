@@ -118,24 +118,6 @@ def made(work, percent, wanted):
             os.remove(path)
 
 
-def found(folder, work, wanted):
-    """The same of the files in the folder."""
-    for name in sorted(os.listdir(folder)):
-        path = os.path.join(folder, name)
-        if wanted and name not in wanted:
-            continue
-        if os.path.isdir(path):
-            joined = os.path.join(work, name)
-            with open(joined, "wb") as file:
-                for part in sorted(os.listdir(path)):
-                    with open(os.path.join(path, part), "rb") as source:
-                        shutil.copyfileobj(source, file)
-            yield name, joined, False
-            os.remove(joined)
-        else:
-            yield name, path, name.endswith(".tap")
-
-
 def main(program, work, runs="3", percent="100", *words):
     runs, percent, folder = number(runs, 20), number(percent, 1000), os.environ["STREAMS"]
     kinds = list(SIZES) if not folder else os.listdir(folder)
@@ -148,7 +130,7 @@ def main(program, work, runs="3", percent="100", *words):
     wanted = [word for word in words if word in kinds]
     asked = [word for word in words if word not in kinds]
     print("input    filter         program       MB/s     user   system     both  peak KiB status")
-    for kind, path, is_tap in found(folder, work, wanted) if folder else made(work, percent, wanted):
+    for kind, path, is_tap in streams.found(folder, work, wanted) if folder else made(work, percent, wanted):
         for name, options in (FROM_TAP if is_tap else FILTERS).items():
             if not asked or name in asked:
                 measure(kind, path, name, options, runs, programs, work)

@@ -1,16 +1,19 @@
 #!/bin/sh
-# How long `testr load` takes, and how much memory, on five streams: small events, texts, log lines between events, and
-# heads of packets that nest in one another and are none, of which the checksum alone tells, or that have many tags.
+# How long `testr load` takes, and how much memory, on streams: small events, events with tags and routes, texts, log lines
+# between events, events of 64 routes in turn, and heads of packets that nest in one another and are none, of which the
+# checksum alone tells, or that have many tags.
 # usage: bench/load.sh [RUNS [PERCENT [KIND..]]]: by default each stream is loaded 3 times, at most 20, and has 100
 # percent of its size, at most 1000.
 # Where the variable YARDSTICK names another program that keeps runs in the same way by `YARDSTICK testr load`, it is
 # measured in turn with ours, and what both keep and print is compared.
+# Where the variable STREAMS names a folder, its files are measured in place of the streams that are made; a folder in it
+# is one stream, its files one behind another.
 set -eu
 
 root=$(CDPATH='' cd -- "$(dirname -- "$0")/.." && pwd -P)
 . "$root/bench/prepare.sh"
 
-PYTHONDONTWRITEBYTECODE=1 PYTHONPATH=$root/bench YARDSTICK=${YARDSTICK:-} \
+PYTHONDONTWRITEBYTECODE=1 PYTHONPATH=$root/bench YARDSTICK=${YARDSTICK:-} STREAMS=${STREAMS:-} \
     python3 - "$program" "$work" "$@" <<'PYTHON'
 import filecmp
 import os
@@ -21,8 +24,8 @@ import sys
 
 import streams
 
-SIZES = {"small": 1_000_000, "texts": 50_000, "logs": 1_000_000, "sums": 8_000_000, "tags": 8_000_000}
-EVENTS = {"small": 1, "texts": 6, "logs": 1, "sums": 0, "tags": 0}
+SIZES = {"small": 1_000_000, "tagged": 1_000_000, "texts": 50_000, "logs": 1_000_000, "lanes": 640_000, "sums": 8_000_000,
+         "tags": 8_000_000}
 LIMIT = 600
 TIME = "/usr/bin/time"
 
@@ -68,45 +71,60 @@ class Measured:
     def kept(self):
         return os.path.join(self.folder, ".testrepository", "0")
 
-    def tell(self, kind, size, events, stream):
+    def tell(self, kind, size, stream):
         both, user, system = sorted(self.times)[len(self.times) // 2]
         memory = memory_of(self.words, self.folder + "-memory", stream)
-        speed = f"{size / both / 1e6:9.1f} {events / both:11.0f} {user:8.3f} {system:8.3f} {both:8.3f}"
+        speed = f"{size / max(both, 1e-6) / 1e6:9.1f} {user:8.3f} {system:8.3f} {both:8.3f}"
         print(f"{kind:6} {self.name:9} {speed} {memory:>10} {self.status:6}", flush=True)
         return both
 
 
-def measure(kind, percent, runs, programs, work):
-    stream, count = os.path.join(work, kind), max(2, SIZES[kind] * percent // 100)
-    with open(stream, "wb") as file:
-        streams.write(file, streams.KINDS[kind](count))
+def measure(kind, stream, runs, programs, work):
     both = [Measured(name, path, os.path.join(work, f"{kind}-{name}")) for name, path in programs]
     for _ in range(runs):
         for one in both:
             one.measure(stream)
-    times = [one.tell(kind, os.path.getsize(stream), count * EVENTS[kind], stream) for one in both]
+    times = [one.tell(kind, os.path.getsize(stream), stream) for one in both]
     if len(both) == 2:
         same = filecmp.cmp(both[0].kept(), both[1].kept(), False) and both[0].out == both[1].out
         told = "the same kept and printed" if same else "OTHER BYTES kept or printed"
-        print(f"{kind:6} {times[0] / times[1]:.2f} times the yardstick; {told}")
+        print(f"{kind:6} {times[0] / max(times[1], 1e-6):.2f} times the yardstick; {told}", flush=True)
     for one in both:
         shutil.rmtree(one.folder)
-    os.remove(stream)
 
 
-def main(program, work, runs="3", percent="100", *kinds):
-    runs, percent = number(runs, 20), number(percent, 1000)
+def made(work, percent, wanted):
+    """Each stream in turn: its name and its file."""
+    for kind, size in SIZES.items():
+        if not wanted or kind in wanted:
+            path = os.path.join(work, kind)
+            with open(path, "wb") as file:
+                streams.write(file, streams.KINDS[kind](max(2, size * percent // 100)))
+            yield kind, path
+            os.remove(path)
+
+
+def found(folder, work, wanted):
+    """The same of the streams in the folder."""
+    for kind, path, is_tap in streams.found(folder, work, wanted):
+        if not is_tap:
+            yield kind, path
+
+
+def main(program, work, runs="3", percent="100", *wanted):
+    runs, percent, folder = number(runs, 20), number(percent, 1000), os.environ["STREAMS"]
+    kinds = list(SIZES) if not folder else os.listdir(folder)
+    if not set(kinds).issuperset(wanted):
+        sys.exit(f"load: the streams are {', '.join(sorted(kinds))}")
     programs = [("testr", program)]
     if os.environ["YARDSTICK"]:
         programs.append(("yardstick", os.path.abspath(os.environ["YARDSTICK"])))
-    made = os.path.join(work, "made")
-    os.mkdir(made)
-    subprocess.run([program, "testr", "init"], cwd=made, check=True, timeout=LIMIT)
-    print("stream program        MB/s    events/s     user   system     both  peak KiB  status")
-    for kind in kinds or SIZES:
-        if kind not in SIZES:
-            sys.exit(f"load: the streams are {', '.join(SIZES)}")
-        measure(kind, percent, runs, programs, work)
+    made_folder = os.path.join(work, "made")
+    os.mkdir(made_folder)
+    subprocess.run([program, "testr", "init"], cwd=made_folder, check=True, timeout=LIMIT)
+    print("stream program        MB/s     user   system     both  peak KiB  status")
+    for kind, stream in found(folder, work, wanted) if folder else made(work, percent, wanted):
+        measure(kind, stream, runs, programs, work)
 
 
 main(*sys.argv[1:])

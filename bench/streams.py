@@ -19,6 +19,8 @@ usage: streams.py KIND COUNT >STREAM
   line COUNT    one line of TAP of COUNT bytes
 """
 import struct
+import os
+import shutil
 import sys
 import zlib
 
@@ -201,6 +203,25 @@ def write(file, pieces):
             file.write(b"".join(held))
             held, size = [], 0
     file.write(b"".join(held))
+
+
+def found(folder, work, wanted):
+    """The inputs in the folder: of each its name, its file, and whether it is one of TAP. A folder in it is one input, its
+    files one behind another."""
+    for name in sorted(os.listdir(folder)):
+        path = os.path.join(folder, name)
+        if wanted and name not in wanted:
+            continue
+        if os.path.isdir(path):
+            joined = os.path.join(work, name)
+            with open(joined, "wb") as file:
+                for part in sorted(os.listdir(path)):
+                    with open(os.path.join(path, part), "rb") as source:
+                        shutil.copyfileobj(source, file)
+            yield name, joined, False
+            os.remove(joined)
+        else:
+            yield name, path, name.endswith(".tap")
 
 
 def main(words):
