@@ -109,13 +109,8 @@ def measure(kind, given, name, words, runs, programs, work):
 
 def made(work, percent, wanted):
     """Each input in turn: its name, its file, and whether it is one of TAP."""
-    for kind, size in SIZES.items():
-        if not wanted or kind in wanted:
-            path = os.path.join(work, kind)
-            with open(path, "wb") as file:
-                streams.write(file, streams.KINDS[kind](max(2, size * percent // 100)))
-            yield kind, path, kind in OF_TAP
-            os.remove(path)
+    for kind, path in streams.made(SIZES, work, percent, wanted):
+        yield kind, path, kind in OF_TAP
 
 
 def main(program, work, runs="3", percent="100", *words):

@@ -93,19 +93,8 @@ def measure(kind, stream, runs, programs, work):
         shutil.rmtree(one.folder)
 
 
-def made(work, percent, wanted):
-    """Each stream in turn: its name and its file."""
-    for kind, size in SIZES.items():
-        if not wanted or kind in wanted:
-            path = os.path.join(work, kind)
-            with open(path, "wb") as file:
-                streams.write(file, streams.KINDS[kind](max(2, size * percent // 100)))
-            yield kind, path
-            os.remove(path)
-
-
 def found(folder, work, wanted):
-    """The same of the streams in the folder."""
+    """Each stream in the folder in turn: its name and its file."""
     for kind, path, is_tap in streams.found(folder, work, wanted):
         if not is_tap:
             yield kind, path
@@ -123,7 +112,7 @@ def main(program, work, runs="3", percent="100", *wanted):
     os.mkdir(made_folder)
     subprocess.run([program, "testr", "init"], cwd=made_folder, check=True, timeout=LIMIT)
     print("stream program        MB/s     user   system     both  peak KiB  status")
-    for kind, stream in found(folder, work, wanted) if folder else made(work, percent, wanted):
+    for kind, stream in found(folder, work, wanted) if folder else streams.made(SIZES, work, percent, wanted):
         measure(kind, stream, runs, programs, work)
 
 

@@ -18,9 +18,9 @@ usage: streams.py KIND COUNT >STREAM
   blocks COUNT  the same with a block of comment lines behind each test, and now and then an indented one of other lines
   line COUNT    one line of TAP of COUNT bytes
 """
-import struct
 import os
 import shutil
+import struct
 import sys
 import zlib
 
@@ -203,6 +203,18 @@ def write(file, pieces):
             file.write(b"".join(held))
             held, size = [], 0
     file.write(b"".join(held))
+
+
+def made(sizes, work, percent, wanted):
+    """Each kind of the sizes in turn that is wanted, or all: its name, and a file of so much of its size, which is removed
+    behind it."""
+    for kind, size in sizes.items():
+        if not wanted or kind in wanted:
+            path = os.path.join(work, kind)
+            with open(path, "wb") as file:
+                write(file, KINDS[kind](max(2, size * percent // 100)))
+            yield kind, path
+            os.remove(path)
 
 
 def found(folder, work, wanted):
