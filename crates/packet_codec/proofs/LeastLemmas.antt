@@ -24,7 +24,7 @@ text_least bytes text s = omega (arith, ap length s.parts, length-append s.numbe
 pub stamp_least : (bytes : List ℕ) (stamp : Stamp) → SpellsStamp bytes stamp → length (canonical_stamp stamp) ≤ length bytes
 stamp_least bytes stamp s = omega (arith, ap length s.parts, length-append (to_be_bytes w32 stamp.seconds) s.nanos, length-append (to_be_bytes w32 stamp.seconds) (shortest_number stamp.nanos), number_least stamp.nanos s.nanos s.nanos_spelled)
 
-texts_least : (bytes : List ℕ) (texts : List (List ℕ)) → SpellsTexts bytes texts → length (flat_map canonical_text texts) ≤ length bytes
+pub texts_least : (bytes : List ℕ) (texts : List (List ℕ)) → SpellsTexts bytes texts → length (flat_map canonical_text texts) ≤ length bytes
 texts_least bytes [] s = omega arith
 texts_least bytes (text ∷ texts) s =
     omega (arith, ap length s.2, length-append s.0 s.1, length-append (canonical_text text) (flat_map canonical_text texts), text_least s.0 text s.3, texts_least s.1 texts s.4)
@@ -35,7 +35,7 @@ tags_least bytes tags s = omega (arith, ap length s.parts, length-append s.count
 pub file_least : (bytes : List ℕ) (file : FilePart) → SpellsFile bytes file → length (canonical_file file) ≤ length bytes
 file_least bytes file s = omega (arith, simp length-append at (ap length s.parts), length-append (canonical_text file.name) (shortest_number (length file.bytes)), length-append (canonical_text file.name ++ shortest_number (length file.bytes)) file.bytes, text_least s.name file.name s.name_spelled, number_least (length file.bytes) s.count s.count_spelled)
 
-optional_least : {A : Type 0} (Spells : List ℕ → A → Type 0) (spelling : A → List ℕ) → ((bytes : List ℕ) (value : A) → Spells bytes value → length (spelling value) ≤ length bytes) → (bytes : List ℕ) (value : Option A) → SpellsOptional Spells bytes value → length (canonical_optional spelling value) ≤ length bytes
+pub optional_least : {A : Type 0} (Spells : List ℕ → A → Type 0) (spelling : A → List ℕ) → ((bytes : List ℕ) (value : A) → Spells bytes value → length (spelling value) ≤ length bytes) → (bytes : List ℕ) (value : Option A) → SpellsOptional Spells bytes value → length (canonical_optional spelling value) ≤ length bytes
 optional_least Spells spelling least bytes None s = omega arith
 optional_least Spells spelling least bytes (Some value) s = least bytes value s
 

@@ -1,3 +1,4 @@
+pub mod AloneLemmas
 pub mod DecidedLemmas
 pub mod FlagLemmas
 pub mod GrammarLemmas
