@@ -9,8 +9,6 @@ use Rattle.sub_number.specs.Numbers.{SpellsNumber, shortest_size, shortest_numbe
 use Rattle.sub_number.specs.Texts.{SpellsText}
 use Rattle.sub_number.specs.Checksum.{crc32}
 use Rattle.sub_number.proofs.NumberLemmas.{AreBytes}
-use Rattle.packet_codec.specs.declared.stamp.Stamp.{Stamp}
-use Rattle.packet_codec.specs.declared.event.FilePart.{FilePart}
 use Rattle.packet_codec.specs.declared.event.Event.{Event}
 use Rattle.packet_codec.specs.Flags.{first_flags, second_flags}
 use Rattle.packet_codec.specs.Fields.{SpellsOptional, SpellsStamp, SpellsTexts, SpellsTags, SpellsFile, SpellsFields}

@@ -1,5 +1,5 @@
 -- What the parts of a packet say of its event, one by one.
-use Rattle.std.proofs.Common.{◌≡◌, ℕ, ◌%◌, Option, Some, None, List, refl, ap, sym, ◌∙◌, subst}
+use Rattle.std.proofs.Common.{◌≡◌, ℕ, ◌%◌, Option, Some, None, List, refl, ap, ◌∙◌, subst}
 use Rattle.std.specs.Prelude.{option_map, IfSome, IfOk, Result, All, ◌↔◌}
 use Rattle.sub_number.specs.Texts.{IsShortText}
 use Rattle.packet_codec.specs.declared.event.FilePart.{FilePart}

@@ -1,5 +1,5 @@
 -- A packet's event that is written again with a change.
-use Rattle.std.proofs.Common.{◌≡◌, ℕ, ◌+◌, ◌<◌, ◌≤◌, ◌^◌, Bool, true, false, Option, Some, None, List, [], ◌∷◌, ◌++◌, length, get_or, refl, ap, subst, ◌∙◌, append_assoc, arith}
+use Rattle.std.proofs.Common.{◌≡◌, ℕ, ◌+◌, ◌<◌, ◌≤◌, ◌^◌, Option, Some, None, List, [], ◌∷◌, ◌++◌, length, get_or, refl, ap, subst, ◌∙◌, append_assoc, arith}
 use Rattle.std.specs.Prelude.{All, option_map}
 use Rattle.std.specs.Borrow.{Bor}
 use Rattle.std.specs.List.{flat_map}
@@ -20,6 +20,7 @@ use Rattle.packet_codec.specs.Shapes.{Contents, ShowsParts, ShowsRuns, ShowsTags
 use Rattle.packet_codec.specs.Told.{IsTold}
 use Rattle.packet_codec.specs.Respelled.{AreOf, changed, tags_after, route_after}
 use Rattle.packet_codec.proofs.GrammarLemmas.{fits_from_are}
+use Rattle.packet_codec.proofs.LeastLemmas.{spelled_fits}
 use Rattle.packet_codec.proofs.PacketLemmas.{file_again, told_at, told_contents}
 use Rattle.packet_codec.proofs.RunsLeft.{tags_shown}
 use Rattle.packet_codec.proofs.SpellingLemmas.{packet_size_room}
@@ -138,14 +139,13 @@ are_of p header parts is e s =
 pub some_event : (p : List ℕ) (header : Header) (parts : Parts) → IsTold p header parts → (e : Event) × AreOf header parts e
 some_event p header parts is = (is.packet.0, are_of p header parts is is.packet.0 is.packet.1)
 
+-- it fits as it is
+pub some_fitting : (p : List ℕ) (header : Header) (parts : Parts) → IsTold p header parts → (e : Event) × AreOf header parts e × Fits e
+some_fitting p header parts is = (is.packet.0, are_of p header parts is is.packet.0 is.packet.1, spelled_fits p is.packet.0 is.packet.1)
+
 pub none_shown : (runs : Option (List (List ℕ))) → ShowsTags None runs → runs ≡ None
 none_shown None shown = refl
 none_shown (Some runs) shown = absurd shown
-
--- an event that fits is put
-pub put_there : {P Q : Type 0} (put : Bool) → (put ≡ true → P) → (put ≡ false → Q) → (Q → ⊥) → P
-put_there true there not never = there refl
-put_there false there not never = absurd (never (not refl))
 
 -- the runs that are its tags
 pub runs_there : (parts : Parts) (list : RunList) (e : Event) → parts.tags ≡ Some list → ShowsParts parts (contents_of e) → (runs : List (List ℕ)) × ShowsRuns list.count list.bytes.now runs

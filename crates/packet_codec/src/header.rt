@@ -12,6 +12,9 @@ pub const SIGNATURE: u8 = 0xb3;
 /// The bytes of a checksum.
 pub const CHECKSUM: usize = 4;
 
+/// The greatest size of a packet in bytes: three bytes spell its length, and have room for no more.
+pub const LARGEST_PACKET: usize = 4_194_303;
+
 /// What the front of a packet tells.
 #[derive(Clone, Copy)]
 pub struct Header {

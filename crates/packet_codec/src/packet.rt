@@ -15,7 +15,7 @@ use sub_number::{crc_of, is_text};
 /// A packet where it stands among other bytes, of which all is tested. Contracts see its bytes.
 #[derive(Drop)]
 pub struct Packet<'a> {
-    bytes: &'a [u8],
+    pub(crate) bytes: &'a [u8],
     pub(crate) header: Header,
     pub(crate) parts: Parts<'a>,
 }

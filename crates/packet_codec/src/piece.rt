@@ -33,12 +33,7 @@ pub fn put_piece_under(
     let parts = piece_parts(name, bytes);
     let change = Change::Lane(lane);
     let size = whole_size(fields_size(&parts, change));
-    let start = out.len();
-    let done = put_changed(piece_header(), size as u32, &parts, change, out);
-    if done.is_err() {
-        out.truncate(start);
-    }
-    done
+    put_changed(piece_header(), size as u32, &parts, change, out)
 }
 
 // The flag bytes of a runnable event that has a file. Nothing else of a header matters where a packet is written.

@@ -1,6 +1,6 @@
 //! The event of a packet, written again from where its parts stand.
 
-ghost use Rattle.std.specs.Prelude.{◌≡◌, ◌<◌, ◌^◌, ◌++◌, ◌∷◌, Option, List, ℕ, All, length, option_map, take, OnOk};
+ghost use Rattle.std.specs.Prelude.{◌≡◌, ◌<◌, ◌^◌, ◌++◌, ◌∷◌, Option, List, ℕ, All, length, option_map, take, OnOk, OnErr};
 ghost use Rattle.std.specs.List.{flat_map};
 ghost use Rattle.packet_codec.specs.declared.event.Event.{Event};
 ghost use Rattle.packet_codec.specs.Canonical.{canonical, canonical_body, canonical_fields, canonical_file, canonical_optional, canonical_size, canonical_tags, canonical_text, Fits};
@@ -19,7 +19,8 @@ use crate::routing::put_route;
 use crate::sizes::route_length;
 use sub_number::{NoMemory, crc_of, write_number};
 
-// What stands in `out` stays, also where there is not enough memory. So of each function here.
+// What stands in `out` stays, also where there is not enough memory. So of each function here but the last, which takes
+// back what was appended.
 
 // A run, where there is one.
 #[inline(always)]
@@ -227,9 +228,9 @@ fn put_body(
     Ok(())
 }
 
-/// Appends the shortest spelling of the event with the change, which has this size.
+// The whole packet.
 #[inline(always)]
-pub fn put_changed(
+fn put_packet(
     header: Header,
     size: u32,
     parts: &Parts<'_>,
@@ -248,4 +249,29 @@ pub fn put_changed(
     let checksum = crc_of(&out[start..]);
     out.extend_from_slice(&checksum.to_be_bytes())?;
     Ok(())
+}
+
+/// Appends the shortest spelling of the event with the change, which has this size.
+///
+/// `NoMemory` comes only for want of memory, and `out` then has what it had.
+#[inline(always)]
+pub fn put_changed(
+    header: Header,
+    size: u32,
+    parts: &Parts<'_>,
+    change: Change<'_>,
+    out: &mut Vec<u8>,
+) -> Result<(), NoMemory>
+    requires change { IsChange change }
+    requires fits { (e : Event) × AreOf header parts.now e × Fits (changed change e) }
+    requires size { (e : Event) → AreOf header parts.now e → size ≡ canonical_size (changed change e) }
+    ensures ok { (e : Event) → AreOf header parts.now e → OnOk result (out.new.items ≡ out.old.items ++ canonical (changed change.entry e)) }
+    ensures err { OnErr result (out.new.items ≡ out.old.items) }
+{
+    let start = out.len();
+    let done = put_packet(header, size, parts, change, out);
+    if done.is_err() {
+        out.truncate(start);
+    }
+    done
 }

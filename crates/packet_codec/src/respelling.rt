@@ -10,6 +10,7 @@ ghost use Rattle.packet_codec.specs.Respelled.{IsChange, changed};
 ghost use Rattle.packet_codec.specs.declared.event.Event.{Event};
 
 use crate::change::Change;
+use crate::header::LARGEST_PACKET;
 use crate::packet::Packet;
 use crate::parts::run_at;
 use crate::respelled_bytes::put_changed;
@@ -52,13 +53,18 @@ impl<'a> Packet<'a> {
         self.put_with(Change::Tags(tags), out)
     }
 
-    /// Appends the shortest spelling of its event. That fits, since it is no longer than the packet.
+    /// Appends the shortest spelling of its event. That fits, since it is no longer than the packet. A packet of that size
+    /// is that spelling, and its bytes are appended as they stand.
     pub fn put_shortest(&self, out: &mut Vec<u8>) -> Result<(), NoMemory>
         ensures ok { (e : Event) → SpellsEvent self.now e → OnOk result (out.new.items ≡ out.old.items ++ canonical e) }
         ensures err { OnErr result (out.new.items ≡ out.old.items) }
     {
-        self.put_with(Change::Nothing, out)?;
-        Ok(())
+        let size = whole_size(fields_size(&self.parts, Change::Nothing));
+        if size == self.bytes.len() as u128 {
+            out.extend_from_slice(self.bytes)?;
+            return Ok(());
+        }
+        put_changed(self.header, size as u32, &self.parts, Change::Nothing, out)
     }
 
     // The size is told first, so that memory is taken once.
@@ -70,17 +76,11 @@ impl<'a> Packet<'a> {
         ensures err { OnErr result (out.new.items ≡ out.old.items) }
     {
         let size = whole_size(fields_size(&self.parts, change));
-        if size > 4_194_303 {
+        if size > LARGEST_PACKET as u128 {
             return Ok(false);
         }
-        let start = out.len();
-        match put_changed(self.header, size as u32, &self.parts, change, out) {
-            Ok(()) => Ok(true),
-            Err(fault) => {
-                out.truncate(start);
-                Err(fault)
-            }
-        }
+        put_changed(self.header, size as u32, &self.parts, change, out)?;
+        Ok(true)
     }
 }
 

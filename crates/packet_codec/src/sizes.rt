@@ -10,6 +10,7 @@ ghost use Rattle.packet_codec.specs.Canonical.{canonical_optional, canonical_tex
 ghost use Rattle.packet_codec.specs.Shapes.{bytes_of};
 
 use crate::event::{Event, FilePart};
+use crate::header::LARGEST_PACKET;
 use crate::stamp::Stamp;
 use crate::tags::Tags;
 use sub_number::{Text, number_size};
@@ -34,7 +35,7 @@ pub fn fits(event: &Event) -> bool
     ensures fits { IsTrue result ↔ Fits event.now }
     ensures event { IsEvent event.now }
 {
-    size(event) <= 4_194_303
+    size(event) <= LARGEST_PACKET as u128
 }
 
 /// The size in bytes that the event would have under the route of a lane, by `reroute`. Where that is no more than a

@@ -13,15 +13,15 @@ overflow_cast-size c =
     let size : c.whole_size-size.result ≡ canonical_size (under c.args.lane event) = c.whole_size-size.ensures ∙ ap packet_size (c.fields_size.ensures.size event c.piece_parts-parts.ensures) in
     omega (arith, size, c.requires.fits.size)
 
-pub put_changed-done-requires-clause-fits : goal.put_changed-done-requires-clause-fits
-put_changed-done-requires-clause-fits c =
+pub put_changed-requires-clause-fits : goal.put_changed-requires-clause-fits
+put_changed-requires-clause-fits c =
     let header = c.piece_header.ensures c.args.name.now c.args.bytes.now in
     (piece_of c.args.name.now c.args.bytes.now, record { first = header.0; second = header.1; shown = c.piece_parts-parts.ensures }, c.requires.fits)
 
-pub put_changed-done-requires-clause-size : goal.put_changed-done-requires-clause-size
-put_changed-done-requires-clause-size c = λ e are. c.whole_size-size.ensures ∙ ap packet_size (c.fields_size.ensures.size e are.shown)
+pub put_changed-requires-clause-size : goal.put_changed-requires-clause-size
+put_changed-requires-clause-size c = λ e are. c.whole_size-size.ensures ∙ ap packet_size (c.fields_size.ensures.size e are.shown)
 
-pub returns-else-is_err-clause-ok : goal.returns-else-is_err-clause-ok
-returns-else-is_err-clause-ok c =
+pub returns-clause-ok : goal.returns-clause-ok
+returns-clause-ok c =
     let header = c.piece_header.ensures c.args.name.now c.args.bytes.now in
-    c.put_changed-done.ensures.ok (piece_of c.args.name.now c.args.bytes.now) (record { first = header.0; second = header.1; shown = c.piece_parts-parts.ensures })
+    c.put_changed.ensures.ok (piece_of c.args.name.now c.args.bytes.now) (record { first = header.0; second = header.1; shown = c.piece_parts-parts.ensures })
