@@ -6,4 +6,5 @@ pub mod Started
 pub mod Folded
 pub mod Grouped
 pub mod Outcome
+pub mod Summed
 pub mod Routes

@@ -7,15 +7,19 @@
 //! - `row`: how a test ended, and what became of it
 //! - `fold`: the events folded into rows, as they come, and of a whole run
 //! - `rows`: the rows of a run, in their groups, how many there are, and what they say
+//! - `summing`, `summary`, `longest`: what is kept of them where the rows that pass are not
 //! - `text_set`: texts in the order of their bytes, each once
 //! - `laws`: what holds of the rows of all events
 #![tactic(auto)]
 
 mod fold;
 mod laws;
+mod longest;
 mod part;
 mod row;
 mod rows;
+mod summary;
+mod summing;
 mod test_key;
 mod text_set;
 
@@ -24,6 +28,8 @@ pub use laws::{orders_of_maps, rows_are_by_route, rows_of_events};
 pub use part::{KeptText, elapsed, instant_in, instant_of, text_heard, text_in};
 pub use row::{Counts, Ended, Row, ended_by};
 pub use rows::Rows;
+pub use summary::{Summary, Timed};
+pub use summing::Summing;
 pub use test_key::{TestKey, key_in, key_of};
 pub use text_set::{TextSet, in_order, sorted_tags};
 

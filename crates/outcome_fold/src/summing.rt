@@ -1,0 +1,63 @@
+//! The rows of a run that are summed up as they are completed.
+
+ghost use Rattle.std.specs.Prelude.{◌≡◌, [], ◌∷◌, ◌++◌, ℕ, List, IfOk, OnOk};
+ghost use Rattle.packet_codec.specs.Packet.{SpellsEvent};
+ghost use Rattle.packet_codec.specs.declared.event.Event.{Event as AnEvent};
+ghost use Rattle.outcome_fold.specs.Rows.{rows_of};
+
+use crate::fold::Fold;
+use crate::summary::Summary;
+use packet_codec::{Packet, Tags};
+use std::alloc::Global;
+use sub_number::NoMemory;
+
+/// The outcomes of a run so far, of which the rows that fail are kept, and of the others what they say together.
+#[derive(Drop)]
+pub struct Summing {
+    alloc: Global,
+    filter_tags: Tags,
+    fold: Fold,
+    summary: Summary,
+}
+
+impl Summing {
+    ghost use Rattle.outcome_fold.specs.Summed.{Sums, HasSummed};
+
+    /// The outcomes of no event. A row that has one of the tags and does not fail is not counted. It takes no memory yet.
+    pub fn new(alloc: Global, filter_tags: Tags) -> Self
+        ensures { HasSummed filter_tags result [] }
+    {
+        Summing {
+            alloc,
+            filter_tags,
+            fold: Fold::new(alloc),
+            summary: Summary::new(alloc),
+        }
+    }
+
+    /// Takes the event that the packet spells, which is not made: what is needed of it is copied from where it stands.
+    ///
+    /// `NoMemory` comes for want of memory, and where a count or the sum of the times no longer fits its number, which no run
+    /// is long enough for. Nothing is known then of the outcomes.
+    pub fn hear(&mut self, packet: &Packet<'_>) -> Result<(), NoMemory>
+        ensures { (filter_tags : List (List ℕ)) (seen : List AnEvent) (e : AnEvent) → SpellsEvent packet.now e → HasSummed filter_tags self.old seen → OnOk result (HasSummed filter_tags self.new (seen ++ e ∷ [])) }
+    {
+        let _packet = packet;
+        Err(NoMemory)
+    }
+
+    /// Ends the run, and gives what is kept of its rows: of those of the run's events, in the order of the rows.
+    ///
+    /// `NoMemory` comes as by `hear`.
+    pub fn close(self) -> Result<Summary, NoMemory>
+        ensures { (filter_tags : List (List ℕ)) (seen : List AnEvent) → HasSummed filter_tags self seen → IfOk result (Sums filter_tags (rows_of seen)) }
+    {
+        let Summing {
+            alloc: _alloc,
+            filter_tags: _filter_tags,
+            fold: _fold,
+            summary: _summary,
+        } = self;
+        Err(NoMemory)
+    }
+}
