@@ -16,4 +16,5 @@ pub mod TotalLemmas
 pub mod LawLemmas
 pub mod RouteLemmas
 pub mod MergedLemmas
+pub mod LongestLemmas
 mod SaidLemmas

@@ -41,10 +41,25 @@ impl LongestTimes {
     /// Gives the id this time, unless it has a longer one. The id is moved where it has none yet.
     ///
     /// `NoMemory` comes only for want of memory. Nothing is known then of the times.
+    #[inline]
     pub(crate) fn raise(&mut self, id: Text, nanos: u64) -> Result<(), NoMemory>
         ensures { OnOk result (self.new ≡ map.insert self.old id (max nanos (unwrap_or (map.get self.old id) 0))) }
     {
-        let _given = (id, nanos);
-        Err(NoMemory)
+        match self.times.get_mut(&id) {
+            Some(time) => {
+                *time = nanos.max(*time);
+                Ok(())
+            }
+            None => self.start(id, nanos),
+        }
+    }
+
+    // Gives the id this time.
+    #[inline(never)]
+    fn start(&mut self, id: Text, nanos: u64) -> Result<(), NoMemory>
+        ensures { OnOk result (self.new ≡ map.insert self.old id nanos) }
+    {
+        self.times.insert(id, nanos)?;
+        Ok(())
     }
 }
