@@ -17,4 +17,6 @@ pub mod LawLemmas
 pub mod RouteLemmas
 pub mod MergedLemmas
 pub mod LongestLemmas
+pub mod SummedLemmas
+pub mod SummingLemmas
 mod SaidLemmas

@@ -1,7 +1,8 @@
 -- What is kept of the rows of a run where those that pass are not (docs/FORMATS.md, "What the rows say").
-use Rattle.std.specs.Prelude.{◌≡◌, ℕ, Bool, ◌&&◌, not, is_some, List, Result, Ok, Err}
+use Rattle.std.specs.Prelude.{◌≡◌, ℕ, Bool, ◌&&◌, not, Option, is_some, List, Result, Ok, Err}
 use Rattle.std.specs.List.{filter}
 use Rattle.packet_codec.specs.declared.event.Event.{Event}
+use Rattle.outcome_fold.specs.declared.row.Ended.{Ended}
 use Rattle.outcome_fold.specs.declared.row.Row.{Row}
 use Rattle.outcome_fold.specs.declared.summary.Summary.{Summary}
 use Rattle.outcome_fold.specs.declared.summary.Timed.{Timed}
@@ -15,13 +16,23 @@ use Rattle.outcome_fold.specs.Rows.{completed_rows}
 abbrev pub is_untimed : Row → Bool
 is_untimed row = is_run row && not (is_some row.nanos)
 
+-- their ids in the order of their bytes, each once
+abbrev pub untimed_of : List Row → List (List ℕ)
+untimed_of rows = in_byte_order (ids_of (filter is_untimed rows))
+
+-- the row is of this id, ended so, and has this time
+pub record HasTime (row : Row) (id : List ℕ) (how : Ended) (time : Option ℕ) : Type 0 where
+  pub id_is : row.id ≡ id
+  pub how_is : row.ended ≡ how
+  pub time_is : row.nanos ≡ time
+
 -- This is kept of these rows: those that fail, in their order; how many there are, where these tags filter; and of the tests
 -- that ran the ids with their longest times, and the ids of rows without a time.
 pub record Sums (filter_tags : List (List ℕ)) (rows : List Row) (summary : Summary) : Type 0 where
   pub failing : summary.failing.items ≡ filter row_fails rows
   pub counts : summary.counts ≡ counts_of filter_tags rows
   pub times : summary.times ≡ times_of rows
-  pub untimed : summary.untimed ≡ in_byte_order (ids_of (filter is_untimed rows))
+  pub untimed : summary.untimed ≡ untimed_of rows
 
 -- an id and its time, as the code keeps them
 abbrev pub shown_time : Timed → List ℕ × ℕ

@@ -1,9 +1,13 @@
 //! The longest times of the ids of tests.
 
-ghost use Rattle.std.specs.Prelude.{◌≡◌, ℕ, max, OnOk};
-ghost use Rattle.std.specs.FinMap as map;
+ghost use Rattle.std.specs.Prelude.{◌≡◌, ℕ, max, map, All, IfOk, OnOk};
+ghost use Rattle.sub_number.specs.Texts.{IsShortText};
+ghost use Rattle.outcome_fold.specs.Order.{without};
+ghost use Rattle.std.specs.FinMap as fin;
 ghost use Rattle.std.specs.Option.{unwrap_or};
 
+use crate::summary::Timed;
+use crate::text_set::TextSet;
 use std::alloc::Global;
 use std::collections::BTreeMap;
 use std::marker::Model;
@@ -17,21 +21,23 @@ pub(crate) struct LongestTimes {
 
 impl Model for LongestTimes {
     ghost use Rattle.std.specs.Prelude.{ℕ};
-    ghost use Rattle.std.specs.FinMap as map;
+    ghost use Rattle.std.specs.FinMap as fin;
     ghost use Rattle.std.specs.Coded.{coded_ℕ, coded_list};
     ghost use Rattle.outcome_fold.specs.Order.{text_cmp};
 
-    ghost Value = { map.FinMap text_cmp ℕ };
+    ghost Value = { fin.FinMap text_cmp ℕ };
 
-    ghost coded = { map.code (coded_list coded_ℕ) coded_ℕ };
+    ghost coded = { fin.code (coded_list coded_ℕ) coded_ℕ };
 
-    ghost view = { λ m. map.from_entries m.times.entries };
+    ghost view = { λ m. fin.from_entries m.times.entries };
 }
 
 impl LongestTimes {
+    ghost use Rattle.outcome_fold.specs.Summed.{shown_time};
+
     /// No id has a time. It takes no memory yet.
     pub(crate) fn new(alloc: Global) -> Self
-        ensures { result ≡ map.empty }
+        ensures { result ≡ fin.empty }
     {
         LongestTimes {
             times: BTreeMap::new(alloc),
@@ -43,7 +49,7 @@ impl LongestTimes {
     /// `NoMemory` comes only for want of memory. Nothing is known then of the times.
     #[inline]
     pub(crate) fn raise(&mut self, id: Text, nanos: u64) -> Result<(), NoMemory>
-        ensures { OnOk result (self.new ≡ map.insert self.old id (max nanos (unwrap_or (map.get self.old id) 0))) }
+        ensures { OnOk result (self.new ≡ fin.insert self.old id (max nanos (unwrap_or (fin.get self.old id) 0))) }
     {
         match self.times.get_mut(&id) {
             Some(time) => {
@@ -57,9 +63,42 @@ impl LongestTimes {
     // Gives the id this time.
     #[inline(never)]
     fn start(&mut self, id: Text, nanos: u64) -> Result<(), NoMemory>
-        ensures { OnOk result (self.new ≡ map.insert self.old id nanos) }
+        ensures { OnOk result (self.new ≡ fin.insert self.old id nanos) }
     {
         self.times.insert(id, nanos)?;
         Ok(())
     }
+
+    /// Takes the ids that have a time out of the set.
+    pub(crate) fn remove_from(&self, ids: &mut TextSet)
+        ensures { ids.new ≡ without ids.old (fin.keys self.now) }
+    {
+        for id in self.times.keys() {
+            ids.remove(id);
+        }
+    }
+
+    /// Each id that has a time, with it, in the order of the ids' bytes, each once. No id is copied.
+    ///
+    /// `NoMemory` comes only for want of memory.
+    pub(crate) fn list(&self, alloc: Global) -> Result<Vec<Timed<'_>>, NoMemory>
+        ensures times { IfOk result (λ times. map shown_time times.items ≡ fin.entries self.now) }
+        ensures texts { IfOk result (λ times. All (λ timed. IsShortText timed.id.now) times.items) }
+    {
+        let mut list = Vec::with_capacity(alloc, self.times.len())?;
+        for (id, nanos) in &self.times {
+            list.push(timed(id, *nanos))?;
+        }
+        Ok(list)
+    }
+}
+
+// The id and its time.
+#[inline(always)]
+fn timed(id: &Text, nanos: u64) -> Timed<'_>
+    ensures shown { (result.id.now ≡ id.now) × (result.nanos ≡ nanos) }
+    ensures text { IsShortText id.now }
+{
+    let _bytes = id.bytes();
+    Timed { id, nanos }
 }

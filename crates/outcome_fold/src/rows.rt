@@ -3,7 +3,7 @@
 ghost use Rattle.outcome_fold.specs.Rows as rows_are;
 ghost use Rattle.outcome_fold.specs.Answers as answers;
 ghost use Rattle.std.specs.FinMap as map;
-ghost use Rattle.std.specs.Prelude.{◌≡◌, IfOk, OnOk, None, ◌&&◌, not, max, if◌then◌else◌, ◌+◌, ◌≤◌, ◌<◌, ◌^◌, ◌||◌, Some, is_some, List, [], ◌∷◌, ◌++◌};
+ghost use Rattle.std.specs.Prelude.{◌≡◌, IsTrue, IfOk, OnOk, None, ◌&&◌, not, max, if◌then◌else◌, ◌+◌, ◌≤◌, ◌<◌, ◌^◌, ◌||◌, Some, is_some, List, [], ◌∷◌, ◌++◌};
 ghost use Rattle.std.specs.Option.{unwrap_or};
 ghost use Rattle.std.specs.List.{filter};
 ghost use Rattle.outcome_fold.specs.Order.{among, in_byte_order, without};
@@ -104,8 +104,10 @@ impl Rows {
     }
 }
 
-// The ids of the rows that fail.
-fn failing_set(alloc: Global, rows: &[Row]) -> Result<TextSet, NoMemory>
+/// The ids of the rows that fail. Each is copied once.
+///
+/// `NoMemory` comes only for want of memory.
+pub(crate) fn failing_set(alloc: Global, rows: &[Row]) -> Result<TextSet, NoMemory>
     ensures { IfOk result (λ ids. ids ≡ answers.failing_of rows.now) }
 {
     let mut ids = TextSet::new(alloc);
@@ -263,6 +265,41 @@ fn with(counts: Counts, row: &Row) -> Counts
         skipped: counts.skipped + if skip { 1 } else { 0 },
         nanos: sum_time(counts.nanos, row.nanos),
     }
+}
+
+// Whether each of the counts, and the sum, can take one row more.
+fn have_room(counts: Counts) -> bool
+    ensures total { IsTrue result → counts.total + 1 < 2 ^ 64 }
+    ensures passed { IsTrue result → counts.passed + 1 < 2 ^ 64 }
+    ensures failed { IsTrue result → counts.failed + 1 < 2 ^ 64 }
+    ensures skipped { IsTrue result → counts.skipped + 1 < 2 ^ 64 }
+    ensures nanos { IsTrue result → unwrap_or counts.nanos 0 + 2 ^ 64 ≤ 2 ^ 128 }
+{
+    counts.total < u64::MAX
+        && counts.passed < u64::MAX
+        && counts.failed < u64::MAX
+        && counts.skipped < u64::MAX
+        && counts.nanos.unwrap_or(0) <= u128::MAX - (1 << 64)
+}
+
+/// The counts with the row too, if it is counted, where these tags filter.
+///
+/// `NoMemory` comes where one of the counts, or the sum of the times, has no room for a row more.
+#[inline]
+pub(crate) fn count_with(
+    counts: Counts,
+    filter_tags: &[Text],
+    row: &Row,
+) -> Result<Counts, NoMemory>
+    ensures { (rows : List ARow) → counts ≡ answers.counts_of filter_tags.now rows → IfOk result (λ next. next ≡ answers.counts_of filter_tags.now (rows ++ row.now ∷ [])) }
+{
+    if !is_counted(filter_tags, row) {
+        return Ok(counts);
+    }
+    if !have_room(counts) {
+        return Err(NoMemory);
+    }
+    Ok(with(counts, row))
 }
 
 /// How many rows are counted, where these tags filter.

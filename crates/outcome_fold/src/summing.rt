@@ -39,11 +39,14 @@ impl Summing {
     ///
     /// `NoMemory` comes for want of memory, and where a count or the sum of the times no longer fits its number, which no run
     /// is long enough for. Nothing is known then of the outcomes.
+    #[inline]
     pub fn hear(&mut self, packet: &Packet<'_>) -> Result<(), NoMemory>
         ensures { (filter_tags : List (List ℕ)) (seen : List AnEvent) (e : AnEvent) → SpellsEvent packet.now e → HasSummed filter_tags self.old seen → OnOk result (HasSummed filter_tags self.new (seen ++ e ∷ [])) }
     {
-        let _packet = packet;
-        Err(NoMemory)
+        match self.fold.hear(packet)? {
+            Some(row) => self.summary.take(&self.filter_tags, row),
+            None => Ok(()),
+        }
     }
 
     /// Ends the run, and gives what is kept of its rows: of those of the run's events, in the order of the rows.
@@ -53,11 +56,12 @@ impl Summing {
         ensures { (filter_tags : List (List ℕ)) (seen : List AnEvent) → HasSummed filter_tags self seen → IfOk result (Sums filter_tags (rows_of seen)) }
     {
         let Summing {
-            alloc: _alloc,
-            filter_tags: _filter_tags,
-            fold: _fold,
-            summary: _summary,
+            alloc,
+            filter_tags,
+            fold,
+            mut summary,
         } = self;
-        Err(NoMemory)
+        summary.take_all(&filter_tags, fold.close()?)?;
+        summary.in_order(alloc)
     }
 }

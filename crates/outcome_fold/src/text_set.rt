@@ -122,6 +122,15 @@ impl TextSet {
         }
     }
 
+    /// Takes each of the other set's texts out.
+    pub(crate) fn remove_set(&mut self, texts: &TextSet)
+        ensures { self.new ≡ without self.old texts.now }
+    {
+        for text in &texts.texts {
+            self.remove(text);
+        }
+    }
+
     /// The texts in the order of their bytes, as tags. They are moved.
     ///
     /// `NoMemory` comes only for want of memory.
