@@ -19,4 +19,5 @@ pub mod MergedLemmas
 pub mod LongestLemmas
 pub mod SummedLemmas
 pub mod SummingLemmas
+pub mod ChangedLemmas
 mod SaidLemmas

@@ -59,7 +59,7 @@ order_of_none = ordered_already [] tt
 
 -- ---- more texts
 
-among_both : (texts others : List (List ℕ)) (q : List ℕ) → among (texts ++ others) q ≡ (among texts q || among others q)
+pub among_both : (texts others : List (List ℕ)) (q : List ℕ) → among (texts ++ others) q ≡ (among texts q || among others q)
 among_both texts others q = list_any-append (eq_by_cmp text_cmp q) texts others
 
 -- some are in order already
@@ -100,7 +100,7 @@ set_has texts text ordered is = sym (ordered_already texts ordered) ∙ same_ord
     has q true tie = ap (among texts) (tied_is exact_texts q text tie) ∙ sym is
     has q false tie = refl
 
-among_without : (texts others : List (List ℕ)) (q : List ℕ) → among (without texts others) q ≡ (not (among others q) && among texts q)
+pub among_without : (texts others : List (List ℕ)) (q : List ℕ) → among (without texts others) q ≡ (not (among others q) && among texts q)
 among_without texts others q =
     any-filter_same (eq_by_cmp text_cmp q) (λ text. not (among others text)) (not (among others q)) (λ k tie. ap (λ text. not (among others text)) (sym (tied_is exact_texts q k tie))) texts
 
@@ -171,3 +171,12 @@ one_put old texts now new text put is =
 -- which texts are left does not depend on the order of the others
 pub without_order : (texts others : List (List ℕ)) → without texts (in_byte_order others) ≡ without texts others
 without_order texts others = λ i. filter (λ text. not (among_order others text i)) texts
+
+shown_push : {A : Type 0} (shows : A → List ℕ) (xs : List A) (x : A) → map shows (xs ++ x ∷ []) ≡ map shows xs ++ shows x ∷ []
+shown_push shows [] x = refl
+shown_push shows (y ∷ xs) x = ap (λ l. shows y ∷ l) (shown_push shows xs x)
+
+-- one text more that is taken out, of those that an iterator shows
+pub one_removed : {A : Type 0} (shows : A → List ℕ) (old now new : List (List ℕ)) (xs : List A) (x : A) → new ≡ without now (shows x ∷ []) → now ≡ without old (map shows xs) → new ≡ without old (map shows (xs ++ x ∷ []))
+one_removed shows old now new xs x removed is =
+    removed ∙ ap (λ texts. without texts (shows x ∷ [])) is ∙ without_more old (map shows xs) (shows x) ∙ ap (without old) (sym (shown_push shows xs x))

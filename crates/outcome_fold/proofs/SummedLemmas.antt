@@ -1,5 +1,5 @@
 -- What is kept of the rows of a run, row by row.
-use Rattle.std.proofs.Common.{◌≡◌, ℕ, Bool, true, false, ◌&&◌, not, is_some, cond, List, [], ◌∷◌, ◌++◌, Option, Some, None, max, refl, sym, ◌∙◌, ap}
+use Rattle.std.proofs.Common.{◌≡◌, ℕ, Bool, true, false, ◌&&◌, not, is_some, cond, List, [], ◌∷◌, ◌++◌, Option, Some, None, max, refl, sym, ◌∙◌, ap, subst}
 use Rattle.std.specs.FinMap as fin
 use Rattle.std.specs.Option.{unwrap_or}
 use Rattle.std.specs.List.{filter}
@@ -90,3 +90,7 @@ module _ (rows : List Row) (row : Row) (id : List ℕ) (how : Ended) (time : Opt
 pub taken : {E : Type 0} (tags : List (List ℕ)) (rows : List Row) (summary : Summary) (result : Result (Unit {0}) E) → summary.failing.items ≡ filter row_fails rows → summary.counts ≡ counts_of tags rows → OnOk result (summary.times ≡ times_of rows) → OnOk result (summary.untimed ≡ untimed_of rows) → OnOk result (Sums tags rows summary)
 taken tags rows summary (Ok done) failing counts times untimed = record { failing = failing; counts = counts; times = times; untimed = untimed }
 taken tags rows summary (Err fault) failing counts times untimed = tt
+
+-- sums by the same tags, of the same rows
+pub same_sums : (tags others : List (List ℕ)) (rows more : List Row) (summary : Summary) → tags ≡ others → rows ≡ more → Sums tags rows summary → Sums others more summary
+same_sums tags others rows more summary tag row sums = subst (λ (l : List Row). Sums others l summary) row (subst (λ (l : List (List ℕ)). Sums l rows summary) tag sums)

@@ -1,5 +1,5 @@
 -- The rows that are summed up, event by event.
-use Rattle.std.proofs.Common.{◌≡◌, ℕ, List, [], ◌∷◌, ◌++◌, Option, Some, None, refl, sym, ◌∙◌, ap, subst}
+use Rattle.std.proofs.Common.{◌≡◌, ℕ, List, [], ◌∷◌, ◌++◌, Option, Some, None, refl, sym}
 use Rattle.std.specs.Prelude.{Result, Ok, Err, OnOk}
 use Rattle.packet_codec.specs.declared.event.Event.{Event}
 use Rattle.outcome_fold.specs.declared.row.Row.{Row}
@@ -10,10 +10,7 @@ use Rattle.outcome_fold.specs.Folded.{HasSeen}
 use Rattle.outcome_fold.specs.Rows.{completed_row, completed_rows}
 use Rattle.outcome_fold.specs.Summed.{Sums, HasSummed}
 use Rattle.outcome_fold.proofs.OutcomeLemmas.{completed_none, completed_some}
-
--- sums by the same tags, of the same rows
-pub same_sums : (tags others : List (List ℕ)) (rows more : List Row) (summary : Summary) → tags ≡ others → rows ≡ more → Sums tags rows summary → Sums others more summary
-same_sums tags others rows more summary tag row sums = subst (λ (l : List Row). Sums others l summary) row (subst (λ (l : List (List ℕ)). Sums l rows summary) tag sums)
+use Rattle.outcome_fold.proofs.SummedLemmas.{same_sums}
 
 module _ (filter_tags : List (List ℕ)) (seen : List Event) (e : Event) (old : Summing) (fold : Fold) (has : HasSummed filter_tags old seen) (started : HasSeen fold (seen ++ e ∷ [])) where
   abbrev next : Summary → Summing
