@@ -20,4 +20,5 @@ pub mod LongestLemmas
 pub mod SummedLemmas
 pub mod SummingLemmas
 pub mod ChangedLemmas
+pub mod RoutedLemmas
 mod SaidLemmas
