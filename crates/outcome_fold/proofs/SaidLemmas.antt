@@ -1,5 +1,5 @@
 -- What an event says of its test, and the event itself.
-use Rattle.std.proofs.Common.{◌≡◌, ℕ, List, [], ◌++◌, Option, Some, None, take, refl, ap, ◌∙◌}
+use Rattle.std.proofs.Common.{◌≡◌, ℕ, List, [], ◌++◌, Option, Some, None, take, ap, ◌∙◌}
 use Rattle.std.specs.Option.{option_map, unwrap_or}
 use Rattle.packet_codec.specs.declared.event.FilePart.{FilePart}
 use Rattle.packet_codec.specs.declared.event.Event.{Event}
@@ -7,7 +7,7 @@ use Rattle.outcome_fold.specs.declared.test_key.TestKey.{TestKey}
 use Rattle.outcome_fold.specs.declared.part.Started.{Started}
 use Rattle.outcome_fold.specs.declared.part.Said.{Said}
 use Rattle.outcome_fold.specs.Parts.{test_of, text_by, text_in, text_limit}
-use Rattle.outcome_fold.specs.Started.{after, Says, IsBut, fresh_said, after_said}
+use Rattle.outcome_fold.specs.Started.{after, Says, fresh_said, after_said}
 use Rattle.outcome_fold.specs.Folded.{extended, extended_by}
 
 said_is : (s : Started) (said : Said) (e : Event) → Says said e → after_said s said ≡ after s e
@@ -35,7 +35,3 @@ no_test e none = ap (option_map (at_route e.route)) none
 
 pub test_said : (e : Event) (route : Option (List ℕ)) (id : List ℕ) → Some id ≡ e.id → route ≡ e.route → Some (at_route route id) ≡ test_of e
 test_said e route id some same = ap (λ (r : Option (List ℕ)). Some (at_route r id)) same ∙ ap (option_map (at_route e.route)) some
-
--- the tags were moved out too
-pub but_tags : (e left : Event) (tags : Option (List (List ℕ))) → IsBut e left → IsBut e (record { stamp = left.stamp; id = left.id; tags = tags; runnable = left.runnable; status = left.status; mime = left.mime; file = left.file; eof = left.eof; route = left.route })
-but_tags e left tags but = record { stamp = but.stamp; status = but.status; mime = but.mime; file = but.file }

@@ -23,13 +23,6 @@ pub record Says (said : Said) (e : Event) : Type 0 where
   pub tags : said.tags ≡ e.tags
   pub text : said.text.now ≡ text_in e.mime e.file
 
--- The second event is the first one, of which the id, the route and the tags may have been moved out.
-pub record IsBut (whole left : Event) : Type 0 where
-  pub stamp : left.stamp ≡ whole.stamp
-  pub status : left.status ≡ whole.status
-  pub mime : left.mime ≡ whole.mime
-  pub file : left.file ≡ whole.file
-
 -- the same as `fresh` and `after`, by what an event says
 abbrev pub fresh_said : Said → Started
 fresh_said said = record { start = said.instant; tags = []; text = [] }

@@ -12,10 +12,10 @@ ghost use Rattle.outcome_fold.specs.declared.fold.Held.{Held as AHeld};
 ghost use Rattle.outcome_fold.specs.Folded.{HasSeen, Speaks, open_in, others_in, extended_by, with_extended, row_at};
 ghost use Rattle.outcome_fold.specs.Outcome.{HasFolded};
 
-use crate::part::{KeptText, Said, Started, elapsed, instant_in, said_by, said_in, said_with};
+use crate::part::{KeptText, Said, Started, elapsed, instant_in, said_by, said_in};
 use crate::row::{Ended, Row, ended_by};
 use crate::rows::{Rows, by_route};
-use crate::test_key::{TestKey, key_in, key_of, take_key};
+use crate::test_key::{TestKey, key_in, key_of};
 use crate::text_set::in_order;
 use packet_codec::{Event, Packet};
 use std::alloc::Global;
@@ -264,21 +264,6 @@ impl Fold {
         self.tell(key, ended_by(event.status), said)
     }
 
-    /// The same of an event that is given away: its id, its route and its tags are moved, and not copied.
-    ///
-    /// `NoMemory` comes only for want of memory, and then the fold is as before.
-    pub fn take(&mut self, mut event: Event) -> Result<Option<Row>, NoMemory>
-        ensures row { (seen : List AnEvent) → HasSeen self.old seen → IfOk result (λ row. row ≡ completed_row seen event) }
-        ensures ok { (seen : List AnEvent) → HasSeen self.old seen → OnOk result (HasSeen self.new (seen ++ event ∷ [])) }
-        ensures err { OnErr result (open_in self.new ≡ open_in self.old) }
-    {
-        let Some(key) = take_key(&mut event) else {
-            return Ok(None);
-        };
-        let tags = event.tags.take();
-        self.tell(key, ended_by(event.status), said_with(tags, &event))
-    }
-
     /// The same of the event that the packet spells, which is not made: what is needed of it is copied from where it
     /// stands.
     ///
@@ -370,20 +355,6 @@ impl Outcomes {
     {
         self.completed.reserve(1)?;
         if let Some(row) = self.fold.add(event)? {
-            self.completed.push(row)?;
-        }
-        Ok(())
-    }
-
-    /// The same of an event that is given away: its id, its route and its tags are moved, and not copied.
-    ///
-    /// `NoMemory` comes only for want of memory, and then the outcomes are as before.
-    pub fn take(&mut self, event: Event) -> Result<(), NoMemory>
-        ensures ok { (seen : List AnEvent) → HasFolded self.old seen → OnOk result (HasFolded self.new (seen ++ event ∷ [])) }
-        ensures err { (seen : List AnEvent) → HasFolded self.old seen → OnErr result (HasFolded self.new seen) }
-    {
-        self.completed.reserve(1)?;
-        if let Some(row) = self.fold.take(event)? {
             self.completed.push(row)?;
         }
         Ok(())

@@ -4,7 +4,7 @@ ghost use Rattle.outcome_fold.specs.Parts as parts;
 ghost use Rattle.std.specs.Prelude.{◌≡◌, IfOk, OnOk, OnErr, [], ◌++◌, take};
 ghost use Rattle.outcome_fold.specs.Parts.{text_by, text_limit};
 ghost use Rattle.std.specs.Option.{option_map, unwrap_or};
-ghost use Rattle.outcome_fold.specs.Started.{Says, IsBut, after, after_said, fresh_said};
+ghost use Rattle.outcome_fold.specs.Started.{Says, after, after_said, fresh_said};
 ghost use Rattle.packet_codec.specs.Packet.{SpellsEvent};
 ghost use Rattle.packet_codec.specs.Shapes.{bytes_of};
 ghost use Rattle.packet_codec.specs.declared.event.Event.{Event as AnEvent};
@@ -164,17 +164,6 @@ pub(crate) fn said_by(alloc: Global, event: &Event) -> Result<Said<'_>, NoMemory
         tags: new_tags(alloc, &event.tags)?,
         text: text_in(event),
     })
-}
-
-/// What an event says that has these tags, and else is like this one.
-pub(crate) fn said_with(tags: Option<Tags>, event: &Event) -> Said<'_>
-    ensures { (whole : AnEvent) → IsBut whole event.now → tags ≡ whole.tags → Says result whole }
-{
-    Said {
-        instant: instant_of(event),
-        tags,
-        text: text_in(event),
-    }
 }
 
 /// What the packet's event says. Its tags are copied, and its text stays where it stands.

@@ -2,7 +2,6 @@
 
 ghost use Rattle.std.specs.Prelude.{◌≡◌, IfOk};
 ghost use Rattle.outcome_fold.specs.Parts.{test_of};
-ghost use Rattle.outcome_fold.specs.Started.{IsBut};
 ghost use Rattle.packet_codec.specs.Packet.{SpellsEvent};
 ghost use Rattle.packet_codec.specs.declared.event.Event.{Event as AnEvent};
 
@@ -46,17 +45,6 @@ pub fn key_in(alloc: Global, packet: &Packet<'_>) -> Result<Option<TestKey>, NoM
     };
     let route = packet.route(alloc)?;
     Ok(Some(TestKey { route, id }))
-}
-
-/// The test that the event speaks of, moved out of it. None comes exactly where it has no id, and the event is then as
-/// before.
-pub(crate) fn take_key(event: &mut Event) -> Option<TestKey>
-    ensures key { result ≡ test_of event.old }
-    ensures rest { IsBut event.old event.new × (event.new.tags ≡ event.old.tags) }
-{
-    let id = event.id.take()?;
-    let route = event.route.take();
-    Some(TestKey { route, id })
 }
 
 /// Another route of the same bytes.
