@@ -37,3 +37,5 @@ pub use text_set::{TextSet, in_order, sorted_tags};
 mod tests;
 #[cfg(test)]
 mod tests_hearing;
+#[cfg(test)]
+mod tests_summing;
