@@ -12,14 +12,14 @@ use partition_times::{Filters, pick};
 use std::alloc::Global;
 use sub_number::{IdList, NoMemory, Text};
 
-/// The ids, in their order, that stand among the others too. They are moved.
+/// The ids, in their order, that stand among the others too. Both are moved, and none is copied.
 ///
 /// `NoMemory` comes only for want of memory.
-pub fn in_both(alloc: Global, ids: IdList, others: &IdList) -> Result<IdList, NoMemory>
-    ensures { IfOk result (λ both. both ≡ ids_in_both ids others.now) }
+pub fn in_both(alloc: Global, ids: IdList, others: IdList) -> Result<IdList, NoMemory>
+    ensures { IfOk result (λ both. both ≡ ids_in_both ids others) }
 {
     let mut known = TextSet::new(alloc);
-    known.insert_all(others.list())?;
+    known.put_all(others)?;
     those_in(alloc, ids.into_list(), &known)
 }
 
@@ -74,7 +74,7 @@ fn choose_given(
     ensures { IfOk result (λ given. given ≡ given_ids failing listed) }
 {
     match (failing, listed) {
-        (Some(failing), Some(listed)) => Ok(Some(in_both(alloc, failing, &listed)?)),
+        (Some(failing), Some(listed)) => Ok(Some(in_both(alloc, failing, listed)?)),
         (Some(failing), None) => Ok(Some(failing)),
         (None, listed) => Ok(listed),
     }
