@@ -1,5 +1,5 @@
 -- What is kept of the rows of a run, row by row.
-use Rattle.std.proofs.Common.{◌≡◌, ℕ, Bool, true, false, ◌&&◌, not, is_some, cond, List, [], ◌∷◌, ◌++◌, Option, Some, None, max, refl, sym, ◌∙◌, ap, subst}
+use Rattle.std.proofs.Common.{◌≡◌, ℕ, Bool, true, false, ◌&&◌, not, is_some, cond, List, [], ◌∷◌, ◌++◌, Option, Some, None, max, sym, ◌∙◌, ap, subst}
 use Rattle.std.specs.FinMap as fin
 use Rattle.std.specs.Option.{unwrap_or}
 use Rattle.std.specs.List.{filter}
@@ -16,19 +16,17 @@ use Rattle.outcome_fold.proofs.GroupLemmas.{map_push}
 use Rattle.outcome_fold.proofs.SetLemmas.{order_push}
 use Rattle.outcome_fold.proofs.AnswerLemmas.{longest_times_push}
 
--- one row more among those that pass a test, and one that does not pass it
+-- one row more among those that pass a test
 pub filter_takes : (p : Row → Bool) (rows : List Row) (row : Row) → p row ≡ true → filter p (rows ++ row ∷ []) ≡ filter p rows ++ row ∷ []
 filter_takes p rows row passes = filter_push p rows row ∙ ap (λ b. filter p rows ++ cond b (row ∷ []) []) passes
 
+-- and one that does not pass it
 pub filter_skips : (p : Row → Bool) (rows : List Row) (row : Row) → p row ≡ false → filter p (rows ++ row ∷ []) ≡ filter p rows
 filter_skips p rows row fails = filter_push p rows row ∙ ap (λ b. filter p rows ++ cond b (row ∷ []) []) fails ∙ append_none (filter p rows)
 
 -- the counts with one row more
 pub counted_more : (tags : List (List ℕ)) (rows : List Row) (row : Row) (counts next : Counts) → counts ≡ counts_of tags rows → is_counted tags row ≡ true → ((counted : List Row) → counts ≡ counts_in counted → next ≡ counts_in (counted ++ row ∷ [])) → next ≡ counts_of tags (rows ++ row ∷ [])
 counted_more tags rows row counts next is takes step = step (counted_rows tags rows) is ∙ ap counts_in (sym (filter_takes (is_counted tags) rows row takes))
-
-pub counted_same : (tags : List (List ℕ)) (rows : List Row) (row : Row) (counts : Counts) → counts ≡ counts_of tags rows → is_counted tags row ≡ false → counts ≡ counts_of tags (rows ++ row ∷ [])
-counted_same tags rows row counts is skips = is ∙ ap counts_in (sym (filter_skips (is_counted tags) rows row skips))
 
 -- where the tags are those that filter
 pub counted_by : (tags own : List (List ℕ)) (rows more : List Row) (counts next : Counts) → own ≡ tags → counts ≡ counts_of tags rows → (counts ≡ counts_of own rows → next ≡ counts_of own more) → next ≡ counts_of tags more
@@ -40,30 +38,12 @@ is_timed row = is_run row && is_some row.nanos
 both_of : (b : Bool) (o : Option ℕ) (n : ℕ) → b ≡ true → o ≡ Some n → (b && is_some o) ≡ true
 both_of b o n runs some = ap (λ b. b && is_some o) runs ∙ ap is_some some
 
-none_of : (b : Bool) (o : Option ℕ) → o ≡ None → (b && is_some o) ≡ false
-none_of true o none = ap is_some none
-none_of false o none = refl
-
 without_of : (b : Bool) (o : Option ℕ) → b ≡ true → o ≡ None → (b && not (is_some o)) ≡ true
 without_of b o runs none = ap (λ b. b && not (is_some o)) runs ∙ ap (λ (o : Option ℕ). not (is_some o)) none
-
-with_of : (b : Bool) (o : Option ℕ) (n : ℕ) → o ≡ Some n → (b && not (is_some o)) ≡ false
-with_of true o n some = ap (λ (o : Option ℕ). not (is_some o)) some
-with_of false o n some = refl
 
 module _ (rows : List Row) (row : Row) (id : List ℕ) (how : Ended) (time : Option ℕ) (has : HasTime row id how time) where
   runs : is_existing how ≡ false → is_run row ≡ true
   runs other = ap (λ how. not (is_existing how)) has.how_is ∙ ap not other
-
-  exists : is_existing how ≡ true → is_run row ≡ false
-  exists is = ap (λ how. not (is_existing how)) has.how_is ∙ ap not is
-
-  -- a row whose test did not run
-  pub time_passed_over : is_existing how ≡ true → times_of rows ≡ times_of (rows ++ row ∷ [])
-  time_passed_over is = ap longest_times (sym (filter_skips is_timed rows row (ap (λ b. b && is_some row.nanos) (exists is))))
-
-  pub untimed_passed_over : is_existing how ≡ true → untimed_of rows ≡ untimed_of (rows ++ row ∷ [])
-  untimed_passed_over is = ap (λ l. in_byte_order (ids_of l)) (sym (filter_skips is_untimed rows row (ap (λ b. b && not (is_some row.nanos)) (exists is))))
 
   -- one that ran and has a time
   pub time_raised : (n : ℕ) → is_existing how ≡ false → time ≡ Some n → fin.insert (times_of rows) id (max n (unwrap_or (fin.get (times_of rows) id) 0)) ≡ times_of (rows ++ row ∷ [])
@@ -73,13 +53,7 @@ module _ (rows : List Row) (row : Row) (id : List ℕ) (how : Ended) (time : Opt
       ∙ sym (longest_times_push (filter is_timed rows) row n nanos)
       ∙ ap longest_times (sym (filter_takes is_timed rows row (both_of (is_run row) row.nanos n (runs other) nanos)))
 
-  pub untimed_stays : (n : ℕ) → time ≡ Some n → untimed_of rows ≡ untimed_of (rows ++ row ∷ [])
-  untimed_stays n some = ap (λ l. in_byte_order (ids_of l)) (sym (filter_skips is_untimed rows row (with_of (is_run row) row.nanos n (has.time_is ∙ some))))
-
   -- one that ran and has none
-  pub times_stay : time ≡ None → times_of rows ≡ times_of (rows ++ row ∷ [])
-  times_stay none = ap longest_times (sym (filter_skips is_timed rows row (none_of (is_run row) row.nanos (has.time_is ∙ none))))
-
   pub untimed_put : is_existing how ≡ false → time ≡ None → in_byte_order (id ∷ untimed_of rows) ≡ untimed_of (rows ++ row ∷ [])
   untimed_put other none =
       ap (λ id. in_byte_order (id ∷ untimed_of rows)) (sym has.id_is)
