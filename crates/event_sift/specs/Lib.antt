@@ -1,4 +1,5 @@
 pub mod Keeping
 pub mod Released
 pub mod Sifted
+pub mod PacketSifted
 pub mod Tagging

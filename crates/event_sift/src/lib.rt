@@ -14,8 +14,10 @@
 #![tactic(auto)]
 
 mod held;
+mod held_packets;
 mod last_event;
 mod lent_tags;
+mod packet_sift;
 mod part;
 mod part_row;
 mod predicate;
@@ -24,6 +26,7 @@ mod sift;
 mod tagger;
 mod whole;
 
+pub use packet_sift::PacketSift;
 pub use predicate::Predicate;
 pub use rules::{ByRules, Rules, keep};
 pub use sift::Sift;

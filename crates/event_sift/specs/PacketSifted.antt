@@ -1,0 +1,45 @@
+-- What a sift of packets has taken so far (docs/COMMANDS.md, "subunit-filter").
+use Rattle.std.specs.Prelude.{◌≡◌, ℕ, Option, None, Some, List}
+use Rattle.std.specs.List.{flat_map}
+use Rattle.std.specs.FinMap as fin
+use Rattle.std.specs.FinMap.{FinMap}
+use Rattle.packet_codec.specs.Canonical.{canonical}
+use Rattle.packet_codec.specs.declared.event.Event.{Event}
+use Rattle.outcome_fold.specs.Folded.{HasSeen}
+use Rattle.outcome_fold.specs.Order.{test_cmp, table}
+use Rattle.outcome_fold.specs.Rows.{open_tests}
+use Rattle.event_sift.specs.Released.{part_at}
+use Rattle.event_sift.specs.declared.rules.Rules.{Rules}
+use Rattle.event_sift.specs.declared.held_packets.HeldTest.{HeldTest}
+use Rattle.event_sift.specs.declared.held_packets.HeldPackets.{HeldPackets}
+use Rattle.event_sift.specs.declared.packet_sift.PacketSift.{PacketSift}
+
+-- the shortest packets of the events, one after another
+abbrev pub packets_of : List Event → List ℕ
+packets_of events = flat_map canonical events
+
+-- the packets of the tests in the table, and of the one that is held beside it
+abbrev pub with_last : Option HeldTest → FinMap test_cmp (List ℕ) → FinMap test_cmp (List ℕ)
+with_last None others = others
+with_last (Some last) others = fin.insert others last.key last.packets
+
+-- the packets that are held, by test
+abbrev pub packets_in : HeldPackets → FinMap test_cmp (List ℕ)
+packets_in held = with_last held.last (fin.from_entries {R = test_cmp} held.others.entries)
+
+-- the packets of the last part of each open test
+abbrev pub open_packets : List Event → FinMap test_cmp (List ℕ)
+open_packets seen = table {R = test_cmp} (λ test. packets_of (part_at seen test)) (open_tests seen)
+
+-- the sift has taken these events
+pub record HasSifted {P : Type 0} (sift : PacketSift P) (seen : List Event) : Type 0 where
+  pub folded : HasSeen sift.fold seen
+  pub held : packets_in sift.held ≡ open_packets seen
+
+-- the rules by which the sift keeps tests
+abbrev pub rules_of : {P : Type 0} → PacketSift P → Rules
+rules_of sift = sift.rules.now
+
+-- what says which tests are kept
+abbrev pub predicate_of : {P : Type 0} → PacketSift P → P
+predicate_of sift = sift.predicate
