@@ -1,16 +1,19 @@
 //! Packets that are held until their test completes.
 
-ghost use Rattle.std.specs.Prelude.{◌≡◌, List, [], ◌∷◌, ◌++◌, OnOk};
+ghost use Rattle.std.specs.Prelude.{◌≡◌, List, [], ◌∷◌, ◌++◌, IfOk, OnOk};
 ghost use Rattle.packet_codec.specs.Packet.{SpellsEvent};
 ghost use Rattle.packet_codec.specs.declared.event.Event.{Event as AnEvent};
 ghost use Rattle.event_sift.specs.Keeping.{keeps};
 ghost use Rattle.event_sift.specs.Released.{released, released_at_end};
-ghost use Rattle.event_sift.specs.PacketSifted.{HasSifted, packets_of, predicate_of, rules_of};
+ghost use Rattle.outcome_fold.specs.Folded.{HasSeen};
+ghost use Rattle.outcome_fold.specs.Rows.{completed_row};
+ghost use Rattle.event_sift.specs.declared.held_packets.HeldTest.{HeldTest as AHeldTest};
+ghost use Rattle.event_sift.specs.PacketSifted.{HasSifted, IsNext, open_packets, others_in, packets_if_kept, packets_in, packets_of, predicate_of, rules_of, test_of_row};
 
 use crate::held_packets::HeldPackets;
 use crate::predicate::Predicate;
 use crate::rules::Rules;
-use outcome_fold::Fold;
+use outcome_fold::{Fold, Row, TestKey, key_in};
 use packet_codec::Packet;
 use std::alloc::Global;
 use sub_number::NoMemory;
@@ -48,6 +51,61 @@ impl<'a, P: Predicate + Drop> PacketSift<'a, P> {
         }
     }
 
+    // Whether the row's test is kept, by the predicate.
+    fn is_kept(&mut self, row: &Row) -> Result<bool, NoMemory>
+        requires faithful { P.rules (predicate_of self.old) ≡ rules_of self.old }
+        ensures kept { IfOk result (λ kept. kept ≡ keeps (rules_of self.old) row.now) }
+        ensures held { self.new.held ≡ self.old.held }
+        ensures fold { self.new.fold ≡ self.old.fold }
+        ensures rules { rules_of self.new ≡ rules_of self.old }
+        ensures predicate { P.rules (predicate_of self.new) ≡ P.rules (predicate_of self.old) }
+    {
+        self.predicate.is_kept(row)
+    }
+
+    // Takes the packet, whose test was heard last. It gives this row, or none.
+    fn hear_last(
+        &mut self,
+        packet: &Packet<'_>,
+        row: Option<Row>,
+        out: &mut Vec<u8>,
+    ) -> Result<(), NoMemory>
+        requires faithful { P.rules (predicate_of self.old) ≡ rules_of self.old }
+        ensures released { (seen : List AnEvent) (e : AnEvent) (last : AHeldTest) → SpellsEvent packet.now e → row ≡ completed_row seen e → IsNext self.old.held seen e last → OnOk result (out.new.items ≡ out.old.items ++ packets_of (released (keeps (rules_of self.old)) seen e)) }
+        ensures held { (seen : List AnEvent) (e : AnEvent) (last : AHeldTest) → SpellsEvent packet.now e → row ≡ completed_row seen e → IsNext self.old.held seen e last → OnOk result (packets_in self.new.held ≡ open_packets (seen ++ e ∷ [])) }
+        ensures fold { self.new.fold ≡ self.old.fold }
+        ensures rules { rules_of self.new ≡ rules_of self.old }
+        ensures predicate { P.rules (predicate_of self.new) ≡ P.rules (predicate_of self.old) }
+    {
+        let Some(row) = row else {
+            return self.held.go_on(packet);
+        };
+        let kept = self.is_kept(&row)?;
+        self.held.finish(packet, kept, out)
+    }
+
+    // Takes the packet, whatever test its event speaks of. It gives this row, or none.
+    #[inline(never)]
+    fn hear_other(
+        &mut self,
+        packet: &Packet<'_>,
+        row: Option<Row>,
+        out: &mut Vec<u8>,
+    ) -> Result<(), NoMemory>
+        requires faithful { P.rules (predicate_of self.old) ≡ rules_of self.old }
+        ensures released { (seen : List AnEvent) (e : AnEvent) → SpellsEvent packet.now e → row ≡ completed_row seen e → packets_in self.old.held ≡ open_packets seen → OnOk result (out.new.items ≡ out.old.items ++ packets_of (released (keeps (rules_of self.old)) seen e)) }
+        ensures held { (seen : List AnEvent) (e : AnEvent) → SpellsEvent packet.now e → row ≡ completed_row seen e → packets_in self.old.held ≡ open_packets seen → OnOk result (packets_in self.new.held ≡ open_packets (seen ++ e ∷ [])) }
+        ensures fold { self.new.fold ≡ self.old.fold }
+        ensures rules { rules_of self.new ≡ rules_of self.old }
+        ensures predicate { P.rules (predicate_of self.new) ≡ P.rules (predicate_of self.old) }
+    {
+        let Some(key) = key_in(self.alloc, packet)? else {
+            return packet.put_shortest(out);
+        };
+        self.held.turn_to(key)?;
+        self.hear_last(packet, row, out)
+    }
+
     /// Takes the event that the packet spells, and appends the packets that are released now: that of an event without an
     /// id at once, all packets of a test, in order, where this one completes it and it is kept, and else none.
     ///
@@ -60,9 +118,47 @@ impl<'a, P: Predicate + Drop> PacketSift<'a, P> {
         ensures rules { rules_of self.new ≡ rules_of self.old }
         ensures predicate { P.rules (predicate_of self.new) ≡ P.rules (predicate_of self.old) }
     {
-        let _packet = packet;
-        let _out = &*out;
-        Err(NoMemory)
+        let row = self.fold.hear(packet)?;
+        if self.held.holds(packet) {
+            return self.hear_last(packet, row, out);
+        }
+        self.hear_other(packet, row, out)
+    }
+
+    // Appends the packets of the row's open test, where it is kept.
+    fn release_open(
+        &mut self,
+        row: Row,
+        held: &HeldPackets,
+        out: &mut Vec<u8>,
+    ) -> Result<(), NoMemory>
+        requires faithful { P.rules (predicate_of self.old) ≡ rules_of self.old }
+        ensures released { OnOk result (out.new.items ≡ out.old.items ++ packets_if_kept (keeps (rules_of self.old)) (others_in held.now) row) }
+        ensures rules { rules_of self.new ≡ rules_of self.old }
+        ensures predicate { P.rules (predicate_of self.new) ≡ P.rules (predicate_of self.old) }
+    {
+        if self.is_kept(&row)? {
+            held.put(&key_of_row(row), out)
+        } else {
+            Ok(())
+        }
+    }
+
+    // Appends the packets of the open tests that are kept.
+    fn release(
+        &mut self,
+        fold: Fold,
+        mut held: HeldPackets,
+        out: &mut Vec<u8>,
+    ) -> Result<(), NoMemory>
+        requires faithful { P.rules (predicate_of self.old) ≡ rules_of self.old }
+        ensures { (seen : List AnEvent) → HasSeen fold seen → packets_in held ≡ open_packets seen → OnOk result (out.new.items ≡ out.old.items ++ packets_of (released_at_end (keeps (rules_of self.old)) seen)) }
+    {
+        held.put_down()?;
+        for row in fold.close()? {
+            self.release_open(row, &held, out)?;
+        }
+        Ok(())
     }
 
     /// Ends the sift, and appends the packets of the open tests that are kept, by route, no route first, and then by id.
@@ -72,9 +168,24 @@ impl<'a, P: Predicate + Drop> PacketSift<'a, P> {
         requires faithful { P.rules (predicate_of self) ≡ rules_of self }
         ensures { (seen : List AnEvent) → HasSifted self.entry seen → OnOk result (out.new.items ≡ out.old.items ++ packets_of (released_at_end (keeps (rules_of self.entry)) seen)) }
     {
-        self.let_go();
-        let _out = &*out;
-        Err(NoMemory)
+        let PacketSift {
+            alloc,
+            rules,
+            predicate,
+            fold,
+            held,
+        } = self;
+        // What is open is moved out, so that the rest can be given up whatever comes of it.
+        let mut rest = PacketSift {
+            alloc,
+            rules,
+            predicate,
+            fold: Fold::new(alloc),
+            held: HeldPackets::new(alloc),
+        };
+        let released = rest.release(fold, held, out);
+        rest.let_go();
+        released
     }
 
     /// Gives the sift up, with the packets that it holds.
@@ -87,4 +198,19 @@ impl<'a, P: Predicate + Drop> PacketSift<'a, P> {
             held: _held,
         } = self;
     }
+}
+
+// The test of the row.
+fn key_of_row(row: Row) -> TestKey
+    ensures { result ≡ test_of_row row }
+{
+    let Row {
+        id,
+        route,
+        ended: _,
+        tags: _,
+        nanos: _,
+        text: _,
+    } = row;
+    TestKey { route, id }
 }
