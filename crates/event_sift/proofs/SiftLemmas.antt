@@ -46,10 +46,6 @@ is_kept kept row other part events same so is = is ∙ ap (λ b. cond b part [])
 pub is_not_kept : (kept : Row → Bool) (row other : Row) (part events : List Event) → row ≡ other → kept row ≡ false → events ≡ [] → events ≡ if_kept kept other part
 is_not_kept kept row other part events same so is = is ∙ ap (λ b. cond b part []) (sym so ∙ ap kept same)
 
--- the same of a part that has one event more
-pub last_same : (t : TestKey) (how : Ended) (first part : List Event) (e : Event) (row : Row) → first ≡ part → row ≡ row_of t how (elapsed (start_of (first ++ e ∷ [])) (option_map instant e.stamp)) (first ++ e ∷ []) → row ≡ row_of t how (elapsed (start_of (part ++ e ∷ [])) (option_map instant e.stamp)) (part ++ e ∷ [])
-last_same t how first part e row one is = is ∙ ap (λ (es : List Event). row_of t how (elapsed (start_of (es ++ e ∷ [])) (option_map instant e.stamp)) (es ++ e ∷ [])) one
-
 -- At the end.
 
 no_end : (start : Option ℕ) → elapsed start None ≡ None

@@ -3,13 +3,11 @@
 ghost use Rattle.std.specs.Prelude.{◌≡◌, [], ◌∷◌, ◌++◌, IfOk, OnOk};
 ghost use Rattle.std.specs.FinMap as map;
 ghost use Rattle.std.specs.Option.{unwrap_or};
-ghost use Rattle.packet_codec.specs.Packet.{SpellsEvent};
-ghost use Rattle.packet_codec.specs.declared.event.Event.{Event as AnEvent};
 ghost use Rattle.event_sift.specs.Sifted.{Holds, parts_in};
 
 use crate::part::Part;
 use outcome_fold::TestKey;
-use packet_codec::{Event, Packet};
+use packet_codec::Event;
 use std::alloc::Global;
 use std::collections::BTreeMap;
 use sub_number::NoMemory;
@@ -65,29 +63,8 @@ impl Held {
         Ok(part)
     }
 
-    // Takes the first event of a test, which the packet spells.
-    fn start_by(&mut self, key: TestKey, packet: &Packet<'_>) -> Result<(), NoMemory>
-        ensures { (e : AnEvent) → SpellsEvent packet.now e → OnOk result (parts_in self.new ≡ map.insert (parts_in self.old) key (e ∷ [])) }
-    {
-        let part = Part::heard(self.alloc, packet)?;
-        self.parts.insert(key, part)?;
-        Ok(())
-    }
-
-    /// The same as `go_on`, of the event that the packet spells.
-    ///
-    /// `NoMemory` comes only for want of memory. Nothing is known then of what is held.
-    pub fn go_on_by(&mut self, key: TestKey, packet: &Packet<'_>) -> Result<(), NoMemory>
-        ensures { (e : AnEvent) → SpellsEvent packet.now e → OnOk result (parts_in self.new ≡ map.insert (parts_in self.old) key (unwrap_or (map.get (parts_in self.old) key) [] ++ e ∷ [])) }
-    {
-        match self.parts.get_mut(&key) {
-            Some(part) => part.hear(self.alloc, packet),
-            None => self.start_by(key, packet),
-        }
-    }
-
-    /// The events of the test, moved out. The test is no longer open.
-    pub fn take(&mut self, key: &TestKey) -> Part
+    // The events of the test, moved out. The test is no longer open.
+    fn take(&mut self, key: &TestKey) -> Part
         ensures part { result ≡ unwrap_or (map.get (parts_in self.old) key.now) [] }
         ensures rest { parts_in self.new ≡ map.remove (parts_in self.old) key.now }
     {

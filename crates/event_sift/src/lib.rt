@@ -1,21 +1,21 @@
 //! Which events of a stream a filter lets through, and what tags it gives them.
 //!
 //! The rules stand in docs/FORMATS.md under "subunit-filter" and "subunit-tags". `specs/` states them of rows, of single
-//! events, and of whole lists of events. Events are held from the first one of a test until one completes it, and are
-//! moved on as they are.
+//! events, and of whole lists of events. What speaks of a test is held from the first event of the test until one completes
+//! it, as events or as the bytes of their packets.
 //!
 //! - `rules`, `predicate`: which rows are kept, and what says so of one after another
 //! - `part`, `held`: the events of the open tests
 //! - `part_row`: the row of some events of a test
-//! - `last_event`: the same where the last one stands in a packet
 //! - `sift`: what is released as events come, and at the end
+//! - `held_packets`: the packets of the open tests
+//! - `packet_sift`: what is released as packets come, and at the end
 //! - `whole`: what is released of a whole list of events
 //! - `tagger`: the tags of an event; `lent_tags`: lists of tags that are lent
 #![tactic(auto)]
 
 mod held;
 mod held_packets;
-mod last_event;
 mod lent_tags;
 mod packet_sift;
 mod part;
@@ -35,3 +35,5 @@ pub use whole::filtered_events;
 
 #[cfg(test)]
 mod tests;
+#[cfg(test)]
+mod tests_packets;

@@ -1,6 +1,7 @@
 //! Packets that are held until their test completes.
 
 ghost use Rattle.std.specs.Prelude.{◌≡◌, List, [], ◌∷◌, ◌++◌, IfOk, OnOk};
+ghost use Rattle.std.specs.List.{flat_map};
 ghost use Rattle.packet_codec.specs.Packet.{SpellsEvent};
 ghost use Rattle.packet_codec.specs.declared.event.Event.{Event as AnEvent};
 ghost use Rattle.event_sift.specs.Keeping.{keeps};
@@ -144,6 +145,22 @@ impl<'a, P: Predicate + Drop> PacketSift<'a, P> {
         }
     }
 
+    // Appends the packets of the rows' open tests that are kept.
+    fn release_all(
+        &mut self,
+        rows: Vec<Row>,
+        held: &HeldPackets,
+        out: &mut Vec<u8>,
+    ) -> Result<(), NoMemory>
+        requires faithful { P.rules (predicate_of self.old) ≡ rules_of self.old }
+        ensures { OnOk result (out.new.items ≡ out.old.items ++ flat_map (packets_if_kept (keeps (rules_of self.old)) (others_in held.now)) rows.items) }
+    {
+        for row in rows {
+            self.release_open(row, held, out)?;
+        }
+        Ok(())
+    }
+
     // Appends the packets of the open tests that are kept.
     fn release(
         &mut self,
@@ -155,10 +172,8 @@ impl<'a, P: Predicate + Drop> PacketSift<'a, P> {
         ensures { (seen : List AnEvent) → HasSeen fold seen → packets_in held ≡ open_packets seen → OnOk result (out.new.items ≡ out.old.items ++ packets_of (released_at_end (keeps (rules_of self.old)) seen)) }
     {
         held.put_down()?;
-        for row in fold.close()? {
-            self.release_open(row, &held, out)?;
-        }
-        Ok(())
+        let rows = fold.close()?;
+        self.release_all(rows, &held, out)
     }
 
     /// Ends the sift, and appends the packets of the open tests that are kept, by route, no route first, and then by id.

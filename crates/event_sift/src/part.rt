@@ -1,10 +1,8 @@
 //! The events of a part of a test.
 
 ghost use Rattle.std.specs.Prelude.{◌≡◌, [], ◌∷◌, ◌++◌, IfOk, OnOk};
-ghost use Rattle.packet_codec.specs.Packet.{SpellsEvent};
-ghost use Rattle.packet_codec.specs.declared.event.Event.{Event as AnEvent};
 
-use packet_codec::{Event, Packet};
+use packet_codec::Event;
 use std::alloc::Global;
 use std::marker::Model;
 use sub_number::NoMemory;
@@ -52,27 +50,6 @@ impl Part {
         ensures { OnOk result (self.new ≡ self.old ++ event ∷ []) }
     {
         self.events.push(event)?;
-        Ok(())
-    }
-
-    /// The event that the packet spells alone, with room for one more.
-    ///
-    /// `NoMemory` comes only for want of memory.
-    pub fn heard(alloc: Global, packet: &Packet<'_>) -> Result<Self, NoMemory>
-        ensures { (e : AnEvent) → SpellsEvent packet.now e → IfOk result (λ part. part ≡ e ∷ []) }
-    {
-        let mut events = Vec::with_capacity(alloc, 2)?;
-        events.push(packet.event(alloc)?)?;
-        Ok(Part { events })
-    }
-
-    /// Takes one event more, which the packet spells. It is made where it is put.
-    ///
-    /// `NoMemory` comes only for want of memory.
-    pub fn hear(&mut self, alloc: Global, packet: &Packet<'_>) -> Result<(), NoMemory>
-        ensures { (e : AnEvent) → SpellsEvent packet.now e → OnOk result (self.new ≡ self.old ++ e ∷ []) }
-    {
-        self.events.push(packet.event(alloc)?)?;
         Ok(())
     }
 

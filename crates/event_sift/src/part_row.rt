@@ -20,7 +20,7 @@ pub fn start_of(part: &[Event]) -> Option<u64>
 }
 
 // The tags of the last event that has tags.
-pub(crate) fn last_tags(part: &[Event]) -> &[Text]
+fn last_tags(part: &[Event]) -> &[Text]
     ensures { result.now ≡ parts.last_tags part.now }
 {
     let mut last: &[Text] = &[];
@@ -33,7 +33,7 @@ pub(crate) fn last_tags(part: &[Event]) -> &[Text]
 }
 
 // The first bytes of the files of text, joined.
-pub(crate) fn kept_text(alloc: Global, part: &[Event]) -> Result<KeptText, NoMemory>
+fn kept_text(alloc: Global, part: &[Event]) -> Result<KeptText, NoMemory>
     ensures { IfOk result (λ text. text ≡ parts.text_of part.now) }
 {
     let mut text = KeptText::new(alloc);

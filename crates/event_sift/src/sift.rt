@@ -1,7 +1,6 @@
 //! Events that are held until their test completes.
 
 ghost use Rattle.std.specs.Prelude.{◌≡◌, List, [], ◌∷◌, ◌++◌, IfOk, OnOk};
-ghost use Rattle.packet_codec.specs.Packet.{SpellsEvent};
 ghost use Rattle.packet_codec.specs.declared.event.Event.{Event as AnEvent};
 ghost use Rattle.event_sift.specs.Keeping.{keeps};
 ghost use Rattle.std.specs.FinMap as map;
@@ -11,13 +10,12 @@ ghost use Rattle.event_sift.specs.Released.{completed_part_row, if_kept, release
 ghost use Rattle.event_sift.specs.Sifted.{HasSifted, Holds, parts_in, predicate_of, rules_of};
 
 use crate::held::Held;
-use crate::last_event::row_with;
 use crate::part::Part;
 use crate::part_row::{part_row, start_of};
 use crate::predicate::Predicate;
 use crate::rules::Rules;
-use outcome_fold::{Ended, Row, TestKey, elapsed, ended_by, instant_of, key_in, key_of};
-use packet_codec::{Event, Packet};
+use outcome_fold::{Ended, Row, TestKey, elapsed, ended_by, instant_of, key_of};
+use packet_codec::Event;
 use std::alloc::Global;
 use sub_number::NoMemory;
 
@@ -123,52 +121,6 @@ impl<'a, P: Predicate + Drop> Sift<'a, P> {
         }
     }
 
-    // Takes the event that the packet spells, which completes its test. It is made only where the test is kept.
-    fn complete_by(
-        &mut self,
-        key: TestKey,
-        ended: Ended,
-        packet: &Packet<'_>,
-    ) -> Result<Vec<Event>, NoMemory>
-        requires faithful { P.rules (predicate_of self.old) ≡ rules_of self.old }
-        ensures released { (seen : List AnEvent) (e : AnEvent) → SpellsEvent packet.now e → HasSifted self.old seen → IfOk result (λ events. events.items ≡ if_kept (keeps (rules_of self.old)) (completed_part_row key ended seen e) (part_with key seen e)) }
-        ensures taken { OnOk result (parts_in self.new.held ≡ map.remove (parts_in self.old.held) key) }
-        ensures rules { rules_of self.new ≡ rules_of self.old }
-        ensures predicate { P.rules (predicate_of self.new) ≡ P.rules (predicate_of self.old) }
-    {
-        let mut part = self.held.take(&key);
-        let row = row_with(self.alloc, key, ended, part.events(), packet)?;
-        if self.is_kept(&row)? {
-            part.hear(self.alloc, packet)?;
-            Ok(part.into_events())
-        } else {
-            Ok(Vec::new(self.alloc))
-        }
-    }
-
-    /// The same as `add`, of the event that the packet spells. It is made where it is put, and not at all where it completes
-    /// a test that is not kept.
-    ///
-    /// `NoMemory` comes only for want of memory. The sift is given up then, as after `add`.
-    pub fn hear(&mut self, packet: &Packet<'_>) -> Result<Vec<Event>, NoMemory>
-        requires faithful { P.rules (predicate_of self.old) ≡ rules_of self.old }
-        ensures released { (seen : List AnEvent) (e : AnEvent) → SpellsEvent packet.now e → HasSifted self.old seen → IfOk result (λ events. events.items ≡ released (keeps (rules_of self.old)) seen e) }
-        ensures taken { (seen : List AnEvent) (e : AnEvent) → SpellsEvent packet.now e → HasSifted self.old seen → OnOk result (HasSifted self.new (seen ++ e ∷ [])) }
-        ensures rules { rules_of self.new ≡ rules_of self.old }
-        ensures predicate { P.rules (predicate_of self.new) ≡ P.rules (predicate_of self.old) }
-    {
-        let Some(key) = key_in(self.alloc, packet)? else {
-            return only_by(self.alloc, packet);
-        };
-        match ended_by(packet.status()) {
-            Some(ended) => self.complete_by(key, ended, packet),
-            None => {
-                self.held.go_on_by(key, packet)?;
-                Ok(Vec::new(self.alloc))
-            }
-        }
-    }
-
     // The events of the open tests that are kept.
     fn release(&mut self, held: Held) -> Result<Vec<Event>, NoMemory>
         requires faithful { P.rules (predicate_of self.old) ≡ rules_of self.old }
@@ -224,14 +176,5 @@ fn only(alloc: Global, event: Event) -> Result<Vec<Event>, NoMemory>
 {
     let mut events = Vec::with_capacity(alloc, 1)?;
     events.push(event)?;
-    Ok(events)
-}
-
-// A list of the event alone that the packet spells.
-fn only_by(alloc: Global, packet: &Packet<'_>) -> Result<Vec<Event>, NoMemory>
-    ensures { (e : AnEvent) → SpellsEvent packet.now e → IfOk result (λ events. events.items ≡ e ∷ []) }
-{
-    let mut events = Vec::with_capacity(alloc, 1)?;
-    events.push(packet.event(alloc)?)?;
     Ok(events)
 }

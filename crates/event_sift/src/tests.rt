@@ -30,7 +30,7 @@ fn patterns(alloc: Global, pattern: &[u8]) -> Option<Filters> {
 }
 
 // The rules that hold where nothing else is asked for.
-fn default_rules(alloc: Global) -> Option<Rules> {
+pub fn default_rules(alloc: Global) -> Option<Rules> {
     Some(Rules {
         success: false,
         failure: true,
@@ -107,7 +107,7 @@ fn ids_go_by_patterns(rt: HostRuntime) -> Result<(), Fail> {
 }
 
 // An event of the test under the route. The route `-` is none, and an id of no bytes is none too.
-fn says(alloc: Global, route: u8, id: &[u8], status: Status) -> Event {
+pub fn says(alloc: Global, route: u8, id: &[u8], status: Status) -> Event {
     Event {
         stamp: None,
         id: if id.is_empty() { None } else { text(alloc, id) },
@@ -195,6 +195,24 @@ fn tags_are_sorted_added_and_removed(rt: HostRuntime) -> Result<(), Fail> {
     assert_eq!(rt; gets(alloc, b"", b"", b"bab", b"ab"), Some(true));
     assert_eq!(rt; gets(alloc, b"", b"", b"", b""), Some(true));
     assert_eq!(rt; gets(alloc, b"xa", b"x", b"c", b"ac"), Some(true));
+    Ok(())
+}
+
+// Lent tags to which x and a are added, and from which x is removed.
+fn lent(alloc: Global) -> Option<bool> {
+    let tagger = Tagger::new(alloc, tags(alloc, b"xa")?, tags(alloc, b"x")?);
+    let mut own = Vec::new(alloc);
+    for tag in [b"c".as_slice(), b"b".as_slice(), b"c".as_slice()] {
+        own.push(tag).ok()?;
+    }
+    let given = tagger.tags_for(own).ok()?;
+    Some(given.as_slice() == [b"a".as_slice(), b"b".as_slice(), b"c".as_slice()].as_slice())
+}
+
+#[test]
+fn lent_tags_are_sorted_added_and_removed(rt: HostRuntime) -> Result<(), Fail> {
+    let alloc = rt.alloc();
+    assert_eq!(rt; lent(alloc), Some(true));
     Ok(())
 }
 

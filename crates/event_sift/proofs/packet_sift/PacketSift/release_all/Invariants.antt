@@ -2,7 +2,7 @@ use Rattle.std.proofs.Common.{◌≡◌, ◌++◌}
 use Rattle.std.specs.List.{flat_map}
 use Rattle.event_sift.specs.Keeping.{keeps}
 use Rattle.event_sift.specs.PacketSifted.{others_in, packets_if_kept}
-use Rattle.event_sift.proofs.packet_sift.PacketSift.release.Given as goal
+use Rattle.event_sift.proofs.packet_sift.PacketSift.release_all.Given as goal
 
 abbrev pub invariant-loop-row : goal.invariant-loop-row
 invariant-loop-row g l = record {
