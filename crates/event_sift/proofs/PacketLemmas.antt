@@ -26,7 +26,7 @@ use Rattle.outcome_fold.proofs.TableLemmas.{tied_is, get-table, lookup_in_map, n
 use Rattle.outcome_fold.proofs.StepLemmas.{flat_map_push}
 use Rattle.outcome_fold.proofs.CloseLemmas.{table_with}
 use Rattle.event_sift.specs.declared.held_packets.HeldTest.{HeldTest}
-use Rattle.event_sift.specs.Released.{if_kept, kept_open, part_at, released, released_at_end, released_with}
+use Rattle.event_sift.specs.Released.{kept_open, part_at, released, released_at_end, released_with}
 use Rattle.event_sift.specs.Sifted.{open_parts}
 use Rattle.event_sift.specs.PacketSifted.{begun_at, one_more, open_packets, packets_at, packets_if_kept, packets_of, with_last}
 use Rattle.event_sift.proofs.HeldLemmas as held
@@ -228,7 +228,7 @@ where_kept false part packets is = refl
 pub at_ending : (kept : Row → Bool) (seen : List Event) (e : Event) (h : HeldTest) (row : Row) (b : Bool) (out now : List ℕ) → test_of e ≡ Some h.key → Some row ≡ completed_row seen e → h.packets ≡ packets_at (open_packets seen) h.key → b ≡ kept row → now ≡ out ++ cond b (h.packets ++ canonical e) [] → now ≡ out ++ packets_of (released kept seen e)
 at_ending kept seen e h row b out now test some own so is =
     let packets : h.packets ++ canonical e ≡ packets_of (part_with h.key seen e) =
-        ap (λ packets. packets ++ canonical e) (own ∙ packets_of_part seen h.key) ∙ sym (flat_map_push canonical (part_at seen h.key) e) in
+    ap (λ packets. packets ++ canonical e) (own ∙ packets_of_part seen h.key) ∙ sym (flat_map_push canonical (part_at seen h.key) e) in
     is ∙ ap (λ l. out ++ l)
     (ap (λ b. cond b (h.packets ++ canonical e) []) so ∙ where_kept (kept row) (part_with h.key seen e) _ packets
     ∙ (λ i. packets_of (released_with kept (sym test i) (some i) seen e)))
@@ -250,5 +250,5 @@ at_end kept seen packets rows same are =
     ∙ (λ i. flat_map (λ (e : TestKey × TestKey). where_kept (kept (row e.0)) (part_at seen e.0) (packets_at (open_packets seen) e.0) (packets_of_part seen e.0) i) tests)
     ∙ sym (ap (λ (es : List (TestKey × List Event)). packets_of (flat_map (λ part. part) (map (λ e. e.1) es))) (table_with exact_tests (λ test other. kept_open kept seen test) tests_total (λ test. test) (open_tests seen))
     ∙ ap packets_of (flat_map-map (λ (part : List Event). part) (λ (e : TestKey × List Event). e.1) (map (λ (e : TestKey × TestKey). (e.0, kept_open kept seen e.0)) tests)
-      ∙ flat_map-map (λ (e : TestKey × List Event). e.1) (λ (e : TestKey × TestKey). (e.0, kept_open kept seen e.0)) tests)
+    ∙ flat_map-map (λ (e : TestKey × List Event). e.1) (λ (e : TestKey × TestKey). (e.0, kept_open kept seen e.0)) tests)
     ∙ packets_flat (λ (e : TestKey × TestKey). kept_open kept seen e.0) tests)

@@ -209,7 +209,12 @@ impl HeldPackets {
     ///
     /// `NoMemory` comes only for want of memory. Of what was appended nothing is known then.
     #[inline(always)]
-    pub fn finish(&mut self, packet: &Packet<'_>, kept: bool, out: &mut Vec<u8>) -> Result<(), NoMemory>
+    pub fn finish(
+        &mut self,
+        packet: &Packet<'_>,
+        kept: bool,
+        out: &mut Vec<u8>,
+    ) -> Result<(), NoMemory>
         ensures out { (e : AnEvent) (last : AHeldTest) → SpellsEvent packet.now e → self.old.last ≡ Some last → OnOk result (out.new.items ≡ out.old.items ++ (if kept then last.packets ++ canonical e else [])) }
         ensures held { (last : AHeldTest) → self.old.last ≡ Some last → OnOk result (packets_in self.new ≡ map.remove (packets_in self.old) last.key) }
     {

@@ -25,5 +25,5 @@ pub returns-clause-held : goal.returns-clause-held
 returns-clause-held g c = λ seen e last s row next.
     on_ok_weaker c.finish.result
     (λ gone. ends seen e last.key c.in-Some.row _ next.test (sym c.in-Some.is ∙ row)
-      (last_ends _ _ (open_packets seen) last next.heard next.packets _ (gone ∙ ap (λ (held : HeldPackets). map.remove (packets_in held) last.key) c.in_ok-kept.ensures.held)))
+    (last_ends _ _ (open_packets seen) last next.heard next.packets _ (gone ∙ ap (λ (held : HeldPackets). map.remove (packets_in held) last.key) c.in_ok-kept.ensures.held)))
     (c.finish.ensures.held last (ap (λ (held : HeldPackets). held.last) c.in_ok-kept.ensures.held ∙ next.heard))
