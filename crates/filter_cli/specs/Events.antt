@@ -2,7 +2,7 @@
 use Rattle.std.specs.Prelude.{ℕ, Bool, List, [], ◌∷◌, if◌then◌else◌}
 use Rattle.std.specs.List.{flat_map}
 use Rattle.packet_codec.specs.declared.event.Event.{Event}
-use Rattle.packet_codec.specs.Canonical.{canonical}
+pub use Rattle.event_sift.specs.PacketSifted.{packets_of}
 use Rattle.stream_reader.specs.declared.note.Note.{Note}
 use Rattle.stream_reader.specs.declared.note.Note.TheVariants as note
 
@@ -17,7 +17,3 @@ events_in notes = flat_map event_in notes
 -- foreign bytes are passed on, unless they are hidden
 abbrev pub passed_on : Bool → List ℕ → List ℕ
 passed_on hidden bytes = if hidden then [] else bytes
-
--- the shortest packets of the events, one after another
-abbrev pub packets_of : List Event → List ℕ
-packets_of events = flat_map canonical events

@@ -1,14 +1,11 @@
 -- The events of a stream that are let through (docs/COMMANDS.md, "subunit-filter").
-use Rattle.std.specs.Prelude.{ℕ, Bool, List, All}
+use Rattle.std.specs.Prelude.{ℕ, Bool, List}
 use Rattle.packet_codec.specs.declared.event.Event.{Event}
-use Rattle.packet_codec.specs.Canonical.{Fits}
 use Rattle.stream_reader.specs.declared.note.Note.{Note}
 use Rattle.stream_reader.specs.declared.note.Note.TheVariants as note
 use Rattle.event_sift.specs.declared.rules.Rules.{Rules}
-use Rattle.event_sift.specs.declared.sift.Sift.{Sift}
 use Rattle.event_sift.specs.Keeping.{keeps}
 use Rattle.event_sift.specs.Released.{released, released_at_end}
-use Rattle.event_sift.specs.Sifted.{HasSifted}
 use Rattle.filter_cli.specs.Plan.{Plan}
 use Rattle.filter_cli.specs.Events.{events_in, passed_on, packets_of}
 
@@ -24,7 +21,3 @@ filter_plan rules hidden = record {
   at_end = λ notes. packets_of (released_at_end (keeps rules) (events_in notes));
   status = λ notes. 0;
 }
-
--- the sift has taken events that each have a packet
-abbrev pub HoldsPackets : {P : Type 0} → Sift P → Type 0
-HoldsPackets sift = (seen : List Event) × HasSifted sift seen × All Fits seen

@@ -8,28 +8,27 @@ ghost use Rattle.filter_cli.specs.Filtering.{filter_plan};
 
 use crate::ls::put_foreign;
 use crate::notes::NoteFilter;
-use crate::packets::put_events;
 use crate::pass::PumpFault;
 use crate::through::pass_notes;
 use edge_io::{Sink, Source};
-use event_sift::{ByRules, Predicate, Rules, Sift};
+use event_sift::{ByRules, PacketSift, Predicate, Rules};
 use packet_codec::Packet;
 use std::alloc::Global;
 use sub_number::NoMemory;
 
 /// Lets the tests of a stream through that a predicate keeps, by rules, each where it completes, and at the end those
-/// that are left open. Events are held until then, and are moved on.
+/// that are left open. Packets are held until then, and no event is made.
 ///
 /// It is not dropped, as the sift in it is not. It ends by `close` or by `let_go`.
 pub(crate) struct Sifting<'a, P: Predicate + Drop> {
     // Without the foreign bytes of the stream.
     hidden: bool,
-    sift: Sift<'a, P>,
+    sift: PacketSift<'a, P>,
 }
 
 impl<'a, P: Predicate + Drop> Sifting<'a, P> {
     ghost use Rattle.std.specs.Prelude.{[]};
-    ghost use Rattle.event_sift.specs.Sifted.{HasSifted, predicate_of, rules_of};
+    ghost use Rattle.event_sift.specs.PacketSifted.{HasSifted, predicate_of, rules_of};
 
     /// Nothing was taken yet. The predicate goes by the same rules, which it may borrow. Foreign bytes are passed on
     /// unless they are hidden. It takes no memory yet.
@@ -42,26 +41,23 @@ impl<'a, P: Predicate + Drop> Sifting<'a, P> {
     {
         Sifting {
             hidden,
-            sift: Sift::new(alloc, rules, predicate),
+            sift: PacketSift::new(alloc, rules, predicate),
         }
     }
 }
 
 impl<'a, P: Predicate + Drop> NoteFilter for Sifting<'a, P> {
-    ghost use Rattle.event_sift.specs.Sifted.{HasSifted, predicate_of, rules_of};
+    ghost use Rattle.event_sift.specs.PacketSifted.{HasSifted, predicate_of, rules_of};
     ghost use Rattle.filter_cli.specs.Events.{events_in};
-    ghost use Rattle.filter_cli.specs.Filtering.{HoldsPackets};
 
     ghost plan = { λ f. filter_plan (rules_of f.sift) f.hidden };
 
     ghost has = { λ f notes. HasSifted f.sift (events_in notes) };
 
-    ghost ready = { λ f. (P.rules (predicate_of f.sift) ≡ rules_of f.sift) × HoldsPackets f.sift };
+    ghost ready = { λ f. P.rules (predicate_of f.sift) ≡ rules_of f.sift };
 
     fn take(&mut self, packet: &Packet<'_>, text: &mut Vec<u8>) -> Result<(), NoMemory> {
-        let events = self.sift.hear(packet)?;
-        put_events(&events, text)?;
-        Ok(())
+        self.sift.hear(packet, text)
     }
 
     fn take_foreign(&mut self, bytes: &[u8], text: &mut Vec<u8>) -> Result<(), NoMemory> {
@@ -74,8 +70,7 @@ impl<'a, P: Predicate + Drop> NoteFilter for Sifting<'a, P> {
             hidden: _hidden,
             sift,
         } = self;
-        let last = sift.close()?;
-        put_events(&last, text)?;
+        sift.close(text)?;
         Ok(0)
     }
 
