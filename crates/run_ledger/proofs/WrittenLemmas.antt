@@ -1,4 +1,4 @@
--- Events that are folded as their packets are written.
+-- Events whose rows are summed up as their packets are written.
 use Rattle.std.proofs.Common.{◌≡◌, ℕ, ◌<◌, List, [], ◌∷◌, ◌++◌, Result, Ok, Err, IfOk, OnOk, All, length, drop, refl, sym, ap, ◌∙◌, append_assoc, subst, arith}
 use Rattle.std.specs.List.{flat_map}
 use Rattle.std.proofs.lemmas.List.{length-append, append-nil, drop_at}
@@ -13,12 +13,12 @@ use Rattle.packet_codec.proofs.SpellingLemmas.{canonical_spells}
 use Rattle.stream_reader.proofs.FrontLemmas.{packet_some}
 use Rattle.stream_reader.proofs.NotesLemmas.{packets_of, notes_of_packets, events_of_packets, cut_of_written}
 use Rattle.stream_reader.specs.Notes.{HasEvents}
-use Rattle.outcome_fold.specs.declared.fold.Outcomes.{Outcomes}
-use Rattle.outcome_fold.specs.declared.row.Row.{Row}
-use Rattle.outcome_fold.specs.Outcome.{HasFolded}
+use Rattle.outcome_fold.specs.declared.summary.Summary.{Summary}
+use Rattle.outcome_fold.specs.declared.summing.Summing.{Summing}
 use Rattle.outcome_fold.specs.Rows.{rows_of}
+use Rattle.outcome_fold.specs.Summed.{Sums, HasSummed}
 use Rattle.run_ledger.specs.declared.written_run.WrittenRun.{WrittenRun}
-use Rattle.run_ledger.specs.Reading.{AreRowsOf}
+use Rattle.run_ledger.specs.Reading.{SumsRowsOf}
 use Rattle.run_ledger.specs.Writing.{HasWritten}
 use Rattle.run_ledger.proofs.FoldLemmas.{if_ok_then}
 
@@ -51,39 +51,42 @@ pub packets_left : (left : List ℕ) (size : ℕ) → 0 < length left → IsFron
 packets_left left size some is ([], are) = absurd (no_event left some are)
 packets_left left size some is (event ∷ events, are) = (events, others_are event events left size are (is event (flat_map canonical events) (first_found event events left are)))
 
--- some of the events were folded, and what is left is the packets of the others
-abbrev pub IsFoldedTo : (bytes left : List ℕ) (old now : Outcomes) → Type 0
-IsFoldedTo bytes left old now = (seen events : List Event) → ArePacketsOf events bytes → HasFolded old seen → (done : List Event) × (others : List Event) × (events ≡ done ++ others) × ArePacketsOf others left × HasFolded now (seen ++ done)
+-- some of the events were heard, and what is left is the packets of the others
+abbrev pub IsSummedTo : (bytes left : List ℕ) (old now : Summing) → Type 0
+IsSummedTo bytes left old now = (filter_tags : List (List ℕ)) (seen events : List Event) → ArePacketsOf events bytes → HasSummed filter_tags old seen → (done : List Event) × (others : List Event) × (events ≡ done ++ others) × ArePacketsOf others left × HasSummed filter_tags now (seen ++ done)
 
-pub folded_none : (bytes : List ℕ) (old : Outcomes) → IsFoldedTo bytes bytes old old
-folded_none bytes old seen events are folded = ([], events, refl, are, rw (append-nil seen) folded)
+pub summed_none : (bytes : List ℕ) (old : Summing) → IsSummedTo bytes bytes old old
+summed_none bytes old filter_tags seen events are summed = ([], events, refl, are, rw (append-nil seen) summed)
 
--- one packet more was folded
-pub folded_more : (bytes left : List ℕ) (old now new : Outcomes) (size : ℕ) → 0 < length left → IsFrontSize left size → ((seen : List Event) (event : Event) (behind : List ℕ) → Found SpellsEvent left event behind → HasFolded now seen → HasFolded new (seen ++ event ∷ []))
-    → IsFoldedTo bytes left old now → IsFoldedTo bytes (drop size left) old new
-folded_more bytes left old now new size some is step so_far seen events are folded = more (so_far seen events are folded)
+-- one packet more was heard
+pub summed_more : (bytes left : List ℕ) (old now new : Summing) (size : ℕ) → 0 < length left → IsFrontSize left size
+    → ((filter_tags : List (List ℕ)) (seen : List Event) (event : Event) (behind : List ℕ) → Found SpellsEvent left event behind → HasSummed filter_tags now seen → HasSummed filter_tags new (seen ++ event ∷ []))
+    → IsSummedTo bytes left old now → IsSummedTo bytes (drop size left) old new
+summed_more bytes left old now new size some is step so_far filter_tags seen events are summed = more (so_far filter_tags seen events are summed)
   where
-    more : (done : List Event) × (others : List Event) × (events ≡ done ++ others) × ArePacketsOf others left × HasFolded now (seen ++ done) → (done : List Event) × (others : List Event) × (events ≡ done ++ others) × ArePacketsOf others (drop size left) × HasFolded new (seen ++ done)
-    more (done, [], parts, rest, now_folded) = absurd (no_event left some rest)
-    more (done, event ∷ others, parts, rest, now_folded) =
+    more : (done : List Event) × (others : List Event) × (events ≡ done ++ others) × ArePacketsOf others left × HasSummed filter_tags now (seen ++ done)
+        → (done : List Event) × (others : List Event) × (events ≡ done ++ others) × ArePacketsOf others (drop size left) × HasSummed filter_tags new (seen ++ done)
+    more (done, [], parts, rest, now_summed) = absurd (no_event left some rest)
+    more (done, event ∷ others, parts, rest, now_summed) =
         let found = first_found event others left rest in (
           done ++ event ∷ [],
           others,
           parts ∙ sym (append_assoc done (event ∷ []) others),
           others_are event others left size rest (is event (flat_map canonical others) found),
-          rw (← append_assoc seen done (event ∷ [])) (step (seen ++ done) event (flat_map canonical others) found now_folded),
+          rw (← append_assoc seen done (event ∷ [])) (step filter_tags (seen ++ done) event (flat_map canonical others) found now_summed),
         )
 
--- where none is left, all were folded
-pub folded_all : (bytes left : List ℕ) (old now : Outcomes) → length left ≡ 0 → IsFoldedTo bytes left old now → (seen events : List Event) → ArePacketsOf events bytes → HasFolded old seen → HasFolded now (seen ++ events)
-folded_all bytes left old now none so_far seen events are folded = all (so_far seen events are folded)
+-- where none is left, all were heard
+pub summed_all : (bytes left : List ℕ) (old now : Summing) → length left ≡ 0 → IsSummedTo bytes left old now
+    → (filter_tags : List (List ℕ)) (seen events : List Event) → ArePacketsOf events bytes → HasSummed filter_tags old seen → HasSummed filter_tags now (seen ++ events)
+summed_all bytes left old now none so_far filter_tags seen events are summed = all (so_far filter_tags seen events are summed)
   where
     some_bytes : (event : Event) → IsEvent event → Fits event → 0 < length (canonical event)
     some_bytes event is fits = packet_some (canonical event) event (canonical_spells event is fits)
 
-    all : (done : List Event) × (others : List Event) × (events ≡ done ++ others) × ArePacketsOf others left × HasFolded now (seen ++ done) → HasFolded now (seen ++ events)
-    all (done, [], parts, rest, now_folded) = rw (parts ∙ append-nil done) now_folded
-    all (done, event ∷ others, parts, rest, now_folded) = absurd (omega (arith, none, some_bytes event (All-head IsEvent event others rest.are_events) (All-head Fits event others rest.fit), ap length rest.packets, length-append (canonical event) (flat_map canonical others)))
+    all : (done : List Event) × (others : List Event) × (events ≡ done ++ others) × ArePacketsOf others left × HasSummed filter_tags now (seen ++ done) → HasSummed filter_tags now (seen ++ events)
+    all (done, [], parts, rest, now_summed) = rw (parts ∙ append-nil done) now_summed
+    all (done, event ∷ others, parts, rest, now_summed) = absurd (omega (arith, none, some_bytes event (All-head IsEvent event others rest.are_events) (All-head Fits event others rest.fit), ap length rest.packets, length-append (canonical event) (flat_map canonical others)))
 
 -- ---- packets behind others
 
@@ -109,22 +112,27 @@ no_packets = ([], record { are_events = All-nil IsEvent; fit = All-nil Fits; pac
 pub events_again : (events : List Event) → All IsEvent events → All Fits events → HasEvents (flat_map canonical events) events
 events_again events are fit = (_, record { pieces = packets_of events; cut = cut_of_written events are fit; made = sym (notes_of_packets events) }, sym (events_of_packets events))
 
-pub written_none : (new : WrittenRun) → HasFolded new.outcomes [] → HasWritten new []
-written_none new folded = record { events = []; packets = record { are_events = All-nil IsEvent; fit = All-nil Fits; packets = refl }; folded = folded }
+pub written_none : (filter_tags : List (List ℕ)) (new : WrittenRun) → HasSummed filter_tags new.summing [] → HasWritten filter_tags new []
+written_none filter_tags new summed = record { events = []; packets = record { are_events = All-nil IsEvent; fit = All-nil Fits; packets = refl }; folded = summed }
 
-pub written_more : {T E : Type 0} (r : Result T E) (old new : WrittenRun) (run written : List ℕ) → ArePackets written → HasWritten old run
-    → ((seen events : List Event) → ArePacketsOf events written → HasFolded old.outcomes seen → OnOk r (HasFolded new.outcomes (seen ++ events))) → OnOk r (HasWritten new (run ++ written))
-written_more (Err e) old new run written are has step = tt
-written_more (Ok x) old new run written (events, are) has step = record {
+pub written_more : {T E : Type 0} (filter_tags : List (List ℕ)) (r : Result T E) (old new : WrittenRun) (run written : List ℕ) → ArePackets written → HasWritten filter_tags old run
+    → ((seen events : List Event) → ArePacketsOf events written → HasSummed filter_tags old.summing seen → OnOk r (HasSummed filter_tags new.summing (seen ++ events))) → OnOk r (HasWritten filter_tags new (run ++ written))
+written_more filter_tags (Err e) old new run written are has step = tt
+written_more filter_tags (Ok x) old new run written (events, are) has step = record {
   events = has.events ++ events;
   packets = packets_both has.events events run written (run ++ written) refl has.packets are;
   folded = step has.events events are has.folded;
 }
 
-pub written_rows : {E : Type 0} (r : Result (List Row) E) (run : List ℕ) (w : WrittenRun) → HasWritten w run → ((seen : List Event) → HasFolded w.outcomes seen → IfOk r (λ rows. rows ≡ rows_of seen)) → IfOk r (AreRowsOf run)
-written_rows r run w has close =
-    if_ok_then _ (AreRowsOf run) r (close has.events has.folded) (λ rows is. record {
-      events = has.events;
-      told = subst (λ (l : List ℕ). HasEvents l has.events) (sym has.packets.packets) (events_again has.events has.packets.are_events has.packets.fit);
-      folded = is;
+pub written_rows : {E : Type 0} (filter_tags : List (List ℕ)) (r : Result Summary E) (run : List ℕ) (w : WrittenRun) → HasWritten filter_tags w run
+    → ((seen : List Event) → HasSummed filter_tags w.summing seen → IfOk r (Sums filter_tags (rows_of seen))) → IfOk r (SumsRowsOf filter_tags run)
+written_rows filter_tags r run w has close =
+    if_ok_then (Sums filter_tags (rows_of has.events)) (SumsRowsOf filter_tags run) r (close has.events has.folded) (λ summary sums. record {
+      rows = rows_of has.events;
+      are = record {
+        events = has.events;
+        told = subst (λ (l : List ℕ). HasEvents l has.events) (sym has.packets.packets) (events_again has.events has.packets.are_events has.packets.fit);
+        folded = refl;
+      };
+      sums = sums;
     })

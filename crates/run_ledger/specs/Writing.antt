@@ -2,11 +2,11 @@
 use Rattle.std.specs.Prelude.{ℕ, List}
 use Rattle.packet_codec.specs.declared.event.Event.{Event}
 use Rattle.packet_codec.specs.Packets.{ArePacketsOf}
-use Rattle.outcome_fold.specs.Outcome.{HasFolded}
+use Rattle.outcome_fold.specs.Summed.{HasSummed}
 use Rattle.run_ledger.specs.declared.written_run.WrittenRun.{WrittenRun}
 
--- the bytes written are the packets of events, and these were folded
-pub record HasWritten (written : WrittenRun) (run : List ℕ) : Type 0 where
+-- the bytes written are the packets of events, whose rows are summed up
+pub record HasWritten (filter_tags : List (List ℕ)) (written : WrittenRun) (run : List ℕ) : Type 0 where
   pub events : List Event
   pub packets : ArePacketsOf events run
-  pub folded : HasFolded written.outcomes events
+  pub folded : HasSummed filter_tags written.summing events

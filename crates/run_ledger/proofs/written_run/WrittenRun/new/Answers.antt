@@ -2,4 +2,4 @@ use Rattle.run_ledger.proofs.WrittenLemmas.{written_none}
 use Rattle.run_ledger.proofs.written_run.WrittenRun.new.Goals as goal
 
 pub returns : goal.returns
-returns c = written_none _ c.new.ensures
+returns c = written_none c.args.filter_tags _ c.new.ensures

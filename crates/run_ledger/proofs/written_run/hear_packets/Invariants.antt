@@ -1,12 +1,12 @@
 use Rattle.std.proofs.Common.{length}
 use Rattle.packet_codec.specs.Packets.{ArePackets}
-use Rattle.run_ledger.proofs.WrittenLemmas.{IsFoldedTo}
-use Rattle.run_ledger.proofs.written_run.fold_packets.Given as goal
+use Rattle.run_ledger.proofs.WrittenLemmas.{IsSummedTo}
+use Rattle.run_ledger.proofs.written_run.hear_packets.Given as goal
 
--- the packets so far were folded, and packets are left
+-- the packets so far were heard, and packets are left
 abbrev pub invariant-loop-left : goal.invariant-loop-left
 invariant-loop-left l = record {
-  folded : IsFoldedTo l.bytes l.left l.fn.outcomes l.outcomes;
+  summed : IsSummedTo l.bytes l.left l.fn.summing l.summing;
   packets : ArePackets l.left;
 }
 

@@ -1,14 +1,14 @@
 use Rattle.std.proofs.Common.{◌<◌, length, sym, subst, rules}
 use Rattle.std.proofs.lemmas.List.{take_rest}
 use Rattle.packet_codec.specs.Packets.{ArePackets}
-use Rattle.run_ledger.proofs.WrittenLemmas.{IsFoldedTo, packet_stands, packets_left, folded_none, folded_more, folded_all}
-use Rattle.run_ledger.proofs.written_run.fold_packets.Goals as goal
+use Rattle.run_ledger.proofs.WrittenLemmas.{IsSummedTo, packet_stands, packets_left, summed_none, summed_more, summed_all}
+use Rattle.run_ledger.proofs.written_run.hear_packets.Goals as goal
 
 pub loop-left-init : goal.loop-left-init
-loop-left-init c = record { folded = folded_none _ _; packets = c.requires.packets }
+loop-left-init c = record { summed = summed_none _ _; packets = c.requires.packets }
 
-pub fold_packet-requires : goal.fold_packet-requires
-fold_packet-requires c =
+pub hear_packet-requires : goal.hear_packet-requires
+hear_packet-requires c =
     let some : 0 < length c.loop-left.left.now = search rules in
     record { packet = packet_stands _ some c.loop-left.invariant.packets }
 
@@ -17,10 +17,10 @@ loop-left-preserved c =
     let some : 0 < length c.loop-left.left.now = search rules in
     let left = sym (take_rest c.loop-left.left.now c.in_ok-size.size) in
     record {
-      folded = subst (λ l. IsFoldedTo c.args.bytes.now l c.args.outcomes.now c.fold_packet.new.outcomes) left (folded_more c.args.bytes.now c.loop-left.left.now _ _ _ c.in_ok-size.size some c.in_ok-size.ensures.size c.in_ok-size.ensures.folded c.loop-left.invariant.folded);
+      summed = subst (λ l. IsSummedTo c.args.bytes.now l c.args.summing.now c.hear_packet.new.summing) left (summed_more c.args.bytes.now c.loop-left.left.now _ _ _ c.in_ok-size.size some c.in_ok-size.ensures.size c.in_ok-size.ensures.heard c.loop-left.invariant.summed);
       packets = subst ArePackets left (packets_left c.loop-left.left.now c.in_ok-size.size some c.in_ok-size.ensures.size c.loop-left.invariant.packets);
     }
 
 pub returns : goal.returns
 returns c =
-    folded_all c.args.bytes.now c.loop-left.left.now _ _ (search rules) c.loop-left.invariant.folded
+    summed_all c.args.bytes.now c.loop-left.left.now _ _ (search rules) c.loop-left.invariant.summed
