@@ -6,7 +6,8 @@ ghost use Rattle.packet_codec.specs.Packets.{ArePackets};
 
 use super::*;
 use edge_io::{Failed, MemShelf, Shelf};
-use packet_codec::{Event, Stamp, Status, encode, fits};
+use outcome_fold::Summary;
+use packet_codec::{Event, Stamp, Status, Tags, encode, fits};
 use run_shelf::{ShelfCall, Store, StoreFault};
 use std::alloc::Global;
 use std::test::Fail;
@@ -97,6 +98,14 @@ fn fails<H: Shelf>(alloc: Global, shelf: &mut H, names: &[u8]) -> Result<bool, F
     let mut store = Store::open(alloc, shelf)?;
     let ids = failing(alloc, &mut store)?;
     Ok(are(ids.list(), names))
+}
+
+// What is kept of the rows of a run where a passes and c fails.
+pub(crate) fn passed_and_failed(alloc: Global) -> Option<Summary> {
+    let packets = ended(alloc, b'a', Status::Success, b'c', Status::Fail)?;
+    let mut run = WrittenRun::new(alloc, Tags::new(alloc));
+    run.hear(&packets).ok()?;
+    run.close().ok()
 }
 
 // Whether a and b fail behind the first run, and these ids behind a second one, where a passes and c fails.
@@ -274,7 +283,7 @@ fn fail_when_heard(alloc: Global, first: &[u8], second: &[u8]) -> Option<IdList>
     requires first { ArePackets first.now }
     requires second { ArePackets second.now }
 {
-    let mut run = WrittenRun::new(alloc);
+    let mut run = WrittenRun::new(alloc, Tags::new(alloc));
     run.hear(first).ok()?;
     run.hear(second).ok()?;
     run.close().ok()?.failing_ids(alloc).ok()

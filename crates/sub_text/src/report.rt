@@ -1,12 +1,13 @@
 //! The report of a run.
 
-ghost use Rattle.std.specs.Prelude.{◌≡◌, ◌++◌, OnOk, OnErr};
+ghost use Rattle.std.specs.Prelude.{◌≡◌, ◌++◌, ℕ, List, OnOk, OnErr};
 ghost use Rattle.std.specs.List.{filter, flat_map};
-ghost use Rattle.outcome_fold.specs.Answers.{row_fails};
-ghost use Rattle.sub_text.specs.Texts.{ruler, label, whole_lines, heading_of, failure_of, report_of};
+ghost use Rattle.outcome_fold.specs.Answers.{row_fails, counts_of};
+ghost use Rattle.outcome_fold.specs.declared.row.Row.{Row as ARow};
+ghost use Rattle.sub_text.specs.Texts.{ruler, label, whole_lines, heading_of, failure_of, summary_lines, report_of};
 
-use crate::summary::summary_text;
-use outcome_fold::{Ended, Row, Rows};
+use crate::summary::summary_from;
+use outcome_fold::{Counts, Ended, Row, Rows};
 use packet_codec::Tags;
 use sub_number::NoMemory;
 
@@ -93,9 +94,33 @@ pub fn report_text(
     ensures ok { OnOk result (out.new.items ≡ out.old.items ++ report_of rows.now run filter_tags.now) }
     ensures err { OnErr result (out.new.items ≡ out.old.items) }
 {
+    write_report(rows.list(), rows.counts(filter_tags), run, out)
+}
+
+/// The same, by the rows alone that fail, in their order, and by how many rows there are.
+///
+/// `NoMemory` comes only for want of memory, and then nothing is appended.
+#[tactic(auto, using(crate::proofs::ReportLemmas::failing_alone))]
+pub fn report_from(
+    failing: &[Row],
+    counts: Counts,
+    run: u32,
+    out: &mut Vec<u8>,
+) -> Result<(), NoMemory>
+    ensures ok { (rows : List ARow) (filter_tags : List (List ℕ)) → failing.now ≡ filter row_fails rows → counts ≡ counts_of filter_tags rows → OnOk result (out.new.items ≡ out.old.items ++ report_of rows run filter_tags) }
+    ensures err { OnErr result (out.new.items ≡ out.old.items) }
+{
+    write_report(failing, counts, run, out)
+}
+
+// Appends those of the rows that fail, and then the summary.
+fn write_report(rows: &[Row], counts: Counts, run: u32, out: &mut Vec<u8>) -> Result<(), NoMemory>
+    ensures ok { OnOk result (out.new.items ≡ out.old.items ++ (flat_map failure_of (filter row_fails rows.now) ++ summary_lines counts run)) }
+    ensures err { OnErr result (out.new.items ≡ out.old.items) }
+{
     let mut text = Vec::new(*out.allocator());
-    write_failures(rows.list(), &mut text)?;
-    summary_text(rows, run, filter_tags, &mut text)?;
+    write_failures(rows, &mut text)?;
+    summary_from(counts, run, &mut text)?;
     out.extend_from_slice(&text)?;
     Ok(())
 }

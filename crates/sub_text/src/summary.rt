@@ -1,7 +1,7 @@
 //! The summary of a run.
 
 ghost use Rattle.std.specs.Prelude.{◌≡◌, ◌++◌, OnOk, OnErr};
-ghost use Rattle.sub_text.specs.Texts.{took, verdict, counted, first_line, second_line, summary_of};
+ghost use Rattle.sub_text.specs.Texts.{took, verdict, counted, first_line, second_line, summary_lines, summary_of};
 
 use crate::seconds::seconds_text;
 use itoa::Buffer;
@@ -75,8 +75,17 @@ pub fn summary_text(
     ensures ok { OnOk result (out.new.items ≡ out.old.items ++ summary_of rows.now run filter_tags.now) }
     ensures err { OnErr result (out.new.items ≡ out.old.items) }
 {
+    summary_from(rows.counts(filter_tags), run, out)
+}
+
+/// The same, by how many rows there are.
+///
+/// `NoMemory` comes only for want of memory, and then nothing is appended.
+pub fn summary_from(counts: Counts, run: u32, out: &mut Vec<u8>) -> Result<(), NoMemory>
+    ensures ok { OnOk result (out.new.items ≡ out.old.items ++ summary_lines counts run) }
+    ensures err { OnErr result (out.new.items ≡ out.old.items) }
+{
     let mut text = Vec::new(*out.allocator());
-    let counts = rows.counts(filter_tags);
     write_first_line(counts, &mut text)?;
     write_second_line(counts, run, &mut text)?;
     out.extend_from_slice(&text)?;

@@ -1,9 +1,10 @@
 //! Texts of small runs, as they are printed.
 
 use crate::{
-    failing_text, ls_line, report_text, seconds_text, slowest_text, stats_text, summary_text,
+    failing_text, ls_line, report_from, report_text, seconds_text, slowest_text, stats_text,
+    summary_text,
 };
-use outcome_fold::{Ended, Row, Rows};
+use outcome_fold::{Counts, Ended, Row, Rows};
 use packet_codec::Tags;
 use std::alloc::Global;
 use std::test::Fail;
@@ -118,6 +119,33 @@ fn a_report_shows_each_failure_and_then_the_summary(rt: HostRuntime) -> Result<(
         report_is(alloc, Ended::XFail, b"", b"Ran 1 tests\nPASSED (id=0)\n"),
         Some(true)
     );
+    Ok(())
+}
+
+// Whether this is the report of a run of three tests, of which one fails.
+fn report_of_three_is(alloc: Global, report: &[u8]) -> Option<bool> {
+    let mut failing = Vec::new(alloc);
+    failing
+        .push(row(alloc, b"foo", Ended::Fail, None, b"boom")?)
+        .ok()?;
+    let counts = Counts {
+        total: 3,
+        passed: 2,
+        failed: 1,
+        skipped: 0,
+        nanos: Some(2_000_000),
+    };
+    let mut out = Vec::new(alloc);
+    report_from(&failing, counts, 7, &mut out).ok()?;
+    Some(is_text(&out, report))
+}
+
+const BOOM_OF_THREE: &[u8] =
+    b"======================================================================\nFAIL: foo\n----------------------------------------------------------------------\nboom\nRan 3 tests in 0.002s\nFAILED (id=7, failures=1)\n";
+
+#[test]
+fn a_report_needs_the_failing_rows_and_the_counts_alone(rt: HostRuntime) -> Result<(), Fail> {
+    assert_eq!(rt; report_of_three_is(rt.alloc(), BOOM_OF_THREE), Some(true));
     Ok(())
 }
 
