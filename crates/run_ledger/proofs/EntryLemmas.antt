@@ -34,7 +34,7 @@ pairs_are (e ∷ es) each =
     ∙ ap in_pairs (pieces_cut e.0 (decimal e.1 ++ 0 ∷ flat_map time_entry es) (no_zero e.0 timed.text) ∙ ap (λ l. e.0 ∷ l) (pieces_cut (decimal e.1) (flat_map time_entry es) (decimal_digits 0 e.1 (omega arith) timed.time)))
     ∙ (λ i. (e.0, (decimal_is_IsNumeral e.1 timed.time).1 i) ∷ pairs_are es (All-tail IsTimed e es each) i)
 
-from_own : (times : FinMap text_cmp ℕ) → fin.from_entries (fin.entries times) ≡ times
+pub from_own : (times : FinMap text_cmp ℕ) → fin.from_entries (fin.entries times) ≡ times
 from_own times = same_entries_map _ _ (entries_in_order texts_total (fin.entries times) (keys_sorted (fin.entries times) (entries_sorted times)))
 
 -- the bytes tell the times

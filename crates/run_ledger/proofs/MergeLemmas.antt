@@ -1,5 +1,5 @@
 -- Entries that replace earlier ones.
-use Rattle.std.proofs.Common.{◌≡◌, ℕ, ◌+◌, ◌-◌, ◌<◌, ◌≤◌, Bool, true, false, cond, List, [], ◌∷◌, ◌++◌, Option, Some, None, map, length, take, drop, get_or, refl, sym, ap, ◌∙◌, subst, append_assoc, add-one, drop-cons, arith, length-append}
+use Rattle.std.proofs.Common.{◌≡◌, ℕ, ◌+◌, ◌-◌, ◌<◌, ◌≤◌, ◌^◌, Bool, true, false, cond, List, [], ◌∷◌, ◌++◌, Option, Some, None, map, length, take, drop, get_or, refl, sym, ap, ◌∙◌, subst, append_assoc, add-one, drop-cons, arith, length-append}
 use Rattle.std.specs.FinMap as fin
 use Rattle.std.specs.FinMap.{FinMap, find, same_map, get-from_entries, entries_sorted}
 use Rattle.std.specs.Fmt.{decimal}
@@ -7,6 +7,7 @@ use Rattle.std.specs.List.{All, flat_map}
 use Rattle.std.specs.Ordering.{is_lt, is_eq}
 use Rattle.std.specs.declared.cmp.Ordering.{Ordering}
 use Rattle.std.specs.declared.cmp.Ordering.TheVariants.{Less, Equal, Greater}
+use Rattle.sub_number.specs.Texts.{IsShortText}
 use Rattle.std.proofs.lemmas.List.{drop_all}
 use Rattle.std.proofs.lemmas.List.Elements.{All-nil, All-cons, All-head, All-tail, All-append}
 use Rattle.outcome_fold.specs.declared.row.Row.{Row}
@@ -18,6 +19,7 @@ use Rattle.run_ledger.specs.Caches.{time_entry, IsTimed}
 use Rattle.run_ledger.specs.Cuts.{Lacks, IsCut, AreTimeEntries}
 use Rattle.run_ledger.specs.Ledger.{replaced}
 use Rattle.run_ledger.specs.Merging.{AreOf, BeginsWithEntry, timed_of, AreSorted, last_of_each, below, not_below, past, merged}
+use Rattle.run_ledger.proofs.EntryLemmas.{from_own}
 use Rattle.run_ledger.proofs.FormLemmas.{cut_same, has_mark, decimal_digits, no_zero}
 use Rattle.run_ledger.proofs.TimedLemmas.{one_time, keys_sorted}
 use Rattle.run_ledger.proofs.ReplaceLemmas.{latest_is}
@@ -170,6 +172,21 @@ run_replaced rows sorted later earlier old new are is timed held merges =
     let same : fin.from_entries later ≡ times_of rows = ap fin.from_entries is ∙ longest_are rows sorted are in
     subst (λ (m : FinMap text_cmp ℕ). AreTimeEntries new (replaced earlier m)) same
     (replaced_entries earlier later (subst Strict (sym is) (longest_strict rows sorted are)) new held.each timed (merges (fin.entries earlier) (record { is = held.is; each = held.each })))
+
+-- of what is kept of a run's rows
+pub summed_replaced : (rows : List Row) (later : List Timed) (earlier : FinMap text_cmp ℕ) (old new : List ℕ) → later ≡ fin.entries (times_of rows) → All IsTimed later → AreTimeEntries old earlier
+    → ((entries : List Timed) → AreOf old entries → new ≡ flat_map time_entry (merged entries later)) → AreTimeEntries new (replaced earlier (times_of rows))
+summed_replaced rows later earlier old new are timed held merges =
+    let same : fin.from_entries later ≡ times_of rows = ap fin.from_entries are ∙ from_own (times_of rows) in
+    let strict : Strict later = subst Strict (sym are) (keys_strict (fin.entries (times_of rows)) (keys_sorted (fin.entries (times_of rows)) (entries_sorted (times_of rows)))) in
+    subst (λ (m : FinMap text_cmp ℕ). AreTimeEntries new (replaced earlier m)) same (replaced_entries earlier later strict new held.each timed (merges (fin.entries earlier) (record { is = held.is; each = held.each })))
+
+-- texts with times that are small enough
+pub timed_each : {A : Type 0} (f : A → Timed) (xs : List A) → All (λ x. IsShortText (f x).0) xs → All (λ x. (f x).1 < 2 ^ 64) xs → All IsTimed (map f xs)
+timed_each f [] texts small = All-nil IsTimed
+timed_each f (x ∷ xs) texts small =
+    All-cons IsTimed (f x) (map f xs) (record { text = All-head (λ x. IsShortText (f x).0) x xs texts; time = All-head (λ x. (f x).1 < 2 ^ 64) x xs small })
+    (timed_each f xs (All-tail (λ x. IsShortText (f x).0) x xs texts) (All-tail (λ x. (f x).1 < 2 ^ 64) x xs small))
 
 -- ---- the first entry
 

@@ -11,7 +11,6 @@ use Rattle.std.specs.declared.cmp.Ordering.{Ordering}
 use Rattle.outcome_fold.specs.declared.row.Row.{Row}
 use Rattle.outcome_fold.specs.Order.{text_cmp}
 use Rattle.outcome_fold.specs.Answers.{timed_rows}
-use Rattle.run_ledger.specs.declared.longest.Timed.{Timed}
 use Rattle.run_ledger.specs.Caches.{time_entry, IsTimed}
 
 -- a byte more before the first piece, where there is one
@@ -43,10 +42,6 @@ pub record AreOf (bytes : List ℕ) (entries : List (List ℕ × ℕ)) : Type 0 
 abbrev pub BeginsWithEntry : (id behind : List ℕ) → List (List ℕ × ℕ) → Type 0
 BeginsWithEntry id behind [] = ⊥
 BeginsWithEntry id behind (one ∷ more) = (one.0 ≡ id) × AreOf behind more
-
--- an id and its time, as the code keeps them
-abbrev pub shown : Timed → List ℕ × ℕ
-shown timed = (timed.id.now, timed.nanos)
 
 -- by id, and then by time
 abbrev pub timed_cmp : List ℕ × ℕ → List ℕ × ℕ → Ordering

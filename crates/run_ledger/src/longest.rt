@@ -3,27 +3,20 @@
 ghost use Rattle.std.specs.Prelude.{◌≡◌, ◌++◌, ℕ, List, map, All, IfSome, IfOk, OnOk, None, if◌then◌else◌};
 ghost use Rattle.outcome_fold.specs.Answers.{is_run as has_run};
 ghost use Rattle.run_ledger.specs.Caches.{IsTimed};
-ghost use Rattle.run_ledger.specs.Merging.{shown, timed_of, AreSorted, ends_before, last_of_each};
+ghost use Rattle.outcome_fold.specs.Summed.{shown_time};
+ghost use Rattle.run_ledger.specs.Merging.{timed_of, AreSorted, ends_before, last_of_each};
 
-use outcome_fold::{Ended, Row};
+use outcome_fold::{Ended, Row, Timed};
 use std::alloc::Global;
 use sub_number::{NoMemory, Text};
-
-/// An id, and how long its test ran, in nanoseconds. They are in the order of the ids, and those of one id in that of their
-/// times.
-#[derive(Clone, Copy, PartialEq, Eq, PartialOrd, Ord)]
-pub(crate) struct Timed<'r> {
-    pub(crate) id: &'r Text,
-    pub(crate) nanos: u64,
-}
 
 /// The ids of the rows of tests that ran and have a time, in the order of their bytes, each once and with its longest time.
 /// It takes one sort, and no id is copied.
 ///
 /// `NoMemory` comes only for want of memory.
 pub(crate) fn longest_times<'r>(alloc: Global, rows: &'r [Row]) -> Result<Vec<Timed<'r>>, NoMemory>
-    ensures times { IfOk result (λ times. (sorted : List (List ℕ × ℕ)) × AreSorted (timed_of rows.now) sorted × (map shown times.items ≡ last_of_each sorted)) }
-    ensures timed { IfOk result (λ times. All IsTimed (map shown times.items)) }
+    ensures times { IfOk result (λ times. (sorted : List (List ℕ × ℕ)) × AreSorted (timed_of rows.now) sorted × (map shown_time times.items ≡ last_of_each sorted)) }
+    ensures timed { IfOk result (λ times. All IsTimed (map shown_time times.items)) }
 {
     let sorted = sorted_times(alloc, rows)?;
     keep_longest(alloc, &sorted)
@@ -31,8 +24,8 @@ pub(crate) fn longest_times<'r>(alloc: Global, rows: &'r [Row]) -> Result<Vec<Ti
 
 // All of them, in order.
 fn sorted_times<'r>(alloc: Global, rows: &'r [Row]) -> Result<Vec<Timed<'r>>, NoMemory>
-    ensures sorted { IfOk result (λ times. AreSorted (timed_of rows.now) (map shown times.items)) }
-    ensures timed { IfOk result (λ times. All IsTimed (map shown times.items)) }
+    ensures sorted { IfOk result (λ times. AreSorted (timed_of rows.now) (map shown_time times.items)) }
+    ensures timed { IfOk result (λ times. All IsTimed (map shown_time times.items)) }
 {
     let mut times = all_times(alloc, rows)?;
     times.sort_unstable();
@@ -41,8 +34,8 @@ fn sorted_times<'r>(alloc: Global, rows: &'r [Row]) -> Result<Vec<Timed<'r>>, No
 
 // All of them, in the order of the rows.
 fn all_times<'r>(alloc: Global, rows: &'r [Row]) -> Result<Vec<Timed<'r>>, NoMemory>
-    ensures times { IfOk result (λ times. map shown times.items ≡ timed_of rows.now) }
-    ensures timed { IfOk result (λ times. All IsTimed (map shown times.items)) }
+    ensures times { IfOk result (λ times. map shown_time times.items ≡ timed_of rows.now) }
+    ensures timed { IfOk result (λ times. All IsTimed (map shown_time times.items)) }
 {
     let mut times = Vec::new(alloc);
     for row in rows {
@@ -55,8 +48,8 @@ fn all_times<'r>(alloc: Global, rows: &'r [Row]) -> Result<Vec<Timed<'r>>, NoMem
 
 // The id with this time. Its bytes tell what a text is.
 fn timed_by(id: &Text, nanos: u64) -> Timed<'_>
-    ensures shown { shown result ≡ (id.now, nanos) }
-    ensures timed { IsTimed (shown result) }
+    ensures shown { shown_time result ≡ (id.now, nanos) }
+    ensures timed { IsTimed (shown_time result) }
 {
     let _bytes = id.bytes();
     Timed { id, nanos }
@@ -75,8 +68,8 @@ fn run_time(row: &Row) -> Option<u64>
 
 // Of those of one id, which stand one after another, the last, which is the longest.
 fn keep_longest<'r>(alloc: Global, sorted: &[Timed<'r>]) -> Result<Vec<Timed<'r>>, NoMemory>
-    ensures times { IfOk result (λ times. map shown times.items ≡ last_of_each (map shown sorted.now)) }
-    ensures timed { All IsTimed (map shown sorted.now) → IfOk result (λ times. All IsTimed (map shown times.items)) }
+    ensures times { IfOk result (λ times. map shown_time times.items ≡ last_of_each (map shown_time sorted.now)) }
+    ensures timed { All IsTimed (map shown_time sorted.now) → IfOk result (λ times. All IsTimed (map shown_time times.items)) }
 {
     let mut longest = Vec::new(alloc);
     for place in 0..sorted.len() {
@@ -90,7 +83,7 @@ fn keep_longest<'r>(alloc: Global, sorted: &[Timed<'r>]) -> Result<Vec<Timed<'r>
 
 // Whether none of the same id stands behind it.
 fn is_last(timed: &Timed<'_>, behind: &[Timed<'_>]) -> bool
-    ensures { result ≡ ends_before (shown timed.now) (map shown behind.now) }
+    ensures { result ≡ ends_before (shown_time timed.now) (map shown_time behind.now) }
 {
     match behind.first() {
         Some(next) => timed.id.cmp(next.id).is_lt(),

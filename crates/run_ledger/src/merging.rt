@@ -1,19 +1,20 @@
 //! Times that replace earlier ones: both lists are in order, and are gone through once.
 
-ghost use Rattle.std.specs.Prelude.{◌≡◌, ◌++◌, ◌<◌, ◌≤◌, ℕ, List, [], map, length, IfSome, IfNone, IfOk, OnOk};
+ghost use Rattle.std.specs.Prelude.{◌≡◌, ◌++◌, ◌<◌, ◌≤◌, ◌^◌, ℕ, List, [], map, length, All, IfSome, IfNone, IfOk, OnOk};
 ghost use Rattle.std.specs.List.{flat_map};
 ghost use Rattle.outcome_fold.specs.declared.row.Row.{Row};
 ghost use Rattle.outcome_fold.specs.Answers.{times_of};
 ghost use Rattle.outcome_fold.specs.Summed.{Sums};
 ghost use Rattle.run_ledger.specs.Caches.{time_entry};
 ghost use Rattle.run_ledger.specs.Ledger.{replaced};
-ghost use Rattle.run_ledger.specs.Merging.{AreOf, BeginsWithEntry, shown, below, not_below, past, merged};
+ghost use Rattle.outcome_fold.specs.Summed.{shown_time};
+ghost use Rattle.run_ledger.specs.Merging.{AreOf, BeginsWithEntry, below, not_below, past, merged};
 
 use crate::cutting::cut;
-use crate::entries::Entries;
-use crate::longest::{Timed, longest_times};
+use crate::entries::{Entries, are_entries};
+use crate::longest::longest_times;
 use itoa::Buffer;
-use outcome_fold::{Rows, Summary};
+use outcome_fold::{Rows, Summary, Timed};
 use std::alloc::Global;
 use sub_number::NoMemory;
 
@@ -45,15 +46,20 @@ pub(crate) fn replace_summed(
 ) -> Result<(), NoMemory>
     ensures { (filter_tags : List (List ℕ)) (rows : List Row) → Sums filter_tags rows summary.now → OnOk result (latest.new ≡ replaced latest.old (times_of rows)) }
 {
-    let _alloc = alloc;
-    let _latest = &*latest;
-    let _summary = summary;
-    Err(NoMemory)
+    let later = summary.times(alloc)?;
+    let bytes = merge(alloc, latest.bytes(), &later)?;
+    // They always are, but that is known only where it is known of which rows the summary is.
+    if !are_entries(&bytes) {
+        return Err(NoMemory);
+    }
+    *latest = Entries::from_vec(bytes);
+    Ok(())
 }
 
 // The later times among the earlier entries, in place of those of their ids.
 fn merge(alloc: Global, earlier: &[u8], later: &[Timed<'_>]) -> Result<Vec<u8>, NoMemory>
-    ensures { (entries : List (List ℕ × ℕ)) → AreOf earlier.now entries → IfOk result (λ bytes. bytes.items ≡ flat_map time_entry (merged entries (map shown later.now))) }
+    ensures bytes { (entries : List (List ℕ × ℕ)) → AreOf earlier.now entries → IfOk result (λ bytes. bytes.items ≡ flat_map time_entry (merged entries (map shown_time later.now))) }
+    ensures small { IfOk result (λ _. All (λ timed. timed.nanos < 2 ^ 64) later.now) }
 {
     let mut bytes = Vec::new(alloc);
     let mut rest = earlier;
@@ -71,7 +77,8 @@ fn put_among<'b>(
     bytes: &mut Vec<u8>,
 ) -> Result<&'b [u8], NoMemory>
     ensures rest { IfOk result (λ rest. (each : List (List ℕ × ℕ)) → AreOf entries.now each → AreOf rest.now (past timed.now.id.now (not_below timed.now.id.now each))) }
-    ensures bytes { OnOk result ((each : List (List ℕ × ℕ)) → AreOf entries.now each → bytes.new.items ≡ bytes.old.items ++ (flat_map time_entry (below timed.now.id.now each) ++ time_entry (shown timed.now))) }
+    ensures bytes { OnOk result ((each : List (List ℕ × ℕ)) → AreOf entries.now each → bytes.new.items ≡ bytes.old.items ++ (flat_map time_entry (below timed.now.id.now each) ++ time_entry (shown_time timed.now))) }
+    ensures small { OnOk result (timed.now.nanos < 2 ^ 64) }
 {
     let rest = skip_below(entries, timed.id.bytes());
     bytes.extend_from_slice(&entries[..entries.len() - rest.len()])?;
@@ -117,11 +124,13 @@ fn first_entry(entries: &[u8]) -> Option<(&[u8], &[u8])>
 
 // Puts the id and its time to the end of the bytes, and a zero byte behind each.
 fn put_entry(timed: &Timed<'_>, bytes: &mut Vec<u8>) -> Result<(), NoMemory>
-    ensures { OnOk result (bytes.new.items ≡ bytes.old.items ++ time_entry (shown timed.now)) }
+    ensures bytes { OnOk result (bytes.new.items ≡ bytes.old.items ++ time_entry (shown_time timed.now)) }
+    ensures small { timed.now.nanos < 2 ^ 64 }
 {
+    let nanos = timed.nanos;
     bytes.extend_from_slice(timed.id.bytes())?;
     bytes.push(0)?;
-    bytes.extend_from_slice(Buffer::new().format(timed.nanos).as_bytes())?;
+    bytes.extend_from_slice(Buffer::new().format(nanos).as_bytes())?;
     bytes.push(0)?;
     Ok(())
 }

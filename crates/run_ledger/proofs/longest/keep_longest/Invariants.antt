@@ -1,7 +1,8 @@
 use Rattle.std.proofs.Common.{◌≡◌, ◌++◌, map, drop}
-use Rattle.run_ledger.specs.Merging.{shown, last_of_each}
+use Rattle.outcome_fold.specs.Summed.{shown_time}
+use Rattle.run_ledger.specs.Merging.{last_of_each}
 use Rattle.run_ledger.proofs.longest.keep_longest.Given as goal
 
 -- those kept so far, and those that will be
 abbrev pub invariant-loop-place : goal.invariant-loop-place
-invariant-loop-place l = map shown l.longest.items ++ last_of_each (map shown (drop l.place l.sorted)) ≡ last_of_each (map shown l.sorted)
+invariant-loop-place l = map shown_time l.longest.items ++ last_of_each (map shown_time (drop l.place l.sorted)) ≡ last_of_each (map shown_time l.sorted)
