@@ -1,6 +1,6 @@
 //! The report of a run.
 
-ghost use Rattle.std.specs.Prelude.{◌≡◌, ◌++◌, ℕ, List, OnOk, OnErr};
+ghost use Rattle.std.specs.Prelude.{◌≡◌, ◌++◌, ℕ, List, take, length, OnOk, OnErr};
 ghost use Rattle.std.specs.List.{filter, flat_map};
 ghost use Rattle.outcome_fold.specs.Answers.{row_fails, counts_of};
 ghost use Rattle.outcome_fold.specs.declared.row.Row.{Row as ARow};
@@ -41,7 +41,8 @@ fn label(ended: Ended) -> &'static [u8]
 
 // The text, and a newline where it is not empty and ends within a line.
 fn write_lines(lines: &[u8], text: &mut Vec<u8>) -> Result<(), NoMemory>
-    ensures { OnOk result (text.new.items ≡ text.old.items ++ whole_lines lines.now) }
+    ensures ok { OnOk result (text.new.items ≡ text.old.items ++ whole_lines lines.now) }
+    ensures kept { take (length text.old.items) text.new.items ≡ text.old.items }
 {
     text.extend_from_slice(lines)?;
     if !lines.is_empty() && !lines.ends_with(b"\n") {
@@ -52,7 +53,8 @@ fn write_lines(lines: &[u8], text: &mut Vec<u8>) -> Result<(), NoMemory>
 
 // The label and the id between two rulers.
 fn write_heading(row: &Row, text: &mut Vec<u8>) -> Result<(), NoMemory>
-    ensures { OnOk result (text.new.items ≡ text.old.items ++ heading_of row.now) }
+    ensures ok { OnOk result (text.new.items ≡ text.old.items ++ heading_of row.now) }
+    ensures kept { take (length text.old.items) text.new.items ≡ text.old.items }
 {
     text.extend_from_slice(double_ruler())?;
     text.extend_from_slice(label(row.ended))?;
@@ -64,14 +66,16 @@ fn write_heading(row: &Row, text: &mut Vec<u8>) -> Result<(), NoMemory>
 }
 
 fn write_failure(row: &Row, text: &mut Vec<u8>) -> Result<(), NoMemory>
-    ensures { OnOk result (text.new.items ≡ text.old.items ++ failure_of row.now) }
+    ensures ok { OnOk result (text.new.items ≡ text.old.items ++ failure_of row.now) }
+    ensures kept { take (length text.old.items) text.new.items ≡ text.old.items }
 {
     write_heading(row, text)?;
     write_lines(row.text.bytes(), text)
 }
 
 fn write_failures(rows: &[Row], text: &mut Vec<u8>) -> Result<(), NoMemory>
-    ensures { OnOk result (text.new.items ≡ text.old.items ++ flat_map failure_of (filter row_fails rows.now)) }
+    ensures ok { OnOk result (text.new.items ≡ text.old.items ++ flat_map failure_of (filter row_fails rows.now)) }
+    ensures kept { take (length text.old.items) text.new.items ≡ text.old.items }
 {
     for row in rows {
         if row.ended.fails() {
@@ -94,7 +98,7 @@ pub fn report_text(
     ensures ok { OnOk result (out.new.items ≡ out.old.items ++ report_of rows.now run filter_tags.now) }
     ensures err { OnErr result (out.new.items ≡ out.old.items) }
 {
-    write_report(rows.list(), rows.counts(filter_tags), run, out)
+    append_report(rows.list(), rows.counts(filter_tags), run, out)
 }
 
 /// The same, by the rows alone that fail, in their order, and by how many rows there are.
@@ -110,17 +114,27 @@ pub fn report_from(
     ensures ok { (rows : List ARow) (filter_tags : List (List ℕ)) → failing.now ≡ filter row_fails rows → counts ≡ counts_of filter_tags rows → OnOk result (out.new.items ≡ out.old.items ++ report_of rows run filter_tags) }
     ensures err { OnErr result (out.new.items ≡ out.old.items) }
 {
-    write_report(failing, counts, run, out)
+    append_report(failing, counts, run, out)
 }
 
 // Appends those of the rows that fail, and then the summary.
-fn write_report(rows: &[Row], counts: Counts, run: u32, out: &mut Vec<u8>) -> Result<(), NoMemory>
+fn append_report(rows: &[Row], counts: Counts, run: u32, out: &mut Vec<u8>) -> Result<(), NoMemory>
     ensures ok { OnOk result (out.new.items ≡ out.old.items ++ (flat_map failure_of (filter row_fails rows.now) ++ summary_lines counts run)) }
     ensures err { OnErr result (out.new.items ≡ out.old.items) }
 {
-    let mut text = Vec::new(*out.allocator());
-    write_failures(rows, &mut text)?;
-    summary_from(counts, run, &mut text)?;
-    out.extend_from_slice(&text)?;
-    Ok(())
+    let before = out.len();
+    let done = write_report(rows, counts, run, out);
+    if done.is_err() {
+        out.truncate(before);
+    }
+    done
+}
+
+// The same. What stands in the text stays, also where there is not enough memory. So of each function that is called here.
+fn write_report(rows: &[Row], counts: Counts, run: u32, text: &mut Vec<u8>) -> Result<(), NoMemory>
+    ensures ok { OnOk result (text.new.items ≡ text.old.items ++ (flat_map failure_of (filter row_fails rows.now) ++ summary_lines counts run)) }
+    ensures kept { take (length text.old.items) text.new.items ≡ text.old.items }
+{
+    write_failures(rows, text)?;
+    summary_from(counts, run, text)
 }

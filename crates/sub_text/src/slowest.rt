@@ -1,6 +1,6 @@
 //! The slowest tests.
 
-ghost use Rattle.std.specs.Prelude.{◌≡◌, ◌++◌, map, OnOk, OnErr, IfOk};
+ghost use Rattle.std.specs.Prelude.{◌≡◌, ◌++◌, map, take, length, OnOk, OnErr, IfOk};
 ghost use Rattle.std.specs.List.{flat_map};
 ghost use Rattle.outcome_fold.specs.Answers.{timed_rows};
 ghost use Rattle.sub_text.specs.Texts.{seconds_of, timed_of, slow_cmp, in_order, first_ones, slow_line, in_ten_places, slowest_of};
@@ -63,7 +63,8 @@ fn first_ones<'a>(all: bool, rows: &'a [&'a Row]) -> &'a [&'a Row]
 
 // The seconds right in ten places.
 fn write_seconds(nanos: u64, text: &mut Vec<u8>) -> Result<(), NoMemory>
-    ensures { OnOk result (text.new.items ≡ text.old.items ++ in_ten_places (seconds_of nanos)) }
+    ensures ok { OnOk result (text.new.items ≡ text.old.items ++ in_ten_places (seconds_of nanos)) }
+    ensures kept { take (length text.old.items) text.new.items ≡ text.old.items }
 {
     let mut seconds = Vec::new(*text.allocator());
     seconds_text(u128::from(nanos), &mut seconds)?;
@@ -74,7 +75,8 @@ fn write_seconds(nanos: u64, text: &mut Vec<u8>) -> Result<(), NoMemory>
 }
 
 fn write_line(row: &Row, text: &mut Vec<u8>) -> Result<(), NoMemory>
-    ensures { OnOk result (text.new.items ≡ text.old.items ++ slow_line (timed_of row.now)) }
+    ensures ok { OnOk result (text.new.items ≡ text.old.items ++ slow_line (timed_of row.now)) }
+    ensures kept { take (length text.old.items) text.new.items ≡ text.old.items }
 {
     write_seconds(row.nanos.unwrap_or(0), text)?;
     text.extend_from_slice(b"  ")?;
@@ -83,8 +85,10 @@ fn write_line(row: &Row, text: &mut Vec<u8>) -> Result<(), NoMemory>
     Ok(())
 }
 
+// What stands in the text stays, also where there is not enough memory. So of the functions above that append.
 fn write_lines(rows: &[&Row], text: &mut Vec<u8>) -> Result<(), NoMemory>
-    ensures { OnOk result (text.new.items ≡ text.old.items ++ flat_map slow_line (map (λ row. timed_of row.now) rows.now)) }
+    ensures ok { OnOk result (text.new.items ≡ text.old.items ++ flat_map slow_line (map (λ row. timed_of row.now) rows.now)) }
+    ensures kept { take (length text.old.items) text.new.items ≡ text.old.items }
 {
     for row in rows {
         write_line(row, text)?;
@@ -106,8 +110,10 @@ pub fn slowest_text(
     ensures err { OnErr result (out.new.items ≡ out.old.items) }
 {
     let order = in_order(alloc, rows.list())?;
-    let mut text = Vec::new(alloc);
-    write_lines(first_ones(all, &order), &mut text)?;
-    out.extend_from_slice(&text)?;
-    Ok(())
+    let before = out.len();
+    let done = write_lines(first_ones(all, &order), out);
+    if done.is_err() {
+        out.truncate(before);
+    }
+    done
 }

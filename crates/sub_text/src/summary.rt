@@ -1,6 +1,6 @@
 //! The summary of a run.
 
-ghost use Rattle.std.specs.Prelude.{◌≡◌, ◌++◌, OnOk, OnErr};
+ghost use Rattle.std.specs.Prelude.{◌≡◌, ◌++◌, take, length, OnOk, OnErr};
 ghost use Rattle.sub_text.specs.Texts.{took, verdict, counted, first_line, second_line, summary_lines, summary_of};
 
 use crate::seconds::seconds_text;
@@ -11,7 +11,8 @@ use sub_number::NoMemory;
 
 // The end of the first line: how long the tests took, where that is known.
 fn write_took(nanos: Option<u128>, text: &mut Vec<u8>) -> Result<(), NoMemory>
-    ensures { OnOk result (text.new.items ≡ text.old.items ++ took nanos) }
+    ensures ok { OnOk result (text.new.items ≡ text.old.items ++ took nanos) }
+    ensures kept { take (length text.old.items) text.new.items ≡ text.old.items }
 {
     let Some(nanos) = nanos else {
         return Ok(());
@@ -30,7 +31,8 @@ fn verdict(failed: u64) -> &'static [u8]
 
 // How many of this name there are, where there are any.
 fn write_counted(name: &[u8], count: u64, text: &mut Vec<u8>) -> Result<(), NoMemory>
-    ensures { OnOk result (text.new.items ≡ text.old.items ++ counted name.now count) }
+    ensures ok { OnOk result (text.new.items ≡ text.old.items ++ counted name.now count) }
+    ensures kept { take (length text.old.items) text.new.items ≡ text.old.items }
 {
     if count != 0 {
         text.extend_from_slice(name)?;
@@ -40,7 +42,8 @@ fn write_counted(name: &[u8], count: u64, text: &mut Vec<u8>) -> Result<(), NoMe
 }
 
 fn write_first_line(counts: Counts, text: &mut Vec<u8>) -> Result<(), NoMemory>
-    ensures { OnOk result (text.new.items ≡ text.old.items ++ first_line counts) }
+    ensures ok { OnOk result (text.new.items ≡ text.old.items ++ first_line counts) }
+    ensures kept { take (length text.old.items) text.new.items ≡ text.old.items }
 {
     text.extend_from_slice(b"Ran ")?;
     text.extend_from_slice(Buffer::new().format(counts.total).as_bytes())?;
@@ -51,7 +54,8 @@ fn write_first_line(counts: Counts, text: &mut Vec<u8>) -> Result<(), NoMemory>
 }
 
 fn write_second_line(counts: Counts, run: u32, text: &mut Vec<u8>) -> Result<(), NoMemory>
-    ensures { OnOk result (text.new.items ≡ text.old.items ++ second_line counts run) }
+    ensures ok { OnOk result (text.new.items ≡ text.old.items ++ second_line counts run) }
+    ensures kept { take (length text.old.items) text.new.items ≡ text.old.items }
 {
     text.extend_from_slice(verdict(counts.failed))?;
     text.extend_from_slice(b" (id=")?;
@@ -85,9 +89,19 @@ pub fn summary_from(counts: Counts, run: u32, out: &mut Vec<u8>) -> Result<(), N
     ensures ok { OnOk result (out.new.items ≡ out.old.items ++ summary_lines counts run) }
     ensures err { OnErr result (out.new.items ≡ out.old.items) }
 {
-    let mut text = Vec::new(*out.allocator());
-    write_first_line(counts, &mut text)?;
-    write_second_line(counts, run, &mut text)?;
-    out.extend_from_slice(&text)?;
-    Ok(())
+    let before = out.len();
+    let done = write_summary(counts, run, out);
+    if done.is_err() {
+        out.truncate(before);
+    }
+    done
+}
+
+// Both lines. What stands in the text stays, also where there is not enough memory. So of each function that is called here.
+fn write_summary(counts: Counts, run: u32, text: &mut Vec<u8>) -> Result<(), NoMemory>
+    ensures ok { OnOk result (text.new.items ≡ text.old.items ++ summary_lines counts run) }
+    ensures kept { take (length text.old.items) text.new.items ≡ text.old.items }
+{
+    write_first_line(counts, text)?;
+    write_second_line(counts, run, text)
 }

@@ -4,8 +4,8 @@ use Rattle.sub_text.specs.Texts.{seconds_of, in_ten_places}
 use Rattle.sub_text.proofs.SlowLemmas.{padded}
 use Rattle.sub_text.proofs.slowest.write_seconds.Goals as goal
 
-pub returns : goal.returns
-returns c =
+pub returns-clause-ok : goal.returns-clause-ok
+returns-clause-ok c =
     let whole : c.seconds_text.new.out.items ≡ seconds_of c.args.nanos = search rules in
     let room : c.saturating_sub-blanks.result ≡ 10 - length c.seconds_text.new.out.items = search rules in
     let line : take c.saturating_sub-blanks.result (codes "          ") ++ c.seconds_text.new.out.items ≡ in_ten_places (seconds_of c.args.nanos) =

@@ -5,8 +5,8 @@ use Rattle.sub_text.specs.Listed.{in_five_places}
 use Rattle.sub_text.proofs.SlowLemmas.{padded_five}
 use Rattle.sub_text.proofs.stats.write_number.Goals as goal
 
-pub returns : goal.returns
-returns c =
+pub returns-clause-ok : goal.returns-clause-ok
+returns-clause-ok c =
     let digits : c.as_bytes-digits.result.now ≡ decimal c.args.number = search rules in
     let room : c.saturating_sub-blanks.result ≡ 5 - length c.as_bytes-digits.result.now = search rules in
     let padded : take c.saturating_sub-blanks.result (codes "     ") ++ c.as_bytes-digits.result.now ≡ in_five_places c.args.number =
