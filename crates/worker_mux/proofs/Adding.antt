@@ -194,6 +194,7 @@ still_fits kinds old new keeps fits without =
 pub goes_same : {L : Type 0} (caller : Caller L) (t : Tape) → GoesOn caller caller t t
 goes_same caller t = record {
   count = refl;
+  begun = refl;
   memory = λ so. so;
   keeps = tape_same t;
   added = λ start so_far. so_far;
@@ -202,6 +203,7 @@ goes_same caller t = record {
 pub goes_then : {L : Type 0} (a b c : Caller L) (x y z : Tape) → GoesOn a b x y → GoesOn b c y z → GoesOn a c x z
 goes_then a b c x y z first second = record {
   count = second.count ∙ first.count;
+  begun = second.begun ∙ first.begun;
   memory = λ so. first.memory (second.memory so);
   keeps = tape_then x y z first.keeps second.keeps;
   added = λ start so_far. second.added start (first.added start so_far);
@@ -215,13 +217,15 @@ recorded_more (q ∷ qs) p =
 -- a lot was taken and added
 pub goes_one : {L : Type 0} (before after : Caller L) (old new : Tape) (lane : ℕ) (lot : Lot)
     → lane_count after.taker ≡ lane_count before.taker
+    → after.begun ≡ before.begun
     → lots_taken after.taker ≡ lots_taken before.taker ++ record { lane = lane; lot = lot } ∷ []
     → (after.no_memory ≡ false → before.no_memory ≡ false)
     → KeepsTape old new
     → (new.fault ≡ None → Goes old.folder.told new.folder.told (Grown (packet_of lot)))
     → GoesOn before after old new
-goes_one before after old new lane lot count taken memory keeps added = record {
+goes_one before after old new lane lot count begun taken memory keeps added = record {
   count = count;
+  begun = begun;
   memory = memory;
   keeps = keeps;
   added = λ start so_far works.
@@ -231,9 +235,10 @@ goes_one before after old new lane lot count taken memory keeps added = record {
 }
 
 -- a lane was settled
-pub goes_settled : {L : Type 0} (before after : Caller L) → lane_count after.taker ≡ lane_count before.taker → lots_taken after.taker ≡ lots_taken before.taker → after.no_memory ≡ before.no_memory → (now : Tape) → GoesOn before after now now
-goes_settled before after count taken memory now = record {
+pub goes_settled : {L : Type 0} (before after : Caller L) → lane_count after.taker ≡ lane_count before.taker → after.begun ≡ before.begun → lots_taken after.taker ≡ lots_taken before.taker → after.no_memory ≡ before.no_memory → (now : Tape) → GoesOn before after now now
+goes_settled before after count begun taken memory now = record {
   count = count;
+  begun = begun;
   memory = λ so. sym memory ∙ so;
   keeps = tape_same now;
   added = λ start so_far works. subst (λ (l : List Parcel). Goes start now.folder.told (Grown (recorded l))) (sym taken) (so_far works);
@@ -246,18 +251,18 @@ pieces_more [] p = append-nil (piece_of p.lot)
 pieces_more (q ∷ qs) p = ap (λ l. piece_of q.lot ++ l) (pieces_more qs p) ∙ sym (append_assoc (piece_of q.lot) (pieces_of qs) (piece_of p.lot))
 
 -- a lot was taken, added and heard
-pub caller_one : {L : Type 0} (hears : L → List (List ℕ) → Type 0) (belt : Belt) (before after : Caller L) (lane : ℕ) (lot : Lot)
+pub caller_one : {L : Type 0} (hears : L → L → List (List ℕ) → Type 0) (belt : Belt) (before after : Caller L) (lane : ℕ) (lot : Lot)
     → IsCaller hears belt before
     → IsTakerFor belt after.taker
     → lots_taken after.taker ≡ lots_taken before.taker ++ record { lane = lane; lot = lot } ∷ []
     → (after.no_memory ≡ false → before.no_memory ≡ false)
     → (after.no_memory ≡ false → lot ≡ End NoMemory → ⊥)
-    → ((pieces : List (List ℕ)) → hears before.listener pieces → after.no_memory ≡ false → hears after.listener (pieces ++ piece_of lot))
+    → ((pieces : List (List ℕ)) → hears before.begun.value before.listener pieces → after.no_memory ≡ false → hears after.begun.value after.listener (pieces ++ piece_of lot))
     → IsCaller hears belt after
 caller_one hears belt before after lane lot ready taker taken memory well heard =
     let parcel : Parcel = record { lane = lane; lot = lot } in
     record {
       taker = taker;
       well = λ so. subst (AllByRecursion (λ p. p.lot ≡ End NoMemory → ⊥)) (sym taken) (all_more (λ p. p.lot ≡ End NoMemory → ⊥) (lots_taken before.taker) parcel (ready.well (memory so)) (well so));
-      heard = λ so. subst (hears after.listener) (sym (pieces_more (lots_taken before.taker) parcel) ∙ ap pieces_of (sym taken)) (heard (pieces_of (lots_taken before.taker)) (ready.heard (memory so)) so);
+      heard = λ so. subst (hears after.begun.value after.listener) (sym (pieces_more (lots_taken before.taker) parcel) ∙ ap pieces_of (sym taken)) (heard (pieces_of (lots_taken before.taker)) (ready.heard (memory so)) so);
     }

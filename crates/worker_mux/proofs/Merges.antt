@@ -36,6 +36,7 @@ use Rattle.worker_lane.specs.declared.lane.Lane.{Lane}
 use Rattle.worker_lane.specs.declared.lot.Ending.TheVariants.{NoMemory}
 use Rattle.worker_lane.specs.declared.lot.Lot.{Lot}
 use Rattle.worker_lane.specs.declared.lot.Lot.TheVariants.{Packet, End}
+use Rattle.std.specs.declared.snapshot.Snapshot.{Snapshot}
 use Rattle.worker_mux.specs.Callers.{GoesOn, HasAdded, Tape, packet_of, recorded, piece_of, pieces_of}
 use Rattle.worker_mux.specs.Passes.{lane_count, lots_taken, settled_lanes, HasAll, IsOfLanes}
 use Rattle.worker_mux.specs.Rule.{lots_of}
@@ -351,7 +352,8 @@ module _ {C : Type 0} (seen : C → Seen Output) where
       }
 
   -- all levels, and then what was left on the belt
-  pub all_recorded : {L : Type 0} (hears : L → List (List ℕ) → Type 0) (first between last : Caller L) (old mid new : Tape) (works : List (Work C))
+  pub all_recorded : {L : Type 0} (hears : L → L → List (List ℕ) → Type 0) (listener : L) (first between last : Caller L) (old mid new : Tape) (works : List (Work C))
+      → first.begun.value ≡ listener
       → lots_taken first.taker ≡ []
       → settled_lanes first.taker ≡ []
       → GoesOn first between old mid
@@ -360,17 +362,17 @@ module _ {C : Type 0} (seen : C → Seen Output) where
       → settled_lanes last.taker ≡ settled_lanes between.taker
       → (last.no_memory ≡ false → HasAll last.taker × IsOfLanes last.taker)
       → (last.no_memory ≡ false → AllByRecursion (λ p. p.lot ≡ End NoMemory → ⊥) (lots_taken last.taker))
-      → (last.no_memory ≡ false → hears last.listener (pieces_of (lots_taken last.taker)))
+      → (last.no_memory ≡ false → hears last.begun.value last.listener (pieces_of (lots_taken last.taker)))
       → last.no_memory ≡ false → new.fault ≡ None
-      → IsRecorded seen (hears last.listener) (lane_count first.taker) works old.folder.told new.folder.told
-  all_recorded hears first between last old mid new works nothing none_settled levels (table, grown, each) left same empty well heard memory no_fault =
+      → IsRecorded seen (hears listener last.listener) (lane_count first.taker) works old.folder.told new.folder.told
+  all_recorded {L = L} hears listener first between last old mid new works begun_with nothing none_settled levels (table, grown, each) left same empty well heard memory no_fault =
       let all : settled_lanes last.taker ≡ table = same ∙ grown ∙ ap (λ l. table ++ l) none_settled ∙ append-nil table in
       let taken : List Parcel = lots_taken last.taker in
       let begun : HasAdded old.folder.told first old = λ _. subst (λ (l : List Parcel). Goes old.folder.told old.folder.told (Grown (recorded l))) (sym nothing) (goes_grown_none old.folder.told) in
       record {
         taken = taken;
         table = table;
-        heard = heard memory;
+        heard = subst (λ l. hears l last.listener (pieces_of taken)) (ap (λ (c : Snapshot L). c.value) (left.begun ∙ levels.begun) ∙ begun_with) (heard memory);
         added = left.added old.folder.told (levels.added old.folder.told begun) no_fault;
         entries = each (left.memory memory);
         accounts = subst (AllByRecursion (λ s. lots_of s.lane taken ≡ s.list)) all (empty memory).0;

@@ -27,11 +27,11 @@ pieces_of [] = []
 pieces_of (p ∷ ps) = piece_of p.lot ++ pieces_of ps
 
 -- Its taker is this belt's, and it knows of each lane whose memory ran out. Where memory ran out nowhere, what was taken
--- was heard.
-pub record IsCaller {L : Type 0} (hears : L → List (List ℕ) → Type 0) (belt : Belt) (caller : Caller L) : Type 0 where
+-- was heard since the listener was what it was begun with.
+pub record IsCaller {L : Type 0} (hears : L → L → List (List ℕ) → Type 0) (belt : Belt) (caller : Caller L) : Type 0 where
   pub taker : IsTakerFor belt caller.taker
   pub well : caller.no_memory ≡ false → AllByRecursion (λ p. p.lot ≡ End NoMemory → ⊥) (lots_taken caller.taker)
-  pub heard : caller.no_memory ≡ false → hears caller.listener (pieces_of (lots_taken caller.taker))
+  pub heard : caller.no_memory ≡ false → hears caller.begun.value caller.listener (pieces_of (lots_taken caller.taker))
 
 -- a taker that has taken nothing, and knows of no lane that is settled
 pub record IsNewTaker (belt : Belt) (taker : Taker) : Type 0 where
@@ -73,9 +73,10 @@ pub record KeepsTape (old new : Tape) : Type 0 where
 abbrev pub HasAdded : {L : Type 0} → Option Folder → Caller L → Tape → Type 0
 HasAdded start caller t = t.fault ≡ None → Goes start t.folder.told (Grown (recorded (lots_taken caller.taker)))
 
--- the lanes stay as many, and what was taken stays added
+-- the lanes stay as many, what the listener was begun with is the same, and what was taken stays added
 pub record GoesOn {L : Type 0} (before after : Caller L) (old new : Tape) : Type 0 where
   pub count : lane_count after.taker ≡ lane_count before.taker
+  pub begun : after.begun ≡ before.begun
   pub memory : after.no_memory ≡ false → before.no_memory ≡ false
   pub keeps : KeepsTape old new
   pub added : (start : Option Folder) → HasAdded start before old → HasAdded start after new

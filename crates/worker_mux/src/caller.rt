@@ -15,16 +15,18 @@ use crate::pass::{LanePass, Taker};
 use crate::pen::Pen;
 use crate::work::{Outcome, Shared, Work, drive};
 use edge_io::{Child, Shelf};
+use std::snapshot::Snapshot;
 use std::sync::Wait;
 use std::sync::atomic::{AtomicBool, Ordering};
 use sub_number::NoMemory;
 use worker_lane::{Ending, Lot};
 
-/// The taker, who hears what is added, how many lanes have not ended yet, and whether memory ran out: in a lane, or where
-/// it was heard.
+/// The taker, who hears what is added, as it is and as it was begun with, how many lanes have not ended yet, and whether
+/// memory ran out: in a lane, or where it was heard.
 #[derive(Drop)]
 pub(crate) struct Caller<L> {
     pub(crate) taker: Taker,
+    pub(crate) begun: Snapshot<L>,
     pub(crate) listener: L,
     pub(crate) running: usize,
     pub(crate) no_memory: bool,
@@ -34,6 +36,7 @@ impl<L: Listener> Caller<L> {
     // Memory ran out: all lanes are told to stop.
     fn stop_all(&mut self, shared: &Shared)
         ensures taker { self.new.taker ≡ self.old.taker }
+        ensures begun { self.new.begun ≡ self.old.begun }
         ensures memory { self.new.no_memory ≡ true }
     {
         self.no_memory = true;
@@ -46,8 +49,9 @@ impl<L: Listener> Caller<L> {
         requires is_open { IsOpen (tape pen.old.fault (H.seen pen.old.shelf.now)) }
         requires packets { ArePackets packet.now }
         ensures taker { self.new.taker ≡ self.old.taker }
+        ensures begun { self.new.begun ≡ self.old.begun }
         ensures memory { self.new.no_memory ≡ false → self.old.no_memory ≡ false }
-        ensures heard { (pieces : List (List ℕ)) → L.heard self.old.listener pieces → self.new.no_memory ≡ false → L.heard self.new.listener (pieces ++ packet.now ∷ []) }
+        ensures heard { (pieces : List (List ℕ)) → L.heard self.old.begun.value self.old.listener pieces → self.new.no_memory ≡ false → L.heard self.new.begun.value self.new.listener (pieces ++ packet.now ∷ []) }
         ensures loan { pen.new.shelf.ghost_name ≡ pen.old.shelf.ghost_name }
         ensures keeps { KeepsTape (tape pen.old.fault (H.seen pen.old.shelf.now)) (tape pen.new.fault (H.seen pen.new.shelf.now)) }
         ensures added { pen.new.fault ≡ None → Goes (H.seen pen.old.shelf.now).told (H.seen pen.new.shelf.now).told (Grown packet.now) }
@@ -64,9 +68,10 @@ impl<L: Listener> Caller<L> {
         requires is_open { IsOpen (tape pen.old.fault (H.seen pen.old.shelf.now)) }
         requires packets { IsWhole lot }
         ensures taker { self.new.taker ≡ self.old.taker }
+        ensures begun { self.new.begun ≡ self.old.begun }
         ensures memory { self.new.no_memory ≡ false → self.old.no_memory ≡ false }
         ensures well { self.new.no_memory ≡ false → lot ≡ End without_memory → ⊥ }
-        ensures heard { (pieces : List (List ℕ)) → L.heard self.old.listener pieces → self.new.no_memory ≡ false → L.heard self.new.listener (pieces ++ piece_of lot) }
+        ensures heard { (pieces : List (List ℕ)) → L.heard self.old.begun.value self.old.listener pieces → self.new.no_memory ≡ false → L.heard self.new.begun.value self.new.listener (pieces ++ piece_of lot) }
         ensures loan { pen.new.shelf.ghost_name ≡ pen.old.shelf.ghost_name }
         ensures keeps { KeepsTape (tape pen.old.fault (H.seen pen.old.shelf.now)) (tape pen.new.fault (H.seen pen.new.shelf.now)) }
         ensures added { pen.new.fault ≡ None → Goes (H.seen pen.old.shelf.now).told (H.seen pen.new.shelf.now).told (Grown (packet_of lot)) }

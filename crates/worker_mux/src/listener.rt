@@ -7,13 +7,13 @@ use sub_number::NoMemory;
 
 /// Hears what is added to a run, piece by piece and in order, on the thread that adds it.
 pub trait Listener {
-    /// What it has heard: these pieces, each of which is whole packets.
-    ghost heard: { Self → List (List ℕ) → Type 0 };
+    /// What it has heard since it was the first of the two: these pieces, each of which is whole packets.
+    ghost heard: { Self → Self → List (List ℕ) → Type 0 };
 
     /// Hears the next piece, which is known to be whole packets and need not be tested. `NoMemory` comes only for want of memory; nothing is known then of what it has heard.
     fn hear(&mut self, piece: &[u8]) -> Result<(), NoMemory>
         requires packets { ArePackets piece.now }
-        ensures hears { (pieces : List (List ℕ)) → heard self.old pieces → OnOk result (heard self.new (pieces ++ piece.now ∷ [])) };
+        ensures hears { (begun : Self) (pieces : List (List ℕ)) → heard begun self.old pieces → OnOk result (heard begun self.new (pieces ++ piece.now ∷ [])) };
 }
 
 /// Hears nothing.
@@ -23,7 +23,7 @@ pub(crate) struct Deaf;
 impl Listener for Deaf {
     ghost use Rattle.std.specs.Prelude.{⊤};
 
-    ghost heard = { λ _ _. ⊤ };
+    ghost heard = { λ _ _ _. ⊤ };
 
     fn hear(&mut self, _piece: &[u8]) -> Result<(), NoMemory> {
         Ok(())

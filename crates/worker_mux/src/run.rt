@@ -24,6 +24,7 @@ use edge_io::{Child, Shelf};
 use run_shelf::{Recorder, ShelfCall};
 use std::alloc::Global;
 use std::collections::VecDeque;
+use std::snapshot::Snapshot;
 use std::sync::Wait;
 use std::sync::atomic::AtomicBool;
 use std::thread;
@@ -86,7 +87,7 @@ pub fn run_lanes_heard<
     requires numbers { map lane_number lanes.items ≡ range_with_len 0 (length lanes.items) }
     requires few { length lanes.items ≤ 64 }
     requires fits { RecordsUnlessBroken (recorder_kinds recorder.old) (recorder_fault recorder.old) (H.seen recorder.old.shelf.now).told }
-    requires nothing { L.heard listener [] }
+    requires nothing { L.heard listener listener [] }
     ensures same_reference { recorder.new.shelf.ghost_name ≡ recorder.old.shelf.ghost_name }
     // What each exit leaves.
     ensures any_moment { Goes (H.seen recorder.old.shelf.now).told (H.seen recorder.new.shelf.now).told PassesOld }
@@ -95,7 +96,7 @@ pub fn run_lanes_heard<
     ensures kinds { recorder_kinds recorder.new ≡ recorder_kinds recorder.old }
     ensures partial { recorder_partial recorder.new ≡ recorder_partial recorder.old }
     // What was added, and heard.
-    ensures merged { IfOk result (λ l. recorder_fault recorder.new ≡ None → HearsMerge (L.heard l) (map (rest C.seen) lanes.items) (H.seen recorder.old.shelf.now).told (H.seen recorder.new.shelf.now).told) }
+    ensures merged { IfOk result (λ l. recorder_fault recorder.new ≡ None → HearsMerge (L.heard listener l) (map (rest C.seen) lanes.items) (H.seen recorder.old.shelf.now).told (H.seen recorder.new.shelf.now).told) }
 {
     if lanes.len() == 0 {
         return Ok(listener);
@@ -225,9 +226,9 @@ fn read_all<R: Threads + Wait + Sync, C: Child + Send + Drop, H: Shelf, L: Liste
     requires works { AllByRecursion (IsReady shared.now.belt) works.items }
     requires flags { length works.items ≤ length flags.now }
     requires is_open { IsOpen (tape fault (H.seen shelf.old)) }
-    requires nothing { L.heard listener [] }
+    requires nothing { L.heard listener listener [] }
     ensures keeps { KeepsTape (tape fault (H.seen shelf.old)) (tape result.0 (H.seen shelf.new)) }
-    ensures recorded { IfOk result.1 (λ l. result.0 ≡ None → IsRecorded C.seen (L.heard l) (lane_count taker) works.items (H.seen shelf.old).told (H.seen shelf.new).told) }
+    ensures recorded { IfOk result.1 (λ l. result.0 ≡ None → IsRecorded C.seen (L.heard listener l) (lane_count taker) works.items (H.seen shelf.old).told (H.seen shelf.new).told) }
 {
     in_scope(rt, shared, flags, works, taker, listener, shelf, fault)
 }
@@ -243,18 +244,18 @@ fn in_scope<R: Threads + Wait + Sync, C: Child + Send + Drop, H: Shelf, L: Liste
     shelf: &mut H,
     fault: Option<ShelfCall>,
 ) -> (Option<ShelfCall>, Result<L, NoMemory>)
-    requires begun { IsBegun shared.now.belt taker works.items (length flags.now) (tape fault (H.seen shelf.old)) × L.heard listener [] }
+    requires begun { IsBegun shared.now.belt taker works.items (length flags.now) (tape fault (H.seen shelf.old)) × L.heard listener listener [] }
     ensures keeps { KeepsTape (tape fault (H.seen shelf.old)) (tape result.0 (H.seen shelf.new)) }
-    ensures recorded { IfOk result.1 (λ l. result.0 ≡ None → IsRecorded C.seen (L.heard l) (lane_count taker) works.items (H.seen shelf.old).told (H.seen shelf.new).told) }
+    ensures recorded { IfOk result.1 (λ l. result.0 ≡ None → IsRecorded C.seen (L.heard listener l) (lane_count taker) works.items (H.seen shelf.old).told (H.seen shelf.new).told) }
 {
     let (shelf, fault, heard) = thread::scope(
         thread::scope_env(),
         rt,
         move |scope| -> (&mut H, Option<ShelfCall>, Result<L, NoMemory>)
-            requires begun { IsBegun shared.now.belt taker works.items (length flags.now) (tape fault (H.seen shelf.now)) × L.heard listener [] }
+            requires begun { IsBegun shared.now.belt taker works.items (length flags.now) (tape fault (H.seen shelf.now)) × L.heard listener listener [] }
             ensures same { result.0.ghost_name ≡ shelf.entry.ghost_name }
             ensures keeps { KeepsTape (tape fault (H.seen shelf.entry.now)) (tape result.1 (H.seen result.0.now)) }
-            ensures recorded { IfOk result.2 (λ l. result.1 ≡ None → IsRecorded C.seen (L.heard l) (lane_count taker) works.items (H.seen shelf.entry.now).told (H.seen result.0.now).told) }
+            ensures recorded { IfOk result.2 (λ l. result.1 ≡ None → IsRecorded C.seen (L.heard listener l) (lane_count taker) works.items (H.seen shelf.entry.now).told (H.seen result.0.now).told) }
         {
             let mut pen = Pen { shelf, fault };
             let heard = all_levels(rt, scope, shared, flags, works, taker, listener, &mut pen);
@@ -284,13 +285,14 @@ fn all_levels<
     listener: L,
     pen: &mut Pen<'_, H>,
 ) -> Result<L, NoMemory>
-    requires begun { IsBegun shared.now.belt taker works.items (length flags.now) (tape pen.old.fault (H.seen pen.old.shelf.now)) × L.heard listener [] }
+    requires begun { IsBegun shared.now.belt taker works.items (length flags.now) (tape pen.old.fault (H.seen pen.old.shelf.now)) × L.heard listener listener [] }
     ensures loan { pen.new.shelf.ghost_name ≡ pen.old.shelf.ghost_name }
     ensures keeps { KeepsTape (tape pen.old.fault (H.seen pen.old.shelf.now)) (tape pen.new.fault (H.seen pen.new.shelf.now)) }
-    ensures recorded { IfOk result (λ l. pen.new.fault ≡ None → IsRecorded C.seen (L.heard l) (lane_count taker) works.items (H.seen pen.old.shelf.now).told (H.seen pen.new.shelf.now).told) }
+    ensures recorded { IfOk result (λ l. pen.new.fault ≡ None → IsRecorded C.seen (L.heard listener l) (lane_count taker) works.items (H.seen pen.old.shelf.now).told (H.seen pen.new.shelf.now).told) }
 {
     let mut caller = Caller {
         taker,
+        begun: Snapshot::of(&listener),
         listener,
         running: works.len(),
         no_memory: false,
@@ -299,6 +301,7 @@ fn all_levels<
     caller.take_rest(rt, shared, pen);
     let Caller {
         taker: _,
+        begun: _,
         listener,
         running: _,
         no_memory,

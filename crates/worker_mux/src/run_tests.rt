@@ -402,7 +402,7 @@ impl Listener for Keeping {
     ghost use Rattle.std.specs.Prelude.{◌≡◌};
     ghost use Rattle.std.specs.List.{flat_map};
 
-    ghost heard = { λ s pieces. s.bytes.items ≡ flat_map (λ piece. piece) pieces };
+    ghost heard = { λ _ s pieces. s.bytes.items ≡ flat_map (λ piece. piece) pieces };
 
     #[tactic(auto, using(crate::proofs::Lists::one_piece_more))]
     fn hear(&mut self, piece: &[u8]) -> Result<(), NoMemory> {
@@ -421,7 +421,7 @@ fn record_heard<R: Threads + Wait + Sync, C: Child + Send + Drop, H: Shelf, L: L
 ) -> Option<Result<L, NoMemory>>
     requires numbers { map lane_number lanes.items ≡ range_with_len 0 (length lanes.items) }
     requires few { length lanes.items ≤ 64 }
-    requires nothing { L.heard listener [] }
+    requires nothing { L.heard listener listener [] }
 {
     let Ok(()) = Store::init(shelf) else {
         return None;
@@ -457,7 +457,7 @@ struct Forgetful {
 impl Listener for Forgetful {
     ghost use Rattle.std.specs.Prelude.{⊤};
 
-    ghost heard = { λ _ _. ⊤ };
+    ghost heard = { λ _ _ _. ⊤ };
 
     fn hear(&mut self, _piece: &[u8]) -> Result<(), NoMemory> {
         if self.pieces == 1 {

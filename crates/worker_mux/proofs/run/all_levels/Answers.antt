@@ -6,4 +6,4 @@ pub returns-clause-keeps : goal.returns-clause-keeps
 returns-clause-keeps g c = tape_then _ _ _ c.level.ensures.goes.keeps c.take_rest.ensures.goes.keeps
 
 pub returns-clause-recorded : goal.returns-clause-recorded
-returns-clause-recorded g c = all_recorded g.C.Child.seen g.L.Listener.heard _ _ _ _ _ _ _ c.requires.begun.0.taker_new.nothing c.requires.begun.0.taker_new.none_settled c.level.ensures.goes c.level.ensures.settled c.take_rest.ensures.goes c.take_rest.ensures.settled c.take_rest.ensures.empty c.take_rest.ensures.ready.well c.take_rest.ensures.ready.heard c.if-no_memory.false
+returns-clause-recorded g c = all_recorded g.C.Child.seen g.L.Listener.heard c.args.listener _ _ _ _ _ _ _ c.of.ensures c.requires.begun.0.taker_new.nothing c.requires.begun.0.taker_new.none_settled c.level.ensures.goes c.level.ensures.settled c.take_rest.ensures.goes c.take_rest.ensures.settled c.take_rest.ensures.empty c.take_rest.ensures.ready.well c.take_rest.ensures.ready.heard c.if-no_memory.false

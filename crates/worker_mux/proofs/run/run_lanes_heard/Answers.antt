@@ -18,4 +18,4 @@ returns-clause-fits g c = still_fits _ _ _ c.read_all-fault.ensures.keeps c.requ
 pub returns-clause-merged : goal.returns-clause-merged
 returns-clause-merged g c =
     let count : lane_count c.in-Ok.stage.taker ≡ length c.args.lanes.items = omega (arith, c.in-Ok.ensures.taker.1) in
-    heard_if g.C.Child.seen g.L.Listener.heard _ c.args.lanes.items c.begin-works.result.items _ _ _ _ c.requires.few c.requires.numbers count c.begin-works.ensures.shares c.read_all-fault.ensures.recorded
+    heard_if g.C.Child.seen (g.L.Listener.heard c.args.listener) _ c.args.lanes.items c.begin-works.result.items _ _ _ _ c.requires.few c.requires.numbers count c.begin-works.ensures.shares c.read_all-fault.ensures.recorded

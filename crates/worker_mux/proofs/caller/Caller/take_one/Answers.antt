@@ -7,6 +7,7 @@ pub returns-in-Some-clause-goes : goal.returns-in-Some-clause-goes
 returns-in-Some-clause-goes g c =
     goes_one _ _ _ _ c.in-Some.field-0-0 c.in-Some.lot
     (ap lane_count c.record.ensures.taker ∙ c.take.ensures.lanes)
+    c.record.ensures.begun
     (ap lots_taken c.record.ensures.taker ∙ c.in-Some.ensures.taken)
     c.record.ensures.memory
     c.record.ensures.keeps
