@@ -6,16 +6,20 @@ use Rattle.sub_number.specs.declared.memory.NoMemory as memory
 use Rattle.edge_io.specs.Causes.{Rose, RisesExactlyIf}
 use Rattle.edge_io.specs.Disk.{Folder}
 use Rattle.edge_io.specs.Seen.{Seen}
+use Rattle.outcome_fold.specs.Summed.{with_rows}
 use Rattle.outcome_fold.specs.declared.row.Row.{Row}
+use Rattle.outcome_fold.specs.declared.summary.Summary.{Summary}
 use Rattle.packet_codec.specs.Canonical.{canonical}
 use Rattle.packet_codec.specs.declared.event.Event.{Event}
 use Rattle.packet_codec.specs.Lanes.{joined}
-use Rattle.run_ledger.specs.Reading.{AreRowsOf}
+use Rattle.run_ledger.specs.Reading.{AreRowsOf, SumsRowsOf}
 use Rattle.run_ledger.specs.Writing.{HasWritten}
+use Rattle.run_ledger.specs.declared.written_run.WrittenRun.{WrittenRun}
 use Rattle.run_ledger.proofs.FoldLemmas.{if_ok_then}
 use Rattle.run_shelf.specs.declared.faults.ShelfCall.{ShelfCall}
 use Rattle.run_shelf.specs.declared.faults.ShelfCall.TheVariants.{Append}
-use Rattle.suite_run.specs.Recording.{AddsRows, HasHeard, RecordsLanes, TellsOfAppend, lanes_answer, lanes_failed}
+use Rattle.suite_run.specs.Recording.{AddsRows, AddsSums, HasHeard, HearsOn, RecordsLanes, TellsOfAppend, lanes_answer, lanes_failed}
+use Rattle.suite_run.specs.Summed.{GivesSums}
 use Rattle.suite_run.specs.declared.recording.Ear.{Ear}
 use Rattle.suite_run.specs.declared.recording.LanesRefusal.{LanesRefusal}
 use Rattle.worker_lane.specs.declared.lot.Lot.{Lot}
@@ -27,31 +31,32 @@ joined_packets : (groups : List (List Event)) → joined (map (flat_map canonica
 joined_packets [] = refl
 joined_packets (group ∷ groups) = ap (λ l. flat_map canonical group ++ l) (joined_packets groups) ∙ sym (flat_map-append canonical group (flat_map (λ g. g) groups))
 
-module _ (rests : List (Option (List Lot))) (old new : Option Folder) where
+module _ (filter_tags : List (List ℕ)) (rests : List (Option (List Lot))) (old new : Option Folder) (begun : WrittenRun) where
   -- the ear heard a merge as it was added
   abbrev HeardAll : Ear → Type 0
-  HeardAll ear = HearsMerge (HasHeard ear.run) rests old new
+  HeardAll ear = HearsMerge (HearsOn begun ear.run) rests old new
 
-  -- the rows are those of all that was heard, in whatever pieces
-  abbrev GivesRows : {E : Type 0} → Ear → Result (List Row) E → Type 0
-  GivesRows ear rows = (run : List ℕ) → HasWritten ear.run run → IfOk rows (AreRowsOf run)
+  -- it gives what is kept of the rows of all that was heard, in whatever pieces
+  abbrev GivesKept : {E : Type 0} → Ear → Result Summary E → Type 0
+  GivesKept ear summary = (run : List ℕ) → HasWritten filter_tags ear.run run → IfOk summary (SumsRowsOf filter_tags run)
 
-  pub rows_of_heard : {E F : Type 0} (heard : Result Ear F) (ear : Ear) (rows : Result (List Row) E) → heard ≡ Ok ear → GivesRows ear rows → IfOk heard HeardAll → IfOk rows (AddsRows rests old new)
-  rows_of_heard heard ear rows is gives all =
+  pub sums_of_heard : {E F : Type 0} (heard : Result Ear F) (ear : Ear) (summary : Result Summary E) → heard ≡ Ok ear → GivesKept ear summary → HasHeard filter_tags begun [] → IfOk heard HeardAll → IfOk summary (AddsSums filter_tags rests old new)
+  sums_of_heard heard ear summary is gives nothing all =
       let h : HeardAll ear = rw is at all in
       let pieces : List (List ℕ) = map (flat_map canonical) h.groups in
       let bytes : joined pieces ≡ flat_map canonical h.merge.events = joined_packets h.groups ∙ ap (flat_map canonical) h.parts in
-      if_ok_then (AreRowsOf (joined pieces)) (AddsRows rests old new) rows (gives (joined pieces) h.heard) (λ list is. record {
-        merge = h.merge;
-        rows_are = subst (λ l. AreRowsOf l list) bytes is;
+      if_ok_then (SumsRowsOf filter_tags (joined pieces)) (AddsSums filter_tags rests old new) summary (gives (joined pieces) (h.heard filter_tags nothing)) (λ kept sums. record {
+        rows = sums.rows;
+        adds = record { merge = h.merge; rows_are = subst (λ l. AreRowsOf l sums.rows) bytes sums.are };
+        sums = sums.sums;
       })
 
-  pub adds_rows : (fault : Option ShelfCall) (heard : Result Ear memory.NoMemory) (rows : Result (List Row) memory.NoMemory) (answer : Result (List Row) LanesRefusal) → answer ≡ lanes_answer fault rows → IfOk heard (λ ear. fault ≡ None → HeardAll ear) → (IfOk heard HeardAll → IfOk rows (AddsRows rests old new)) → IfOk answer (AddsRows rests old new)
-  adds_rows (Some call) heard rows answer is merged gives = rw is tt
-  adds_rows None heard rows answer is merged gives = rw is (same rows (gives (if_ok_then (λ ear. ◌≡◌ {A = Option ShelfCall} None None → HeardAll ear) HeardAll heard merged (λ ear so. so refl))))
+  pub adds_sums : (fault : Option ShelfCall) (heard : Result Ear memory.NoMemory) (summary : Result Summary memory.NoMemory) (answer : Result Summary LanesRefusal) → answer ≡ lanes_answer fault summary → IfOk heard (λ ear. fault ≡ None → HeardAll ear) → (IfOk heard HeardAll → IfOk summary (AddsSums filter_tags rests old new)) → IfOk answer (AddsSums filter_tags rests old new)
+  adds_sums (Some call) heard summary answer is merged gives = rw is tt
+  adds_sums None heard summary answer is merged gives = rw is (same summary (gives (if_ok_then (λ ear. ◌≡◌ {A = Option ShelfCall} None None → HeardAll ear) HeardAll heard merged (λ ear so. so refl))))
     where
-      same : (rows : Result (List Row) memory.NoMemory) → IfOk rows (AddsRows rests old new) → IfOk (lanes_answer None rows) (AddsRows rests old new)
-      same (Ok list) holds = holds
+      same : (summary : Result Summary memory.NoMemory) → IfOk summary (AddsSums filter_tags rests old new) → IfOk (lanes_answer None summary) (AddsSums filter_tags rests old new)
+      same (Ok kept) holds = holds
       same (Err lack) holds = tt
 
 -- ---- the whole step
@@ -66,10 +71,31 @@ rises (Some call) rows before now later rose stands = record { later = later; ro
 rises None (Ok list) before now later rose stands = record { later = later; rose = λ no. cc; stands = λ _. stands refl }
 rises None (Err lack) before now later rose stands = record { later = later; rose = λ no. cc; stands = λ _. stands refl }
 
-pub lanes_recorded : (rests : List (Option (List Lot))) (fault : Option ShelfCall) (rows : Result (List Row) memory.NoMemory) (answer : Result (List Row) LanesRefusal) (before after : Seen Folder) → answer ≡ lanes_answer fault rows → KeepsTape (tape None before) (tape fault after) → IfOk answer (AddsRows rests before.told after.told) → RecordsLanes rests before after answer
+lanes_recorded : (rests : List (Option (List Lot))) (fault : Option ShelfCall) (rows : Result (List Row) memory.NoMemory) (answer : Result (List Row) LanesRefusal) (before after : Seen Folder) → answer ≡ lanes_answer fault rows → KeepsTape (tape None before) (tape fault after) → IfOk answer (AddsRows rests before.told after.told) → RecordsLanes rests before after answer
 lanes_recorded rests fault rows answer before after is keeps adds = record {
   recorded = adds;
   refused = subst (λ r. IfErr r TellsOfAppend) (sym is) (tells_of fault rows (λ call failed. (keeps.rose refl call failed).0));
   files = keeps.files;
   sum = subst (λ (r : Result (List Row) LanesRefusal). RisesExactlyIf before.faults after.faults (lanes_failed r)) (sym is) (rises fault rows before.faults after.faults keeps.later (λ call failed. (keeps.rose refl call failed).1) keeps.stands);
+}
+
+-- the rows in place of what is kept of them make the same answer
+answer_rows : (rows : List Row) (fault : Option ShelfCall) (summary : Result Summary memory.NoMemory) (answer : Result Summary LanesRefusal) → answer ≡ lanes_answer fault summary → with_rows rows answer ≡ lanes_answer fault (with_rows rows summary)
+answer_rows rows fault summary answer is = ap (with_rows rows) is ∙ same fault summary
+  where
+    same : (fault : Option ShelfCall) (summary : Result Summary memory.NoMemory) → with_rows rows (lanes_answer fault summary) ≡ lanes_answer fault (with_rows rows summary)
+    same (Some call) summary = refl
+    same None (Ok kept) = refl
+    same None (Err lack) = refl
+
+pub lanes_summed : (filter_tags : List (List ℕ)) (rests : List (Option (List Lot))) (fault : Option ShelfCall) (summary : Result Summary memory.NoMemory) (answer : Result Summary LanesRefusal) (before after : Seen Folder) → answer ≡ lanes_answer fault summary → KeepsTape (tape None before) (tape fault after) → IfOk answer (AddsSums filter_tags rests before.told after.told) → GivesSums filter_tags (RecordsLanes rests before after) answer
+lanes_summed filter_tags rests fault summary (Ok kept) before after is keeps adds = record {
+  rows = adds.rows;
+  sums = adds.sums;
+  holds = lanes_recorded rests fault (with_rows adds.rows summary) (Ok adds.rows) before after (answer_rows adds.rows fault summary (Ok kept) is) keeps adds.adds;
+}
+lanes_summed filter_tags rests fault summary (Err refusal) before after is keeps adds = record {
+  rows = [];
+  sums = tt;
+  holds = lanes_recorded rests fault (with_rows [] summary) (Err refusal) before after (answer_rows [] fault summary (Err refusal) is) keeps tt;
 }

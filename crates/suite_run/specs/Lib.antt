@@ -1,3 +1,4 @@
 pub mod Outputs
 pub mod Recording
 pub mod Starting
+pub mod Summed

@@ -1,12 +1,14 @@
 -- What is recorded of a run's lanes, and its rows.
-use Rattle.std.specs.Prelude.{◌≡◌, ⊤, ℕ, Bool, true, false, Option, Some, None, List, Result, Ok, Err, IfOk, IfErr}
+use Rattle.std.specs.Prelude.{◌≡◌, ⊤, ℕ, Bool, true, false, Option, Some, None, List, [], Result, Ok, Err, IfOk, IfErr}
 use Rattle.std.specs.List.{flat_map}
 use Rattle.sub_number.specs.declared.memory.NoMemory as memory
 use Rattle.edge_io.specs.Causes.{RisesExactlyIf}
 use Rattle.edge_io.specs.Disk.{Folder}
 use Rattle.edge_io.specs.Seen.{Seen}
 use Rattle.edge_io.specs.Steps.{Goes}
+use Rattle.outcome_fold.specs.Summed.{Sums}
 use Rattle.outcome_fold.specs.declared.row.Row.{Row}
+use Rattle.outcome_fold.specs.declared.summary.Summary.{Summary}
 use Rattle.packet_codec.specs.Canonical.{canonical}
 use Rattle.packet_codec.specs.Lanes.{joined}
 use Rattle.run_ledger.specs.Reading.{AreRowsOf}
@@ -31,13 +33,23 @@ TellsOfAppend (Shelf call) = call ≡ Append
 TellsOfAppend NoMemory = ⊤
 
 -- these pieces were heard, one after another
-abbrev pub HasHeard : WrittenRun → List (List ℕ) → Type 0
-HasHeard run pieces = HasWritten run (joined pieces)
+abbrev pub HasHeard : (filter_tags : List (List ℕ)) → WrittenRun → List (List ℕ) → Type 0
+HasHeard filter_tags run pieces = HasWritten filter_tags run (joined pieces)
+
+-- the same since the run was this one, of which nothing was written, for whichever tags that filters
+abbrev pub HearsOn : (begun run : WrittenRun) → List (List ℕ) → Type 0
+HearsOn begun run pieces = (filter_tags : List (List ℕ)) → HasHeard filter_tags begun [] → HasHeard filter_tags run pieces
 
 -- behind the draft stand the packets of a merge, and these are the rows of their bytes
 pub record AddsRows (rests : List (Option (List Lot))) (old new : Option Folder) (rows : List Row) : Type 0 where
   pub merge : AddsMerge rests old new
   pub rows_are : AreRowsOf (flat_map canonical merge.events) rows
+
+-- the same, and this is kept of the rows
+pub record AddsSums (filter_tags : List (List ℕ)) (rests : List (Option (List Lot))) (old new : Option Folder) (summary : Summary) : Type 0 where
+  pub rows : List Row
+  pub adds : AddsRows rests old new rows
+  pub sums : Sums filter_tags rows summary
 
 -- The recording of lanes that have this to give, where it is told, behind the draft. It gives the rows of what was added.
 pub record RecordsLanes (rests : List (Option (List Lot))) (before after : Seen Folder) (result : Result (List Row) LanesRefusal) : Type 0 where
@@ -47,7 +59,7 @@ pub record RecordsLanes (rests : List (Option (List Lot))) (before after : Seen 
   pub sum : RisesExactlyIf before.faults after.faults (lanes_failed result)
 
 -- a call of the folder that failed decides
-abbrev pub lanes_answer : Option ShelfCall → Result (List Row) memory.NoMemory → Result (List Row) LanesRefusal
+abbrev pub lanes_answer : {A : Type 0} → Option ShelfCall → Result A memory.NoMemory → Result A LanesRefusal
 lanes_answer (Some call) outcome = Err (Shelf call)
-lanes_answer None (Ok rows) = Ok rows
+lanes_answer None (Ok kept) = Ok kept
 lanes_answer None (Err lack) = Err NoMemory

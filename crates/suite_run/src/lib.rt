@@ -4,7 +4,7 @@
 //! The rules stand in docs/FORMATS.md, "What a lane gives", and docs/DISK.md.
 //!
 //! - `starting`: a child for each job, as the lane of its place
-//! - `recording`: the lanes, read to their ends and added to the run, and the rows of what was added
+//! - `recording`: the lanes, read to their ends and added to the run, and what is kept of the rows of what was added
 //! - `laws`: what is added where the children tell their output
 #![tactic(auto)]
 

@@ -2,6 +2,7 @@
 
 use crate::{LanesRefusal, StartRefusal, record_lanes, start_lanes};
 use edge_io::{Finish, Job, MemShelf, Plan, PlanSpawner};
+use packet_codec::Tags;
 use run_shelf::{Recorder, Recording, ShelfCall, Store, finish_run, read_run};
 use std::alloc::Global;
 use std::sync::Wait;
@@ -51,8 +52,8 @@ fn plan(alloc: Global, output: &[u8], finish: Finish) -> Option<Plan> {
 // What became of a run of children.
 #[derive(Clone, Copy, Debug, PartialEq, Eq)]
 enum Outcome {
-    // It was kept, so many of its bytes fit into the buffer, and it has so many rows.
-    Kept(usize, usize),
+    // It was kept, so many of its bytes fit into the buffer, and so many of its rows count.
+    Kept(usize, u64),
     NotStarted(StartRefusal),
     NotRecorded(LanesRefusal),
 }
@@ -88,16 +89,24 @@ fn record<R: Threads + Wait + Sync>(
         partial,
         fault: _,
     } = recording;
-    let (mut found, answer) = record_lanes(rt, alloc, lanes, shelf, found, partial);
-    let rows = match answer {
-        Ok(rows) => rows,
+    let (mut found, answer) = record_lanes(
+        rt,
+        alloc,
+        lanes,
+        shelf,
+        found,
+        partial,
+        Tags::new(alloc),
+    );
+    let summary = match answer {
+        Ok(summary) => summary,
         Err(refusal) => return Some(Outcome::NotRecorded(refusal)),
     };
     let Ok(number) = finish_run(shelf, &mut found, partial) else {
         return None;
     };
     let size = read_run(shelf, &found, number, 0, buf).ok()?;
-    Some(Outcome::Kept(size, rows.list().len()))
+    Some(Outcome::Kept(size, summary.counts().total))
 }
 
 #[test]
