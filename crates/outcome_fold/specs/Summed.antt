@@ -1,5 +1,6 @@
 -- What is kept of the rows of a run where those that pass are not (docs/FORMATS.md, "What the rows say").
 use Rattle.std.specs.Prelude.{◌≡◌, ℕ, Bool, ◌&&◌, not, Option, is_some, List, Result, Ok, Err}
+use Rattle.std.specs.FinMap.{FinMap}
 use Rattle.std.specs.List.{filter}
 use Rattle.packet_codec.specs.declared.event.Event.{Event}
 use Rattle.outcome_fold.specs.declared.row.Ended.{Ended}
@@ -9,7 +10,7 @@ use Rattle.outcome_fold.specs.declared.summary.Timed.{Timed}
 use Rattle.outcome_fold.specs.declared.summing.Summing.{Summing}
 use Rattle.outcome_fold.specs.Answers.{row_fails, is_run, ids_of, times_of, counts_of}
 use Rattle.outcome_fold.specs.Folded.{HasSeen}
-use Rattle.outcome_fold.specs.Order.{in_byte_order}
+use Rattle.outcome_fold.specs.Order.{in_byte_order, text_cmp}
 use Rattle.outcome_fold.specs.Rows.{completed_rows}
 
 -- the row is of a test that ran and has no time
@@ -33,6 +34,10 @@ pub record Sums (filter_tags : List (List ℕ)) (rows : List Row) (summary : Sum
   pub counts : summary.counts ≡ counts_of filter_tags rows
   pub times : summary.times ≡ times_of rows
   pub untimed : summary.untimed ≡ untimed_of rows
+
+-- the longest times that are kept
+abbrev pub times_kept : Summary → FinMap text_cmp ℕ
+times_kept summary = summary.times
 
 -- an id and its time, as the code keeps them
 abbrev pub shown_time : Timed → List ℕ × ℕ

@@ -38,7 +38,7 @@ pub struct Summary {
 }
 
 impl Summary {
-    ghost use Rattle.outcome_fold.specs.Summed.{Sums, HasTime, untimed_of, shown_time};
+    ghost use Rattle.outcome_fold.specs.Summed.{Sums, HasTime, untimed_of, shown_time, times_kept};
 
     /// Of no rows. It takes no memory yet.
     pub(crate) fn new(alloc: Global) -> Self
@@ -177,6 +177,7 @@ impl Summary {
     /// `NoMemory` comes only for want of memory.
     pub fn times(&self, alloc: Global) -> Result<Vec<Timed<'_>>, NoMemory>
         ensures times { (filter_tags : List (List ℕ)) (rows : List ARow) → Sums filter_tags rows self.now → IfOk result (λ times. map shown_time times.items ≡ fin.entries (answers.times_of rows)) }
+        ensures kept { IfOk result (λ times. map shown_time times.items ≡ fin.entries (times_kept self.now)) }
         ensures texts { IfOk result (λ times. All (λ timed. IsShortText timed.id.now) times.items) }
     {
         self.times.list(alloc)

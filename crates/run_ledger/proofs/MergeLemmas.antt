@@ -173,12 +173,12 @@ run_replaced rows sorted later earlier old new are is timed held merges =
     subst (λ (m : FinMap text_cmp ℕ). AreTimeEntries new (replaced earlier m)) same
     (replaced_entries earlier later (subst Strict (sym is) (longest_strict rows sorted are)) new held.each timed (merges (fin.entries earlier) (record { is = held.is; each = held.each })))
 
--- of what is kept of a run's rows
-pub summed_replaced : (rows : List Row) (later : List Timed) (earlier : FinMap text_cmp ℕ) (old new : List ℕ) → later ≡ fin.entries (times_of rows) → All IsTimed later → AreTimeEntries old earlier
-    → ((entries : List Timed) → AreOf old entries → new ≡ flat_map time_entry (merged entries later)) → AreTimeEntries new (replaced earlier (times_of rows))
-summed_replaced rows later earlier old new are timed held merges =
-    let same : fin.from_entries later ≡ times_of rows = ap fin.from_entries are ∙ from_own (times_of rows) in
-    let strict : Strict later = subst Strict (sym are) (keys_strict (fin.entries (times_of rows)) (keys_sorted (fin.entries (times_of rows)) (entries_sorted (times_of rows)))) in
+-- of the times that are kept of a run's rows
+pub summed_replaced : (kept : FinMap text_cmp ℕ) (later : List Timed) (earlier : FinMap text_cmp ℕ) (old new : List ℕ) → later ≡ fin.entries kept → All IsTimed later → AreTimeEntries old earlier
+    → ((entries : List Timed) → AreOf old entries → new ≡ flat_map time_entry (merged entries later)) → AreTimeEntries new (replaced earlier kept)
+summed_replaced kept later earlier old new are timed held merges =
+    let same : fin.from_entries later ≡ kept = ap fin.from_entries are ∙ from_own kept in
+    let strict : Strict later = subst Strict (sym are) (keys_strict (fin.entries kept) (keys_sorted (fin.entries kept) (entries_sorted kept))) in
     subst (λ (m : FinMap text_cmp ℕ). AreTimeEntries new (replaced earlier m)) same (replaced_entries earlier later strict new held.each timed (merges (fin.entries earlier) (record { is = held.is; each = held.each })))
 
 -- texts with times that are small enough

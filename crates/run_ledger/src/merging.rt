@@ -11,7 +11,7 @@ ghost use Rattle.outcome_fold.specs.Summed.{shown_time};
 ghost use Rattle.run_ledger.specs.Merging.{AreOf, BeginsWithEntry, below, not_below, past, merged};
 
 use crate::cutting::cut;
-use crate::entries::{Entries, are_entries};
+use crate::entries::Entries;
 use crate::longest::longest_times;
 use itoa::Buffer;
 use outcome_fold::{Rows, Summary, Timed};
@@ -48,10 +48,6 @@ pub(crate) fn replace_summed(
 {
     let later = summary.times(alloc)?;
     let bytes = merge(alloc, latest.bytes(), &later)?;
-    // They always are, but that is known only where it is known of which rows the summary is.
-    if !are_entries(&bytes) {
-        return Err(NoMemory);
-    }
     *latest = Entries::from_vec(bytes);
     Ok(())
 }
