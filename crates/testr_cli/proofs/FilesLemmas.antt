@@ -19,7 +19,9 @@ use Rattle.run_ledger.specs.Writing.{HasWritten}
 use Rattle.run_ledger.specs.declared.written_run.WrittenRun.{WrittenRun}
 use Rattle.run_shelf.proofs.DraftLemmas.{goes_grown_then}
 use Rattle.stream_reader.proofs.FrontLemmas.{are_both}
-use Rattle.outcome_fold.specs.declared.row.Row.{Row}
+use Rattle.outcome_fold.specs.Summed.{with_rows}
+use Rattle.outcome_fold.specs.declared.summary.Summary.{Summary}
+use Rattle.suite_run.specs.Summed.{GivesSums}
 use Rattle.worker_lane.specs.Recorded.{HasRecorded, IsRecorded}
 use Rattle.worker_lane.specs.Scribing.{Scribing, holding, Recording, HasNone}
 use Rattle.worker_lane.proofs.RecordingLemmas.{recording_ended, recording_whole}
@@ -142,7 +144,7 @@ module _ (lane : ℕ) (name : List ℕ) (before : Filed) (between after : Seen F
         size = pieces.size;
         run = pieces.run ++ more.run;
         recorded = subst (λ (n : ℕ). IsRecorded n pieces.bytes (pieces.run ++ more.run)) lane_is (recording_whole pieces.bytes (pieces.run ++ more.run) last (more.given.ended ∙ ap (λ (s : Scribing). s.held.ended) is) none whole);
-        folded = λ front has. subst (λ (l : List ℕ). HasWritten last_rows l) (append_assoc front pieces.run more.run) (more.folded (front ++ pieces.run) (pieces.folded front has));
+        folded = λ front has. subst (λ (l : List ℕ). HasWritten [] last_rows l) (append_assoc front pieces.run more.run) (more.folded (front ++ pieces.run) (pieces.folded front has));
         are_bytes = are_both pieces.run more.run pieces.are_bytes more.are_bytes;
         written = goes_grown_then before.folder.told between.told after.told pieces.run more.run pieces.written more.written;
         counts = record { folder = more.count ∙ pieces.counts.folder; site = pieces.counts.site };
@@ -155,13 +157,17 @@ module _ (lane : ℕ) (name : List ℕ) (before : Filed) (between after : Seen F
 
 -- ---- the choice of the source
 
-pub sources_input : (names : List (List ℕ)) (folder folder' : Seen Folder) (site : Seen Files) (input input' : Seen (List ℕ)) (result : Result (List Row) RecordFault) → length names ≤ 0 → Records (fed folder input) (fed folder' input') result → (spawner : Seen Spawning) (out : Seen (List ℕ)) → RecordsSources names (work folder site spawner input out) (work folder' site spawner input' out) result
-sources_input [] folder folder' site input input' result none records spawner out = record { at = records; rest = refl }
-sources_input (name ∷ names) folder folder' site input input' result none records spawner out = absurd (omega (arith, none))
+pub sources_input : (names : List (List ℕ)) (folder folder' : Seen Folder) (site : Seen Files) (input input' : Seen (List ℕ)) (result : Result Summary RecordFault) → length names ≤ 0 → GivesSums [] (Records (fed folder input) (fed folder' input')) result → GivesSums [] (λ rows. (spawner : Seen Spawning) (out : Seen (List ℕ)) → RecordsSources names (work folder site spawner input out) (work folder' site spawner input' out) rows) result
+sources_input [] folder folder' site input input' result none gives = record { rows = gives.rows; sums = gives.sums; holds = λ spawner out. record { at = gives.holds; rest = refl } }
+sources_input (name ∷ names) folder folder' site input input' result none gives = absurd (omega (arith, none))
 
-pub sources_files : (names given : List (List ℕ)) (folder folder' : Seen Folder) (site site' : Seen Files) (input : Seen (List ℕ)) (result : Result (List Row) RecordFault) → given ≡ names → 0 < length names → RecordsFiles given (filed folder site) (filed folder' site') result → (spawner : Seen Spawning) (out : Seen (List ℕ)) → RecordsSources names (work folder site spawner input out) (work folder' site' spawner input out) result
-sources_files [] given folder folder' site site' input result is some records spawner out = absurd (omega (arith, some))
-sources_files (name ∷ names) given folder folder' site site' input result is some records spawner out = record { at = subst (λ (l : List (List ℕ)). RecordsFiles l (filed folder site) (filed folder' site') result) is records; rest = refl }
+pub sources_files : (names given : List (List ℕ)) (folder folder' : Seen Folder) (site site' : Seen Files) (input : Seen (List ℕ)) (result : Result Summary RecordFault) → given ≡ names → 0 < length names → GivesSums [] (RecordsFiles given (filed folder site) (filed folder' site')) result → GivesSums [] (λ rows. (spawner : Seen Spawning) (out : Seen (List ℕ)) → RecordsSources names (work folder site spawner input out) (work folder' site' spawner input out) rows) result
+sources_files [] given folder folder' site site' input result is some gives = absurd (omega (arith, some))
+sources_files (name ∷ names) given folder folder' site site' input result is some gives = record {
+  rows = gives.rows;
+  sums = gives.sums;
+  holds = λ spawner out. record { at = subst (λ (l : List (List ℕ)). RecordsFiles l (filed folder site) (filed folder' site') (with_rows gives.rows result)) is gives.holds; rest = refl };
+}
 
 -- ---- one behind others
 

@@ -4,6 +4,7 @@ pub mod StepLemmas
 pub mod WordsLemmas
 pub mod ReadLemmas
 pub mod RowsLemmas
+pub mod SumLemmas
 pub mod RecordLemmas
 pub mod FilesLemmas
 pub mod SourcesLemmas

@@ -1,14 +1,15 @@
 -- What is recorded, one piece after another.
 use Rattle.std.proofs.Common.{◌≡◌, ℕ, ◌-◌, ◌<◌, Bool, true, false, Option, Some, None, List, [], ◌∷◌, ◌++◌, Result, Ok, Err, take, drop, refl, sym, ap, subst, ◌∙◌, append_assoc, length, length-append, arith}
 use Rattle.std.specs.Prelude.{IfSome, IfErr, IsErrAnd}
+use Rattle.std.specs.Io.KnownBytes.{Consumes}
 use Rattle.std.proofs.lemmas.List.{append-nil, drop_at, take_rest}
 use Rattle.std.proofs.lemmas.List.Elements.{All-nil, All-cons}
-use Rattle.std.proofs.lemmas.Result.{err_from_is_err_and}
 use Rattle.edge_io.specs.Causes.{Rose}
 use Rattle.edge_io.specs.Disk.{Folder}
 use Rattle.edge_io.specs.Seen.{Seen}
 use Rattle.edge_io.specs.Steps.{Goes, Grown}
 use Rattle.outcome_fold.specs.declared.row.Row.{Row}
+use Rattle.outcome_fold.specs.declared.summary.Summary.{Summary}
 use Rattle.packet_codec.specs.Canonical.{IsEvent, Fits, canonical}
 use Rattle.packet_codec.specs.Grammar.{AreBytes}
 use Rattle.packet_codec.specs.Packets.{ArePackets}
@@ -18,6 +19,7 @@ use Rattle.run_ledger.specs.declared.written_run.WrittenRun.{WrittenRun}
 use Rattle.run_shelf.specs.Drafts.{SameButDraft}
 use Rattle.run_shelf.proofs.DraftLemmas.{goes_grown_then}
 use Rattle.stream_reader.proofs.FrontLemmas.{are_both}
+use Rattle.suite_run.specs.Summed.{GivesSums}
 use Rattle.worker_lane.specs.Recorded.{IsRecorded}
 use Rattle.worker_lane.specs.Scribing.{Scribing, holding, Recording, GivesOne, GivesPacket, GivesPackets, HasNone}
 use Rattle.worker_lane.proofs.RecordingLemmas.{packets_none, packets_one, recording_ended, recording_whole}
@@ -25,6 +27,7 @@ use Rattle.testr_cli.specs.Outside.{Fed, fed}
 use Rattle.testr_cli.specs.Recording.{most_bytes, ReadsFew, ReadsTooMany, NoneFailed, WritesPackets, HasRecordCause, HasWriteCause, RecordsInput, RecordsPieces, RecordsAll, Records}
 use Rattle.testr_cli.specs.declared.recording.RecordFault.{RecordFault}
 use Rattle.testr_cli.specs.declared.recording.RecordFault.TheVariants.{Shelf, Input, TooLong, Site, NoFile, FileTooLong, NoMemory}
+use Rattle.testr_cli.proofs.SumLemmas.{gives_fault}
 
 -- ---- packets that are written
 
@@ -38,7 +41,7 @@ given_then x y z run packets g h = record {
 }
 
 -- the next ones behind those that were written
-pub writes_then : (a b c : Seen Folder) (x y z : Scribing) (p q r : WrittenRun) (packets : List ℕ) → WritesPackets a b x y p q → GivesPackets y [] z packets → AreBytes packets → Goes b.told c.told (Grown packets) → ((bytes : List ℕ) → HasWritten q bytes → HasWritten r (bytes ++ packets)) → c.faults ≡ b.faults → WritesPackets a c x z p r
+pub writes_then : (a b c : Seen Folder) (x y z : Scribing) (p q r : WrittenRun) (packets : List ℕ) → WritesPackets a b x y p q → GivesPackets y [] z packets → AreBytes packets → Goes b.told c.told (Grown packets) → ((bytes : List ℕ) → HasWritten [] q bytes → HasWritten [] r (bytes ++ packets)) → c.faults ≡ b.faults → WritesPackets a c x z p r
 writes_then a b c x y z p q r packets w given are written folded count = record {
   run = w.run ++ packets;
   given = given_then x y z w.run packets w.given given;
@@ -69,7 +72,7 @@ packet_appended before after old new slice start (event, g) start-is slice-is = 
 )
 
 -- nothing was gathered
-pub folds_nothing : (rows : WrittenRun) (packets run : List ℕ) → packets ≡ [] → HasWritten rows run → HasWritten rows (run ++ packets)
+pub folds_nothing : (rows : WrittenRun) (packets run : List ℕ) → packets ≡ [] → HasWritten [] rows run → HasWritten [] rows (run ++ packets)
 folds_nothing rows packets run none has = rw none (rw (append-nil run) has)
 
 -- ---- what is recorded
@@ -79,6 +82,14 @@ pub told_longer : (left after : Option (List ℕ)) → ReadsTooMany left after �
 told_longer None after reads = tt
 told_longer (Some all) None reads = absurd reads.read
 told_longer (Some all) (Some rest) reads = let size = ap length reads.read ∙ length-append reads.bytes rest in omega (arith, size, reads.many)
+
+-- nothing was read
+pub reads_none : (left : Option (List ℕ)) → ReadsFew left left
+reads_none left = record { bytes = []; read = none left; few = omega arith }
+  where
+    none : (left : Option (List ℕ)) → Consumes left left []
+    none None = tt
+    none (Some all) = refl
 
 -- a fault behind pieces that were recorded
 pub write_cause : (before : Fed) (folder between : Seen Folder) (input : Seen (List ℕ)) (fault : RecordFault) → NoneFailed before (fed between input) → HasWriteCause between folder fault → ReadsFew before.input.told input.told → HasRecordCause before (fed folder input) fault
@@ -95,10 +106,8 @@ pub caused_by : {A : Type 0} (before after : Fed) (result : Result A RecordFault
 caused_by before after (Ok done) fault is cause = tt
 caused_by before after (Err given) fault is cause = subst (HasRecordCause before after) (sym is) cause
 
-pub refused_by : (before after : Fed) (result : Result (List Row) RecordFault) (fault : RecordFault) → IsErrAnd result (λ given. given ≡ fault) → HasRecordCause before after fault → Goes before.folder.told after.folder.told SameButDraft → Records before after result
-refused_by before after result fault is cause rests =
-    let p = err_from_is_err_and result is in
-    subst (Records before after) (sym (p.1 ∙ ap Err p.2)) (record { recorded = tt; refused = cause; rests = rests })
+pub refused_by : (before after : Fed) (result : Result Summary RecordFault) (fault : RecordFault) → IsErrAnd result (λ given. given ≡ fault) → HasRecordCause before after fault → Goes before.folder.told after.folder.told SameButDraft → GivesSums [] (Records before after) result
+refused_by before after result fault is cause rests = gives_fault result fault is (record { recorded = tt; refused = cause; rests = rests })
 
 -- the end of the input, of which the last packets were written
 module _ (before : Fed) (between after : Seen Folder) (input : Seen (List ℕ)) (scribe ended last : Scribing) (rows : WrittenRun) (pieces : RecordsPieces before (fed between input) scribe rows) (packets : List ℕ) (given : GivesPackets ended [] last packets) (written : Goes between.told after.told (Grown packets)) (are : AreBytes packets) (count : after.faults ≡ between.faults) where

@@ -19,7 +19,9 @@ use Rattle.edge_io.specs.Spawners.{Spawning}
 use Rattle.edge_io.specs.Steps.{Goes}
 use Rattle.edge_io.specs.declared.job.Job.{Job}
 use Rattle.outcome_fold.specs.Rows.{rows_of}
+use Rattle.outcome_fold.specs.Summed.{Sums}
 use Rattle.outcome_fold.specs.declared.row.Row.{Row}
+use Rattle.outcome_fold.specs.declared.summary.Summary.{Summary}
 use Rattle.packet_codec.specs.Canonical.{canonical, canonical_size, largest_packet, IsEvent, Fits}
 use Rattle.packet_codec.specs.Lanes.{joined}
 use Rattle.packet_codec.specs.Routing.{under}
@@ -28,6 +30,7 @@ use Rattle.stream_reader.specs.declared.note.Note.TheVariants as note
 use Rattle.stream_reader.proofs.NotesLemmas.{packets_of, notes_of_packets, cut_of_written}
 use Rattle.stream_reader.proofs.TurnLemmas.{one_notes}
 use Rattle.suite_run.specs.Starting.{StartsAll}
+use Rattle.suite_run.specs.Summed.{GivesSums}
 use Rattle.worker_lane.specs.Recorded.{recorded_event, recorded_events, stdout_under, pieces_of}
 use Rattle.worker_lane.specs.Rest.{notes_of_stream, notes_are}
 use Rattle.worker_mux.specs.Outputs.{IsOutput, events_for, lists_from}
@@ -59,12 +62,17 @@ works_in_turn number jobs a b rows few works =
     let worked = work_did false number jobs a b rows few works in
     in_turn jobs worked.outputs worked.events rows a.spawner.told b.spawner.told worked.started worked.of_workers worked.rows_are
 
-pub ran_in_turn : (number : ℕ) (jobs : List Job) (folder left : Seen Folder) (spawner after : Seen Spawning) (result : Result (List Row) Refusal) → length jobs ≤ 64 → ((site : Seen Files) (input out : Seen (List ℕ)) → Works false number jobs (work folder site spawner input out) (work left site after input out) result) → IfOk result (λ rows. IfSome spawner.told (λ s. RunsInTurn jobs s rows))
-ran_in_turn number jobs folder left spawner after (Ok rows) few works =
+pub ran_in_turn : (number : ℕ) (filter_tags : List (List ℕ)) (jobs : List Job) (folder left : Seen Folder) (spawner after : Seen Spawning) (result : Result Summary Refusal) → filter_tags ≡ [] → length jobs ≤ 64
+    → GivesSums filter_tags (λ rows. (site : Seen Files) (input out : Seen (List ℕ)) → Works false number jobs (work folder site spawner input out) (work left site after input out) rows) result
+    → IfOk result (λ summary. (rows : List Row) × Sums [] rows summary × IfSome spawner.told (λ s. RunsInTurn jobs s rows))
+ran_in_turn number filter_tags jobs folder left spawner after (Ok summary) none_filters few gives =
     let site : Seen Files = record { told = None; faults = 0 } in
-    let none : Seen (List ℕ) = record { told = None; faults = 0 } in
-    works_in_turn number jobs (work folder site spawner none none) (work left site after none none) rows few (works site none none)
-ran_in_turn number jobs folder left spawner after (Err refusal) few works = tt
+    let none : Seen (List ℕ) = record { told = None; faults = 0 } in (
+      gives.rows,
+      subst (λ (tags : List (List ℕ)). Sums tags gives.rows summary) none_filters gives.sums,
+      works_in_turn number jobs (work folder site spawner none none) (work left site after none none) gives.rows few (gives.holds site none none),
+    )
+ran_in_turn number filter_tags jobs folder left spawner after (Err refusal) none_filters few gives = tt
 
 -- ---- one drawn worker
 

@@ -54,9 +54,8 @@ gives = record { answer = refl; same = refl }
 pub prints_as : {given text : List ℕ} {before after : Seen (List ℕ)} {result : Result (Unit {0}) PrintFault} → given ≡ text → Prints given before after result → Prints text before after result
 prints_as {before = before} {after = after} {result = result} same prints = subst (λ (l : List ℕ). Prints l before after result) same prints
 
-pub reports_as : {given number : ℕ} {given_tags tags : List (List ℕ)} {rows : List Row} {result : Result Told NoMemory} → given ≡ number → given_tags ≡ tags → Reports given given_tags rows result → Reports number tags rows result
-reports_as {number = number} {given_tags = given_tags} {rows = rows} {result = result} same tags_are reports =
-    subst (λ (t : List (List ℕ)). Reports number t rows result) tags_are (subst (λ (n : ℕ). Reports n given_tags rows result) same reports)
+pub reports_as : {given number : ℕ} {tags : List (List ℕ)} {rows : List Row} {result : Result Told NoMemory} → given ≡ number → Reports given tags rows result → Reports number tags rows result
+reports_as {tags = tags} {rows = rows} {result = result} same reports = subst (λ (n : ℕ). Reports n tags rows result) same reports
 
 -- the run behind others has the number of these
 pub refreshes_as : (given kinds : List Bool) (partial : Bool) {rows : List Row} {before after : Seen Folder} {result : Result (Unit {0}) TellFault} → given ≡ kinds ++ partial ∷ [] → Refreshes (length given - 1) rows before after result → Refreshes (length kinds) rows before after result

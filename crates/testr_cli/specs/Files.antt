@@ -63,7 +63,7 @@ pub record RecordsFilePieces (name : List ℕ) (before after : Filed) (scribe : 
   pub size : length bytes ≤ most_bytes
   pub run : List ℕ
   pub recording : Recording bytes scribe run
-  pub folded : (front : List ℕ) → HasWritten rows front → HasWritten read (front ++ run)
+  pub folded : (front : List ℕ) → HasWritten [] rows front → HasWritten [] read (front ++ run)
   pub are_bytes : AreBytes run
   pub written : Goes before.folder.told after.folder.told (Grown run)
   pub counts : NoneFailed before after
@@ -77,7 +77,7 @@ pub record RecordsFile (lane : ℕ) (name : List ℕ) (before after : Filed) (ro
   pub size : length bytes ≤ most_bytes
   pub run : List ℕ
   pub recorded : IsRecorded lane bytes run
-  pub folded : (front : List ℕ) → HasWritten rows front → HasWritten read (front ++ run)
+  pub folded : (front : List ℕ) → HasWritten [] rows front → HasWritten [] read (front ++ run)
   pub are_bytes : AreBytes run
   pub written : Goes before.folder.told after.folder.told (Grown run)
   pub counts : NoneFailed before after

@@ -65,7 +65,7 @@ pub record RecordsPieces (before after : Fed) (scribe : Scribing) (rows : Writte
   pub size : length bytes ≤ most_bytes
   pub run : List ℕ
   pub recording : Recording bytes scribe run
-  pub folded : HasWritten rows run
+  pub folded : HasWritten [] rows run
   pub are_bytes : AreBytes run
   pub written : Goes before.folder.told after.folder.told (Grown run)
   pub counts : NoneFailed before after
@@ -87,7 +87,7 @@ pub record WritesPackets (before after : Seen Folder) (scribe now : Scribing) (r
   pub given : GivesPackets scribe [] now run
   pub are_bytes : AreBytes run
   pub written : Goes before.told after.told (Grown run)
-  pub folded : (bytes : List ℕ) → HasWritten rows bytes → HasWritten folded_rows (bytes ++ run)
+  pub folded : (bytes : List ℕ) → HasWritten [] rows bytes → HasWritten [] folded_rows (bytes ++ run)
   pub count : after.faults ≡ before.faults
 
 -- what is recorded of the input was written behind the draft, and these are its rows

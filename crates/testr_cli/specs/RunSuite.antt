@@ -2,6 +2,7 @@
 use Rattle.std.specs.Prelude.{◌≡◌, ℕ, Bool, None, List, length, Result, Ok, Err, IfOk}
 use Rattle.edge_io.specs.declared.job.Job.{Job}
 use Rattle.outcome_fold.specs.declared.row.Row.{Row}
+use Rattle.outcome_fold.specs.declared.summary.Summary.{Summary}
 use Rattle.run_shelf.specs.Holds.{kinds_of}
 use Rattle.sub_number.specs.declared.memory.NoMemory.{NoMemory}
 use Rattle.testr_conf.specs.Jobs.{id_lines}
@@ -58,10 +59,10 @@ Works partial number jobs =
     Then Refresh (At work_folder (Refreshes number rows)) (λ _.
     Gives rows)))))
 
--- the answer, of what was done the rows alone
-abbrev pub rows_in : {E : Type 0} → Result Ran E → Result (List Row) E
-rows_in (Ok ran) = Ok ran.rows
-rows_in (Err refusal) = Err refusal
+-- the answer, of what was done what is kept of the rows alone
+abbrev pub summary_in : {E : Type 0} → Result Ran E → Result Summary E
+summary_in (Ok ran) = Ok ran.summary
+summary_in (Err refusal) = Err refusal
 
 -- the report of the run of these rows and this number is made and printed
 abbrev pub TellsRun : (number : ℕ) → (filter_tags : Ids) → List Row → Step Work Verdict Refusal

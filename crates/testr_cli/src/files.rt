@@ -7,13 +7,15 @@ ghost use Rattle.edge_io.specs.Steps.{Goes, HasDraft};
 ghost use Rattle.run_ledger.specs.Writing.{HasWritten};
 ghost use Rattle.run_shelf.specs.Drafts.{SameButDraft};
 ghost use Rattle.stream_reader.specs.Room.{most_held};
+ghost use Rattle.suite_run.specs.Summed.{GivesSums};
 ghost use Rattle.testr_cli.specs.Files.{RecordsSources, RecordsFiles, RecordsInTurn, RecordsFile, RecordsFilePieces, HasFileCause, HasFilesCause};
 ghost use Rattle.testr_cli.specs.Outside.{work, filed};
 ghost use Rattle.worker_lane.specs.Scribing.{Recording};
 
 use crate::recording::{RecordFault, record, write_packets};
 use edge_io::{Found, MOST_BYTES, PIECE, Shelf, Site, Source};
-use outcome_fold::Rows;
+use outcome_fold::Summary;
+use packet_codec::Tags;
 use run_ledger::WrittenRun;
 use std::alloc::Global;
 use std::str;
@@ -21,20 +23,20 @@ use sub_number::{IdList, Text};
 use worker_lane::Scribe;
 
 /// Records the input where no file is named, else the files, of which there are 64 at most, behind the draft that was begun,
-/// and gives the rows of what was written.
+/// and gives what is kept of the rows of what was written. No tag filters.
 pub fn record_sources<'a, H: Shelf, F: Site, I: Source>(
     alloc: Global,
     names: &'a IdList,
     shelf: &mut H,
     site: &mut F,
     input: &mut I,
-) -> Result<Rows, RecordFault<'a>>
+) -> Result<Summary, RecordFault<'a>>
     requires few { length names.now ≤ 64 }
     requires draft { HasDraft (H.seen shelf.old).told }
-    ensures step { (spawner : Seen Spawning) (out : Seen (List ℕ)) → RecordsSources names.now
+    ensures step { GivesSums [] (λ rows. (spawner : Seen Spawning) (out : Seen (List ℕ)) → RecordsSources names.now
         (work (H.seen shelf.old) (F.seen site.old) spawner (I.seen input.old) out)
         (work (H.seen shelf.new) (F.seen site.new) spawner (I.seen input.new) out)
-        result }
+        rows) result }
     ensures draft { OnOk result (HasDraft (H.seen shelf.new).told) }
     ensures rests { Goes (H.seen shelf.old).told (H.seen shelf.new).told SameButDraft }
 {
@@ -50,18 +52,17 @@ fn record_files<'a, H: Shelf, F: Site>(
     names: &'a [Text],
     shelf: &mut H,
     site: &mut F,
-) -> Result<Rows, RecordFault<'a>>
+) -> Result<Summary, RecordFault<'a>>
     requires few { length names.now ≤ 64 }
     requires draft { HasDraft (H.seen shelf.old).told }
-    ensures { RecordsFiles names.now
+    ensures { GivesSums [] (RecordsFiles names.now
         (filed (H.seen shelf.old) (F.seen site.old))
-        (filed (H.seen shelf.new) (F.seen site.new))
-        result }
+        (filed (H.seen shelf.new) (F.seen site.new))) result }
 {
-    let mut rows = WrittenRun::new(alloc);
-    record_each(alloc, names, shelf, site, &mut rows)?;
-    let rows = rows.close()?;
-    Ok(rows)
+    let mut run = WrittenRun::new(alloc, Tags::new(alloc));
+    record_each(alloc, names, shelf, site, &mut run)?;
+    let summary = run.close()?;
+    Ok(summary)
 }
 
 // Records each of the files, of which there are 64 at most, under the lane of its place.
@@ -70,15 +71,15 @@ fn record_each<'a, H: Shelf, F: Site>(
     names: &'a [Text],
     shelf: &mut H,
     site: &mut F,
-    rows: &mut WrittenRun,
+    run: &mut WrittenRun,
 ) -> Result<(), RecordFault<'a>>
     requires few { length names.now ≤ 64 }
     requires draft { HasDraft (H.seen shelf.old).told }
-    requires folded { HasWritten rows.old [] }
-    ensures recorded { OnOk result ((run : List ℕ) × RecordsInTurn names.now
+    requires folded { HasWritten [] run.old [] }
+    ensures recorded { OnOk result ((bytes : List ℕ) × RecordsInTurn names.now
         (filed (H.seen shelf.old) (F.seen site.old))
         (filed (H.seen shelf.new) (F.seen site.new))
-        run × HasWritten rows.new run) }
+        bytes × HasWritten [] run.new bytes) }
     ensures draft { OnOk result (HasDraft (H.seen shelf.new).told) }
     ensures rests { Goes (H.seen shelf.old).told (H.seen shelf.new).told SameButDraft }
     ensures files { (F.seen site.new).told ≡ (F.seen site.old).told }
@@ -89,7 +90,7 @@ fn record_each<'a, H: Shelf, F: Site>(
     let mut packets = Vec::new(alloc);
     let mut lane = 0;
     for name in names {
-        record_file(alloc, lane, name_of(name), shelf, site, rows, &mut packets)?;
+        record_file(alloc, lane, name_of(name), shelf, site, run, &mut packets)?;
         lane += 1;
     }
     Ok(())
@@ -112,7 +113,7 @@ fn record_file<'a, H: Shelf, F: Site>(
     name: &'a str,
     shelf: &mut H,
     site: &mut F,
-    rows: &mut WrittenRun,
+    run: &mut WrittenRun,
     packets: &mut Vec<u8>,
 ) -> Result<(), RecordFault<'a>>
     requires lane { lane < 64 }
@@ -121,7 +122,7 @@ fn record_file<'a, H: Shelf, F: Site>(
     ensures recorded { OnOk result (RecordsFile lane name.now
         (filed (H.seen shelf.old) (F.seen site.old))
         (filed (H.seen shelf.new) (F.seen site.new))
-        rows.old rows.new) }
+        run.old run.new) }
     ensures draft { OnOk result (HasDraft (H.seen shelf.new).told) }
     ensures empty { OnOk result (packets.new.items ≡ []) }
     ensures rests { Goes (H.seen shelf.old).told (H.seen shelf.new).told SameButDraft }
@@ -131,9 +132,9 @@ fn record_file<'a, H: Shelf, F: Site>(
         (filed (H.seen shelf.new) (F.seen site.new))) }
 {
     let mut scribe = Scribe::new(alloc, lane)?;
-    record_pieces(name, shelf, site, &mut scribe, rows, packets)?;
+    record_pieces(name, shelf, site, &mut scribe, run, packets)?;
     scribe.finish();
-    write_packets(shelf, &mut scribe, rows, packets)
+    write_packets(shelf, &mut scribe, run, packets)
 }
 
 // Records the file piece by piece, up to its end, which the scribe is not told.
@@ -142,7 +143,7 @@ fn record_pieces<'a, H: Shelf, F: Site>(
     shelf: &mut H,
     site: &mut F,
     scribe: &mut Scribe,
-    rows: &mut WrittenRun,
+    run: &mut WrittenRun,
     packets: &mut Vec<u8>,
 ) -> Result<(), RecordFault<'a>>
     requires draft { HasDraft (H.seen shelf.old).told }
@@ -153,7 +154,7 @@ fn record_pieces<'a, H: Shelf, F: Site>(
     ensures recorded { OnOk result (RecordsFilePieces name.now
         (filed (H.seen shelf.old) (F.seen site.old))
         (filed (H.seen shelf.new) (F.seen site.new))
-        scribe.new rows.old rows.new) }
+        scribe.new run.old run.new) }
     ensures draft { OnOk result (HasDraft (H.seen shelf.new).told) }
     ensures lane { OnOk result (scribe.new.lane ≡ scribe.old.lane) }
     ensures empty { OnOk result (packets.new.items ≡ []) }
@@ -180,6 +181,6 @@ fn record_pieces<'a, H: Shelf, F: Site>(
             return Err(RecordFault::FileTooLong(name));
         }
         scribe.feed(&piece[..count]);
-        write_packets(shelf, scribe, rows, packets)?;
+        write_packets(shelf, scribe, run, packets)?;
     }
 }

@@ -8,18 +8,18 @@ ghost use Rattle.edge_io.specs.Spawners.{Spawning};
 
 use crate::files::record_sources;
 use crate::refreshing::refresh;
-use crate::reporting::{print, report_rows};
+use crate::reporting::{print, report_kept};
 use crate::store::{begin, keep, open, take_run};
 use crate::{Refusal, Verdict};
 use edge_io::{Shelf, Sink, Site, Source};
-use packet_codec::Tags;
 use std::alloc::Global;
 use std::mem::forget;
 use sub_number::IdList;
 
 /// Reads the sources to their ends, one after another, keeps what is recorded of them as the next run, brings the caches up
 /// to it, and prints the run's report. They are the files of these names, of which there are 64 at most, or the input where
-/// there are none. What is recorded is written as it is read, and the report is made before the run is kept.
+/// there are none. What is recorded is written as it is read, and summed up; the report is made before the run is
+/// kept.
 pub fn load<'a, H: Shelf, F: Site, I: Source, O: Sink>(
     alloc: Global,
     partial: bool,
@@ -38,14 +38,14 @@ pub fn load<'a, H: Shelf, F: Site, I: Source, O: Sink>(
     let mut found = open(alloc, shelf)?;
     take_run(&found)?;
     begin(shelf)?;
-    let rows = record_sources(alloc, names, shelf, site, input)?;
-    let report = report_rows(alloc, found.runs(), &Tags::new(alloc), &rows)?;
+    let summary = record_sources(alloc, names, shelf, site, input)?;
+    let report = report_kept(alloc, found.runs(), &summary)?;
     keep(shelf, &mut found, partial)?;
-    if let Err(fault) = refresh(alloc, shelf, found, &rows) {
+    if let Err(fault) = refresh(alloc, shelf, found, &summary) {
         return Err(Refusal::Refresh(fault));
     }
     print(out, &report.text)?;
     // The program ends here, and the system takes the memory back in one piece.
-    forget(rows);
+    forget(summary);
     Ok(report.verdict)
 }

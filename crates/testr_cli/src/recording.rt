@@ -8,6 +8,7 @@ ghost use Rattle.packet_codec.specs.Grammar.{AreBytes};
 ghost use Rattle.run_ledger.specs.Writing.{HasWritten};
 ghost use Rattle.run_shelf.specs.Drafts.{SameButDraft};
 ghost use Rattle.stream_reader.specs.Room.{most_held};
+ghost use Rattle.suite_run.specs.Summed.{GivesSums};
 ghost use Rattle.testr_cli.specs.Outside.{fed};
 ghost use Rattle.testr_cli.specs.Recording.{Records, RecordsPieces, WritesPackets, IsOneMore, most_gathered, HasRecordCause, HasWriteCause, record_code, record_text};
 ghost use Rattle.testr_cli.specs.Telling.{line_text};
@@ -16,7 +17,8 @@ ghost use Rattle.worker_lane.specs.Scribing.{Recording, GivesPacket, GivesPacket
 
 use crate::telling::{Line, Part};
 use edge_io::{Failed, MOST_BYTES, PIECE, Shelf, Source};
-use outcome_fold::Rows;
+use outcome_fold::Summary;
+use packet_codec::Tags;
 use run_ledger::WrittenRun;
 use run_shelf::{ShelfCall, add_packet};
 use std::alloc::Global;
@@ -101,27 +103,26 @@ impl<'a> From<sub_number::NoMemory> for RecordFault<'a> {
     }
 }
 
-/// Records the input under lane 0, behind the draft that was begun, and gives the rows of what was written. It is read in
-/// pieces, to its end.
+/// Records the input under lane 0, behind the draft that was begun, and gives what is kept of the rows of what was written.
+/// No tag filters. It is read in pieces, to its end.
 pub fn record<H: Shelf, I: Source>(
     alloc: Global,
     shelf: &mut H,
     input: &mut I,
-) -> Result<Rows, RecordFault<'static>>
+) -> Result<Summary, RecordFault<'static>>
     requires { HasDraft (H.seen shelf.old).told }
-    ensures { Records
+    ensures { GivesSums [] (Records
         (fed (H.seen shelf.old) (I.seen input.old))
-        (fed (H.seen shelf.new) (I.seen input.new))
-        result }
+        (fed (H.seen shelf.new) (I.seen input.new))) result }
 {
     let mut scribe = Scribe::new(alloc, 0)?;
-    let mut rows = WrittenRun::new(alloc);
+    let mut run = WrittenRun::new(alloc, Tags::new(alloc));
     let mut packets = Vec::new(alloc);
-    record_pieces(shelf, input, &mut scribe, &mut rows, &mut packets)?;
+    record_pieces(shelf, input, &mut scribe, &mut run, &mut packets)?;
     scribe.finish();
-    write_packets(shelf, &mut scribe, &mut rows, &mut packets)?;
-    let rows = rows.close()?;
-    Ok(rows)
+    write_packets(shelf, &mut scribe, &mut run, &mut packets)?;
+    let summary = run.close()?;
+    Ok(summary)
 }
 
 // Records the input piece by piece, up to its end, which the scribe is not told.
@@ -129,19 +130,19 @@ fn record_pieces<H: Shelf, I: Source>(
     shelf: &mut H,
     input: &mut I,
     scribe: &mut Scribe,
-    rows: &mut WrittenRun,
+    run: &mut WrittenRun,
     packets: &mut Vec<u8>,
 ) -> Result<(), RecordFault<'static>>
     requires draft { HasDraft (H.seen shelf.old).told }
     requires going_on { scribe.old.held.ended ≡ false }
     requires held { length scribe.old.held.bytes ≤ most_held }
     requires recording { Recording [] scribe.old [] }
-    requires folded { HasWritten rows.old [] }
+    requires folded { HasWritten [] run.old [] }
     requires empty { packets.old.items ≡ [] }
     ensures recorded { OnOk result (RecordsPieces
         (fed (H.seen shelf.old) (I.seen input.old))
         (fed (H.seen shelf.new) (I.seen input.new))
-        scribe.new rows.new) }
+        scribe.new run.new) }
     ensures draft { OnOk result (HasDraft (H.seen shelf.new).told) }
     ensures lane { OnOk result (scribe.new.lane ≡ scribe.old.lane) }
     ensures empty { OnOk result (packets.new.items ≡ []) }
@@ -162,7 +163,7 @@ fn record_pieces<H: Shelf, I: Source>(
             return Err(RecordFault::TooLong);
         }
         scribe.feed(&piece[..count]);
-        write_packets(shelf, scribe, rows, packets)?;
+        write_packets(shelf, scribe, run, packets)?;
     }
 }
 
@@ -170,12 +171,12 @@ fn record_pieces<H: Shelf, I: Source>(
 pub(crate) fn write_packets<'a, H: Shelf>(
     shelf: &mut H,
     scribe: &mut Scribe,
-    rows: &mut WrittenRun,
+    run: &mut WrittenRun,
     packets: &mut Vec<u8>,
 ) -> Result<(), RecordFault<'a>>
     requires draft { HasDraft (H.seen shelf.old).told }
     requires empty { packets.old.items ≡ [] }
-    ensures written { OnOk result (WritesPackets (H.seen shelf.old) (H.seen shelf.new) scribe.old scribe.new rows.old rows.new) }
+    ensures written { OnOk result (WritesPackets (H.seen shelf.old) (H.seen shelf.new) scribe.old scribe.new run.old run.new) }
     ensures none { OnOk result (HasNone scribe.new) }
     ensures held { OnOk result (scribe.new.held.ended ≡ false → length scribe.new.held.bytes ≤ most_held) }
     ensures empty { OnOk result (packets.new.items ≡ []) }
@@ -184,7 +185,7 @@ pub(crate) fn write_packets<'a, H: Shelf>(
     ensures refused { IfErr result (HasWriteCause (H.seen shelf.old) (H.seen shelf.new)) }
 {
     loop {
-        let more = gather_packets(scribe, rows, packets)?;
+        let more = gather_packets(scribe, run, packets)?;
         write_gathered(shelf, packets)?;
         if !more {
             return Ok(());
@@ -196,19 +197,19 @@ pub(crate) fn write_packets<'a, H: Shelf>(
 // They are folded as they are given.
 fn gather_packets(
     scribe: &mut Scribe,
-    rows: &mut WrittenRun,
+    run: &mut WrittenRun,
     packets: &mut Vec<u8>,
 ) -> Result<bool, sub_number::NoMemory>
     requires { packets.old.items ≡ [] }
     ensures given { GivesPackets scribe.old [] scribe.new packets.new.items }
-    ensures folded { (run : List ℕ) → HasWritten rows.old run → OnOk result (HasWritten rows.new (run ++ packets.new.items)) }
+    ensures folded { (bytes : List ℕ) → HasWritten [] run.old bytes → OnOk result (HasWritten [] run.new (bytes ++ packets.new.items)) }
     ensures shorter { IfOk result (λ more. more ≡ true → most_left scribe.new < most_left scribe.old) }
     ensures one_more { IfOk result (λ more. more ≡ true → IsOneMore scribe.new packets.new.items) }
     ensures none { IfOk result (λ more. more ≡ false → HasNone scribe.new) }
     ensures held { IfOk result (λ more. more ≡ false → scribe.new.held.ended ≡ false → length scribe.new.held.bytes ≤ most_held) }
     ensures few { IfOk result (λ more. more ≡ false → length packets.new.items < most_gathered) }
 {
-    while gather_next(scribe, rows, packets)? {
+    while gather_next(scribe, run, packets)? {
         if packets.len() >= PIECE {
             return Ok(true);
         }
@@ -219,12 +220,12 @@ fn gather_packets(
 // Appends the next packet, folds it from where it stands then, and answers true; false where no more are decided by now.
 fn gather_next(
     scribe: &mut Scribe,
-    rows: &mut WrittenRun,
+    run: &mut WrittenRun,
     packets: &mut Vec<u8>,
 ) -> Result<bool, sub_number::NoMemory>
     ensures given { GivesPackets scribe.old packets.old.items scribe.new packets.new.items }
     ensures one { IfOk result (λ more. more ≡ true → GivesPacket scribe.old packets.old.items scribe.new packets.new.items) }
-    ensures folded { (run : List ℕ) → HasWritten rows.old (run ++ packets.old.items) → OnOk result (HasWritten rows.new (run ++ packets.new.items)) }
+    ensures folded { (bytes : List ℕ) → HasWritten [] run.old (bytes ++ packets.old.items) → OnOk result (HasWritten [] run.new (bytes ++ packets.new.items)) }
     ensures shorter { IfOk result (λ more. more ≡ true → most_left scribe.new < most_left scribe.old) }
     ensures none { IfOk result (λ more. more ≡ false → HasNone scribe.old × (scribe.new ≡ scribe.old) × (packets.new.items ≡ packets.old.items)) }
 {
@@ -232,7 +233,7 @@ fn gather_next(
     if !scribe.next_into(packets)? {
         return Ok(false);
     }
-    rows.hear(&packets[start..])?;
+    run.hear(&packets[start..])?;
     Ok(true)
 }
 

@@ -1,8 +1,10 @@
 //! Brings the caches up to the runs.
 
-ghost use Rattle.std.specs.Prelude.{◌≡◌, ◌<◌, ◌-◌, None, length, OnOk};
+ghost use Rattle.std.specs.Prelude.{◌≡◌, ◌<◌, ◌-◌, ℕ, None, List, length, OnOk};
 ghost use Rattle.edge_io.specs.Causes.{RisesExactlyIf};
 ghost use Rattle.edge_io.specs.Steps.{Goes};
+ghost use Rattle.outcome_fold.specs.Summed.{Sums};
+ghost use Rattle.outcome_fold.specs.declared.row.Row.{Row as ARow};
 ghost use Rattle.run_ledger.specs.Cached.{ReadsSound};
 ghost use Rattle.run_ledger.specs.Ledger.{HasRowsAt};
 ghost use Rattle.run_ledger.specs.Refreshing.{PutsCaches, KeepsSound};
@@ -13,24 +15,24 @@ ghost use Rattle.testr_cli.specs.Told.{tell_failed};
 
 use crate::told::{TellFault, hand_back, ledger_refusal};
 use edge_io::Shelf;
-use outcome_fold::Rows;
+use outcome_fold::Summary;
 use run_ledger::refresh_behind;
 use run_shelf::{Found, Store};
 use std::alloc::Global;
 
-/// Brings the caches up to the runs that were found, of whose last one these are the rows.
+/// Brings the caches up to the runs that were found, of the rows of whose last one this is kept.
 pub fn refresh<H: Shelf>(
     alloc: Global,
     shelf: &mut H,
     found: Found,
-    rows: &Rows,
+    summary: &Summary,
 ) -> Result<(), TellFault>
     requires some { 0 < length (kinds_of found) }
     requires fits { FitsWhereTold (kinds_of found) (H.seen shelf.old).told }
-    ensures { Refreshes (length (kinds_of found) - 1) rows.now (H.seen shelf.old) (H.seen shelf.new) result }
+    ensures { (filter_tags : List (List ℕ)) (rows : List ARow) → Sums filter_tags rows summary.now → Refreshes (length (kinds_of found) - 1) rows (H.seen shelf.old) (H.seen shelf.new) result }
 {
     let mut store = Store::attach(shelf, found);
-    let refreshed = refresh_store(alloc, &mut store, rows);
+    let refreshed = refresh_store(alloc, &mut store, summary);
     hand_back(store.into_shelf());
     refreshed
 }
@@ -38,15 +40,15 @@ pub fn refresh<H: Shelf>(
 fn refresh_store<H: Shelf>(
     alloc: Global,
     store: &mut Store<'_, H>,
-    rows: &Rows,
+    summary: &Summary,
 ) -> Result<(), TellFault>
     requires unbroken { store_fault store.old ≡ None }
     requires some { 0 < length (store_kinds store.old) }
     requires fits { FitsUnlessBroken (store_kinds store.old) (store_fault store.old) (H.seen store.old.shelf.now).told }
     ensures same_reference { store.new.shelf.ghost_name ≡ store.old.shelf.ghost_name }
-    ensures step { Refreshes (length (store_kinds store.old) - 1) rows.now (H.seen store.old.shelf.now) (H.seen store.new.shelf.now) result }
+    ensures step { (filter_tags : List (List ℕ)) (rows : List ARow) → Sums filter_tags rows summary.now → Refreshes (length (store_kinds store.old) - 1) rows (H.seen store.old.shelf.now) (H.seen store.new.shelf.now) result }
 {
-    match refresh_behind(alloc, store, rows) {
+    match refresh_behind(alloc, store, summary) {
         Ok(()) => Ok(()),
         Err(fault) => Err(ledger_refusal(fault)),
     }

@@ -3,6 +3,8 @@
 ghost use Rattle.std.specs.Prelude.{◌≡◌, [], ℕ, List, All, IfOk};
 ghost use Rattle.std.specs.List.{list_any};
 ghost use Rattle.outcome_fold.specs.Answers.{row_fails};
+ghost use Rattle.outcome_fold.specs.Summed.{Sums};
+ghost use Rattle.outcome_fold.specs.declared.row.Row.{Row as ARow};
 ghost use Rattle.sub_text.specs.Texts.{report_of};
 ghost use Rattle.testr_cli.specs.Verdicts.{verdict_of};
 ghost use Rattle.testr_cli.specs.Reporting.{Reports, Prints, print_text};
@@ -12,26 +14,22 @@ use crate::Verdict;
 use crate::telling::Line;
 use crate::told::Told;
 use edge_io::{Failed, Sink, write_whole};
-use outcome_fold::{Row, Rows};
+use outcome_fold::{Row, Rows, Summary};
 use packet_codec::Tags;
 use std::alloc::Global;
 use sub_number::NoMemory;
-use sub_text::report_text;
+use sub_text::{report_from, report_text};
 
-/// The report of the run of these rows and this number, and its verdict. Tests that do not fail and have one of the tags are
-/// not counted.
-pub fn report_rows(
-    alloc: Global,
-    number: u32,
-    filter_tags: &Tags,
-    rows: &Rows,
-) -> Result<Told, NoMemory>
-    ensures { Reports number filter_tags.now rows.now result }
+/// The report of the run of this number, of whose rows this is kept, and its verdict. Tests that do not fail and have one of
+/// the tags that filter it are not counted.
+pub fn report_kept(alloc: Global, number: u32, summary: &Summary) -> Result<Told, NoMemory>
+    ensures { (filter_tags : List (List ℕ)) (rows : List ARow) → Sums filter_tags rows summary.now → Reports number filter_tags rows result }
 {
-    let text = tagged_report(alloc, rows, number, filter_tags)?;
+    let mut text = Vec::new(alloc);
+    report_from(summary.failing(), summary.counts(), number, &mut text)?;
     Ok(Told {
         text,
-        verdict: verdict(rows),
+        verdict: verdict_kept(summary),
     })
 }
 
@@ -66,20 +64,8 @@ pub fn print<O: Sink>(out: &mut O, text: &[u8]) -> Result<(), PrintFault>
 pub fn report(alloc: Global, rows: &Rows, number: u32) -> Result<Vec<u8>, NoMemory>
     ensures { IfOk result (λ text. text.items ≡ report_of rows.now number []) }
 {
-    tagged_report(alloc, rows, number, &Tags::new(alloc))
-}
-
-// The text of the report of these rows.
-fn tagged_report(
-    alloc: Global,
-    rows: &Rows,
-    number: u32,
-    filter_tags: &Tags,
-) -> Result<Vec<u8>, NoMemory>
-    ensures { IfOk result (λ text. text.items ≡ report_of rows.now number filter_tags.now) }
-{
     let mut text = Vec::new(alloc);
-    report_text(rows, number, filter_tags, &mut text)?;
+    report_text(rows, number, &Tags::new(alloc), &mut text)?;
     Ok(text)
 }
 
@@ -99,4 +85,15 @@ fn one_fails(rows: &[Row]) -> bool
     ensures { result ≡ list_any row_fails rows.now }
 {
     rows.iter().any(|row| row.ended.fails())
+}
+
+/// Whether the tests passed, by what is kept of their rows.
+pub fn verdict_kept(summary: &Summary) -> Verdict
+    ensures { (filter_tags : List (List ℕ)) (rows : List ARow) → Sums filter_tags rows summary.now → result ≡ verdict_of rows }
+{
+    if summary.failing().is_empty() {
+        Verdict::Passed
+    } else {
+        Verdict::Failed
+    }
 }

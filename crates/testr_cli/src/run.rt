@@ -3,6 +3,8 @@
 ghost use Rattle.std.specs.Prelude.{◌≡◌, ℕ, List, IfOk};
 ghost use Rattle.edge_io.specs.Disk.{Folder};
 ghost use Rattle.edge_io.specs.Seen.{Seen};
+ghost use Rattle.outcome_fold.specs.Summed.{Sums};
+ghost use Rattle.outcome_fold.specs.declared.row.Row.{Row as ARow};
 ghost use Rattle.testr_cli.specs.Outside.{work};
 ghost use Rattle.testr_cli.specs.RunSuite.{RunsBy, TellsRun, compiled_in};
 ghost use Rattle.testr_cli.specs.Suites.{run_options, is_part};
@@ -10,24 +12,25 @@ ghost use Rattle.suite_plan.specs.Patterns.{Compiles};
 
 use crate::command::Command;
 use crate::planning::plan;
-use crate::reporting::{print, report_rows};
+use crate::reporting::{print, report_kept};
 use crate::selecting::select;
 use crate::store::{open, take_run};
 use crate::working::run_workers;
 use crate::{Refusal, Verdict};
 use edge_io::{Shelf, Sink, Site, Spawner};
-use outcome_fold::Rows;
+use outcome_fold::Summary;
 use packet_codec::Tags;
 use std::alloc::Global;
 use std::mem::forget;
 use std::sync::Wait;
 use std::thread::Threads;
+use sub_number::NoMemory;
 use suite_plan::{Compiled, PatternRefusal, compile};
 use testr_conf::Conf;
 
 /// Runs the tests that the command selects, by the project's configuration, in worker processes that are read side by side;
-/// keeps what is recorded of them as the next run; brings the caches up to it; and prints the run's report, of the rows that
-/// were told as it was recorded. It may wait for the workers.
+/// keeps what is recorded of them as the next run; brings the caches up to it; and prints the run's report, by what is kept
+/// of the rows that were told as it was recorded. It may wait for the workers.
 pub fn run<'a, R: Threads + Wait + Sync, H: Shelf, S: Spawner, F: Site, O: Sink>(
     rt: &R,
     alloc: Global,
@@ -58,10 +61,19 @@ pub fn run<'a, R: Threads + Wait + Sync, H: Shelf, S: Spawner, F: Site, O: Sink>
         site,
     )?;
     let jobs = plan(alloc, conf, &asked.compiled.groups, selected, shelf, &found)?;
-    let rows = run_workers(rt, alloc, &jobs, asked.partial, shelf, found, spawner)?;
-    let answer = tell_run(alloc, number, conf.filter_tags(), &rows, out);
+    let summary = run_workers(
+        rt,
+        alloc,
+        &jobs,
+        asked.partial,
+        shelf,
+        found,
+        spawner,
+        asked.filter_tags,
+    )?;
+    let answer = tell_run(alloc, number, &summary, out);
     // The program ends here, and the system takes the memory back in one piece.
-    forget(rows);
+    forget(summary);
     answer
 }
 
@@ -72,6 +84,8 @@ struct Asked {
     compiled: Compiled,
     // The run is of a part of the tests.
     partial: bool,
+    // The tags of the configuration, whose tests are not counted.
+    filter_tags: Tags,
 }
 
 fn read_asked<'a>(
@@ -80,13 +94,32 @@ fn read_asked<'a>(
     conf: &'a Conf,
 ) -> Result<Asked, PatternRefusal<'a>>
     ensures compiled { Compiles command.now.names conf.now.group_regex (compiled_in result) }
+    ensures filter_tags { IfOk result (λ asked. asked.filter_tags ≡ conf.now.filter_tags) }
     ensures partial { IfOk result (λ asked. asked.partial ≡ is_part command.now.partial command.now.failing command.now.load_list command.now.names) }
 {
     let partial = is_partial(command);
     match compile(alloc, &command.names, conf.group_regex()) {
-        Ok(compiled) => Ok(Asked { compiled, partial }),
+        Ok(compiled) => match copied(alloc, conf.filter_tags()) {
+            Ok(filter_tags) => Ok(Asked {
+                compiled,
+                partial,
+                filter_tags,
+            }),
+            Err(NoMemory) => Err(PatternRefusal::NoMemory),
+        },
         Err(refusal) => Err(refusal),
     }
+}
+
+// A copy of the tags.
+fn copied(alloc: Global, tags: &Tags) -> Result<Tags, NoMemory>
+    ensures { IfOk result (λ copy. copy ≡ tags.now) }
+{
+    let mut copy = Tags::new(alloc);
+    for tag in tags.list() {
+        copy.push(tag.copy()?)?;
+    }
+    Ok(copy)
 }
 
 // Whether the run is of a part of the tests: it is called so, or its tests are chosen.
@@ -99,20 +132,19 @@ fn is_partial(command: &Command) -> bool
         || !command.names.list().is_empty()
 }
 
-// Makes the report of the run of these rows and this number, which is kept, and prints it.
+// Makes the report of the run of this number, which is kept, and of whose rows this is; and prints it.
 fn tell_run<O: Sink>(
     alloc: Global,
     number: u32,
-    filter_tags: &Tags,
-    rows: &Rows,
+    summary: &Summary,
     out: &mut O,
 ) -> Result<Verdict, Refusal<'static>>
-    ensures { (folder : Seen Folder) → (site : _) → (spawner : _) → (input : Seen (List ℕ)) → TellsRun number filter_tags.now rows.now
+    ensures { (folder : Seen Folder) → (site : _) → (spawner : _) → (input : Seen (List ℕ)) → (filter_tags : List (List ℕ)) (rows : List ARow) → Sums filter_tags rows summary.now → TellsRun number filter_tags rows
         (work folder site spawner input (O.seen out.old))
         (work folder site spawner input (O.seen out.new))
         result }
 {
-    let report = match report_rows(alloc, number, filter_tags, rows) {
+    let report = match report_kept(alloc, number, summary) {
         Ok(report) => report,
         Err(fault) => return Err(Refusal::Report(fault)),
     };

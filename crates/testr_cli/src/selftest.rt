@@ -1,13 +1,15 @@
 //! `testr selftest`.
 
-ghost use Rattle.std.specs.Prelude.{◌≡◌, ◌≤◌, true, ℕ, List, length, IfOk, IfSome};
+ghost use Rattle.std.specs.Prelude.{◌≡◌, ◌≤◌, true, ℕ, List, [], length, IfOk, IfSome};
 ghost use Rattle.edge_io.specs.Seen.{Seen};
+ghost use Rattle.outcome_fold.specs.Summed.{Sums};
+ghost use Rattle.outcome_fold.specs.declared.row.Row.{Row as ARow};
 ghost use Rattle.testr_cli.specs.Drawings.{are_few};
 ghost use Rattle.testr_cli.specs.Outside.{work};
 ghost use Rattle.testr_cli.specs.SelfTest.{TestsItself, SumsUp, RunsInTurn, rows_in_turn};
 
 use crate::drawing::Drawing;
-use crate::reporting::{print, verdict};
+use crate::reporting::{print, verdict_kept};
 use crate::store::{make, open, take_run};
 use crate::told::Told;
 use crate::working::run_workers;
@@ -15,13 +17,13 @@ use crate::{Refusal, Verdict};
 use drawn_lanes::plans;
 use edge_io::{Job, MemShelf, PlanSpawner, Shelf, Sink, Spawner};
 use itoa::Buffer;
-use outcome_fold::Rows;
+use outcome_fold::Summary;
 use packet_codec::Tags;
 use std::alloc::Global;
 use std::sync::Wait;
 use std::thread::Threads;
 use sub_number::{Bytes, NoMemory};
-use sub_text::summary_text;
+use sub_text::summary_from;
 
 /// Runs workers whose outputs are made up, in memory, as `testr run` runs those of a project; and prints the summary of
 /// that run. It may wait for the threads that read them.
@@ -51,30 +53,30 @@ fn sum_up<R: Threads + Wait + Sync>(
     requires few { are_few drawing.lanes drawing.tests ≡ true }
     ensures { SumsUp drawing result }
 {
-    let rows = drawn_rows(rt, alloc, drawing)?;
+    let summary = drawn_summary(rt, alloc, drawing)?;
     let mut text = Vec::new(alloc);
-    summary_text(&rows, 0, &Tags::new(alloc), &mut text)?;
+    summary_from(summary.counts(), 0, &mut text)?;
     Ok(Told {
         text,
-        verdict: verdict(&rows),
+        verdict: verdict_kept(&summary),
     })
 }
 
-// The rows of the drawing's workers. What is in memory fails only for want of memory.
-fn drawn_rows<R: Threads + Wait + Sync>(
+// What is kept of the rows of the drawing's workers. What is in memory fails only for want of memory.
+fn drawn_summary<R: Threads + Wait + Sync>(
     rt: &R,
     alloc: Global,
     drawing: Drawing,
-) -> Result<Rows, NoMemory>
+) -> Result<Summary, NoMemory>
     requires few { are_few drawing.lanes drawing.tests ≡ true }
-    ensures { IfOk result (λ rows. rows ≡ rows_in_turn drawing) }
+    ensures { IfOk result (Sums [] (rows_in_turn drawing)) }
 {
     let plans = plans(alloc, drawing.seed, drawing.lanes, drawing.tests)?;
     let jobs = lane_jobs(alloc, drawing.lanes)?;
     let mut spawner = PlanSpawner::new(alloc, plans, Vec::new(alloc));
     let mut shelf = MemShelf::new(alloc, Vec::new(alloc));
     match run_drawn(rt, alloc, &jobs, &mut shelf, &mut spawner) {
-        Ok(rows) => Ok(rows),
+        Ok(summary) => Ok(summary),
         Err(_) => Err(NoMemory),
     }
 }
@@ -104,12 +106,13 @@ fn run_drawn<R: Threads + Wait + Sync, H: Shelf, S: Spawner>(
     jobs: &[Job],
     shelf: &mut H,
     spawner: &mut S,
-) -> Result<Rows, Refusal<'static>>
+) -> Result<Summary, Refusal<'static>>
     requires few { length jobs.now ≤ 64 }
-    ensures { IfOk result (λ rows. IfSome (S.seen spawner.old).told (λ s. RunsInTurn jobs.now s rows)) }
+    ensures { IfOk result (λ summary. (rows : List ARow) × Sums [] rows summary × IfSome (S.seen spawner.old).told (λ s. RunsInTurn jobs.now s rows)) }
 {
     make(shelf)?;
     let found = open(alloc, shelf)?;
     take_run(&found)?;
-    run_workers(rt, alloc, jobs, false, shelf, found, spawner)
+    let filter_tags = Tags::new(alloc);
+    run_workers(rt, alloc, jobs, false, shelf, found, spawner, filter_tags)
 }

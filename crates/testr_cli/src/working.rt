@@ -4,18 +4,21 @@ ghost use Rattle.std.specs.Prelude.{◌≡◌, ◌≤◌, ◌<◌, ◌++◌, ◌
 ghost use Rattle.std.specs.List.{range_with_len};
 ghost use Rattle.edge_io.specs.Steps.{HasDraft};
 ghost use Rattle.suite_run.specs.Recording.{RecordsLanes};
+ghost use Rattle.suite_run.specs.Summed.{GivesSums};
 ghost use Rattle.worker_lane.specs.Lanes.{rest, lane_number};
+ghost use Rattle.edge_io.specs.Disk.{Files};
 ghost use Rattle.edge_io.specs.Seen.{Seen};
 ghost use Rattle.run_shelf.specs.Holds.{kinds_of, HasRoom, FitsWhereTold};
 ghost use Rattle.run_shelf.specs.Repository.{most_runs};
 ghost use Rattle.testr_cli.specs.Outside.{work};
-ghost use Rattle.testr_cli.specs.RunSuite.{Works, rows_in};
+ghost use Rattle.testr_cli.specs.RunSuite.{Works, summary_in};
 
 use crate::Refusal;
 use crate::refreshing::refresh;
 use crate::store::{begin, keep};
 use edge_io::{Child, Job, Shelf, Spawner};
-use outcome_fold::Rows;
+use outcome_fold::Summary;
+use packet_codec::Tags;
 use run_shelf::Found;
 use std::alloc::Global;
 use std::sync::Wait;
@@ -28,12 +31,13 @@ use worker_lane::Lane;
 struct Ran {
     // The runs that there are.
     found: Found,
-    // The rows of what was recorded.
-    rows: Rows,
+    // What is kept of the rows of what was recorded.
+    summary: Summary,
 }
 
 /// Starts a worker for each of the jobs, 64 at most, reads them to their ends, side by side, keeps what is recorded of them
-/// as the next run, whose rows are told as it is recorded, and brings the caches up to it. It may wait for them.
+/// as the next run, whose rows are summed up as it is recorded, where these tags filter, and brings the caches up to it. It
+/// gives what is kept of the rows. It may wait for the workers.
 pub fn run_workers<R: Threads + Wait + Sync, H: Shelf, S: Spawner>(
     rt: &R,
     alloc: Global,
@@ -42,28 +46,37 @@ pub fn run_workers<R: Threads + Wait + Sync, H: Shelf, S: Spawner>(
     shelf: &mut H,
     found: Found,
     spawner: &mut S,
-) -> Result<Rows, Refusal<'static>>
+    filter_tags: Tags,
+) -> Result<Summary, Refusal<'static>>
     requires few { length jobs.now ≤ 64 }
     requires free { length (kinds_of found) < most_runs }
     requires room { HasRoom found }
     requires fits { FitsWhereTold (kinds_of found) (H.seen shelf.old).told }
-    ensures { (site : _) → (input out : Seen (List ℕ)) → Works partial (length (kinds_of found)) jobs.now
+    ensures { GivesSums filter_tags (λ rows. (site : Seen Files) (input out : Seen (List ℕ)) → Works partial (length (kinds_of found)) jobs.now
         (work (H.seen shelf.old) site (S.seen spawner.old) input out)
         (work (H.seen shelf.new) site (S.seen spawner.new) input out)
-        result }
+        rows) result }
 {
     begin(shelf)?;
     let lanes = start_lanes(alloc, spawner, jobs)?;
-    let Ran { mut found, rows } = record_workers(rt, alloc, lanes, shelf, found, partial)?;
+    let Ran { mut found, summary } = record_workers(
+        rt,
+        alloc,
+        lanes,
+        shelf,
+        found,
+        partial,
+        filter_tags,
+    )?;
     keep(shelf, &mut found, partial)?;
-    match refresh(alloc, shelf, found, &rows) {
-        Ok(()) => Ok(rows),
+    match refresh(alloc, shelf, found, &summary) {
+        Ok(()) => Ok(summary),
         Err(fault) => Err(Refusal::Refresh(fault)),
     }
 }
 
-// Records the lanes of the workers behind the draft that was begun, and gives the runs that there are, and the rows of what
-// was recorded.
+// Records the lanes of the workers behind the draft that was begun, and gives the runs that there are, and what is kept of
+// the rows of what was recorded.
 fn record_workers<R: Threads + Wait + Sync, C: Child + Send + Drop, H: Shelf>(
     rt: &R,
     alloc: Global,
@@ -71,6 +84,7 @@ fn record_workers<R: Threads + Wait + Sync, C: Child + Send + Drop, H: Shelf>(
     shelf: &mut H,
     found: Found,
     partial: bool,
+    filter_tags: Tags,
 ) -> Result<Ran, LanesRefusal>
     requires numbers { map lane_number lanes.items ≡ range_with_len 0 (length lanes.items) }
     requires few { length lanes.items ≤ 64 }
@@ -78,15 +92,15 @@ fn record_workers<R: Threads + Wait + Sync, C: Child + Send + Drop, H: Shelf>(
     requires room { HasRoom found }
     requires fits { FitsWhereTold (kinds_of found) (H.seen shelf.old).told }
     requires draft { HasDraft (H.seen shelf.old).told }
-    ensures step { RecordsLanes (map (rest C.seen) lanes.items) (H.seen shelf.old) (H.seen shelf.new) (rows_in result) }
+    ensures step { GivesSums filter_tags (RecordsLanes (map (rest C.seen) lanes.items) (H.seen shelf.old) (H.seen shelf.new)) (summary_in result) }
     ensures draft { OnOk result (HasDraft (H.seen shelf.new).told) }
     ensures fits { IfOk result (λ ran. FitsWhereTold (kinds_of ran.found) (H.seen shelf.new).told) }
     ensures kinds { IfOk result (λ ran. kinds_of ran.found ≡ kinds_of found) }
     ensures room { IfOk result (λ ran. HasRoom ran.found) }
 {
-    let (found, recorded) = record_lanes(rt, alloc, lanes, shelf, found, partial);
+    let (found, recorded) = record_lanes(rt, alloc, lanes, shelf, found, partial, filter_tags);
     match recorded {
-        Ok(rows) => Ok(Ran { found, rows }),
+        Ok(summary) => Ok(Ran { found, summary }),
         Err(refusal) => Err(refusal),
     }
 }

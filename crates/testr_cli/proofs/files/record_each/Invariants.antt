@@ -9,7 +9,7 @@ use Rattle.testr_cli.proofs.files.record_each.Given as goal
 -- the files so far were recorded
 abbrev pub invariant-loop-name : goal.invariant-loop-name
 invariant-loop-name g l = record {
-  done : (run : List ℕ) × RecordsInTurn (take l.name-index l.names) (filed (g.H.Shelf.seen l.initial.shelf) (g.F.Site.seen l.initial.site)) (filed (g.H.Shelf.seen l.shelf) (g.F.Site.seen l.site)) run × HasWritten l.rows run;
+  done : (run : List ℕ) × RecordsInTurn (take l.name-index l.names) (filed (g.H.Shelf.seen l.initial.shelf) (g.F.Site.seen l.initial.site)) (filed (g.H.Shelf.seen l.shelf) (g.F.Site.seen l.site)) run × HasWritten [] l.run run;
   lane : l.lane ≡ l.name-index;
   draft : HasDraft (g.H.Shelf.seen l.shelf).told;
   empty : l.packets.items ≡ [];

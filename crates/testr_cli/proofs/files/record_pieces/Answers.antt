@@ -1,4 +1,4 @@
-use Rattle.std.proofs.Common.{◌≡◌, ◌∙◌, ◌++◌, ap, sym, subst, take, length, length-append, append_assoc, arith}
+use Rattle.std.proofs.Common.{◌≡◌, [], ◌∙◌, ◌++◌, ap, sym, subst, take, length, length-append, append_assoc, arith}
 use Rattle.std.proofs.lemmas.List.{length-take-le}
 use Rattle.stream_reader.proofs.FrontLemmas.{are_both}
 use Rattle.run_ledger.specs.Writing.{HasWritten}
@@ -23,7 +23,7 @@ loop-found-preserved g c =
         omega (arith, size, length-take-le c.in-Read.count c.read_at.new.buf fits, length-append bytes piece),
         run ++ more.run,
         subst (λ l. Recording (bytes ++ piece) c.write_packets.new.scribe (run ++ l)) (sym given.new_is) (given.recording (bytes ++ piece) run (c.feed.ensures.recording bytes run recording)),
-        λ front has. subst (λ l. HasWritten c.write_packets.new.rows l) (append_assoc front run more.run) (more.folded (front ++ run) (folded front has)),
+        λ front has. subst (λ l. HasWritten [] c.write_packets.new.run l) (append_assoc front run more.run) (more.folded (front ++ run) (folded front has)),
         are_both run more.run are more.are_bytes,
         goes_grown_then _ _ _ run more.run written more.written,
       );

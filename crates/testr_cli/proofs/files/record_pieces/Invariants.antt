@@ -13,7 +13,7 @@ use Rattle.testr_cli.proofs.files.record_pieces.Given as goal
 -- the packets of the bytes read so far were written
 abbrev pub invariant-loop-found : goal.invariant-loop-found
 invariant-loop-found g l = record {
-  read : (bytes : List ℕ) × AreFrontOf l.name (g.F.Site.seen l.initial.site).told bytes × (length bytes ≡ l.total) × (run : List ℕ) × Recording bytes l.scribe run × ((front : List ℕ) → HasWritten l.fn.rows front → HasWritten l.rows (front ++ run)) × AreBytes run × Goes (g.H.Shelf.seen l.initial.shelf).told (g.H.Shelf.seen l.shelf).told (Grown run);
+  read : (bytes : List ℕ) × AreFrontOf l.name (g.F.Site.seen l.initial.site).told bytes × (length bytes ≡ l.total) × (run : List ℕ) × Recording bytes l.scribe run × ((front : List ℕ) → HasWritten [] l.fn.run front → HasWritten [] l.run (front ++ run)) × AreBytes run × Goes (g.H.Shelf.seen l.initial.shelf).told (g.H.Shelf.seen l.shelf).told (Grown run);
   few : l.total ≤ most_bytes;
   draft : HasDraft (g.H.Shelf.seen l.shelf).told;
   going_on : l.scribe.held.ended ≡ false;

@@ -8,7 +8,7 @@ use Rattle.testr_cli.proofs.recording.gather_packets.Given as goal
 abbrev pub invariant-loop-packets : goal.invariant-loop-packets
 invariant-loop-packets l = record {
   given : GivesPackets l.fn.scribe [] l.scribe l.packets.items;
-  folded : (run : List ℕ) → HasWritten l.fn.rows run → HasWritten l.rows (run ++ l.packets.items);
+  folded : (bytes : List ℕ) → HasWritten [] l.fn.run bytes → HasWritten [] l.run (bytes ++ l.packets.items);
   left : most_left l.scribe ≤ most_left l.fn.scribe;
   few : length l.packets.items < most_gathered;
 }

@@ -13,7 +13,7 @@ use Rattle.testr_cli.proofs.recording.record_pieces.Given as goal
 -- the packets of the bytes read so far were written
 abbrev pub invariant-loop-count : goal.invariant-loop-count
 invariant-loop-count g l = record {
-  read : (bytes : List ℕ) × Consumes (g.I.Source.seen l.initial.input).told (g.I.Source.seen l.input).told bytes × (length bytes ≡ l.total) × (run : List ℕ) × Recording bytes l.scribe run × HasWritten l.rows run × AreBytes run × Goes (g.H.Shelf.seen l.initial.shelf).told (g.H.Shelf.seen l.shelf).told (Grown run);
+  read : (bytes : List ℕ) × Consumes (g.I.Source.seen l.initial.input).told (g.I.Source.seen l.input).told bytes × (length bytes ≡ l.total) × (run : List ℕ) × Recording bytes l.scribe run × HasWritten [] l.run run × AreBytes run × Goes (g.H.Shelf.seen l.initial.shelf).told (g.H.Shelf.seen l.shelf).told (Grown run);
   few : l.total ≤ most_bytes;
   draft : HasDraft (g.H.Shelf.seen l.shelf).told;
   going_on : l.scribe.held.ended ≡ false;

@@ -8,7 +8,7 @@ use Rattle.testr_cli.proofs.recording.write_packets.Given as goal
 -- the packets given so far were written
 abbrev pub invariant-loop-more : goal.invariant-loop-more
 invariant-loop-more g l = record {
-  written : WritesPackets (g.H.Shelf.seen l.initial.shelf) (g.H.Shelf.seen l.shelf) l.fn.scribe l.scribe l.fn.rows l.rows;
+  written : WritesPackets (g.H.Shelf.seen l.initial.shelf) (g.H.Shelf.seen l.shelf) l.fn.scribe l.scribe l.fn.run l.run;
   empty : l.packets.items ≡ [];
   draft : HasDraft (g.H.Shelf.seen l.shelf).told;
   rests : Goes (g.H.Shelf.seen l.initial.shelf).told (g.H.Shelf.seen l.shelf).told SameButDraft;

@@ -2,19 +2,19 @@ use Rattle.testr_cli.proofs.TellLemmas.{ledger_fails}
 use Rattle.testr_cli.proofs.refreshing.refresh_store.Goals as goal
 
 pub returns-in-Ok-clause-step : goal.returns-in-Ok-clause-step
-returns-in-Ok-clause-step g c = record {
-  refreshed = c.in-Ok.ensures.refreshed;
+returns-in-Ok-clause-step g c = λ filter_tags rows sums. record {
+  refreshed = c.in-Ok.ensures.refreshed filter_tags rows sums;
   others = c.refresh_behind.ensures.others;
   any_moment = c.refresh_behind.ensures.any_moment;
-  sound = c.refresh_behind.ensures.sound;
+  sound = c.refresh_behind.ensures.sound filter_tags rows sums;
   count = c.in-Ok.ensures.cause;
 }
 
 pub returns-in-Err-clause-step : goal.returns-in-Err-clause-step
-returns-in-Err-clause-step g c = record {
+returns-in-Err-clause-step g c = λ filter_tags rows sums. record {
   refreshed = tt;
   others = c.refresh_behind.ensures.others;
   any_moment = c.refresh_behind.ensures.any_moment;
-  sound = c.refresh_behind.ensures.sound;
+  sound = c.refresh_behind.ensures.sound filter_tags rows sums;
   count = ledger_fails _ _ _ _ c.refresh_behind.result c.in-Err.fault c.ledger_refusal.result c.in-Err.is c.ledger_refusal.ensures c.requires.unbroken c.refresh_behind.ensures.closes c.refresh_behind.ensures.cause;
 }

@@ -33,21 +33,23 @@ returns-in_err-jobs g c = λ input.
     (goes_on c.in_ok-selected.selected _ (c.in_ok-selected.ensures.step _ _)
     (stopped _ c.from_residual-in_err-jobs.ensures.1 (c.in_err-jobs.ensures.step _ _ _ _)))))
 
-pub returns-in_err-rows : goal.returns-in_err-rows
-returns-in_err-rows g c = λ input.
+pub returns-in_err-summary : goal.returns-in_err-summary
+returns-in_err-summary g c = λ input.
     part_done _ _ c.in_ok-found.ensures.step
     (still_done _ c.in_ok-take_run.ensures
     (still_done c.in_ok-asked.asked.compiled c.in_ok-asked.ensures.compiled
     (goes_on c.in_ok-selected.selected _ (c.in_ok-selected.ensures.step _ _)
     (goes_on c.in_ok-jobs.jobs.items _ (c.in_ok-jobs.ensures.step _ _ _ _)
-    (stopped _ c.from_residual-in_err-rows.ensures.1 (works_as c.in_ok-asked.ensures.partial c.deref.ensures.value (c.in_err-rows.ensures _ _ _)))))))
+    (stopped _ c.from_residual-in_err-summary.ensures.1 (works_as c.in_ok-asked.ensures.partial c.deref.ensures.value (c.in_err-summary.ensures.holds _ _ _)))))))
 
 pub returns : goal.returns
-returns g c = λ input.
+returns g c =
+    let sums = c.in_ok-summary.ensures in
+    λ input.
     part_done _ _ c.in_ok-found.ensures.step
     (still_done _ c.in_ok-take_run.ensures
     (still_done c.in_ok-asked.asked.compiled c.in_ok-asked.ensures.compiled
     (goes_on c.in_ok-selected.selected _ (c.in_ok-selected.ensures.step _ _)
     (goes_on c.in_ok-jobs.jobs.items _ (c.in_ok-jobs.ensures.step _ _ _ _)
-    (goes_on c.in_ok-rows.rows _ (works_as c.in_ok-asked.ensures.partial c.deref.ensures.value (c.in_ok-rows.ensures _ _ _))
-    (tells_as c.runs-number.ensures c.filter_tags.ensures (c.tell_run-answer.ensures _ _ _ _)))))))
+    (goes_on sums.rows _ (works_as c.in_ok-asked.ensures.partial c.deref.ensures.value (sums.holds _ _ _))
+    (tells_as c.runs-number.ensures c.in_ok-asked.ensures.filter_tags (c.tell_run-answer.ensures _ _ _ _ c.in_ok-asked.asked.filter_tags sums.rows sums.sums)))))))

@@ -4,15 +4,15 @@ use Rattle.testr_cli.proofs.StepLemmas.{part_done, part_stops, still_done, print
 use Rattle.testr_cli.proofs.run.tell_run.Goals as goal
 
 pub returns-in-Err : goal.returns-in-Err
-returns-in-Err g c = λ folder site spawner input. stops c.in-Err.fault refl (record { says = c.in-Err.ensures; same = refl })
+returns-in-Err g c = λ folder site spawner input tags rows sums. stops c.in-Err.fault refl (record { says = c.in-Err.ensures tags rows sums; same = refl })
 
 pub returns-in_err-print : goal.returns-in_err-print
-returns-in_err-print g c = λ folder site spawner input.
-    still_done c.in-Ok.report c.in-Ok.ensures
+returns-in_err-print g c = λ folder site spawner input tags rows sums.
+    still_done c.in-Ok.report (c.in-Ok.ensures tags rows sums)
     (part_stops _ c.from_residual.ensures.1 (prints_as c.deref.ensures.value c.in_err-print.ensures) refl)
 
 pub returns : goal.returns
-returns g c = λ folder site spawner input.
-    still_done c.in-Ok.report c.in-Ok.ensures
+returns g c = λ folder site spawner input tags rows sums.
+    still_done c.in-Ok.report (c.in-Ok.ensures tags rows sums)
     (part_done _ _ (prints_as c.deref.ensures.value c.in_ok-print.ensures)
     gives)

@@ -1,8 +1,9 @@
-use Rattle.std.proofs.Common.{length, ap, ◌∙◌}
+use Rattle.std.proofs.Common.{[], length, ap, subst, ◌∙◌}
 use Rattle.edge_io.specs.Planned.{spawning_of}
 use Rattle.edge_io.specs.Spawners.{Spawning}
+use Rattle.outcome_fold.specs.Summed.{Sums}
 use Rattle.testr_cli.proofs.SelfTestRows.{few_parts, drawn_in_turn}
-use Rattle.testr_cli.proofs.selftest.drawn_rows.Goals as goal
+use Rattle.testr_cli.proofs.selftest.drawn_summary.Goals as goal
 
 pub plans-requires : goal.plans-requires
 plans-requires g c =
@@ -14,7 +15,9 @@ lane_jobs-requires g c = (few_parts c.args.drawing.lanes c.args.drawing.tests c.
 
 pub returns-in-Ok : goal.returns-in-Ok
 returns-in-Ok g c =
-    drawn_in_turn c.args.drawing _ (spawning_of c.new-spawner.result) c.in-Ok.rows c.requires.few
+    let (rows, sums, runs) = c.in-Ok.ensures in
+    let drawn = drawn_in_turn c.args.drawing _ (spawning_of c.new-spawner.result) rows c.requires.few
     (ap (λ (s : Spawning). s.outputs) c.new-spawner.ensures.spawning ∙ c.in_ok-plans.ensures.outputs)
     (ap length c.deref.ensures.value ∙ c.in_ok-jobs.ensures.count)
-    c.in-Ok.ensures
+    runs in
+    subst (λ l. Sums [] l c.in-Ok.summary) drawn sums
