@@ -68,7 +68,7 @@ fn says(alloc: Global, run: &mut Vec<u8>, id: u8, status: Status, second: u32) -
 
 // A run in which two tests end so.
 #[tactic(auto, using(crate::proofs::WrittenLemmas::no_packets))]
-fn ended(alloc: Global, a: u8, first: Status, b: u8, second: Status) -> Option<Vec<u8>>
+pub(crate) fn ended(alloc: Global, a: u8, first: Status, b: u8, second: Status) -> Option<Vec<u8>>
     ensures { IfSome result (λ run. ArePackets run.items) }
 {
     let mut run = Vec::new(alloc);

@@ -1,8 +1,9 @@
 //! Caches of the failing set: which bytes are one, and what is told with their help.
 
 use super::*;
+use crate::tests::ended;
 use edge_io::{Failed, MemShelf, Shelf};
-use packet_codec::{Event, Status, encode, fits};
+use packet_codec::Status;
 use run_shelf::{Side, Store};
 use std::alloc::Global;
 use std::test::Fail;
@@ -73,33 +74,6 @@ fn a_cache_is_written_by_its_form(rt: HostRuntime) -> Result<(), Fail> {
     let bytes = write_failing_cache(alloc, 2, &ids)?;
     assert_eq!(rt; bytes.bytes(), b"subunit-failing 1\n2\nb\0c\0".as_slice());
     Ok(())
-}
-
-// Appends the packet of an event of the test.
-fn says(alloc: Global, run: &mut Vec<u8>, id: u8, status: Status) -> Option<()> {
-    let event = Event {
-        stamp: None,
-        id: Some(Text::new(alloc, &[id]).ok()?),
-        tags: None,
-        runnable: true,
-        status,
-        mime: None,
-        file: None,
-        eof: false,
-        route: None,
-    };
-    if !fits(&event) {
-        return None;
-    }
-    encode(&event, run).ok()
-}
-
-// A run in which two tests end so.
-fn ended(alloc: Global, a: u8, first: Status, b: u8, second: Status) -> Option<Vec<u8>> {
-    let mut run = Vec::new(alloc);
-    says(alloc, &mut run, a, first)?;
-    says(alloc, &mut run, b, second)?;
-    Some(run)
 }
 
 // A repository in which a and b fail in a full run, and then a passes and c fails in a partial one. It is made in eighteen

@@ -20,7 +20,12 @@ fn holds<H: Shelf>(alloc: Global, shelf: &mut H, side: Side, bytes: &[u8]) -> bo
 // Whether the files hold the caches of both runs.
 fn hold_both<H: Shelf>(alloc: Global, shelf: &mut H) -> bool {
     holds(alloc, shelf, Side::Failing, b"subunit-failing 1\n2\nb\0c\0")
-        && holds(alloc, shelf, Side::Times, b"subunit-times 1\n2\n")
+        && holds(
+            alloc,
+            shelf,
+            Side::Times,
+            b"subunit-times 1\n2\na\x000\0b\x000\0c\x000\0",
+        )
 }
 
 // Whether both caches were written, with what is kept of the rows of the second run at hand, where there are no caches yet.
@@ -45,7 +50,7 @@ fn refreshes_on<H: Shelf>(alloc: Global, shelf: &mut H) -> Result<bool, Fail> {
         return Ok(false);
     };
     store.put_side(Side::Failing, b"subunit-failing 1\n1\na\0b\0")?;
-    store.put_side(Side::Times, b"subunit-times 1\n1\n")?;
+    store.put_side(Side::Times, b"subunit-times 1\n1\na\x000\0b\x000\0")?;
     Ok(refresh_behind(alloc, &mut store, &summary).is_ok())
 }
 

@@ -22,11 +22,11 @@ is_some_row (row ∷ rows) = true
 
 any_kept : (rows : List Row) → list_any row_fails rows ≡ is_some_row (filter row_fails rows)
 any_kept [] = refl
-any_kept (row ∷ rows) = by (row_fails row)
+any_kept (row ∷ rows) = by (row_fails row) (any_kept rows)
   where
-    by : (fails : Bool) → (fails || list_any row_fails rows) ≡ is_some_row (if fails then row ∷ filter row_fails rows else filter row_fails rows)
-    by true = refl
-    by false = any_kept rows
+    by : (fails : Bool) → list_any row_fails rows ≡ is_some_row (filter row_fails rows) → (fails || list_any row_fails rows) ≡ is_some_row (if fails then row ∷ filter row_fails rows else filter row_fails rows)
+    by true rest = refl
+    by false rest = rest
 
 -- by the rows that fail, where these are kept
 verdict_by : (rows kept : List Row) → kept ≡ filter row_fails rows → (if is_some_row kept then Failed else Passed) ≡ verdict_of rows

@@ -19,7 +19,7 @@ from_vec-requires c =
     let texts = subst (All (λ (t : Timed). IsShortText t.id.now)) (sym same) c.in_ok-later.ensures.texts in (
       replaced c.args.latest.now kept,
       summed_replaced kept (map shown_time passed) c.args.latest.now c.bytes.result.now c.in_ok-bytes.bytes.items (ap (map shown_time) same ∙ c.in_ok-later.ensures.kept)
-      (timed_each shown_time passed texts c.in_ok-bytes.ensures.small) c.bytes.ensures c.in_ok-bytes.ensures.bytes,
+          (timed_each shown_time passed texts c.in_ok-bytes.ensures.small) c.bytes.ensures c.in_ok-bytes.ensures.bytes,
     )
 
 pub returns : goal.returns

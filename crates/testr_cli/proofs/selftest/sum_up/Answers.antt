@@ -4,7 +4,7 @@ use Rattle.testr_cli.specs.SelfTest.{rows_in_turn}
 use Rattle.testr_cli.proofs.selftest.sum_up.Goals as goal
 
 pub returns : goal.returns
-returns c =
+returns g c =
     let rows = rows_in_turn c.args.drawing in
     record {
       told = record {
