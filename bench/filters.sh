@@ -2,8 +2,8 @@
 # How long each filter takes, and how much memory, on streams and on lines of TAP: small events, events with tags and
 # routes, texts, log lines between events, events of 64 routes in turn, and heads of packets that are none; lines of TAP,
 # the same with blocks of comment lines, and one line of 8,000,000 bytes.
-# usage: bench/filters.sh [RUNS [PERCENT [WORD..]]]: by default each filter is run 3 times on each input, at most 20, which
-# has 100 percent of its size, at most 1000. A word is the name of an input or of a filter, and only these are measured.
+# usage: bench/filters.sh [RUNS [PERCENT [WORD..]]]: by default each filter is run 3 times on each input with each list of
+# options, at most 20, and the input has 100 percent of its size, at most 1000. A word is the name of an input or of a filter, and only these are measured.
 # Where the variable YARDSTICK names another program with these filters, called as `YARDSTICK subunit-ls`, it is measured in
 # turn with ours, and what both write is compared. It reads no patterns, but plain text.
 # Where the variable STREAMS names a folder, its files are measured in place of the inputs that are made; a folder in it
@@ -27,14 +27,15 @@ import streams
 SIZES = {"small": 1_000_000, "tagged": 1_000_000, "texts": 50_000, "logs": 1_000_000, "lanes": 640_000, "sums": 8_000_000,
          "tags": 8_000_000, "ids": 8_000_000, "tap": 1_000_000, "blocks": 1_000_000, "line": 8_000_000}
 OF_TAP = ("tap", "blocks", "line")
+# Each filter with the lists of options that it is measured with.
 FILTERS = {
-    "subunit-stats": [],
-    "subunit-ls": ["--times"],
-    "subunit-filter": ["--success", "--with-id=parser"],
-    "subunit-tags": ["added", "-removed"],
-    "subunit2tap": [],
+    "subunit-stats": [[]],
+    "subunit-ls": [["--times"]],
+    "subunit-filter": [["--success", "--with-id=parser"], ["--success"], []],
+    "subunit-tags": [["added", "-removed"]],
+    "subunit2tap": [[]],
 }
-FROM_TAP = {"tap2subunit": []}
+FROM_TAP = {"tap2subunit": [[]]}
 LIMIT = 600
 TIME = "/usr/bin/time"
 
@@ -102,7 +103,8 @@ def measure(kind, given, name, words, runs, programs, work):
     if len(both) == 2:
         same = filecmp.cmp(both[0].taken, both[1].taken, False) and both[0].status == both[1].status
         told = "the same written" if same else "OTHER BYTES written, or another status"
-        print(f"{kind:8} {name:14} {times[0] / max(times[1], 1e-6):.2f} times the yardstick; {told}", flush=True)
+        asked = " ".join([name, *words])
+        print(f"{kind:8} {asked}: {times[0] / max(times[1], 1e-6):.2f} times the yardstick; {told}", flush=True)
     for one in both:
         os.remove(one.taken)
 
@@ -126,9 +128,10 @@ def main(program, work, runs="3", percent="100", *words):
     asked = [word for word in words if word not in kinds]
     print("input    filter         program       MB/s     user   system     both  peak KiB status")
     for kind, path, is_tap in streams.found(folder, work, wanted) if folder else made(work, percent, wanted):
-        for name, options in (FROM_TAP if is_tap else FILTERS).items():
+        for name, lists in (FROM_TAP if is_tap else FILTERS).items():
             if not asked or name in asked:
-                measure(kind, path, name, options, runs, programs, work)
+                for options in lists:
+                    measure(kind, path, name, options, runs, programs, work)
 
 
 main(*sys.argv[1:])
