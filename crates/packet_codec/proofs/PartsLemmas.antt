@@ -1,13 +1,20 @@
 -- The fields of a packet, one after another.
-use Rattle.std.proofs.Common.{◌≡◌, ℕ, Option, List, [], length, sym, ap, ◌<◌, arith}
+use Rattle.std.proofs.Common.{◌≡◌, ℕ, Option, Some, None, option_map, List, [], length, refl, sym, ap, ◌<◌, arith}
 use Rattle.std.proofs.lemmas.List.{append-nil, nil_from_length}
 use Rattle.sub_number.proofs.NumberLemmas.{AreBytes}
 use Rattle.packet_codec.specs.declared.stamp.Stamp.{Stamp}
 use Rattle.packet_codec.specs.Grammar.{Found, NotFound}
 use Rattle.packet_codec.specs.Fields.{SpellsStamp}
-use Rattle.packet_codec.specs.Shapes.{Run, CountedRuns, NamedRun, bit, Contents, StampShape, IdShape, TagsShape, MimeShape, FileShape, RouteShape, FromFile, FromMime, FromTags, FromId, FieldShapes}
+use Rattle.packet_codec.specs.Shapes.{Run, CountedRuns, NamedRun, ShowsOptional, bit, Contents, StampShape, IdShape, TagsShape, MimeShape, FileShape, RouteShape, FromFile, FromMime, FromTags, FromId, FieldShapes}
 use Rattle.packet_codec.proofs.GrammarLemmas.{IsPrefixFree, pair_free, flagged_free, found_same, found_are, found_pair, not_first, not_second}
 use Rattle.packet_codec.proofs.ShapeLemmas.{run_free, named_run_free, counted_runs_free, stamp_free}
+
+-- a value that is told where it stands is what stands there
+pub shown_as : {A B : Type 0} (f : A → B) (shown : Option A) (told : Option B) → ShowsOptional (λ (a : A) (b : B). f a ≡ b) shown told → option_map f shown ≡ told
+shown_as f None None same = refl
+shown_as f None (Some value) same = absurd same
+shown_as f (Some part) None same = absurd same
+shown_as f (Some part) (Some value) same = ap Some same
 
 module _ (first second : ℕ) where
   pub stamp_shape_free : IsPrefixFree (StampShape first)

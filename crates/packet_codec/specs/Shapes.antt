@@ -105,11 +105,15 @@ pub record BeginsWithRuns (bytes : List ℕ) (count : ℕ) (runs : List (List �
 abbrev pub ShowsRuns : ℕ → List ℕ → List (List ℕ) → Type 0
 ShowsRuns count bytes runs = (rest : List ℕ) × BeginsWithRuns bytes count runs rest
 
+-- a value there where something shows it
+abbrev pub ShowsOptional : {A B : Type 0} → (A → B → Type 0) → Option A → Option B → Type 0
+ShowsOptional Shows None None = Unit {0}
+ShowsOptional Shows None (Some value) = ⊥
+ShowsOptional Shows (Some shown) None = ⊥
+ShowsOptional Shows (Some shown) (Some value) = Shows shown value
+
 abbrev pub ShowsTags : Option RunList → Option (List (List ℕ)) → Type 0
-ShowsTags None None = Unit {0}
-ShowsTags None (Some tags) = ⊥
-ShowsTags (Some list) None = ⊥
-ShowsTags (Some list) (Some tags) = ShowsRuns list.count list.bytes.now tags
+ShowsTags = ShowsOptional (λ list tags. ShowsRuns list.count list.bytes.now tags)
 
 -- the bytes of a run that is there
 abbrev pub bytes_of : Option (Bor (List ℕ)) → Option (List ℕ)
@@ -117,6 +121,12 @@ bytes_of run = option_map (λ bytes. bytes.now) run
 
 abbrev pub file_of : Option FileBytes → Option (List ℕ × List ℕ)
 file_of file = option_map (λ part. (part.name.now, part.bytes.now)) file
+
+-- what is read from the front of some bytes: what it tells, how bytes spell that, and what shows where it stands
+pub record Form (Field : Type 0) : Type 1 where
+  pub Told : Type 0
+  pub spells : List ℕ → Told → Type 0
+  pub shows : Field → Told → Type 0
 
 -- where the values of the fields stand
 pub record ShowsParts (parts : Parts) (contents : Contents) : Type 0 where

@@ -33,7 +33,8 @@ ghost use Rattle.std.specs.Prelude.{◌≡◌, Option, List, ℕ, IfSome, IfNone
 ghost use Rattle.sub_number.specs.Numbers.{SpellsNumber};
 ghost use Rattle.packet_codec.specs.Grammar.{Found, NotFound, Flagged};
 ghost use Rattle.packet_codec.specs.Fields.{SpellsStamp};
-ghost use Rattle.packet_codec.specs.Shapes.{Run, CountedRuns, NamedRun, BeginsWithRuns, ShowsRuns, ShowsTags, ShowsParts, FieldShapes, Contents, bytes_of, file_of};
+ghost use Rattle.packet_codec.specs.declared.stamp.Stamp.{Stamp};
+ghost use Rattle.packet_codec.specs.Shapes.{Run, CountedRuns, NamedRun, BeginsWithRuns, ShowsRuns, ShowsOptional, Form, ShowsParts, FieldShapes, Contents};
 
 /// A number, and the bytes behind it.
 #[inline(always)]
@@ -59,32 +60,6 @@ pub fn run_at(bytes: &[u8]) -> Option<(&[u8], &[u8])>
     Some(rest.split_at(len))
 }
 
-/// A file's name and its bytes, and the bytes behind them.
-#[inline(always)]
-fn file_at(bytes: &[u8]) -> Option<(FileBytes<'_>, &[u8])>
-    ensures found { IfSome result (λ r. Found NamedRun bytes.now (r.0.name.now, r.0.bytes.now) r.1.now) }
-    ensures none { IfNone result (NotFound NamedRun bytes.now) }
-{
-    let (name, rest) = run_at(bytes)?;
-    let (bytes, rest) = run_at(rest)?;
-    Some((FileBytes { name, bytes }, rest))
-}
-
-/// The seconds in four bytes, the nanoseconds as a number, and the bytes behind them.
-#[inline(always)]
-fn stamp_at(bytes: &[u8]) -> Option<(Stamp, &[u8])>
-    ensures found { IfSome result (λ r. Found SpellsStamp bytes.now r.0 r.1.now) }
-    ensures none { IfNone result (NotFound SpellsStamp bytes.now) }
-{
-    if bytes.len() < 4 {
-        return None;
-    }
-    let (front, rest) = bytes.split_at(4);
-    let seconds = u32::from_be_bytes([front[0], front[1], front[2], front[3]]);
-    let (nanos, rest) = number_at(rest)?;
-    Some((Stamp { seconds, nanos }, rest))
-}
-
 /// The bytes behind so many runs.
 #[inline(always)]
 fn after_runs(count: u32, bytes: &[u8]) -> Option<&[u8]>
@@ -99,67 +74,78 @@ fn after_runs(count: u32, bytes: &[u8]) -> Option<&[u8]>
     Some(rest)
 }
 
-/// The list of runs behind its count, and the bytes behind it.
-#[inline(always)]
-fn runs_at(bytes: &[u8]) -> Option<(RunList<'_>, &[u8])>
-    ensures found { IfSome result (λ r. (runs : List (List ℕ)) × Found CountedRuns bytes.now runs r.1.now × ShowsRuns r.0.count r.0.bytes.now runs) }
-    ensures none { IfNone result (NotFound CountedRuns bytes.now) }
-{
-    let (count, bytes) = number_at(bytes)?;
-    let rest = after_runs(count, bytes)?;
-    Some((RunList { count, bytes }, rest))
+/// A field that is read from the front of some bytes.
+trait Field<'a>: Sized {
+    /// What it tells, how bytes spell that, and where it stands.
+    ghost form: { Form Self };
+
+    /// The field, and the bytes behind it.
+    fn read_at(bytes: &'a [u8]) -> Option<(Self, &'a [u8])>
+        ensures found { IfSome result (λ r. (told : form.Told) × Found form.spells bytes.now told r.1.now × form.shows r.0 told) }
+        ensures none { IfNone result (NotFound form.spells bytes.now) };
 }
 
-/// The time where the flag is set, and the bytes behind it.
+/// The seconds in four bytes, and the nanoseconds as a number.
+impl<'a> Field<'a> for Stamp {
+    ghost form = { record { Told = Stamp; spells = SpellsStamp; shows = λ stamp told. stamp ≡ told } };
+
+    #[inline(always)]
+    fn read_at(bytes: &'a [u8]) -> Option<(Stamp, &'a [u8])> {
+        if bytes.len() < 4 {
+            return None;
+        }
+        let (front, rest) = bytes.split_at(4);
+        let seconds = u32::from_be_bytes([front[0], front[1], front[2], front[3]]);
+        let (nanos, rest) = number_at(rest)?;
+        Some((Stamp { seconds, nanos }, rest))
+    }
+}
+
+/// A run of bytes behind its length.
+impl<'a> Field<'a> for &'a [u8] {
+    ghost form = { record { Told = List ℕ; spells = Run; shows = λ run told. run.now ≡ told } };
+
+    #[inline(always)]
+    fn read_at(bytes: &'a [u8]) -> Option<(&'a [u8], &'a [u8])> {
+        run_at(bytes)
+    }
+}
+
+/// A list of runs behind its count.
+impl<'a> Field<'a> for RunList<'a> {
+    ghost form = { record { Told = List (List ℕ); spells = CountedRuns; shows = λ list told. ShowsRuns list.count list.bytes.now told } };
+
+    #[inline(always)]
+    fn read_at(bytes: &'a [u8]) -> Option<(RunList<'a>, &'a [u8])> {
+        let (count, bytes) = number_at(bytes)?;
+        let rest = after_runs(count, bytes)?;
+        Some((RunList { count, bytes }, rest))
+    }
+}
+
+/// A file's name and its bytes.
+impl<'a> Field<'a> for FileBytes<'a> {
+    ghost form = { record { Told = List ℕ × List ℕ; spells = NamedRun; shows = λ file told. (file.name.now, file.bytes.now) ≡ told } };
+
+    #[inline(always)]
+    fn read_at(bytes: &'a [u8]) -> Option<(FileBytes<'a>, &'a [u8])> {
+        let (name, rest) = run_at(bytes)?;
+        let (bytes, rest) = run_at(rest)?;
+        Some((FileBytes { name, bytes }, rest))
+    }
+}
+
+/// The field where the flag is set, and the bytes behind it.
 #[inline(always)]
-fn optional_stamp(set: bool, bytes: &[u8]) -> Option<(Option<Stamp>, &[u8])>
-    ensures found { IfSome result (λ r. Found (Flagged set SpellsStamp) bytes.now r.0 r.1.now) }
-    ensures none { IfNone result (NotFound (Flagged set SpellsStamp) bytes.now) }
+fn where_set<'a, F: Field<'a>>(set: bool, bytes: &'a [u8]) -> Option<(Option<F>, &'a [u8])>
+    ensures found { IfSome result (λ r. (told : Option F.form.Told) × Found (Flagged set F.form.spells) bytes.now told r.1.now × ShowsOptional F.form.shows r.0 told) }
+    ensures none { IfNone result (NotFound (Flagged set F.form.spells) bytes.now) }
 {
     if !set {
         return Some((None, bytes));
     }
-    let (stamp, rest) = stamp_at(bytes)?;
-    Some((Some(stamp), rest))
-}
-
-/// A run where the flag is set, and the bytes behind it.
-#[inline(always)]
-fn optional_run(set: bool, bytes: &[u8]) -> Option<(Option<&[u8]>, &[u8])>
-    ensures found { IfSome result (λ r. Found (Flagged set Run) bytes.now (bytes_of r.0) r.1.now) }
-    ensures none { IfNone result (NotFound (Flagged set Run) bytes.now) }
-{
-    if !set {
-        return Some((None, bytes));
-    }
-    let (run, rest) = run_at(bytes)?;
-    Some((Some(run), rest))
-}
-
-/// A list of runs where the flag is set, and the bytes behind it.
-#[inline(always)]
-fn optional_runs(set: bool, bytes: &[u8]) -> Option<(Option<RunList<'_>>, &[u8])>
-    ensures found { IfSome result (λ r. (runs : Option (List (List ℕ))) × Found (Flagged set CountedRuns) bytes.now runs r.1.now × ShowsTags r.0 runs) }
-    ensures none { IfNone result (NotFound (Flagged set CountedRuns) bytes.now) }
-{
-    if !set {
-        return Some((None, bytes));
-    }
-    let (runs, rest) = runs_at(bytes)?;
-    Some((Some(runs), rest))
-}
-
-/// A file where the flag is set, and the bytes behind it.
-#[inline(always)]
-fn optional_file(set: bool, bytes: &[u8]) -> Option<(Option<FileBytes<'_>>, &[u8])>
-    ensures found { IfSome result (λ r. Found (Flagged set NamedRun) bytes.now (file_of r.0) r.1.now) }
-    ensures none { IfNone result (NotFound (Flagged set NamedRun) bytes.now) }
-{
-    if !set {
-        return Some((None, bytes));
-    }
-    let (file, rest) = file_at(bytes)?;
-    Some((Some(file), rest))
+    let (field, rest) = F::read_at(bytes)?;
+    Some((Some(field), rest))
 }
 
 /// The fields that the flags tell of, where they are all of the bytes.
@@ -168,12 +154,12 @@ pub fn parts_of(first: u8, second: u8, bytes: &[u8]) -> Option<Parts<'_>>
     ensures found { IfSome result (λ parts. (contents : Contents) × FieldShapes first second bytes.now contents × ShowsParts parts contents) }
     ensures none { IfNone result ((contents : Contents) → FieldShapes first second bytes.now contents → ⊥) }
 {
-    let (stamp, rest) = optional_stamp(first / 2 % 2 == 1, bytes)?;
-    let (id, rest) = optional_run(first / 8 % 2 == 1, rest)?;
-    let (tags, rest) = optional_runs(second / 128 % 2 == 1, rest)?;
-    let (mime, rest) = optional_run(second / 32 % 2 == 1, rest)?;
-    let (file, rest) = optional_file(second / 64 % 2 == 1, rest)?;
-    let (route, rest) = optional_run(first / 4 % 2 == 1, rest)?;
+    let (stamp, rest) = where_set(first / 2 % 2 == 1, bytes)?;
+    let (id, rest) = where_set(first / 8 % 2 == 1, rest)?;
+    let (tags, rest) = where_set(second / 128 % 2 == 1, rest)?;
+    let (mime, rest) = where_set(second / 32 % 2 == 1, rest)?;
+    let (file, rest) = where_set(second / 64 % 2 == 1, rest)?;
+    let (route, rest) = where_set(first / 4 % 2 == 1, rest)?;
     if !rest.is_empty() {
         return None;
     }

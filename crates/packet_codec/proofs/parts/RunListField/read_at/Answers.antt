@@ -2,7 +2,7 @@ use Rattle.std.proofs.Common.{length}
 use Rattle.packet_codec.specs.Shapes.{Runs}
 use Rattle.packet_codec.proofs.GrammarLemmas.{not_number}
 use Rattle.packet_codec.proofs.ShapeLemmas.{no_counted_runs, counted_runs_found}
-use Rattle.packet_codec.proofs.parts.runs_at.Goals as goal
+use Rattle.packet_codec.proofs.parts.RunListField.read_at.Goals as goal
 
 pub returns-in_err-count-clause-none : goal.returns-in_err-count-clause-none
 returns-in_err-count-clause-none c = rw c.from_residual.ensures (not_number length Runs _ c.in_err-count.ensures.none)
