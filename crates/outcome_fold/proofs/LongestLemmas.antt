@@ -1,5 +1,5 @@
 -- The longest times that are kept, call by call.
-use Rattle.std.proofs.Common.{◌≡◌, ℕ, cond, List, [], ◌∷◌, ◌++◌, map, Option, Some, None, max, ◌∙◌, ap, sym, subst, arith}
+use Rattle.std.proofs.Common.{◌≡◌, ℕ, cond, List, [], ◌∷◌, ◌++◌, map, Option, Some, None, max, refl, ◌∙◌, ap, sym, subst, arith}
 use Rattle.std.specs.Prelude.{All}
 use Rattle.std.proofs.lemmas.List.Elements.{All-push}
 use Rattle.sub_number.specs.Texts.{IsShortText}
@@ -17,18 +17,17 @@ use Rattle.outcome_fold.proofs.TableLemmas.{inserted, lookup_in_map}
 abbrev Times : Type 0
 Times = List (List ℕ × ℕ)
 
--- a longer time that is written through to the one that was found
-pub raised : (old new : Times) (id : List ℕ) (before now nanos : ℕ) → ((q : List ℕ) → lookup (is_at (text_cmp q)) new ≡ cond (is_at (text_cmp id) q) (Some now) (lookup (is_at (text_cmp q)) old)) → Some before ≡ lookup (is_at (text_cmp id)) old → now ≡ max nanos before
-    → fin.from_entries {R = text_cmp} new ≡ fin.insert (fin.from_entries old) id (max nanos (unwrap_or (fin.get (fin.from_entries {R = text_cmp} old) id) 0))
-raised old new id before now nanos updates found is =
-    inserted texts_total exact_texts old new id now updates
-    ∙ ap (fin.insert (fin.from_entries old) id) (is ∙ ap (λ (o : Option ℕ). max nanos (unwrap_or o 0)) (found ∙ lookup_in_map texts_total id old))
+-- the time of an id that has none yet is longer than none
+or_none : (found : Option ℕ) (nanos : ℕ) → max nanos (unwrap_or found nanos) ≡ max nanos (unwrap_or found 0)
+or_none None nanos = omega arith
+or_none (Some time) nanos = refl
 
--- the time of an id that has none yet
-pub first_time : (old : Times) (id : List ℕ) (nanos : ℕ) → None ≡ lookup (is_at (text_cmp id)) old → nanos ≡ max nanos (unwrap_or (fin.get (fin.from_entries {R = text_cmp} old) id) 0)
-first_time old id nanos none =
-    let no_less : nanos ≡ max nanos 0 = omega arith in
-    no_less ∙ ap (λ (o : Option ℕ). max nanos (unwrap_or o 0)) (none ∙ lookup_in_map texts_total id old)
+-- a longer time that is written to the one that was found, or that was put there
+pub raised : (old new : Times) (id : List ℕ) (found : Option ℕ) (before now nanos : ℕ) → ((q : List ℕ) → lookup (is_at (text_cmp q)) new ≡ cond (is_at (text_cmp id) q) (Some now) (lookup (is_at (text_cmp q)) old)) → found ≡ lookup (is_at (text_cmp id)) old → before ≡ unwrap_or found nanos → now ≡ max nanos before
+    → fin.from_entries {R = text_cmp} new ≡ fin.insert (fin.from_entries old) id (max nanos (unwrap_or (fin.get (fin.from_entries {R = text_cmp} old) id) 0))
+raised old new id found before now nanos updates is before_is now_is =
+    inserted texts_total exact_texts old new id now updates
+    ∙ ap (fin.insert (fin.from_entries old) id) (now_is ∙ ap (max nanos) before_is ∙ or_none found nanos ∙ ap (λ (o : Option ℕ). max nanos (unwrap_or o 0)) (is ∙ lookup_in_map texts_total id old))
 
 -- one id and its time more, of those that an iterator shows
 pub shown_more : {A : Type 0} (shows : A → List ℕ × ℕ) (old new : List Timed) (xs : List A) (x : A) (timed : Timed) → new ≡ old ++ timed ∷ [] → (timed.id.now ≡ (shows x).0) × (timed.nanos ≡ (shows x).1) → map shown_time old ≡ map shows xs → map shown_time new ≡ map shows (xs ++ x ∷ [])

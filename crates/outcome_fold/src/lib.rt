@@ -31,7 +31,7 @@ pub use rows::Rows;
 pub use summary::{Summary, Timed};
 pub use summing::Summing;
 pub use test_key::{TestKey, key_in, key_of};
-pub use text_set::{TextSet, in_order, sorted_tags};
+pub use text_set::{TextSet, copies_of, in_order, sorted_tags};
 
 #[cfg(test)]
 mod tests;

@@ -4,7 +4,9 @@ ghost use Rattle.std.specs.Prelude.{◌≡◌, ℕ, max, map, All, IfOk, OnOk};
 ghost use Rattle.sub_number.specs.Texts.{IsShortText};
 ghost use Rattle.outcome_fold.specs.Order.{without};
 ghost use Rattle.std.specs.FinMap as fin;
+ghost use Rattle.std.specs.FinMap.{from_entries};
 ghost use Rattle.std.specs.Option.{unwrap_or};
+ghost use Rattle.outcome_fold.specs.Order.{text_cmp};
 
 use crate::summary::Timed;
 use crate::text_set::TextSet;
@@ -51,22 +53,7 @@ impl LongestTimes {
     pub(crate) fn raise(&mut self, id: Text, nanos: u64) -> Result<(), NoMemory>
         ensures { OnOk result (self.new ≡ fin.insert self.old id (max nanos (unwrap_or (fin.get self.old id) 0))) }
     {
-        match self.times.get_mut(&id) {
-            Some(time) => {
-                *time = nanos.max(*time);
-                Ok(())
-            }
-            None => self.start(id, nanos),
-        }
-    }
-
-    // Gives the id this time.
-    #[inline(never)]
-    fn start(&mut self, id: Text, nanos: u64) -> Result<(), NoMemory>
-        ensures { OnOk result (self.new ≡ fin.insert self.old id nanos) }
-    {
-        self.times.insert(id, nanos)?;
-        Ok(())
+        raise_in(&mut self.times, id, nanos)
     }
 
     /// Takes the ids that have a time out of the set.
@@ -91,6 +78,16 @@ impl LongestTimes {
         }
         Ok(list)
     }
+}
+
+// The same in the map, in one search.
+#[inline(always)]
+fn raise_in(times: &mut BTreeMap<Text, u64>, id: Text, nanos: u64) -> Result<(), NoMemory>
+    ensures { OnOk result (from_entries {R = text_cmp} times.new.entries ≡ fin.insert (from_entries times.old.entries) id (max nanos (unwrap_or (fin.get (from_entries {R = text_cmp} times.old.entries) id) 0))) }
+{
+    let time = times.entry(id)?.or_insert(nanos);
+    *time = nanos.max(*time);
+    Ok(())
 }
 
 // The id and its time.

@@ -190,7 +190,7 @@ fn are_in_order(tags: &[Text]) -> bool
 /// Copies of the tags, in their order.
 ///
 /// `NoMemory` comes only for want of memory.
-pub(crate) fn copies_of(alloc: Global, tags: &[Text]) -> Result<Tags, NoMemory>
+pub fn copies_of(alloc: Global, tags: &[Text]) -> Result<Tags, NoMemory>
     ensures { IfOk result (λ copies. copies ≡ tags.now) }
 {
     let mut copies = Tags::new(alloc);
