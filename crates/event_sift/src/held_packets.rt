@@ -228,7 +228,7 @@ impl HeldPackets {
 
     /// Appends the packets of the test, if it is among the others.
     ///
-    /// `NoMemory` comes only for want of memory. Nothing is appended then.
+    /// `NoMemory` comes only for want of memory. Of what was appended nothing is known then.
     pub fn put(&self, key: &TestKey, out: &mut Vec<u8>) -> Result<(), NoMemory>
         ensures { OnOk result (out.new.items ≡ out.old.items ++ packets_at (others_in self.now) key.now) }
     {
