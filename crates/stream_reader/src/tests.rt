@@ -1,10 +1,11 @@
 ghost use Rattle.std.specs.Prelude.{◌≡◌, false};
 
 use crate::{MOST_HELD, Note, ROOM, Reader, notes_of_pieces};
-use packet_codec::{Event, FilePart, Front, Status, encode, fits, look};
+use packet_codec::{Front, Status, look};
 use std::alloc::Global;
 use std::test::Fail;
-use sub_number::{Bytes, Text};
+use sub_number::Bytes;
+use trial_events::{file_event, repeated, spelled};
 
 // The test `foo` passed.
 const SUCCESS_FOO: &[u8] = b"\xb3\x29\x03\x0c\x03foo\x45\x9d\xfe\x10";
@@ -125,19 +126,11 @@ fn notes_are_given_in_turn(rt: HostRuntime) -> Result<(), Fail> {
     Ok(())
 }
 
-fn repeated(alloc: Global, part: &[u8], times: usize) -> Result<Vec<u8>, Fail> {
-    let mut bytes = Vec::new(alloc);
-    for _ in 0..times {
-        bytes.extend_from_slice(part).ok().ok_or("no memory")?;
-    }
-    Ok(bytes)
-}
-
 #[test]
 fn foreign_bytes_are_cut_every_65536(rt: HostRuntime) -> Result<(), Fail> {
-    let short = repeated(rt.alloc(), b"a", 65_535)?;
-    let full = repeated(rt.alloc(), b"a", 65_536)?;
-    let stream = repeated(rt.alloc(), b"a", 65_537)?;
+    let short = repeated(rt.alloc(), b"a", 65_535).ok_or("no memory")?;
+    let full = repeated(rt.alloc(), b"a", 65_536).ok_or("no memory")?;
+    let stream = repeated(rt.alloc(), b"a", 65_537).ok_or("no memory")?;
     let mut reader = Reader::new(rt.alloc()).ok().ok_or("no memory")?;
     fed(&mut reader, &short).ok_or("no room")?;
     assert!(rt; tells_nothing(&mut reader));
@@ -151,33 +144,17 @@ fn foreign_bytes_are_cut_every_65536(rt: HostRuntime) -> Result<(), Fail> {
     Ok(())
 }
 
-// An event whose shortest spelling has 4,194,303 bytes.
-fn longest_event(alloc: Global) -> Result<Event, Fail> {
-    let bytes = repeated(alloc, b"f", 4_194_288)?;
-    Ok(Event {
-        stamp: None,
-        id: None,
-        tags: None,
-        runnable: false,
-        status: Status::Unset,
-        mime: None,
-        file: Some(FilePart {
-            name: Text::new(alloc, b"n").ok().ok_or("no text")?,
-            bytes: Bytes::new(alloc, &bytes).ok().ok_or("no memory")?,
-        }),
-        eof: false,
-        route: None,
-    })
+// A packet of 4,194,303 bytes.
+fn longest_packet(alloc: Global) -> Option<Vec<u8>> {
+    spelled(
+        alloc,
+        &file_event(alloc, b"n", &repeated(alloc, b"f", 4_194_288)?)?,
+    )
 }
 
 #[test]
 fn the_longest_packet_is_one_note(rt: HostRuntime) -> Result<(), Fail> {
-    let event = longest_event(rt.alloc())?;
-    if !fits(&event) {
-        return Err(Fail::from("the event does not fit"));
-    }
-    let mut stream = Vec::new(rt.alloc());
-    encode(&event, &mut stream).ok().ok_or("no memory")?;
+    let mut stream = longest_packet(rt.alloc()).ok_or("no packet")?;
     assert_eq!(rt; stream.len(), 4_194_303);
     assert_eq!(rt; look(&stream), Front::Packet(4_194_303));
     let whole = notes_of(rt.alloc(), &stream, 65_536)?;
@@ -192,9 +169,9 @@ fn the_longest_packet_is_one_note(rt: HostRuntime) -> Result<(), Fail> {
 
 #[test]
 fn foreign_notes_of_300000_bytes(rt: HostRuntime) -> Result<(), Fail> {
-    let stream = repeated(rt.alloc(), b"a", 300_000)?;
-    let full = repeated(rt.alloc(), b"a", 65_536)?;
-    let last = repeated(rt.alloc(), b"a", 37_856)?;
+    let stream = repeated(rt.alloc(), b"a", 300_000).ok_or("no memory")?;
+    let full = repeated(rt.alloc(), b"a", 65_536).ok_or("no memory")?;
+    let last = repeated(rt.alloc(), b"a", 37_856).ok_or("no memory")?;
     let notes = notes_of(rt.alloc(), &stream, 65_536)?;
     let wanted = [
         Wanted::Foreign(&full),
@@ -209,12 +186,12 @@ fn foreign_notes_of_300000_bytes(rt: HostRuntime) -> Result<(), Fail> {
 
 // As many bytes as can be held where no note is told: 65,535 foreign ones, and a packet of which one byte is to come.
 fn most_held(alloc: Global) -> Result<Vec<u8>, Fail> {
-    let mut stream = repeated(alloc, b"a", 65_535)?;
+    let mut stream = repeated(alloc, b"a", 65_535).ok_or("no memory")?;
     stream
         .extend_from_slice(LONGEST_HEADER)
         .ok()
         .ok_or("no memory")?;
-    let left = repeated(alloc, b"b", 4_194_296)?;
+    let left = repeated(alloc, b"b", 4_194_296).ok_or("no memory")?;
     stream.extend_from_slice(&left).ok().ok_or("no memory")?;
     Ok(stream)
 }
@@ -231,7 +208,7 @@ fn the_most_bytes_are_held(rt: HostRuntime) -> Result<(), Fail> {
 
 // Candidates for the longest packet that nest in one another, with zeros behind, so that each is whole.
 fn nested(alloc: Global, unit: &[u8]) -> Result<usize, Fail> {
-    let mut stream = repeated(alloc, unit, 200)?;
+    let mut stream = repeated(alloc, unit, 200).ok_or("no memory")?;
     stream.resize(4_300_000, 0).ok().ok_or("no memory")?;
     Ok(notes_of(alloc, &stream, 65_536)?.len())
 }
@@ -248,7 +225,7 @@ fn candidates_that_nest(rt: HostRuntime) -> Result<(), Fail> {
 
 #[test]
 fn many_packets(rt: HostRuntime) -> Result<(), Fail> {
-    let packets = repeated(rt.alloc(), SUCCESS_FOO, 100_000)?;
+    let packets = repeated(rt.alloc(), SUCCESS_FOO, 100_000).ok_or("no memory")?;
     assert_eq!(rt; notes_of(rt.alloc(), &packets, 65_536)?.len(), 100_000);
     Ok(())
 }

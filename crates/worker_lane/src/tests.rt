@@ -2,11 +2,11 @@ ghost use Rattle.std.specs.Prelude.{◌≡◌, false};
 
 use crate::{Ending, Lane, Lot, Scribe, recorded_of_pieces, take_packets};
 use edge_io::{Child, Failed, Finish, PlanChild};
-use packet_codec::{Event, FilePart, Status, encode, fits};
 use std::alloc::Global;
 use std::test::Fail;
 use stream_reader::{Note, ROOM, notes_of_pieces};
-use sub_number::{Bytes, Text};
+use sub_number::Bytes;
+use trial_events::{file_event, repeated, spelled};
 
 // `foo` passed: as it comes, and as it is recorded under lane 0.
 const FOO: &[u8] = b"\xb3\x29\x03\x0c\x03foo\x45\x9d\xfe\x10";
@@ -157,28 +157,8 @@ fn packets_are_appended_one_by_one(rt: HostRuntime) -> Result<(), Fail> {
 
 // The packet of an event without route whose file has so many zeros.
 fn long_packet(alloc: Global, count: usize) -> Option<Vec<u8>> {
-    let mut zeros = Vec::new(alloc);
-    zeros.resize(count, 0u8).ok()?;
-    let event = Event {
-        stamp: None,
-        id: None,
-        tags: None,
-        runnable: false,
-        status: Status::Unset,
-        mime: None,
-        file: Some(FilePart {
-            name: Text::new(alloc, b"").ok()?,
-            bytes: Bytes::from_vec(zeros),
-        }),
-        eof: false,
-        route: None,
-    };
-    if !fits(&event) {
-        return None;
-    }
-    let mut out = Vec::new(alloc);
-    encode(&event, &mut out).ok()?;
-    Some(out)
+    let zeros = repeated(alloc, b"\0", count)?;
+    spelled(alloc, &file_event(alloc, b"", &zeros)?)
 }
 
 // Appends the bytes of a piece of the file `stdout` under lane 0, and answers how many they are.
