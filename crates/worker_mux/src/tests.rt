@@ -1,58 +1,24 @@
 ghost use Rattle.std.specs.Prelude.{◌≤◌, IfSome, All};
 ghost use Rattle.std.specs.List.{AllByRecursion};
-ghost use Rattle.packet_codec.specs.Canonical.{IsEvent, Fits};
 ghost use Rattle.worker_mux.specs.Packets.{IsWhole};
 ghost use Rattle.worker_mux.specs.Passes.{IsPassFor, IsTakerFor, IsFresh};
 
 use crate::{Belt, LanePass, Taker};
-use packet_codec::{Event, FilePart, Status, encode, fits};
 use std::alloc::Global;
 use std::sync::Wait;
 use std::test::Fail;
 use std::thread;
 use std::thread::Threads;
-use sub_number::{Bytes, Text};
+use sub_number::Bytes;
+use trial_events::{file_event, spelled};
 use worker_lane::{Ending, Lot};
-
-// An event of a file of these bytes, and of nothing else.
-fn file_event(alloc: Global, bytes: &[u8]) -> Option<Event> {
-    let file = FilePart {
-        name: Text::new(alloc, b"").ok()?,
-        bytes: Bytes::new(alloc, bytes).ok()?,
-    };
-    Some(Event {
-        stamp: None,
-        id: None,
-        tags: None,
-        runnable: false,
-        status: Status::Unset,
-        mime: None,
-        file: Some(file),
-        eof: false,
-        route: None,
-    })
-}
-
-fn lot_of(alloc: Global, event: &Event) -> Option<Lot>
-    requires { IsEvent event.now × Fits event.now }
-    ensures { IfSome result IsWhole }
-{
-    let mut packet = Vec::new(alloc);
-    let Ok(()) = encode(event, &mut packet) else {
-        return None;
-    };
-    Some(Lot::Packet(Bytes::from_vec(packet)))
-}
 
 // A packet with these bytes.
 fn packet(alloc: Global, bytes: &[u8]) -> Option<Lot>
     ensures { IfSome result IsWhole }
 {
-    let event = file_event(alloc, bytes)?;
-    if !fits(&event) {
-        return None;
-    }
-    lot_of(alloc, &event)
+    let packet = spelled(alloc, &file_event(alloc, b"", bytes)?)?;
+    Some(Lot::Packet(Bytes::from_vec(packet)))
 }
 
 // The same, or an end where there is no memory.
