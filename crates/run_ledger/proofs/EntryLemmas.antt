@@ -1,14 +1,19 @@
 -- The times that entries hold, told by their bytes.
-use Rattle.std.proofs.Common.{◌≡◌, ◌≢◌, ℕ, ◌<◌, ◌^◌, Bool, true, false, ◌==◌, cond, List, [], ◌∷◌, ◌++◌, Option, Some, None, IfSome, length, refl, sym, ap, ◌∙◌, subst, append_assoc, arith}
+use Rattle.std.proofs.Common.{◌≡◌, ◌≢◌, ℕ, ◌<◌, ◌^◌, Bool, true, false, ◌==◌, cond, List, [], ◌∷◌, ◌++◌, Option, Some, None, IfSome, length, map-id, refl, sym, ap, ◌∙◌, subst, append_assoc, arith}
 use Rattle.std.specs.Bool.{MatchBool}
 use Rattle.std.specs.Fmt.{decimal}
-use Rattle.std.specs.List.{All, flat_map}
+use Rattle.std.specs.Iterator.{Drains}
+use Rattle.std.specs.List.{All, flat_map, splice}
 use Rattle.std.specs.List.Sorted.{IsStrictlySortedBy}
 use Rattle.std.specs.FinMap as fin
 use Rattle.std.specs.FinMap.{FinMap, entries_sorted, same_entries_map}
+use Rattle.std.specs.Vec.Iter.{into_iter_items, into_iter_len, into_iter_steps}
 use Rattle.std.specs.declared.cmp.Ordering.TheVariants.{Less}
+use Rattle.std.specs.declared.vec.IntoIter.{IntoIter}
 use Rattle.std.proofs.lemmas.Bool.{ne_eqb}
 use Rattle.std.proofs.lemmas.Fmt.{decimal_is_IsNumeral}
+use Rattle.std.proofs.lemmas.Iterator.{items_from_drains}
+use Rattle.std.proofs.lemmas.Iterator.Adapters.{YieldsList-from_vec}
 use Rattle.std.proofs.lemmas.List.Elements.{All-nil, All-head, All-tail}
 use Rattle.sub_number.specs.Texts.{IsShortText}
 use Rattle.outcome_fold.specs.Order.{text_cmp}
@@ -125,3 +130,8 @@ cache_is bytes head entries covers times is head_is are small = record {
 
 pub cache_of : (bytes entries : List ℕ) (covers : ℕ) (times others : FinMap text_cmp ℕ) → AreTimeEntries entries times → AreTimeEntries entries others → IsTimesCache bytes covers times → IsTimesCache bytes covers others
 cache_of bytes entries covers times others are also cache = subst (λ (m : FinMap text_cmp ℕ). IsTimesCache bytes covers m) (same_times entries times others are also) cache
+
+-- what is spliced in at the front stands before what was there
+pub stands_before : {Z : Type 0} (s : IntoIter ℕ Z) (xs front old new : List ℕ) → into_iter_items s ≡ front → into_iter_len s ≡ length front → Drains (into_iter_steps {X = ℕ} {Z = Z}) s xs → new ≡ splice old 0 0 xs → new ≡ front ++ old
+stands_before s xs front old new items len drains is =
+    is ∙ ap (λ l. l ++ old) (sym (map-id xs) ∙ items_from_drains xs (drains.1.0, drains.1.1, λ _. (drains.0, drains.1.2)) (YieldsList-from_vec front items len))

@@ -64,6 +64,13 @@ impl Entries {
     {
         &self.bytes
     }
+
+    /// The bytes, moved out.
+    pub(crate) fn into_vec(self) -> Vec<u8>
+        ensures { AreTimeEntries result.items self }
+    {
+        self.bytes
+    }
 }
 
 /// Whether the bytes are ids in order, each with its time, and a zero byte behind each.

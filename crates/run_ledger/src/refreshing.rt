@@ -48,7 +48,7 @@ pub fn refresh<H: Shelf>(alloc: Global, store: &mut Store<'_, H>) -> Result<(), 
     ensures cause { RisesExactlyIf (H.seen store.old.shelf.now).faults (H.seen store.new.shelf.now).faults (ledger_failed result) }
 {
     let Folds { ids, times } = fold_all(alloc, store)?;
-    put_caches(alloc, store, &ids, &times)
+    put_caches(alloc, store, ids, times)
 }
 
 /// The same, where what is kept of the rows of the last run, which there must be, is at hand. That run is not read. Where
@@ -75,7 +75,7 @@ pub fn refresh_behind<H: Shelf>(
     ensures spares { IfSome (H.seen store.old.shelf.now).told (λ s. HoldBoth (length (store_kinds store.old) - 1) s → TicksUpTo 14 (H.clock store.old.shelf.now) (H.clock store.new.shelf.now)) }
 {
     let Folds { ids, times } = fold_behind(alloc, store, summary)?;
-    put_caches(alloc, store, &ids, &times)
+    put_caches(alloc, store, ids, times)
 }
 
 // What all runs say together: the failing set and the times.
@@ -169,20 +169,20 @@ fn times_behind<H: Shelf>(
     Ok(latest)
 }
 
-// Puts both caches. The bytes of both are made before.
+// Puts both caches. The bytes of both are made before, and take the place of what they are made of.
 fn put_caches<H: Shelf>(
     alloc: Global,
     store: &mut Store<'_, H>,
-    ids: &IdList,
-    times: &Entries,
+    ids: IdList,
+    times: Entries,
 ) -> Result<(), LedgerFault>
     requires fits { FitsUnlessBroken (store_kinds store.old) (store_fault store.old) (H.seen store.old.shelf.now).told }
     requires open { store_fault store.old ≡ None }
     ensures same_reference { store.new.shelf.ghost_name ≡ store.old.shelf.ghost_name }
-    ensures put { OnOk result (Goes (H.seen store.old.shelf.now).told (H.seen store.new.shelf.now).told (λ s t. AreFolds ids.now times.now s → PutsCaches s t)) }
+    ensures put { OnOk result (Goes (H.seen store.old.shelf.now).told (H.seen store.new.shelf.now).told (λ s t. AreFolds ids times s → PutsCaches s t)) }
     ensures others { Goes (H.seen store.old.shelf.now).told (H.seen store.new.shelf.now).told KeepsButSides }
     ensures any_moment { Goes (H.seen store.old.shelf.now).told (H.seen store.new.shelf.now).told PassesButSides }
-    ensures sound { Goes (H.seen store.old.shelf.now).told (H.seen store.new.shelf.now).told (λ s t. AreFolds ids.now times.now s → KeepsSound s t) }
+    ensures sound { Goes (H.seen store.old.shelf.now).told (H.seen store.new.shelf.now).told (λ s t. AreFolds ids times s → KeepsSound s t) }
     ensures closes { LedgerCloses (store_fault store.old) (store_fault store.new) result }
     ensures kinds { store_kinds store.new ≡ store_kinds store.old }
     ensures fits { FitsUnlessBroken (store_kinds store.new) (store_fault store.new) (H.seen store.new.shelf.now).told }
@@ -190,7 +190,8 @@ fn put_caches<H: Shelf>(
     ensures time { TicksUpTo 10 (H.clock store.old.shelf.now) (H.clock store.new.shelf.now) }
 {
     let covers = u64::from(store.runs());
-    let failing = write_failing_cache(alloc, covers, ids)?;
+    let failing = write_failing_cache(alloc, covers, &ids)?;
+    drop(ids);
     let latest = write_entries_cache(alloc, covers, times)?;
     put_cache(store, Side::Failing, failing.bytes())?;
     put_cache(store, Side::Times, latest.bytes())

@@ -114,7 +114,7 @@ fn behind(
     };
     let mut times = cache.times;
     replace_times(alloc, &mut times, &rows)?;
-    Ok(Some(write_entries_cache(alloc, 2, &times)?))
+    Ok(Some(write_entries_cache(alloc, 2, times)?))
 }
 
 // Whether the cache has these entries then.

@@ -45,20 +45,30 @@ pub fn write_times_cache(alloc: Global, covers: u64, times: &TimeMap) -> Result<
     Ok(Bytes::from_vec(bytes))
 }
 
-/// The bytes of the cache of these times, of so many runs. The entries are copied as they are.
+/// The bytes of the cache of these times, of so many runs. The entries are not copied: the heading is put before them in the
+/// memory where they stand.
 ///
 /// `NoMemory` comes only for want of memory.
 pub(crate) fn write_entries_cache(
     alloc: Global,
     covers: u64,
-    entries: &Entries,
+    times: Entries,
 ) -> Result<Bytes, NoMemory>
-    ensures form { IfOk result (λ bytes. IsTimesCache bytes covers entries.now) }
+    ensures form { IfOk result (λ bytes. IsTimesCache bytes covers times) }
 {
-    let mut bytes = Vec::new(alloc);
-    write_heading(covers, &mut bytes)?;
-    bytes.extend_from_slice(entries.bytes())?;
+    let mut heading = Vec::new(alloc);
+    write_heading(covers, &mut heading)?;
+    let mut bytes = times.into_vec();
+    put_before(heading, &mut bytes)?;
     Ok(Bytes::from_vec(bytes))
+}
+
+// Puts the front before the bytes, which are moved once, and all at once.
+fn put_before(front: Vec<u8>, bytes: &mut Vec<u8>) -> Result<(), NoMemory>
+    ensures { OnOk result (bytes.new.items ≡ front.items ++ bytes.old.items) }
+{
+    bytes.splice(0..0, front)?;
+    Ok(())
 }
 
 // The first two lines.

@@ -16,20 +16,20 @@ returns-in_err-put_cache-clause-sound g c =
     let kinds = store_kinds c.args.store.now in
     let covers = c.from-covers.result in
     let all : covers ≡ length kinds = omega (arith, c.from-covers.ensures, c.runs.ensures) in
-    let failing : IsStrictlySortedBy text_cmp c.args.ids.now → IsFailingCache c.bytes.result.now covers c.args.ids.now =
-    λ ordered. subst (λ (l : List ℕ). IsFailingCache l covers c.args.ids.now) (sym c.bytes.ensures) (c.in_ok-failing.ensures.form ordered) in
-    goes_first_sound kinds covers all c.args.ids.now c.args.times.now c.bytes.result.now _ failing c.in_ok-latest.ensures.form _ _ (c.requires.fits c.requires.open) c.in_err-put_cache.ensures.any_moment
+    let failing : IsStrictlySortedBy text_cmp c.args.ids → IsFailingCache c.bytes.result.now covers c.args.ids =
+    λ ordered. subst (λ (l : List ℕ). IsFailingCache l covers c.args.ids) (sym c.bytes.ensures) (c.in_ok-failing.ensures.form ordered) in
+    goes_first_sound kinds covers all c.args.ids c.args.times c.bytes.result.now _ failing c.in_ok-latest.ensures.form _ _ (c.requires.fits c.requires.open) c.in_err-put_cache.ensures.any_moment
 
 pub returns-clause-put : goal.returns-clause-put
 returns-clause-put g c =
     let kinds = store_kinds c.args.store.now in
     let covers = c.from-covers.result in
     let all : covers ≡ length kinds = omega (arith, c.from-covers.ensures, c.runs.ensures) in
-    let failing : IsStrictlySortedBy text_cmp c.args.ids.now → IsFailingCache c.bytes.result.now covers c.args.ids.now =
-    λ ordered. subst (λ (l : List ℕ). IsFailingCache l covers c.args.ids.now) (sym c.bytes.ensures) (c.in_ok-failing.ensures.form ordered) in
-    let timed : IsTimesCache c.bytes-2.result.now covers c.args.times.now = subst (λ (l : List ℕ). IsTimesCache l covers c.args.times.now) (sym c.bytes-2.ensures) c.in_ok-latest.ensures.form in
+    let failing : IsStrictlySortedBy text_cmp c.args.ids → IsFailingCache c.bytes.result.now covers c.args.ids =
+    λ ordered. subst (λ (l : List ℕ). IsFailingCache l covers c.args.ids) (sym c.bytes.ensures) (c.in_ok-failing.ensures.form ordered) in
+    let timed : IsTimesCache c.bytes-2.result.now covers c.args.times = subst (λ (l : List ℕ). IsTimesCache l covers c.args.times) (sym c.bytes-2.ensures) c.in_ok-latest.ensures.form in
     on_ok_weaker c.put_cache-2.result
-    (λ second. goes_caches kinds covers all c.args.ids.now c.args.times.now c.bytes.result.now c.bytes-2.result.now failing timed _ _ (c.requires.fits c.requires.open) _ c.in_ok-put_cache.ensures.kept second)
+    (λ second. goes_caches kinds covers all c.args.ids c.args.times c.bytes.result.now c.bytes-2.result.now failing timed _ _ (c.requires.fits c.requires.open) _ c.in_ok-put_cache.ensures.kept second)
     c.put_cache-2.ensures.kept
 
 pub returns-clause-others : goal.returns-clause-others
@@ -37,18 +37,18 @@ returns-clause-others g c =
     let kinds = store_kinds c.args.store.now in
     let covers = c.from-covers.result in
     let all : covers ≡ length kinds = omega (arith, c.from-covers.ensures, c.runs.ensures) in
-    let failing : IsStrictlySortedBy text_cmp c.args.ids.now → IsFailingCache c.bytes.result.now covers c.args.ids.now =
-    λ ordered. subst (λ (l : List ℕ). IsFailingCache l covers c.args.ids.now) (sym c.bytes.ensures) (c.in_ok-failing.ensures.form ordered) in
-    goes_both_keep kinds covers all c.args.ids.now c.args.times.now c.bytes.result.now _ failing c.in_ok-latest.ensures.form _ _ (c.requires.fits c.requires.open) _ c.in_ok-put_cache.ensures.kept c.put_cache-2.ensures.others
+    let failing : IsStrictlySortedBy text_cmp c.args.ids → IsFailingCache c.bytes.result.now covers c.args.ids =
+    λ ordered. subst (λ (l : List ℕ). IsFailingCache l covers c.args.ids) (sym c.bytes.ensures) (c.in_ok-failing.ensures.form ordered) in
+    goes_both_keep kinds covers all c.args.ids c.args.times c.bytes.result.now _ failing c.in_ok-latest.ensures.form _ _ (c.requires.fits c.requires.open) _ c.in_ok-put_cache.ensures.kept c.put_cache-2.ensures.others
 
 pub returns-clause-any_moment : goal.returns-clause-any_moment
 returns-clause-any_moment g c =
     let kinds = store_kinds c.args.store.now in
     let covers = c.from-covers.result in
     let all : covers ≡ length kinds = omega (arith, c.from-covers.ensures, c.runs.ensures) in
-    let failing : IsStrictlySortedBy text_cmp c.args.ids.now → IsFailingCache c.bytes.result.now covers c.args.ids.now =
-    λ ordered. subst (λ (l : List ℕ). IsFailingCache l covers c.args.ids.now) (sym c.bytes.ensures) (c.in_ok-failing.ensures.form ordered) in
-    goes_both_pass kinds covers all c.args.ids.now c.args.times.now c.bytes.result.now _ failing c.in_ok-latest.ensures.form _ _ (c.requires.fits c.requires.open) _ c.in_ok-put_cache.ensures.kept c.in_ok-put_cache.ensures.any_moment
+    let failing : IsStrictlySortedBy text_cmp c.args.ids → IsFailingCache c.bytes.result.now covers c.args.ids =
+    λ ordered. subst (λ (l : List ℕ). IsFailingCache l covers c.args.ids) (sym c.bytes.ensures) (c.in_ok-failing.ensures.form ordered) in
+    goes_both_pass kinds covers all c.args.ids c.args.times c.bytes.result.now _ failing c.in_ok-latest.ensures.form _ _ (c.requires.fits c.requires.open) _ c.in_ok-put_cache.ensures.kept c.in_ok-put_cache.ensures.any_moment
     (put_passes Times c.bytes-2.result.now _ _ c.put_cache-2.ensures.any_moment)
 
 pub returns-clause-sound : goal.returns-clause-sound
@@ -56,7 +56,7 @@ returns-clause-sound g c =
     let kinds = store_kinds c.args.store.now in
     let covers = c.from-covers.result in
     let all : covers ≡ length kinds = omega (arith, c.from-covers.ensures, c.runs.ensures) in
-    let failing : IsStrictlySortedBy text_cmp c.args.ids.now → IsFailingCache c.bytes.result.now covers c.args.ids.now =
-    λ ordered. subst (λ (l : List ℕ). IsFailingCache l covers c.args.ids.now) (sym c.bytes.ensures) (c.in_ok-failing.ensures.form ordered) in
-    let timed : IsTimesCache c.bytes-2.result.now covers c.args.times.now = subst (λ (l : List ℕ). IsTimesCache l covers c.args.times.now) (sym c.bytes-2.ensures) c.in_ok-latest.ensures.form in
-    goes_both_sound kinds covers all c.args.ids.now c.args.times.now c.bytes.result.now c.bytes-2.result.now failing timed _ _ (c.requires.fits c.requires.open) _ c.in_ok-put_cache.ensures.kept c.in_ok-put_cache.ensures.any_moment c.put_cache-2.ensures.any_moment
+    let failing : IsStrictlySortedBy text_cmp c.args.ids → IsFailingCache c.bytes.result.now covers c.args.ids =
+    λ ordered. subst (λ (l : List ℕ). IsFailingCache l covers c.args.ids) (sym c.bytes.ensures) (c.in_ok-failing.ensures.form ordered) in
+    let timed : IsTimesCache c.bytes-2.result.now covers c.args.times = subst (λ (l : List ℕ). IsTimesCache l covers c.args.times) (sym c.bytes-2.ensures) c.in_ok-latest.ensures.form in
+    goes_both_sound kinds covers all c.args.ids c.args.times c.bytes.result.now c.bytes-2.result.now failing timed _ _ (c.requires.fits c.requires.open) _ c.in_ok-put_cache.ensures.kept c.in_ok-put_cache.ensures.any_moment c.put_cache-2.ensures.any_moment
