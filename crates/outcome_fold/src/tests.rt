@@ -1,58 +1,23 @@
 //! Runs of a few events: which rows they give, and what the rows say.
 
+use crate::tests_events::{Told, are, at, event_of, says, tagged, tags_of, text};
 use crate::{Counts, Ended, Fold, Outcomes, Row, Rows, TextSet};
-use packet_codec::{Event, FilePart, Stamp, Status, Tags};
+use packet_codec::{Event, FilePart, Status, Tags};
 use std::alloc::Global;
 use std::test::Fail;
-use sub_number::{Bytes, IdList, Text};
+use sub_number::{Bytes, IdList, TimeMap};
 
-fn text(alloc: Global, bytes: &[u8]) -> Option<Text> {
-    Text::new(alloc, bytes).ok()
+// A file of so many bytes.
+fn file_of(alloc: Global, count: usize) -> Option<FilePart> {
+    let bytes = Bytes::from_vec(vec![in alloc; b'a'; count].ok()?);
+    let name = text(alloc, b"log")?;
+    Some(FilePart { name, bytes })
 }
 
-// An event of the test under the route, where none is the empty one.
-fn says(alloc: Global, route: &[u8], id: &[u8], status: Status) -> Event {
-    Event {
-        stamp: None,
-        id: text(alloc, id),
-        tags: None,
-        runnable: true,
-        status,
-        mime: None,
-        file: None,
-        eof: false,
-        route: if route.is_empty() {
-            None
-        } else {
-            text(alloc, route)
-        },
-    }
-}
-
-fn at(mut event: Event, seconds: u32, nanos: u32) -> Event {
-    let nanos = nanos.min(999_999_999);
-    event.stamp = Some(Stamp { seconds, nanos });
-    event
-}
-
-// The event with these tags, of one byte each.
-fn tagged(alloc: Global, mut event: Event, names: &[u8]) -> Option<Event> {
-    let mut tags = Tags::new(alloc);
-    for name in names {
-        tags.push(text(alloc, &[*name])?).ok()?;
-    }
-    event.tags = Some(tags);
-    Some(event)
-}
-
-// The event with a file of so many bytes.
+// The event with that file.
 fn with_file(alloc: Global, mut event: Event, mime: &[u8], count: usize) -> Option<Event> {
-    let bytes = vec![in alloc; b'a'; count].ok()?;
     event.mime = text(alloc, mime);
-    event.file = Some(FilePart {
-        name: text(alloc, b"log")?,
-        bytes: Bytes::new(alloc, &bytes).ok()?,
-    });
+    event.file = Some(file_of(alloc, count)?);
     Some(event)
 }
 
@@ -70,15 +35,6 @@ fn has(row: &Row, route: &[u8], id: &[u8], ended: Ended) -> bool {
         None => route.is_empty(),
     };
     same_route && row.id.bytes() == id && row.ended == ended
-}
-
-// Whether the texts are these, of one byte each.
-fn are(texts: &[Text], names: &[u8]) -> bool {
-    texts.len() == names.len()
-        && texts
-            .iter()
-            .zip(names.iter())
-            .all(|(text, name)| text.bytes() == [*name].as_slice())
 }
 
 fn ids_are(ids: Option<IdList>, names: &[u8]) -> bool {
@@ -103,23 +59,31 @@ fn text_len_of_one(alloc: Global, events: &[Event]) -> Option<usize> {
     }
 }
 
-fn by_route(alloc: Global) -> Option<bool> {
+// Rows of two routes, of which one stays open.
+fn rows_of_routes(alloc: Global) -> Option<Rows> {
     let events = [
         says(alloc, b"1", b"b", Status::Success),
         says(alloc, b"0", b"a", Status::Fail),
         says(alloc, b"0", b"c", Status::InProgress),
     ];
-    let rows = rows_of(alloc, &events)?;
-    let right = match rows.list() {
+    rows_of(alloc, &events)
+}
+
+fn stand_by_route(rows: &[Row]) -> bool {
+    match rows {
         [a, c, b] => {
             has(a, b"0", b"a", Ended::Fail)
                 && has(c, b"0", b"c", Ended::Open)
                 && has(b, b"1", b"b", Ended::Success)
         }
         _ => false,
-    };
+    }
+}
+
+fn by_route(alloc: Global) -> Option<bool> {
+    let rows = rows_of_routes(alloc)?;
     Some(
-        right
+        stand_by_route(rows.list())
             && ids_are(rows.failing_ids(alloc).ok(), b"ac")
             && ids_are(rows.passed_ids(alloc).ok(), b"b"),
     )
@@ -131,20 +95,28 @@ fn rows_stand_by_route_and_open_ones_behind(rt: HostRuntime) -> Result<(), Fail>
     Ok(())
 }
 
-fn twice(alloc: Global, first: &[u8], second: &[u8]) -> Option<bool> {
+// Rows of a test that fails under the first route, and passes under the second.
+fn rows_of_both(alloc: Global, first: &[u8], second: &[u8]) -> Option<Rows> {
     let events = [
         says(alloc, first, b"f", Status::Fail),
         says(alloc, second, b"f", Status::Success),
     ];
-    let rows = rows_of(alloc, &events)?;
-    let right = match rows.list() {
+    rows_of(alloc, &events)
+}
+
+fn are_both(rows: &[Row], first: &[u8], second: &[u8]) -> bool {
+    match rows {
         [fail, success] => {
             has(fail, first, b"f", Ended::Fail) && has(success, second, b"f", Ended::Success)
         }
         _ => false,
-    };
+    }
+}
+
+fn twice(alloc: Global, first: &[u8], second: &[u8]) -> Option<bool> {
+    let rows = rows_of_both(alloc, first, second)?;
     Some(
-        right
+        are_both(rows.list(), first, second)
             && ids_are(rows.failing_ids(alloc).ok(), b"f")
             && ids_are(rows.passed_ids(alloc).ok(), b""),
     )
@@ -198,7 +170,7 @@ fn a_time_is_what_lies_between_the_first_event_and_the_last(rt: HostRuntime) -> 
     Ok(())
 }
 
-fn longest(alloc: Global) -> Option<Option<u64>> {
+fn times_of_a(alloc: Global) -> Option<TimeMap> {
     let events = [
         at(says(alloc, b"0", b"a", Status::InProgress), 1, 0),
         at(says(alloc, b"0", b"a", Status::Success), 6, 0),
@@ -207,8 +179,13 @@ fn longest(alloc: Global) -> Option<Option<u64>> {
         at(says(alloc, b"0", b"a", Status::InProgress), 20, 0),
         at(says(alloc, b"0", b"a", Status::Exists), 90, 0),
     ];
-    let times = rows_of(alloc, &events)?.times(alloc).ok()?;
-    Some(times.get(&text(alloc, b"a")?))
+    rows_of(alloc, &events)?.times(alloc).ok()
+}
+
+fn longest(alloc: Global) -> Option<Option<u64>> {
+    let times = times_of_a(alloc)?;
+    let id = text(alloc, b"a")?;
+    Some(times.get(&id))
 }
 
 #[test]
@@ -246,16 +223,27 @@ fn the_last_tags_stand_in_order_and_once(rt: HostRuntime) -> Result<(), Fail> {
     Ok(())
 }
 
-// What is left of b, a, c and a without c, and whether a and c are there.
-fn texts_left(alloc: Global) -> Option<(bool, bool, bool)> {
-    let named = tagged(alloc, says(alloc, b"", b"", Status::Unset), b"baca")?.tags?;
-    let (a, c) = (text(alloc, b"a")?, text(alloc, b"c")?);
+// What is left of b, a, c and a without c.
+fn set_left(alloc: Global) -> Option<TextSet> {
+    let named = tags_of(alloc, b"baca")?;
+    let c = text(alloc, b"c")?;
     let mut texts = TextSet::new(alloc);
     texts.insert_all(named.list()).ok()?;
     texts.remove(&c);
-    let (has_a, has_c) = (texts.contains(&a), texts.contains(&c));
-    let left = texts.into_ids(alloc).ok()?;
-    Some((are(left.list(), b"ab"), has_a, has_c))
+    Some(texts)
+}
+
+fn is_in(alloc: Global, texts: &TextSet, name: &[u8]) -> Option<bool> {
+    let name = text(alloc, name)?;
+    Some(texts.contains(&name))
+}
+
+// Whether a and b are left, and whether a and c are there.
+fn texts_left(alloc: Global) -> Option<(bool, bool, bool)> {
+    let texts = set_left(alloc)?;
+    let has_a = is_in(alloc, &texts, b"a")?;
+    let has_c = is_in(alloc, &texts, b"c")?;
+    Some((ids_are(texts.into_ids(alloc).ok(), b"ab"), has_a, has_c))
 }
 
 #[test]
@@ -264,26 +252,48 @@ fn a_set_has_each_text_once_and_in_order(rt: HostRuntime) -> Result<(), Fail> {
     Ok(())
 }
 
-fn counts(alloc: Global, filter_tags: &[u8]) -> Option<Counts> {
-    let events = [
-        tagged(alloc, says(alloc, b"", b"t", Status::Success), b"b")?,
-        tagged(alloc, says(alloc, b"", b"u", Status::Fail), b"a")?,
-        says(alloc, b"", b"v", Status::Skip),
-        at(says(alloc, b"", b"w", Status::InProgress), 1, 0),
-        tagged(
-            alloc,
-            at(says(alloc, b"", b"w", Status::UxSuccess), 1, 9),
-            b"b",
-        )?,
-        tagged(alloc, says(alloc, b"", b"x", Status::Exists), b"c")?,
-    ];
-    let rows = rows_of(alloc, &events)?;
-    let filter = tagged(alloc, says(alloc, b"", b"", Status::Unset), filter_tags)?;
-    if are(rows.seen_tags(alloc).ok()?.list(), b"ab") {
-        Some(rows.counts(&filter.tags?))
-    } else {
-        None
+// Events, and the nanoseconds of their time, where they have one.
+const COUNTED: [(Told, Option<u32>); 6] = [
+    ((b"", b"t", Status::Success, Some(b"b")), None),
+    ((b"", b"u", Status::Fail, Some(b"a")), None),
+    ((b"", b"v", Status::Skip, None), None),
+    ((b"", b"w", Status::InProgress, None), Some(0)),
+    ((b"", b"w", Status::UxSuccess, Some(b"b")), Some(9)),
+    ((b"", b"x", Status::Exists, Some(b"c")), None),
+];
+
+fn add(alloc: Global, outcomes: &mut Outcomes, told: &Told, nanos: Option<u32>) -> Option<()> {
+    let event = event_of(alloc, told)?;
+    let event = match nanos {
+        Some(nanos) => at(event, 1, nanos),
+        None => event,
+    };
+    outcomes.add(&event).ok()
+}
+
+fn add_counted(alloc: Global, outcomes: &mut Outcomes) -> Option<()> {
+    for row in &COUNTED {
+        add(alloc, outcomes, &row.0, row.1)?;
     }
+    Some(())
+}
+
+fn counted_rows(alloc: Global) -> Option<Rows> {
+    let mut outcomes = Outcomes::new(alloc);
+    add_counted(alloc, &mut outcomes)?;
+    outcomes.close().ok()
+}
+
+fn counts(alloc: Global, filter_tags: &[u8]) -> Option<Counts> {
+    let rows = counted_rows(alloc)?;
+    let filter = tags_of(alloc, filter_tags)?;
+    Some(rows.counts(&filter))
+}
+
+fn sees_tags(alloc: Global) -> Option<bool> {
+    let rows = counted_rows(alloc)?;
+    let tags = rows.seen_tags(alloc).ok()?;
+    Some(are(tags.list(), b"ab"))
 }
 
 #[test]
@@ -303,6 +313,7 @@ fn counts_leave_out_what_is_filtered_and_what_did_not_run(rt: HostRuntime) -> Re
         skipped: 1,
         nanos: Some(9),
     };
+    assert_eq!(rt; sees_tags(alloc), Some(true));
     assert_eq!(rt; counts(alloc, b""), Some(all));
     assert_eq!(rt; counts(alloc, b"c"), Some(all));
     assert_eq!(rt; counts(alloc, b"xb"), Some(filtered));
@@ -329,18 +340,33 @@ fn events_without_an_id_give_no_row(rt: HostRuntime) -> Result<(), Fail> {
     Ok(())
 }
 
+fn is_only(rows: &[Row], route: &[u8], ended: Ended) -> bool {
+    match rows {
+        [row] => has(row, route, b"a", ended),
+        _ => false,
+    }
+}
+
+// Whether a test begins under route 0, and ends none.
+fn begins(alloc: Global, fold: &mut Fold) -> bool {
+    let begun = says(alloc, b"0", b"a", Status::InProgress);
+    matches!(fold.add(&begun), Ok(None))
+}
+
+// Whether a failure that was expected ends its test under route 1.
+fn ends(alloc: Global, fold: &mut Fold) -> bool {
+    let failed = says(alloc, b"1", b"a", Status::XFail);
+    match fold.add(&failed) {
+        Ok(Some(row)) => has(&row, b"1", b"a", Ended::XFail),
+        _ => false,
+    }
+}
+
 fn one_by_one(alloc: Global) -> Option<bool> {
     let mut fold = Fold::new(alloc);
-    let began = fold.add(&says(alloc, b"0", b"a", Status::InProgress)).ok()?;
-    let ended = fold.add(&says(alloc, b"1", b"a", Status::XFail)).ok()?;
+    let right = begins(alloc, &mut fold) && ends(alloc, &mut fold);
     let open = fold.close().ok()?;
-    let right = match (ended, open.as_slice()) {
-        (Some(ended), [row]) => {
-            has(&ended, b"1", b"a", Ended::XFail) && has(row, b"0", b"a", Ended::Open)
-        }
-        _ => false,
-    };
-    Some(began.is_none() && right)
+    Some(right && is_only(open.as_slice(), b"0", Ended::Open))
 }
 
 #[test]

@@ -1,64 +1,31 @@
 //! Packets that are heard: they give the rows of the events that they spell.
 
-use crate::{Fold, Outcomes, Row};
-use packet_codec::{Event, Sight, Stamp, Status, Tags, encode, fits, see};
+use crate::tests_events::{Told, are, at, event_of, spelled};
+use crate::{Fold, Outcomes, Row, Rows};
+use packet_codec::{Event, Sight, Status, see};
 use std::alloc::Global;
 use std::test::Fail;
 use sub_number::Text;
 
-// A packet of the test `a`, under a route or none, with tags of one byte each or none.
-#[derive(Clone, Copy)]
-struct Told {
-    route: &'static [u8],
-    status: Status,
-    tags: Option<&'static [u8]>,
+fn event_at(alloc: Global, told: &Told, seconds: u32) -> Option<Event> {
+    Some(at(event_of(alloc, told)?, seconds, 0))
 }
 
-const fn one(route: &'static [u8], status: Status, tags: Option<&'static [u8]>) -> Told {
-    Told {
-        route,
-        status,
-        tags,
-    }
+fn packet_at(alloc: Global, told: &Told, seconds: u32) -> Option<Vec<u8>> {
+    let event = event_at(alloc, told, seconds)?;
+    spelled(alloc, &event)
 }
 
-fn tags_of(alloc: Global, names: &[u8]) -> Option<Tags> {
-    let mut tags = Tags::new(alloc);
-    for name in names {
-        tags.push(Text::new(alloc, &[*name]).ok()?).ok()?;
-    }
-    Some(tags)
+// What a fold answers that hears the packet.
+fn heard_at(alloc: Global, fold: &mut Fold, told: &Told, seconds: u32) -> Option<Option<Row>> {
+    let bytes = packet_at(alloc, told, seconds)?;
+    heard(fold, &bytes)
 }
 
-fn event_of(alloc: Global, told: &Told, seconds: u32) -> Option<Event> {
-    let tags = match told.tags {
-        Some(names) => Some(tags_of(alloc, names)?),
-        None => None,
-    };
-    let route = match told.route {
-        b"" => None,
-        route => Some(Text::new(alloc, route).ok()?),
-    };
-    Some(Event {
-        stamp: Some(Stamp { seconds, nanos: 0 }),
-        id: Some(Text::new(alloc, b"a").ok()?),
-        tags,
-        runnable: true,
-        status: told.status,
-        mime: None,
-        file: None,
-        eof: false,
-        route,
-    })
-}
-
-fn spelled(alloc: Global, event: &Event) -> Option<Vec<u8>> {
-    if !fits(event) {
-        return None;
-    }
-    let mut bytes = Vec::new(alloc);
-    encode(event, &mut bytes).ok()?;
-    Some(bytes)
+// What a fold answers that is given the event.
+fn added_at(alloc: Global, fold: &mut Fold, told: &Told, seconds: u32) -> Option<Option<Row>> {
+    let event = event_at(alloc, told, seconds)?;
+    fold.add(&event).ok()
 }
 
 fn heard(fold: &mut Fold, bytes: &[u8]) -> Option<Option<Row>> {
@@ -93,79 +60,144 @@ fn same_rows(rows: &[Row], others: &[Row]) -> bool {
             .all(|(row, other)| same_row(row, other))
 }
 
-fn same_answer(row: &Option<Row>, other: &Option<Row>) -> bool {
+fn same_answer(row: &Option<Option<Row>>, other: &Option<Option<Row>>) -> bool {
     match (row, other) {
-        (Some(row), Some(other)) => same_row(row, other),
-        (None, None) => true,
+        (Some(Some(row)), Some(Some(other))) => same_row(row, other),
+        (Some(None), Some(None)) => true,
         _ => false,
     }
 }
 
-// Whether a fold that hears the packets gives what one gives that is given the events.
-fn folds_alike(alloc: Global, all: &[Told]) -> Option<bool> {
-    let (mut hearing, mut adding) = (Fold::new(alloc), Fold::new(alloc));
+fn same_ends(rows: &Option<Vec<Row>>, others: &Option<Vec<Row>>) -> bool {
+    match (rows, others) {
+        (Some(rows), Some(others)) => same_rows(rows.as_slice(), others.as_slice()),
+        _ => false,
+    }
+}
+
+// Whether both folds answer the same, where one hears the packet, and the other is given its event.
+fn answer_alike(
+    alloc: Global,
+    hearing: &mut Fold,
+    adding: &mut Fold,
+    told: &Told,
+    seconds: u32,
+) -> bool {
+    let row = heard_at(alloc, hearing, told, seconds);
+    let other = added_at(alloc, adding, told, seconds);
+    same_answer(&row, &other)
+}
+
+fn all_alike(alloc: Global, hearing: &mut Fold, adding: &mut Fold, all: &[Told]) -> bool {
     let mut seconds = 0u32;
     for told in all {
         seconds = seconds.wrapping_add(1);
-        let event = event_of(alloc, told, seconds)?;
-        let row = heard(&mut hearing, &spelled(alloc, &event)?)?;
-        if !same_answer(&row, &adding.add(&event).ok()?) {
-            return Some(false);
+        if !answer_alike(alloc, hearing, adding, told, seconds) {
+            return false;
         }
     }
-    Some(same_rows(&hearing.close().ok()?, &adding.close().ok()?))
+    true
 }
 
-// The tags of the last row of the packets, and the rows but that, by outcomes that hear them.
-fn last_tags_heard(alloc: Global, all: &[Told], names: &[u8]) -> Option<bool> {
-    let mut outcomes = Outcomes::new(alloc);
-    for told in all {
-        let bytes = spelled(alloc, &event_of(alloc, told, 0)?)?;
-        match see(&bytes) {
-            Sight::Packet(packet) => outcomes.hear(&packet).ok()?,
-            _ => return None,
-        }
+// Whether a fold that hears the packets gives what one gives that is given the events.
+fn folds_alike(alloc: Global, all: &[Told]) -> bool {
+    let mut hearing = Fold::new(alloc);
+    let mut adding = Fold::new(alloc);
+    let alike = all_alike(alloc, &mut hearing, &mut adding, all);
+    let rows = hearing.close().ok();
+    let others = adding.close().ok();
+    alike && same_ends(&rows, &others)
+}
+
+fn hear_packet(outcomes: &mut Outcomes, bytes: &[u8]) -> Option<()> {
+    match see(bytes) {
+        Sight::Packet(packet) => outcomes.hear(&packet).ok(),
+        _ => None,
     }
-    let rows = outcomes.close().ok()?;
+}
+
+fn hear_all(alloc: Global, outcomes: &mut Outcomes, all: &[Told]) -> Option<()> {
+    for told in all {
+        let bytes = packet_at(alloc, told, 0)?;
+        hear_packet(outcomes, &bytes)?;
+    }
+    Some(())
+}
+
+fn rows_heard(alloc: Global, all: &[Told]) -> Option<Rows> {
+    let mut outcomes = Outcomes::new(alloc);
+    hear_all(alloc, &mut outcomes, all)?;
+    outcomes.close().ok()
+}
+
+// Whether these are the tags of the last row of the packets, by outcomes that hear them.
+fn last_tags_heard(alloc: Global, all: &[Told], names: &[u8]) -> Option<bool> {
+    let rows = rows_heard(alloc, all)?;
     let row = rows.list().last()?;
-    Some(same_texts(row.tags.list(), tags_of(alloc, names)?.list()))
+    Some(are(row.tags.list(), names))
 }
 
 const BEGIN: Status = Status::InProgress;
 
 const END: Status = Status::Success;
 
+// Packets of which a later one has other tags, none, the same, or a list of none, and the tags of the row.
+const LATER: [([Told; 2], &[u8]); 4] = [
+    (
+        [
+            (b"", b"a", BEGIN, Some(b"x")),
+            (b"", b"a", END, Some(b"cab")),
+        ],
+        b"abc",
+    ),
+    (
+        [(b"0", b"a", BEGIN, Some(b"baab")), (b"0", b"a", END, None)],
+        b"ab",
+    ),
+    (
+        [
+            (b"0", b"a", BEGIN, Some(b"ba")),
+            (b"0", b"a", END, Some(b"ba")),
+        ],
+        b"ab",
+    ),
+    (
+        [(b"", b"a", BEGIN, Some(b"ba")), (b"", b"a", END, Some(b""))],
+        b"",
+    ),
+];
+
 #[test]
 fn tags_of_a_later_packet_stand_in_place_of_the_others(rt: HostRuntime) -> Result<(), Fail> {
-    let alloc = rt.alloc();
-    let other = [one(b"", BEGIN, Some(b"x")), one(b"", END, Some(b"cab"))];
-    let none = [one(b"0", BEGIN, Some(b"baab")), one(b"0", END, None)];
-    let same = [one(b"0", BEGIN, Some(b"ba")), one(b"0", END, Some(b"ba"))];
-    let empty = [one(b"", BEGIN, Some(b"ba")), one(b"", END, Some(b""))];
-    assert_eq!(rt; last_tags_heard(alloc, &other, b"abc"), Some(true));
-    assert_eq!(rt; last_tags_heard(alloc, &none, b"ab"), Some(true));
-    assert_eq!(rt; last_tags_heard(alloc, &same, b"ab"), Some(true));
-    assert_eq!(rt; last_tags_heard(alloc, &empty, b""), Some(true));
-    assert_eq!(rt; folds_alike(alloc, &other), Some(true));
-    assert_eq!(rt; folds_alike(alloc, &none), Some(true));
-    assert_eq!(rt; folds_alike(alloc, &same), Some(true));
-    assert_eq!(rt; folds_alike(alloc, &empty), Some(true));
+    for (all, names) in &LATER {
+        assert_eq!(rt; last_tags_heard(rt.alloc(), all, names), Some(true));
+    }
     Ok(())
 }
 
 #[test]
+fn packets_with_later_tags_are_heard_as_their_events_are_added(
+    rt: HostRuntime,
+) -> Result<(), Fail> {
+    for (all, _) in &LATER {
+        assert!(rt; folds_alike(rt.alloc(), all));
+    }
+    Ok(())
+}
+
+const NESTED: [Told; 8] = [
+    (b"0", b"a", BEGIN, Some(b"x")),
+    (b"", b"a", BEGIN, Some(b"y")),
+    (b"", b"a", Status::Unset, None),
+    (b"0", b"a", Status::Fail, Some(b"z")),
+    (b"", b"a", END, None),
+    (b"1", b"a", Status::Skip, Some(b"w")),
+    (b"0", b"a", BEGIN, None),
+    (b"1", b"a", BEGIN, Some(b"v")),
+];
+
+#[test]
 fn tests_of_two_routes_are_heard_apart(rt: HostRuntime) -> Result<(), Fail> {
-    let alloc = rt.alloc();
-    let nested = [
-        one(b"0", BEGIN, Some(b"x")),
-        one(b"", BEGIN, Some(b"y")),
-        one(b"", Status::Unset, None),
-        one(b"0", Status::Fail, Some(b"z")),
-        one(b"", END, None),
-        one(b"1", Status::Skip, Some(b"w")),
-        one(b"0", BEGIN, None),
-        one(b"1", BEGIN, Some(b"v")),
-    ];
-    assert_eq!(rt; folds_alike(alloc, &nested), Some(true));
+    assert!(rt; folds_alike(rt.alloc(), &NESTED));
     Ok(())
 }

@@ -1,90 +1,70 @@
 //! A run that is summed up as its packets are heard: what is kept of its rows.
 
+use crate::tests_events::{are, at, says, spelled, tagged, tags_of, text};
 use crate::{Counts, Row, Summary, Summing, TextSet, Timed};
-use packet_codec::{Event, Sight, Stamp, Status, Tags, encode, fits, see};
+use packet_codec::{Event, Sight, Status, see};
 use std::alloc::Global;
 use std::test::Fail;
-use sub_number::{IdList, Text};
+use sub_number::IdList;
 
-// A packet of a test: its route, which is none where it is empty, its id, its second, its tag, and its status. What is 0 is
-// not there.
-type Told = (&'static [u8], u8, u32, u8, Status);
+// A packet of a test: its route, which is none where it is empty, its id, its second, its tags, and its status. At second 0
+// it has no time.
+type Timely = (&'static [u8], u8, u32, &'static [u8], Status);
 
-fn text(alloc: Global, bytes: &[u8]) -> Option<Text> {
-    Text::new(alloc, bytes).ok()
-}
-
-// The tag, if it is not 0.
-fn tags_of(alloc: Global, tag: u8) -> Option<Tags> {
-    let mut tags = Tags::new(alloc);
-    if tag != 0 {
-        tags.push(text(alloc, &[tag])?).ok()?;
-    }
-    Some(tags)
-}
-
-fn event_of(alloc: Global, told: &Told) -> Option<Event> {
-    let (route, id, seconds, tag, status) = *told;
-    Some(Event {
-        stamp: if seconds == 0 {
-            None
-        } else {
-            Some(Stamp { seconds, nanos: 0 })
-        },
-        id: text(alloc, &[id]),
-        tags: Some(tags_of(alloc, tag)?),
-        runnable: true,
-        status,
-        mime: None,
-        file: None,
-        eof: false,
-        route: if route.is_empty() {
-            None
-        } else {
-            text(alloc, route)
-        },
+fn event_of(alloc: Global, told: &Timely) -> Option<Event> {
+    let (route, id, seconds, tags, status) = *told;
+    let event = tagged(alloc, says(alloc, route, &[id], status), tags)?;
+    Some(if seconds == 0 {
+        event
+    } else {
+        at(event, seconds, 0)
     })
 }
 
-fn hear(alloc: Global, summing: &mut Summing, told: &Told) -> Option<()> {
-    let event = event_of(alloc, told)?;
-    if !fits(&event) {
-        return None;
-    }
-    let mut bytes = Vec::new(alloc);
-    encode(&event, &mut bytes).ok()?;
-    match see(&bytes) {
+fn hear_packet(summing: &mut Summing, bytes: &[u8]) -> Option<()> {
+    match see(bytes) {
         Sight::Packet(packet) => summing.hear(&packet).ok(),
         _ => None,
     }
 }
 
-fn summary_of(alloc: Global, all: &[Told], filter_tag: u8) -> Option<Summary> {
-    let mut summing = Summing::new(alloc, tags_of(alloc, filter_tag)?);
+fn packet_of(alloc: Global, told: &Timely) -> Option<Vec<u8>> {
+    let event = event_of(alloc, told)?;
+    spelled(alloc, &event)
+}
+
+fn hear_all(alloc: Global, summing: &mut Summing, all: &[Timely]) -> Option<()> {
     for told in all {
-        hear(alloc, &mut summing, told)?;
+        let bytes = packet_of(alloc, told)?;
+        hear_packet(summing, &bytes)?;
     }
-    summing.close().ok()
+    Some(())
 }
 
 // `a` under route 1 fails after three seconds, and passes after five under none. `b` is skipped, without a time. `c`
 // passes after two seconds and again after one. `d` under route 0 fails at once, and stays open when it runs again. `e`
 // only exists.
-const RUN: [Told; 13] = [
-    (b"1", b'a', 1, b'x', Status::InProgress),
-    (b"1", b'a', 4, b'x', Status::Fail),
-    (b"", b'a', 1, 0, Status::InProgress),
-    (b"", b'b', 0, 0, Status::Skip),
-    (b"0", b'd', 4, 0, Status::Fail),
-    (b"", b'a', 6, 0, Status::Success),
-    (b"0", b'c', 2, b'x', Status::InProgress),
-    (b"0", b'c', 4, b'x', Status::Success),
-    (b"0", b'd', 5, 0, Status::InProgress),
-    (b"0", b'e', 5, 0, Status::InProgress),
-    (b"0", b'e', 9, 0, Status::Exists),
-    (b"0", b'c', 6, 0, Status::InProgress),
-    (b"0", b'c', 7, 0, Status::Success),
+const RUN: [Timely; 13] = [
+    (b"1", b'a', 1, b"x", Status::InProgress),
+    (b"1", b'a', 4, b"x", Status::Fail),
+    (b"", b'a', 1, b"", Status::InProgress),
+    (b"", b'b', 0, b"", Status::Skip),
+    (b"0", b'd', 4, b"", Status::Fail),
+    (b"", b'a', 6, b"", Status::Success),
+    (b"0", b'c', 2, b"x", Status::InProgress),
+    (b"0", b'c', 4, b"x", Status::Success),
+    (b"0", b'd', 5, b"", Status::InProgress),
+    (b"0", b'e', 5, b"", Status::InProgress),
+    (b"0", b'e', 9, b"", Status::Exists),
+    (b"0", b'c', 6, b"", Status::InProgress),
+    (b"0", b'c', 7, b"", Status::Success),
 ];
+
+fn summary_of(alloc: Global, filter_tags: &[u8]) -> Option<Summary> {
+    let mut summing = Summing::new(alloc, tags_of(alloc, filter_tags)?);
+    hear_all(alloc, &mut summing, &RUN)?;
+    summing.close().ok()
+}
 
 const SECOND: u64 = 1_000_000_000;
 
@@ -96,19 +76,8 @@ fn is_under(row: &Row, route: &[u8], id: u8) -> bool {
     same_route && row.id.bytes() == [id].as_slice()
 }
 
-// Whether the texts are these, of one byte each.
-fn are(ids: &IdList, names: &[u8]) -> bool {
-    ids.list().len() == names.len()
-        && ids
-            .list()
-            .iter()
-            .zip(names.iter())
-            .all(|(id, name)| id.bytes() == [*name].as_slice())
-}
-
-fn fails_by_route(alloc: Global) -> Option<bool> {
-    let summary = summary_of(alloc, &RUN, 0)?;
-    let rows = match summary.failing() {
+fn are_by_route(rows: &[Row]) -> bool {
+    match rows {
         [first, second, third] => {
             is_under(first, b"0", b'd')
                 && first.nanos == Some(0)
@@ -117,8 +86,13 @@ fn fails_by_route(alloc: Global) -> Option<bool> {
                 && is_under(third, b"1", b'a')
         }
         _ => false,
-    };
-    Some(rows && are(&summary.failing_ids(alloc).ok()?, b"ad"))
+    }
+}
+
+fn fails_by_route(alloc: Global) -> Option<bool> {
+    let summary = summary_of(alloc, b"")?;
+    let ids = summary.failing_ids(alloc).ok()?;
+    Some(are_by_route(summary.failing()) && are(ids.list(), b"ad"))
 }
 
 #[test]
@@ -127,8 +101,8 @@ fn rows_that_fail_are_kept_by_route(rt: HostRuntime) -> Result<(), Fail> {
     Ok(())
 }
 
-fn counts(alloc: Global, filter_tag: u8) -> Option<Counts> {
-    Some(summary_of(alloc, &RUN, filter_tag)?.counts())
+fn counts(alloc: Global, filter_tags: &[u8]) -> Option<Counts> {
+    Some(summary_of(alloc, filter_tags)?.counts())
 }
 
 #[test]
@@ -148,9 +122,9 @@ fn rows_are_counted_as_they_come(rt: HostRuntime) -> Result<(), Fail> {
         skipped: 1,
         nanos: Some(9_000_000_000),
     };
-    assert_eq!(rt; counts(alloc, 0), Some(all));
-    assert_eq!(rt; counts(alloc, b'y'), Some(all));
-    assert_eq!(rt; counts(alloc, b'x'), Some(filtered));
+    assert_eq!(rt; counts(alloc, b""), Some(all));
+    assert_eq!(rt; counts(alloc, b"y"), Some(all));
+    assert_eq!(rt; counts(alloc, b"x"), Some(filtered));
     Ok(())
 }
 
@@ -158,15 +132,19 @@ fn is_timed(timed: &Timed<'_>, id: u8, nanos: u64) -> bool {
     timed.id.bytes() == [id].as_slice() && timed.nanos == nanos
 }
 
-fn times_are_longest(alloc: Global) -> Option<bool> {
-    let summary = summary_of(alloc, &RUN, 0)?;
-    let times = summary.times(alloc).ok()?;
-    Some(match times.as_slice() {
+fn are_longest(times: &[Timed<'_>]) -> bool {
+    match times {
         [a, c, d] => {
             is_timed(a, b'a', 5 * SECOND) && is_timed(c, b'c', 2 * SECOND) && is_timed(d, b'd', 0)
         }
         _ => false,
-    })
+    }
+}
+
+fn times_are_longest(alloc: Global) -> Option<bool> {
+    let summary = summary_of(alloc, b"")?;
+    let times = summary.times(alloc).ok()?;
+    Some(are_longest(times.as_slice()))
 }
 
 #[test]
@@ -175,20 +153,26 @@ fn the_longest_times_stand_in_order(rt: HostRuntime) -> Result<(), Fail> {
     Ok(())
 }
 
-// What the run makes of the failing ids `b`, `c`, `d`, `e` and `f`.
-fn changed(alloc: Global) -> Option<IdList> {
+// The failing ids before the run.
+fn failed_before(alloc: Global) -> Option<TextSet> {
     let mut failed = TextSet::new(alloc);
     for id in [b'f', b'e', b'd', b'c', b'b'] {
         failed.put(text(alloc, &[id])?).ok()?;
     }
-    summary_of(alloc, &RUN, 0)?
-        .change_failing(alloc, &mut failed)
-        .ok()?;
+    Some(failed)
+}
+
+// What the run makes of them.
+fn changed(alloc: Global) -> Option<IdList> {
+    let summary = summary_of(alloc, b"")?;
+    let mut failed = failed_before(alloc)?;
+    summary.change_failing(alloc, &mut failed).ok()?;
     failed.into_ids(alloc).ok()
 }
 
 fn is_changed(alloc: Global) -> Option<bool> {
-    Some(are(&changed(alloc)?, b"adef"))
+    let ids = changed(alloc)?;
+    Some(are(ids.list(), b"adef"))
 }
 
 #[test]
