@@ -36,8 +36,6 @@ pub use text_set::{TextSet, copies_of, in_order, sorted_tags};
 #[cfg(test)]
 mod tests;
 #[cfg(test)]
-mod tests_events;
-#[cfg(test)]
 mod tests_hearing;
 #[cfg(test)]
 mod tests_summing;

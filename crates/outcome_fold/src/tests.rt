@@ -1,11 +1,11 @@
 //! Runs of a few events: which rows they give, and what the rows say.
 
-use crate::tests_events::{Told, are, at, event_of, says, tagged, tags_of, text};
 use crate::{Counts, Ended, Fold, Outcomes, Row, Rows, TextSet};
 use packet_codec::{Event, FilePart, Status, Tags};
 use std::alloc::Global;
 use std::test::Fail;
 use sub_number::{Bytes, IdList, TimeMap};
+use trial_events::{Told, are, at, event_of, says, tagged, tags_of, text};
 
 // A file of so many bytes.
 fn file_of(alloc: Global, count: usize) -> Option<FilePart> {

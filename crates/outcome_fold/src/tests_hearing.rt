@@ -1,11 +1,11 @@
 //! Packets that are heard: they give the rows of the events that they spell.
 
-use crate::tests_events::{Told, are, at, event_of, spelled};
 use crate::{Fold, Outcomes, Row, Rows};
 use packet_codec::{Event, Sight, Status, see};
 use std::alloc::Global;
 use std::test::Fail;
 use sub_number::Text;
+use trial_events::{Told, are, at, event_of, spelled};
 
 fn event_at(alloc: Global, told: &Told, seconds: u32) -> Option<Event> {
     Some(at(event_of(alloc, told)?, seconds, 0))

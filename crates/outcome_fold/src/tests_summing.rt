@@ -1,11 +1,11 @@
 //! A run that is summed up as its packets are heard: what is kept of its rows.
 
-use crate::tests_events::{are, at, says, spelled, tagged, tags_of, text};
 use crate::{Counts, Row, Summary, Summing, TextSet, Timed};
 use packet_codec::{Event, Sight, Status, see};
 use std::alloc::Global;
 use std::test::Fail;
 use sub_number::IdList;
+use trial_events::{are, at, says, spelled, tagged, tags_of, text};
 
 // A packet of a test: its route, which is none where it is empty, its id, its second, its tags, and its status. At second 0
 // it has no time.

@@ -28,6 +28,15 @@ pub fn tags_of(alloc: Global, names: &[u8]) -> Option<Tags> {
     Some(tags)
 }
 
+/// Whether the texts are these, of one byte each.
+pub fn are(texts: &[Text], names: &[u8]) -> bool {
+    texts.len() == names.len()
+        && texts
+            .iter()
+            .zip(names.iter())
+            .all(|(text, name)| text.bytes() == [*name].as_slice())
+}
+
 /// The part, so many times.
 pub fn repeated(alloc: Global, part: &[u8], times: usize) -> Option<Vec<u8>> {
     let mut bytes = Vec::new(alloc);
