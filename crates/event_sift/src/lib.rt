@@ -36,4 +36,6 @@ pub use whole::filtered_events;
 #[cfg(test)]
 mod tests;
 #[cfg(test)]
+mod tests_events;
+#[cfg(test)]
 mod tests_packets;

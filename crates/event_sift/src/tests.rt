@@ -1,63 +1,38 @@
 //! Rows that are kept, events that are released, and tags that are given.
 
+ghost use Rattle.std.specs.Prelude.{◌≡◌};
+ghost use Rattle.event_sift.specs.Sifted.{asked_by, predicate_of, rules_of};
+
+use crate::tests_events::{Told, default_rules, rules_by_patterns, says, spelled, tags_of, text};
 use crate::{ByRules, Rules, Sift, Tagger, filtered_events, keep};
 use outcome_fold::{Ended, Row};
-use packet_codec::{Event, Status, Tags, encode, fits};
-use partition_times::Filters;
+use packet_codec::{Event, Status, Tags};
 use std::alloc::Global;
 use std::test::Fail;
 use sub_number::{Bytes, Text};
 
-fn text(alloc: Global, bytes: &[u8]) -> Option<Text> {
-    Text::new(alloc, bytes).ok()
-}
-
-// Tags of one byte each.
-fn tags(alloc: Global, names: &[u8]) -> Option<Tags> {
-    let mut tags = Tags::new(alloc);
-    for name in names {
-        tags.push(text(alloc, &[*name])?).ok()?;
-    }
-    Some(tags)
-}
-
-// The pattern, where the empty one stands for none.
-fn patterns(alloc: Global, pattern: &[u8]) -> Option<Filters> {
-    if pattern.is_empty() {
-        return Filters::new(alloc, &[]).ok();
-    }
-    Filters::new(alloc, &[text(alloc, pattern)?]).ok()
-}
-
-// The rules that hold where nothing else is asked for.
-pub fn default_rules(alloc: Global) -> Option<Rules> {
-    Some(Rules {
-        success: false,
-        failure: true,
-        skip: true,
-        xfail: true,
-        with_tags: Tags::new(alloc),
-        without_tags: Tags::new(alloc),
-        with_ids: patterns(alloc, b"")?,
-        without_ids: patterns(alloc, b"")?,
-    })
-}
-
 fn row(alloc: Global, id: &[u8], ended: Ended, names: &[u8]) -> Option<Row> {
+    let id = text(alloc, id)?;
+    let tags = tags_of(alloc, names)?;
     Some(Row {
-        id: text(alloc, id)?,
+        id,
         route: None,
         ended,
-        tags: tags(alloc, names)?,
+        tags,
         nanos: None,
-        text: Bytes::new(alloc, b"").ok()?,
+        text: Bytes::from_vec(Vec::new(alloc)),
     })
+}
+
+fn keeps(alloc: Global, rules: &Rules, id: &[u8], ended: Ended, names: &[u8]) -> Option<bool> {
+    let row = row(alloc, id, ended, names)?;
+    keep(alloc, rules, &row).ok()
 }
 
 fn keeps_kind(alloc: Global, success: bool, ended: Ended) -> Option<bool> {
     let mut rules = default_rules(alloc)?;
     rules.success = success;
-    keep(alloc, &rules, &row(alloc, b"foo", ended, b"")?).ok()
+    keeps(alloc, &rules, b"foo", ended, b"")
 }
 
 #[test]
@@ -71,12 +46,17 @@ fn kinds_go_by_their_own_rules(rt: HostRuntime) -> Result<(), Fail> {
     Ok(())
 }
 
+fn ask_for_tags(alloc: Global, rules: &mut Rules, wanted: &[u8], unwanted: &[u8]) -> Option<()> {
+    rules.with_tags = tags_of(alloc, wanted)?;
+    rules.without_tags = tags_of(alloc, unwanted)?;
+    Some(())
+}
+
 // Whether a failure with the second tags is kept where the first are asked for.
 fn keeps_tagged(alloc: Global, wanted: &[u8], unwanted: &[u8], names: &[u8]) -> Option<bool> {
     let mut rules = default_rules(alloc)?;
-    rules.with_tags = tags(alloc, wanted)?;
-    rules.without_tags = tags(alloc, unwanted)?;
-    keep(alloc, &rules, &row(alloc, b"foo", Ended::Fail, names)?).ok()
+    ask_for_tags(alloc, &mut rules, wanted, unwanted)?;
+    keeps(alloc, &rules, b"foo", Ended::Fail, names)
 }
 
 #[test]
@@ -90,10 +70,8 @@ fn all_wanted_tags_and_no_unwanted_one_are_there(rt: HostRuntime) -> Result<(), 
 }
 
 fn keeps_named(alloc: Global, wanted: &[u8], unwanted: &[u8], id: &[u8]) -> Option<bool> {
-    let mut rules = default_rules(alloc)?;
-    rules.with_ids = patterns(alloc, wanted)?;
-    rules.without_ids = patterns(alloc, unwanted)?;
-    keep(alloc, &rules, &row(alloc, id, Ended::Fail, b"")?).ok()
+    let rules = rules_by_patterns(alloc, wanted, unwanted)?;
+    keeps(alloc, &rules, id, Ended::Fail, b"")
 }
 
 #[test]
@@ -104,25 +82,6 @@ fn ids_go_by_patterns(rt: HostRuntime) -> Result<(), Fail> {
     assert_eq!(rt; keeps_named(alloc, b"", b"^f", b"of"), Some(true));
     assert_eq!(rt; keeps_named(alloc, b"o", b"^f", b"foo"), Some(false));
     Ok(())
-}
-
-// An event of the test under the route. The route `-` is none, and an id of no bytes is none too.
-pub fn says(alloc: Global, route: u8, id: &[u8], status: Status) -> Event {
-    Event {
-        stamp: None,
-        id: if id.is_empty() { None } else { text(alloc, id) },
-        tags: None,
-        runnable: true,
-        status,
-        mime: None,
-        file: None,
-        eof: false,
-        route: if route == b'-' {
-            None
-        } else {
-            text(alloc, &[route])
-        },
-    }
 }
 
 // Whether these are the events, each told by the first bytes of its route and of its id.
@@ -139,20 +98,27 @@ fn first(text: &Option<Text>) -> u8 {
     }
 }
 
-fn whole_list(alloc: Global) -> Option<bool> {
-    let rules = default_rules(alloc)?;
+const LIST: [Told; 7] = [
+    (b'1', b"z", Status::InProgress),
+    (b'-', b"f", Status::InProgress),
+    (b'2', b"", Status::Unset),
+    (b'-', b"s", Status::Success),
+    (b'0', b"f", Status::Success),
+    (b'-', b"f", Status::Fail),
+    (b'0', b"y", Status::Unset),
+];
+
+fn list_of_events(alloc: Global) -> Option<Vec<Event>> {
     let mut events = Vec::new(alloc);
-    events
-        .push(says(alloc, b'1', b"z", Status::InProgress))
-        .ok()?;
-    events
-        .push(says(alloc, b'-', b"f", Status::InProgress))
-        .ok()?;
-    events.push(says(alloc, b'2', b"", Status::Unset)).ok()?;
-    events.push(says(alloc, b'-', b"s", Status::Success)).ok()?;
-    events.push(says(alloc, b'0', b"f", Status::Success)).ok()?;
-    events.push(says(alloc, b'-', b"f", Status::Fail)).ok()?;
-    events.push(says(alloc, b'0', b"y", Status::Unset)).ok()?;
+    for (route, id, status) in &LIST {
+        events.push(says(alloc, *route, id, *status)).ok()?;
+    }
+    Some(events)
+}
+
+fn whole_list(alloc: Global) -> Option<bool> {
+    let events = list_of_events(alloc)?;
+    let rules = default_rules(alloc)?;
     let released = filtered_events(alloc, &rules, events).ok()?;
     Some(are(&released, &[*b"2-", *b"-f", *b"-f", *b"0y", *b"1z"]))
 }
@@ -179,13 +145,27 @@ fn taken(removed: bool, tags: &Option<Tags>, wanted: &[u8]) -> bool {
     }
 }
 
+fn tagger_of(alloc: Global, add: &[u8], remove: &[u8]) -> Option<Tagger> {
+    let add = tags_of(alloc, add)?;
+    let remove = tags_of(alloc, remove)?;
+    Some(Tagger::new(alloc, add, remove))
+}
+
+fn event_with(alloc: Global, tags: Tags) -> Event {
+    let mut event = says(alloc, b'-', b"foo", Status::Success);
+    event.tags = Some(tags);
+    event
+}
+
+fn is_given(tagger: &Tagger, event: &mut Event, wanted: &[u8]) -> bool {
+    tagger.apply(event).is_ok() && taken(wanted.is_empty(), &event.tags, wanted)
+}
+
 // Whether an event with the tags gets the wanted ones, where none are wanted no tags.
 fn gets(alloc: Global, add: &[u8], remove: &[u8], own: &[u8], wanted: &[u8]) -> Option<bool> {
-    let tagger = Tagger::new(alloc, tags(alloc, add)?, tags(alloc, remove)?);
-    let mut event = says(alloc, b'-', b"foo", Status::Success);
-    event.tags = Some(tags(alloc, own)?);
-    tagger.apply(&mut event).ok()?;
-    Some(taken(wanted.is_empty(), &event.tags, wanted))
+    let tagger = tagger_of(alloc, add, remove)?;
+    let mut event = event_with(alloc, tags_of(alloc, own)?);
+    Some(is_given(&tagger, &mut event, wanted))
 }
 
 #[test]
@@ -198,13 +178,18 @@ fn tags_are_sorted_added_and_removed(rt: HostRuntime) -> Result<(), Fail> {
     Ok(())
 }
 
-// Lent tags to which x and a are added, and from which x is removed.
-fn lent(alloc: Global) -> Option<bool> {
-    let tagger = Tagger::new(alloc, tags(alloc, b"xa")?, tags(alloc, b"x")?);
+fn own_tags(alloc: Global) -> Option<Vec<&'static [u8]>> {
     let mut own = Vec::new(alloc);
     for tag in [b"c".as_slice(), b"b".as_slice(), b"c".as_slice()] {
         own.push(tag).ok()?;
     }
+    Some(own)
+}
+
+// Lent tags to which x and a are added, and from which x is removed.
+fn lent(alloc: Global) -> Option<bool> {
+    let own = own_tags(alloc)?;
+    let tagger = tagger_of(alloc, b"xa", b"x")?;
     let given = tagger.tags_for(own).ok()?;
     Some(given.as_slice() == [b"a".as_slice(), b"b".as_slice(), b"c".as_slice()].as_slice())
 }
@@ -216,34 +201,43 @@ fn lent_tags_are_sorted_added_and_removed(rt: HostRuntime) -> Result<(), Fail> {
     Ok(())
 }
 
-// The packet of success foo with the tag bar, by which bar becomes foo.
+fn one_tag(alloc: Global, name: &[u8]) -> Option<Tags> {
+    let mut tags = Tags::new(alloc);
+    tags.push(text(alloc, name)?).ok()?;
+    Some(tags)
+}
+
+// By this one bar becomes foo.
+fn foo_for_bar(alloc: Global) -> Option<Tagger> {
+    let add = one_tag(alloc, b"foo")?;
+    let remove = one_tag(alloc, b"bar")?;
+    Some(Tagger::new(alloc, add, remove))
+}
+
+// Whether the event is tagged, and this is its packet.
+fn is_packet(alloc: Global, tagger: &Tagger, event: &mut Event, wanted: &[u8]) -> bool {
+    tagger.apply(event).is_ok()
+        && spelled(alloc, event).is_some_and(|packet| packet.as_slice() == wanted)
+}
+
+// Whether this is the packet of success foo with the tag bar, by which bar becomes foo.
 fn retagged_packet(alloc: Global) -> Option<bool> {
-    let mut add = Tags::new(alloc);
-    add.push(text(alloc, b"foo")?).ok()?;
-    let mut remove = Tags::new(alloc);
-    remove.push(text(alloc, b"bar")?).ok()?;
-    let mut own = Tags::new(alloc);
-    own.push(text(alloc, b"bar")?).ok()?;
-    let mut event = says(alloc, b'-', b"foo", Status::Success);
-    event.tags = Some(own);
-    Tagger::new(alloc, add, remove).apply(&mut event).ok()?;
-    let mut packet = Vec::new(alloc);
-    if fits(&event) {
-        encode(&event, &mut packet).ok()?;
-    }
-    Some(packet.as_slice() == b"\xb3\x29\x83\x11\x03foo\x01\x03foo\x41\xe8\x94\x42".as_slice())
+    let tagger = foo_for_bar(alloc)?;
+    let mut event = event_with(alloc, one_tag(alloc, b"bar")?);
+    let wanted = b"\xb3\x29\x83\x11\x03foo\x01\x03foo\x41\xe8\x94\x42";
+    Some(is_packet(alloc, &tagger, &mut event, wanted))
+}
+
+fn large_tag(alloc: Global) -> Option<Tags> {
+    let bytes = vec![in alloc; b'a'; 4_194_290].ok()?;
+    one_tag(alloc, &bytes)
 }
 
 // A tag for which the packet has no room.
 fn too_large(alloc: Global) -> Option<bool> {
-    let bytes = vec![in alloc; b'a'; 4_194_290].ok()?;
-    let mut add = Tags::new(alloc);
-    add.push(text(alloc, &bytes)?).ok()?;
+    let tagger = Tagger::new(alloc, large_tag(alloc)?, Tags::new(alloc));
     let mut event = says(alloc, b'-', b"foo", Status::Success);
-    Tagger::new(alloc, add, Tags::new(alloc))
-        .apply(&mut event)
-        .ok()?;
-    Some(event.tags.is_none())
+    Some(tagger.apply(&mut event).is_ok() && event.tags.is_none())
 }
 
 #[test]
@@ -254,22 +248,32 @@ fn an_event_is_tagged_where_it_fits(rt: HostRuntime) -> Result<(), Fail> {
     Ok(())
 }
 
+// Whether the sift takes the event of `f`, and releases these.
+fn releases(
+    alloc: Global,
+    sift: &mut Sift<'_, ByRules<'_>>,
+    status: Status,
+    wanted: &[[u8; 2]],
+) -> bool
+    requires { asked_by (predicate_of sift.old) ≡ rules_of sift.old }
+    ensures { asked_by (predicate_of sift.new) ≡ rules_of sift.new }
+{
+    match sift.add(says(alloc, b'-', b"f", status)) {
+        Ok(events) => are(&events, wanted),
+        Err(_) => false,
+    }
+}
+
 // What a sift releases step by step, over a predicate of the caller's own.
 fn step_by_step(alloc: Global) -> Option<bool> {
     let rules = default_rules(alloc)?;
-    let mut sift = Sift::new(alloc, &rules, ByRules::new(alloc, &rules).ok()?);
-    let begun = sift.add(says(alloc, b'-', b"f", Status::InProgress));
-    let ended = sift.add(says(alloc, b'-', b"f", Status::Fail));
-    let again = sift.add(says(alloc, b'-', b"f", Status::InProgress));
-    let last = sift.close();
-    let (begun, ended) = (begun.ok()?, ended.ok()?);
-    let (again, last) = (again.ok()?, last.ok()?);
-    Some(
-        begun.is_empty()
-            && are(&ended, &[*b"-f", *b"-f"])
-            && again.is_empty()
-            && are(&last, &[*b"-f"]),
-    )
+    let predicate = ByRules::new(alloc, &rules).ok()?;
+    let mut sift = Sift::new(alloc, &rules, predicate);
+    let begun = releases(alloc, &mut sift, Status::InProgress, &[]);
+    let ended = releases(alloc, &mut sift, Status::Fail, &[*b"-f", *b"-f"]);
+    let again = releases(alloc, &mut sift, Status::InProgress, &[]);
+    let last = sift.close().ok()?;
+    Some(begun && ended && again && are(&last, &[*b"-f"]))
 }
 
 #[test]

@@ -4,25 +4,20 @@ ghost use Rattle.std.specs.Prelude.{◌≡◌};
 ghost use Rattle.event_sift.specs.Sifted.{asked_by};
 ghost use Rattle.event_sift.specs.PacketSifted.{predicate_of, rules_of};
 
-use crate::tests::{default_rules, says};
+use crate::tests_events::{Told, default_rules, says, spelled};
 use crate::{ByRules, PacketSift};
-use packet_codec::{Sight, Status, encode, fits, see};
+use packet_codec::{Sight, Status, see};
 use std::alloc::Global;
 use std::test::Fail;
 
 // The packet of an event of the test under the route. An id of no bytes is none.
-fn spelled(alloc: Global, route: u8, id: &[u8], status: Status) -> Option<Vec<u8>> {
-    let event = says(alloc, route, id, status);
-    if !fits(&event) {
-        return None;
-    }
-    let mut bytes = Vec::new(alloc);
-    encode(&event, &mut bytes).ok()?;
-    Some(bytes)
+fn packet_of(alloc: Global, told: &Told) -> Option<Vec<u8>> {
+    let event = says(alloc, told.0, told.1, told.2);
+    spelled(alloc, &event)
 }
 
 // Whether the packet was taken.
-fn hears(sift: &mut PacketSift<'_, ByRules<'_>>, bytes: &[u8], out: &mut Vec<u8>) -> bool
+fn hears_packet(sift: &mut PacketSift<'_, ByRules<'_>>, bytes: &[u8], out: &mut Vec<u8>) -> bool
     requires { asked_by (predicate_of sift.old) ≡ rules_of sift.old }
     ensures { asked_by (predicate_of sift.new) ≡ rules_of sift.new }
 {
@@ -32,38 +27,81 @@ fn hears(sift: &mut PacketSift<'_, ByRules<'_>>, bytes: &[u8], out: &mut Vec<u8>
     }
 }
 
-fn joined(alloc: Global, packets: &[&[u8]]) -> Option<Vec<u8>> {
+fn hears(
+    alloc: Global,
+    sift: &mut PacketSift<'_, ByRules<'_>>,
+    told: &Told,
+    out: &mut Vec<u8>,
+) -> bool
+    requires { asked_by (predicate_of sift.old) ≡ rules_of sift.old }
+    ensures { asked_by (predicate_of sift.new) ≡ rules_of sift.new }
+{
+    match packet_of(alloc, told) {
+        Some(bytes) => hears_packet(sift, &bytes, out),
+        None => false,
+    }
+}
+
+// Two tests of one id interleave, of which one passes. A third test is left open.
+const BEGUN: Told = (b'0', b"f", Status::InProgress);
+
+const OTHER: Told = (b'1', b"f", Status::InProgress);
+
+const BARE: Told = (b'1', b"", Status::Unset);
+
+const GOES_ON: Told = (b'0', b"f", Status::Unset);
+
+const PASSED: Told = (b'1', b"f", Status::Success);
+
+const OPEN: Told = (b'-', b"z", Status::InProgress);
+
+const FAILED: Told = (b'0', b"f", Status::Fail);
+
+// Whether all of them were taken.
+fn hears_all(alloc: Global, sift: &mut PacketSift<'_, ByRules<'_>>, out: &mut Vec<u8>) -> bool
+    requires { asked_by (predicate_of sift.old) ≡ rules_of sift.old }
+    ensures { asked_by (predicate_of sift.new) ≡ rules_of sift.new }
+{
+    let heard = [
+        hears(alloc, sift, &BEGUN, out),
+        hears(alloc, sift, &OTHER, out),
+        hears(alloc, sift, &BARE, out),
+        hears(alloc, sift, &GOES_ON, out),
+        hears(alloc, sift, &PASSED, out),
+        hears(alloc, sift, &OPEN, out),
+        hears(alloc, sift, &FAILED, out),
+    ];
+    heard == [true; 7]
+}
+
+// What is released of them.
+fn released(alloc: Global) -> Option<Vec<u8>> {
+    let rules = default_rules(alloc)?;
+    let predicate = ByRules::new(alloc, &rules).ok()?;
+    let mut out = Vec::new(alloc);
+    let mut sift = PacketSift::new(alloc, &rules, predicate);
+    let heard = hears_all(alloc, &mut sift, &mut out);
+    let closed = sift.close(&mut out).is_ok();
+    if heard && closed { Some(out) } else { None }
+}
+
+fn append(alloc: Global, all: &mut Vec<u8>, told: &Told) -> Option<()> {
+    let packet = packet_of(alloc, told)?;
+    all.extend_from_slice(&packet).ok()
+}
+
+fn joined(alloc: Global, told: &[Told]) -> Option<Vec<u8>> {
     let mut all = Vec::new(alloc);
-    for packet in packets {
-        all.extend_from_slice(packet).ok()?;
+    for one in told {
+        append(alloc, &mut all, one)?;
     }
     Some(all)
 }
 
-// Two tests of one id interleave, of which one passes. A third test is left open.
 fn interleaved(alloc: Global) -> Option<bool> {
-    let rules = default_rules(alloc)?;
-    let begun = spelled(alloc, b'0', b"f", Status::InProgress)?;
-    let other = spelled(alloc, b'1', b"f", Status::InProgress)?;
-    let bare = spelled(alloc, b'1', b"", Status::Unset)?;
-    let goes_on = spelled(alloc, b'0', b"f", Status::Unset)?;
-    let passed = spelled(alloc, b'1', b"f", Status::Success)?;
-    let open = spelled(alloc, b'-', b"z", Status::InProgress)?;
-    let failed = spelled(alloc, b'0', b"f", Status::Fail)?;
-    let mut out = Vec::new(alloc);
-    let mut sift = PacketSift::new(alloc, &rules, ByRules::new(alloc, &rules).ok()?);
-    let heard = [
-        hears(&mut sift, &begun, &mut out),
-        hears(&mut sift, &other, &mut out),
-        hears(&mut sift, &bare, &mut out),
-        hears(&mut sift, &goes_on, &mut out),
-        hears(&mut sift, &passed, &mut out),
-        hears(&mut sift, &open, &mut out),
-        hears(&mut sift, &failed, &mut out),
-    ];
-    sift.close(&mut out).ok()?;
-    let wanted = joined(alloc, &[&bare, &begun, &goes_on, &failed, &open])?;
-    Some(heard == [true; 7] && out.as_slice() == wanted.as_slice())
+    let out = released(alloc)?;
+    let wanted = joined(alloc, &[BARE, BEGUN, GOES_ON, FAILED, OPEN])?;
+    Some(out.as_slice() == wanted.as_slice())
 }
 
 #[test]
