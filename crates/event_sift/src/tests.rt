@@ -3,13 +3,14 @@
 ghost use Rattle.std.specs.Prelude.{◌≡◌};
 ghost use Rattle.event_sift.specs.Sifted.{asked_by, predicate_of, rules_of};
 
-use crate::tests_events::{Told, default_rules, rules_by_patterns, says, spelled, tags_of, text};
+use crate::tests_events::{Told, default_rules, rules_by_patterns, says};
 use crate::{ByRules, Rules, Sift, Tagger, filtered_events, keep};
 use outcome_fold::{Ended, Row};
 use packet_codec::{Event, Status, Tags};
 use std::alloc::Global;
 use std::test::Fail;
 use sub_number::{Bytes, Text};
+use trial_events::{spelled, tags_of, text};
 
 fn row(alloc: Global, id: &[u8], ended: Ended, names: &[u8]) -> Option<Row> {
     let id = text(alloc, id)?;

@@ -1,23 +1,10 @@
-//! Rules, events and packets that the tests are made of.
+//! Rules and events that the tests are made of.
 
 use crate::Rules;
-use packet_codec::{Event, Status, Tags, encode, fits};
+use packet_codec::{Event, Status, Tags};
 use partition_times::Filters;
 use std::alloc::Global;
-use sub_number::Text;
-
-pub fn text(alloc: Global, bytes: &[u8]) -> Option<Text> {
-    Text::new(alloc, bytes).ok()
-}
-
-// Tags of one byte each.
-pub fn tags_of(alloc: Global, names: &[u8]) -> Option<Tags> {
-    let mut tags = Tags::new(alloc);
-    for name in names {
-        tags.push(text(alloc, &[*name])?).ok()?;
-    }
-    Some(tags)
-}
+use trial_events::text;
 
 // The pattern, where the empty one stands for none.
 pub fn patterns(alloc: Global, pattern: &[u8]) -> Option<Filters> {
@@ -74,13 +61,3 @@ pub fn says(alloc: Global, route: u8, id: &[u8], status: Status) -> Event {
 
 // What an event of a test says: its route, its id and its status.
 pub type Told = (u8, &'static [u8], Status);
-
-// The packet of the event.
-pub fn spelled(alloc: Global, event: &Event) -> Option<Vec<u8>> {
-    if !fits(event) {
-        return None;
-    }
-    let mut bytes = Vec::new(alloc);
-    encode(event, &mut bytes).ok()?;
-    Some(bytes)
-}

@@ -4,11 +4,12 @@ ghost use Rattle.std.specs.Prelude.{◌≡◌};
 ghost use Rattle.event_sift.specs.Sifted.{asked_by};
 ghost use Rattle.event_sift.specs.PacketSifted.{predicate_of, rules_of};
 
-use crate::tests_events::{Told, default_rules, says, spelled};
+use crate::tests_events::{Told, default_rules, says};
 use crate::{ByRules, PacketSift};
 use packet_codec::{Sight, Status, see};
 use std::alloc::Global;
 use std::test::Fail;
+use trial_events::spelled;
 
 // The packet of an event of the test under the route. An id of no bytes is none.
 fn packet_of(alloc: Global, told: &Told) -> Option<Vec<u8>> {
