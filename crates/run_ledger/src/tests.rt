@@ -7,16 +7,17 @@ ghost use Rattle.packet_codec.specs.Packets.{ArePackets};
 use super::*;
 use edge_io::{Failed, MemShelf, Shelf};
 use outcome_fold::Summary;
-use packet_codec::{Event, Stamp, Status, Tags, encode, fits};
+use packet_codec::{Event, Status, Tags, encode, fits};
 use run_shelf::{ShelfCall, Store, StoreFault};
 use std::alloc::Global;
 use std::test::Fail;
 use sub_number::{IdList, Text};
+use trial_events::{are, at};
 
 const FORMAT: &[u8] = b"subunit-store 1\n";
 
 // Keeps a file over any stop, in six calls.
-fn keep<H: Shelf>(shelf: &mut H, name: &str, bytes: &[u8]) -> Result<(), Failed> {
+pub fn keep<H: Shelf>(shelf: &mut H, name: &str, bytes: &[u8]) -> Result<(), Failed> {
     shelf.sync_folder()?;
     shelf.start_draft()?;
     shelf.append(bytes)?;
@@ -46,20 +47,7 @@ fn write(event: &Event, run: &mut Vec<u8>) -> Option<()>
 fn says(alloc: Global, run: &mut Vec<u8>, id: u8, status: Status, second: u32) -> Option<()>
     ensures { ArePackets run.old.items → IfSome result (λ _. ArePackets run.new.items) }
 {
-    let event = Event {
-        stamp: Some(Stamp {
-            seconds: second,
-            nanos: 0,
-        }),
-        id: Some(Text::new(alloc, &[id]).ok()?),
-        tags: None,
-        runnable: true,
-        status,
-        mime: None,
-        file: None,
-        eof: false,
-        route: None,
-    };
+    let event = at(trial_events::says(alloc, b"", &[id], status), second, 0);
     if !fits(&event) {
         return None;
     }
@@ -83,15 +71,6 @@ fn timed(alloc: Global, id: u8, seconds: u32) -> Option<Vec<u8>> {
     says(alloc, &mut run, id, Status::InProgress, 0)?;
     says(alloc, &mut run, id, Status::Success, seconds)?;
     Some(run)
-}
-
-// Whether the texts are these, of one byte each.
-fn are(texts: &[Text], names: &[u8]) -> bool {
-    texts.len() == names.len()
-        && texts
-            .iter()
-            .zip(names.iter())
-            .all(|(text, name)| text.bytes() == [*name].as_slice())
 }
 
 fn fails<H: Shelf>(alloc: Global, shelf: &mut H, names: &[u8]) -> Result<bool, Fail> {

@@ -1,23 +1,13 @@
 //! Caches of the failing set: which bytes are one, and what is told with their help.
 
 use super::*;
-use crate::tests::ended;
-use edge_io::{Failed, MemShelf, Shelf};
+use crate::tests::{ended, keep};
+use edge_io::{MemShelf, Shelf};
 use packet_codec::Status;
 use run_shelf::{Side, Store};
 use std::alloc::Global;
 use std::test::Fail;
 use sub_number::{IdList, Text};
-
-// Keeps a file over any stop.
-fn keep<H: Shelf>(shelf: &mut H, name: &str, bytes: &[u8]) -> Result<(), Failed> {
-    shelf.sync_folder()?;
-    shelf.start_draft()?;
-    shelf.append(bytes)?;
-    shelf.sync_draft()?;
-    shelf.publish(name)?;
-    shelf.sync_folder()
-}
 
 // How many runs the bytes cover, and how many ids they have, where they are a cache.
 fn held(alloc: Global, bytes: &[u8]) -> Result<Option<(u64, usize)>, Fail> {

@@ -7,7 +7,7 @@ use edge_io::Shelf;
 use run_shelf::{Side, Store, read_side};
 use std::alloc::Global;
 use std::test::Fail;
-use sub_number::Text;
+use trial_events::are;
 
 // Whether the file of the cache has these bytes.
 fn holds<H: Shelf>(alloc: Global, shelf: &mut H, side: Side, bytes: &[u8]) -> bool {
@@ -52,15 +52,6 @@ fn refreshes_on<H: Shelf>(alloc: Global, shelf: &mut H) -> Result<bool, Fail> {
     store.put_side(Side::Failing, b"subunit-failing 1\n1\na\0b\0")?;
     store.put_side(Side::Times, b"subunit-times 1\n1\na\x000\0b\x000\0")?;
     Ok(refresh_behind(alloc, &mut store, &summary).is_ok())
-}
-
-// Whether the texts are these, of one byte each.
-fn are(texts: &[Text], names: &[u8]) -> bool {
-    texts.len() == names.len()
-        && texts
-            .iter()
-            .zip(names.iter())
-            .all(|(text, name)| text.bytes() == [*name].as_slice())
 }
 
 // Whether b and c fail behind both runs.

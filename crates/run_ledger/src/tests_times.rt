@@ -8,6 +8,7 @@ use packet_codec::Tags;
 use std::alloc::Global;
 use std::test::Fail;
 use sub_number::{Bytes, Text, TimeMap};
+use trial_events::text;
 
 // How many runs the bytes cover, and how many ids have a time, where they are a cache.
 fn held(alloc: Global, bytes: &[u8]) -> Result<Option<(u64, usize)>, Fail> {
@@ -78,13 +79,6 @@ fn row(alloc: Global, id: &[u8], routed: bool, nanos: Option<u64>) -> Option<Row
         nanos,
         text: Bytes::from_vec(Vec::new(alloc)),
     })
-}
-
-fn text(alloc: Global, bytes: &[u8]) -> Option<Text> {
-    match Text::new(alloc, bytes) {
-        Ok(text) => Some(text),
-        Err(_) => None,
-    }
 }
 
 // The rows of tests with these ids, of which some have a route and some a time.
