@@ -1,5 +1,6 @@
 -- The texts that are printed of a run (docs/COMMANDS.md, "Printed texts").
 use Rattle.std.specs.Prelude.{ℕ, ◌+◌, ◌-◌, ◌/◌, ◌%◌, Bool, Option, None, Some, List, [], ◌∷◌, ◌++◌, map, take, length, replicate, codes, nat_eq, if◌then◌else◌, ◌==◌}
+use Rattle.std.specs.Borrow.{Bor}
 use Rattle.std.specs.List.{filter, flat_map, ends_with}
 use Rattle.std.specs.Fmt.{decimal}
 use Rattle.std.specs.Option.{unwrap_or}
@@ -83,6 +84,10 @@ heading_of row = ruler 61 ++ label row.ended ++ codes ": " ++ row.id ++ newline 
 
 abbrev pub failure_of : Row → List ℕ
 failure_of row = heading_of row ++ whole_lines row.text
+
+-- the bytes of a part of a text that is lent
+abbrev pub part_bytes : Bor (List ℕ) → List ℕ
+part_bytes part = part.now
 
 -- each row that fails, in the order of the rows, and then the summary
 abbrev pub report_of : List Row → ℕ → List (List ℕ) → List ℕ

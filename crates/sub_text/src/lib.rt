@@ -16,7 +16,7 @@ mod summary;
 pub use failing::failing_text;
 pub use laws::texts_are_of_lanes_in_turn;
 pub use listing::ls_line;
-pub use report::{report_from, report_text};
+pub use report::{failure_parts, report_text};
 pub use seconds::seconds_text;
 pub use slowest::slowest_text;
 pub use stats::{counts_text, stats_text};

@@ -1,10 +1,10 @@
 //! Texts of small runs, as they are printed.
 
 use crate::{
-    failing_text, ls_line, report_from, report_text, seconds_text, slowest_text, stats_text,
+    failing_text, failure_parts, ls_line, report_text, seconds_text, slowest_text, stats_text,
     summary_text,
 };
-use outcome_fold::{Counts, Ended, Row, Rows};
+use outcome_fold::{Ended, Row, Rows};
 use packet_codec::Tags;
 use std::alloc::Global;
 use std::test::Fail;
@@ -122,30 +122,43 @@ fn a_report_shows_each_failure_and_then_the_summary(rt: HostRuntime) -> Result<(
     Ok(())
 }
 
-// Whether this is the report of a run of three tests, of which one fails.
-fn report_of_three_is(alloc: Global, report: &[u8]) -> Option<bool> {
-    let mut failing = Vec::new(alloc);
-    failing
-        .push(row(alloc, b"foo", Ended::Fail, None, b"boom")?)
-        .ok()?;
-    let counts = Counts {
-        total: 3,
-        passed: 2,
-        failed: 1,
-        skipped: 0,
-        nanos: Some(2_000_000),
-    };
-    let mut out = Vec::new(alloc);
-    report_from(&failing, counts, 7, &mut out).ok()?;
-    Some(is_text(&out, report))
+// Whether these are the parts of the row of `foo` that ended so, with this text.
+fn parts_are(alloc: Global, ended: Ended, text: &[u8], parts: [&[u8]; 8]) -> Option<bool> {
+    let row = row(alloc, b"foo", ended, None, text)?;
+    for (found, part) in failure_parts(&row).into_iter().zip(parts) {
+        if found != part {
+            return Some(false);
+        }
+    }
+    Some(true)
 }
 
-const BOOM_OF_THREE: &[u8] =
-    b"======================================================================\nFAIL: foo\n----------------------------------------------------------------------\nboom\nRan 3 tests in 0.002s\nFAILED (id=7, failures=1)\n";
+const DOUBLE: &[u8] = b"======================================================================\n";
+
+const SINGLE: &[u8] = b"----------------------------------------------------------------------\n";
 
 #[test]
-fn a_report_needs_the_failing_rows_and_the_counts_alone(rt: HostRuntime) -> Result<(), Fail> {
-    assert_eq!(rt; report_of_three_is(rt.alloc(), BOOM_OF_THREE), Some(true));
+fn the_parts_of_a_failure_are_its_block_of_the_report(rt: HostRuntime) -> Result<(), Fail> {
+    let alloc = rt.alloc();
+    let parts: [&[u8]; 8] = [
+        DOUBLE, b"FAIL", b": ", b"foo", b"\n", SINGLE, b"boom", b"\n",
+    ];
+    assert_eq!(rt; parts_are(alloc, Ended::Fail, b"boom", parts), Some(true));
+    let parts: [&[u8]; 8] = [
+        DOUBLE, b"FAIL", b": ", b"foo", b"\n", SINGLE, b"boom\n", b"",
+    ];
+    assert_eq!(rt; parts_are(alloc, Ended::Fail, b"boom\n", parts), Some(true));
+    let parts: [&[u8]; 8] = [
+        DOUBLE,
+        b"UNEXPECTED SUCCESS",
+        b": ",
+        b"foo",
+        b"\n",
+        SINGLE,
+        b"",
+        b"",
+    ];
+    assert_eq!(rt; parts_are(alloc, Ended::UxSuccess, b"", parts), Some(true));
     Ok(())
 }
 
