@@ -2,6 +2,7 @@ pub mod Prefixes
 pub mod Lines
 pub mod StepLemmas
 pub mod WordsLemmas
+pub mod PrintingLemmas
 pub mod ReadLemmas
 pub mod RowsLemmas
 pub mod SumLemmas

@@ -8,9 +8,8 @@ use Rattle.edge_io.specs.Seen.{Seen}
 use Rattle.sub_number.specs.declared.memory.NoMemory.{NoMemory}
 use Rattle.testr_cli.specs.Steps.{Step, Then, stops, goes_on, Still, Gives, Part, At}
 use Rattle.testr_cli.specs.Refreshing.{Refreshes}
-use Rattle.testr_cli.specs.Reporting.{Reports, Prints}
+use Rattle.testr_cli.specs.Reporting.{Report, Reports, Prints}
 use Rattle.testr_cli.specs.declared.reporting.PrintFault.{PrintFault}
-use Rattle.testr_cli.specs.declared.told.Told.{Told}
 use Rattle.testr_cli.specs.declared.told.TellFault.{TellFault}
 
 module _ {W A B E R : Type 0} {name : E → R} {second : A → Step W B R} {before after : W} {result : Result B R} where
@@ -54,7 +53,7 @@ gives = record { answer = refl; same = refl }
 pub prints_as : {given text : List ℕ} {before after : Seen (List ℕ)} {result : Result (Unit {0}) PrintFault} → given ≡ text → Prints given before after result → Prints text before after result
 prints_as {before = before} {after = after} {result = result} same prints = subst (λ (l : List ℕ). Prints l before after result) same prints
 
-pub reports_as : {given number : ℕ} {tags : List (List ℕ)} {rows : List Row} {result : Result Told NoMemory} → given ≡ number → Reports given tags rows result → Reports number tags rows result
+pub reports_as : {given number : ℕ} {tags : List (List ℕ)} {rows : List Row} {result : Result Report NoMemory} → given ≡ number → Reports given tags rows result → Reports number tags rows result
 reports_as {tags = tags} {rows = rows} {result = result} same reports = subst (λ (n : ℕ). Reports n tags rows result) same reports
 
 -- the run behind others has the number of these

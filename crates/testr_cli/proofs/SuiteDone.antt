@@ -30,7 +30,7 @@ use Rattle.testr_cli.specs.Asking.{FindsFailing, FindsTimes}
 use Rattle.testr_cli.specs.Outside.{Work, work_folder, work_site, work_spawner}
 use Rattle.testr_cli.specs.Perhaps.{Perhaps, not_asked, did, refused, when}
 use Rattle.testr_cli.specs.Program.{AddsRun}
-use Rattle.testr_cli.specs.Reporting.{IsReport}
+use Rattle.testr_cli.specs.Reporting.{Report, IsReport}
 use Rattle.testr_cli.specs.RunSuite.{ListsSuite, RunsSuite, Works, TellsRun}
 use Rattle.testr_cli.specs.Runs.{run_bytes, KeepsFiles}
 use Rattle.testr_cli.specs.Selecting.{UsesCalled, CountsWorkers, Selects, Plans}
@@ -42,7 +42,6 @@ use Rattle.testr_cli.specs.declared.answer.Refusal.{Refusal}
 use Rattle.testr_cli.specs.declared.answer.Refusal.TheVariants as refusal
 use Rattle.testr_cli.specs.declared.answer.Verdict.{Verdict}
 use Rattle.testr_cli.specs.declared.selecting.Selected.{Selected}
-use Rattle.testr_cli.specs.declared.told.Told.{Told}
 use Rattle.testr_cli.proofs.ChainLemmas.{then_did}
 use Rattle.testr_cli.proofs.DoneLaws.{appended, same_verdict, status_is, kept_through, adds_run}
 use Rattle.testr_cli.proofs.MergeLaws.{AreOfOutputs, have_outputs, of_outputs}
@@ -262,12 +261,12 @@ work_did partial number jobs a b rows few works =
 -- ---- the report
 
 record ToldSo (number : ℕ) (filter_tags : Ids) (rows : List Row) (a b : Work) (v : Verdict) : Type 0 where
-  report : Told
+  report : Report
   says : IsReport number filter_tags rows report
   folder : b.folder.told ≡ a.folder.told
   spawner : b.spawner.told ≡ a.spawner.told
   input : b.input ≡ a.input
-  printed : Appends a.out.told b.out.told report.text.items
+  printed : Appends a.out.told b.out.told report.text
   verdict : v ≡ report.verdict
 
 tell_did : (number : ℕ) (filter_tags : Ids) (rows : List Row) (a b : Work) (v : Verdict) → TellsRun number filter_tags rows a b (Ok v) → ToldSo number filter_tags rows a b v
@@ -285,7 +284,7 @@ tell_did number filter_tags rows a b v tells =
       verdict = same_verdict gives.answer;
     }
 
-prints_rows : (partial : Bool) (number : ℕ) (filter_tags : Ids) (events : List Event) (report : Told) (a b : Option Folder) (printed new : Option (List ℕ)) → Goes a b (KeepsRunAndCaches number (run_of partial (run_bytes events))) → IsReport number filter_tags (rows_of events) report → Appends printed new report.text.items
+prints_rows : (partial : Bool) (number : ℕ) (filter_tags : Ids) (events : List Event) (report : Report) (a b : Option Folder) (printed new : Option (List ℕ)) → Goes a b (KeepsRunAndCaches number (run_of partial (run_bytes events))) → IsReport number filter_tags (rows_of events) report → Appends printed new report.text
     → IfSome a (λ s. (runs : List Run) → Shows s.disk.published runs → Appends printed new (report_of (rows_of events) (length runs) filter_tags))
 prints_rows partial number filter_tags events report None b printed new kept says appends = tt
 prints_rows partial number filter_tags events report (Some s) None printed new kept says appends = absurd kept
@@ -355,7 +354,7 @@ run_did options a b v runs =
       in_turn = where_told a.spawner.told (AreOfOutputs work.events work.outputs) _ (λ are. are.in_turn) workers;
       cached = fresh_through (length kinds) run a.folder.told begin.folder.told b.folder.told quiet at_rest keeps;
       stored = goes_weaker a.folder.told b.folder.told (KeepsRunAndCaches (length kinds) run) (AddsRun partial work.events) stored (adds_run partial (length kinds) work.events);
-      printed = prints_rows partial (length kinds) conf.value.filter_tags work.events tell.report a.folder.told b.folder.told a.out.told b.out.told stored says (subst (λ (o : Option (List ℕ)). Appends o b.out.told tell.report.text.items) out tell.printed);
+      printed = prints_rows partial (length kinds) conf.value.filter_tags work.events tell.report a.folder.told b.folder.told a.out.told b.out.told stored says (subst (λ (o : Option (List ℕ)). Appends o b.out.told tell.report.text) out tell.printed);
       status = so_where_told a.folder.told (verdict_code v ≡ status_of (rows_of work.events)) (ap verdict_code (tell.verdict ∙ says.verdict) ∙ status_is (rows_of work.events));
       input = tell.input ∙ work.input ∙ before.input ∙ (λ i. (opened i).input);
     }

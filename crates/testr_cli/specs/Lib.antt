@@ -11,6 +11,7 @@ pub mod Store
 pub mod Recording
 pub mod Files
 pub mod Reporting
+pub mod Printing
 pub mod Told
 pub mod Copying
 pub mod Perhaps

@@ -20,5 +20,5 @@ Loads partial names =
     Then Memory (Still (Reports (length (kinds_of found)) [] rows)) (λ report.
     Then Keep (At work_folder (Keeps partial (length (kinds_of found)))) (λ _.
     Then Refresh (At work_folder (Refreshes (length (kinds_of found)) rows)) (λ _.
-    Then Print (At work_out (Prints report.text.items)) (λ _.
+    Then Print (At work_out (Prints report.text)) (λ _.
     Gives report.verdict))))))))

@@ -68,7 +68,7 @@ summary_in (Err refusal) = Err refusal
 abbrev pub TellsRun : (number : ℕ) → (filter_tags : Ids) → List Row → Step Work Verdict Refusal
 TellsRun number filter_tags rows =
     Then Report (Still (Reports number filter_tags rows)) (λ report.
-    Then Print (At work_out (Prints report.text.items)) (λ _.
+    Then Print (At work_out (Prints report.text)) (λ _.
     Gives report.verdict))
 
 -- the answer, of what is asked the patterns alone

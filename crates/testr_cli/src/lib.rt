@@ -5,7 +5,7 @@
 //! the order of the steps and the refusals, and never a real file or process.
 //!
 //! - `command`, `drawing`, `words`, `values`: which words are a command
-//! - `store`, `recording`, `files`, `refreshing`, `reporting`, `told`, `copying`, `asking`: the steps, each with why it refuses
+//! - `store`, `recording`, `files`, `refreshing`, `reporting`, `printing`, `told`, `copying`, `asking`: the steps, each with why it refuses
 //! - `selecting`, `planning`, `working`: which tests run, what each worker is started with, and the workers themselves
 //! - `answer`, `suite_refusals`, `telling`: statuses and refusals by step, and the lines that tell of them
 //! - `init`, `load`, `ask`, `run`, `list`, `selftest`: the commands, each a chain of steps
@@ -25,6 +25,7 @@ mod laws;
 mod list;
 mod load;
 mod planning;
+mod printing;
 mod recording;
 mod refreshing;
 mod reporting;
@@ -67,6 +68,8 @@ mod tests_files;
 mod tests_list;
 #[cfg(test)]
 mod tests_load;
+#[cfg(test)]
+mod tests_printing;
 #[cfg(test)]
 mod tests_run;
 #[cfg(test)]

@@ -7,8 +7,9 @@ ghost use Rattle.edge_io.specs.Seen.{Seen};
 ghost use Rattle.edge_io.specs.Spawners.{Spawning};
 
 use crate::files::record_sources;
+use crate::printing::print_report;
 use crate::refreshing::refresh;
-use crate::reporting::{print, report_kept};
+use crate::reporting::end_report;
 use crate::store::{begin, keep, open, take_run};
 use crate::{Refusal, Verdict};
 use edge_io::{Shelf, Sink, Site, Source};
@@ -18,8 +19,8 @@ use sub_number::IdList;
 
 /// Reads the sources to their ends, one after another, keeps what is recorded of them as the next run, brings the caches up
 /// to it, and prints the run's report. They are the files of these names, of which there are 64 at most, or the input where
-/// there are none. What is recorded is written as it is read, and summed up; the report is made before the run is
-/// kept.
+/// there are none. What is recorded is written as it is read, and summed up. The last lines of the
+/// report are made before the run is kept; what is printed behind that takes no memory.
 pub fn load<'a, H: Shelf, F: Site, I: Source, O: Sink>(
     alloc: Global,
     partial: bool,
@@ -39,13 +40,13 @@ pub fn load<'a, H: Shelf, F: Site, I: Source, O: Sink>(
     take_run(&found)?;
     begin(shelf)?;
     let summary = record_sources(alloc, names, shelf, site, input)?;
-    let report = report_kept(alloc, found.runs(), &summary)?;
+    let ending = end_report(alloc, found.runs(), &summary)?;
     keep(shelf, &mut found, partial)?;
     if let Err(fault) = refresh(alloc, shelf, found, &summary) {
         return Err(Refusal::Refresh(fault));
     }
-    print(out, &report.text)?;
+    print_report(out, &ending, &summary)?;
     // The program ends here, and the system takes the memory back in one piece.
     forget(summary);
-    Ok(report.verdict)
+    Ok(ending.verdict)
 }

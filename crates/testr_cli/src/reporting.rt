@@ -1,34 +1,42 @@
 //! What is told of a run.
 
 ghost use Rattle.std.specs.Prelude.{◌≡◌, [], ℕ, List, All, IfOk};
-ghost use Rattle.std.specs.List.{list_any};
+ghost use Rattle.std.specs.List.{filter, list_any};
 ghost use Rattle.outcome_fold.specs.Answers.{row_fails};
 ghost use Rattle.outcome_fold.specs.Summed.{Sums};
 ghost use Rattle.outcome_fold.specs.declared.row.Row.{Row as ARow};
 ghost use Rattle.sub_text.specs.Texts.{report_of};
 ghost use Rattle.testr_cli.specs.Verdicts.{verdict_of};
-ghost use Rattle.testr_cli.specs.Reporting.{Reports, Prints, print_text};
+ghost use Rattle.testr_cli.specs.Reporting.{Reports, Prints, shown_with, print_text};
 ghost use Rattle.testr_cli.specs.Telling.{line_text};
 
 use crate::Verdict;
 use crate::telling::Line;
-use crate::told::Told;
 use edge_io::{Failed, Sink, write_whole};
 use outcome_fold::{Row, Rows, Summary};
 use packet_codec::Tags;
 use std::alloc::Global;
 use sub_number::NoMemory;
-use sub_text::{report_from, report_text};
+use sub_text::{report_text, summary_from};
 
-/// The report of the run of this number, of whose rows this is kept, and its verdict. Tests that do not fail and have one of
-/// the tags that filter it are not counted.
-pub fn report_kept(alloc: Global, number: u32, summary: &Summary) -> Result<Told, NoMemory>
-    ensures { (filter_tags : List (List ℕ)) (rows : List ARow) → Sums filter_tags rows summary.now → Reports number filter_tags rows result }
+/// How the report of a run ends. It is made before the run is kept, so that nothing that is printed behind that takes memory.
+#[derive(Drop)]
+pub struct Ending {
+    /// The last two lines.
+    pub lines: Vec<u8>,
+    /// Whether the tests passed.
+    pub verdict: Verdict,
+}
+
+/// How the report of the run of this number ends, of whose rows this is kept. Tests that do not fail and have one of the tags
+/// that filter it are not counted.
+pub fn end_report(alloc: Global, number: u32, summary: &Summary) -> Result<Ending, NoMemory>
+    ensures { (filter_tags : List (List ℕ)) (rows : List ARow) → Sums filter_tags rows summary.now → Reports number filter_tags rows (shown_with (filter row_fails rows) result) }
 {
-    let mut text = Vec::new(alloc);
-    report_from(summary.failing(), summary.counts(), number, &mut text)?;
-    Ok(Told {
-        text,
+    let mut lines = Vec::new(alloc);
+    summary_from(summary.counts(), number, &mut lines)?;
+    Ok(Ending {
+        lines,
         verdict: verdict_kept(summary),
     })
 }

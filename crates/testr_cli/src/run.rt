@@ -12,7 +12,8 @@ ghost use Rattle.suite_plan.specs.Patterns.{Compiles};
 
 use crate::command::Command;
 use crate::planning::plan;
-use crate::reporting::{print, report_kept};
+use crate::printing::print_report;
+use crate::reporting::end_report;
 use crate::selecting::select;
 use crate::store::{open, take_run};
 use crate::working::run_workers;
@@ -132,7 +133,8 @@ fn is_partial(command: &Command) -> bool
         || !command.names.list().is_empty()
 }
 
-// Makes the report of the run of this number, which is kept, and of whose rows this is; and prints it.
+// Prints the report of the run of this number, which is kept, and of whose rows this is. Its last lines are made before the
+// first one is printed.
 fn tell_run<O: Sink>(
     alloc: Global,
     number: u32,
@@ -144,10 +146,10 @@ fn tell_run<O: Sink>(
         (work folder site spawner input (O.seen out.new))
         result }
 {
-    let report = match report_kept(alloc, number, summary) {
-        Ok(report) => report,
+    let ending = match end_report(alloc, number, summary) {
+        Ok(ending) => ending,
         Err(fault) => return Err(Refusal::Report(fault)),
     };
-    print(out, &report.text)?;
-    Ok(report.verdict)
+    print_report(out, &ending, summary)?;
+    Ok(ending.verdict)
 }

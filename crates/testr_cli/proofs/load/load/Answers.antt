@@ -1,6 +1,9 @@
 use Rattle.std.proofs.Common.{[], refl}
+use Rattle.std.specs.List.{filter}
+use Rattle.outcome_fold.specs.Answers.{row_fails}
+use Rattle.testr_cli.specs.Reporting.{report_shown}
 use Rattle.testr_cli.specs.Steps.{stops, goes_on}
-use Rattle.testr_cli.proofs.StepLemmas.{stopped, still_done, part_done, still_stops, part_stops, reports_as, refreshes_as, prints_as, gives}
+use Rattle.testr_cli.proofs.StepLemmas.{stopped, still_done, part_done, still_stops, part_stops, reports_as, refreshes_as, gives}
 use Rattle.testr_cli.proofs.load.load.Goals as goal
 
 pub returns-in_err-found : goal.returns-in_err-found
@@ -24,15 +27,15 @@ returns-in_err-summary g c = λ spawner.
     (part_done _ _ c.in_ok-begin.ensures
     (stopped _ c.from_residual-in_err-summary.ensures.1 (c.in_err-summary.ensures.step.holds spawner (g.O.Sink.seen c.args.out.now)))))
 
-pub returns-in_err-report : goal.returns-in_err-report
-returns-in_err-report g c =
+pub returns-in_err-ending : goal.returns-in_err-ending
+returns-in_err-ending g c =
     let sums = c.in_ok-summary.ensures.step in
     λ spawner.
     part_done _ _ c.in_ok-found.ensures.step
     (still_done _ c.in_ok-take_run.ensures
     (part_done _ _ c.in_ok-begin.ensures
     (goes_on sums.rows _ (sums.holds spawner (g.O.Sink.seen c.args.out.now))
-    (still_stops _ c.from_residual-in_err-report.ensures.1 (reports_as c.runs.ensures (c.in_err-report.ensures [] sums.rows sums.sums)) refl))))
+    (still_stops _ c.from_residual-in_err-ending.ensures.1 (reports_as c.runs.ensures (c.in_err-ending.ensures [] sums.rows sums.sums)) refl))))
 
 pub returns-in_err-keep : goal.returns-in_err-keep
 returns-in_err-keep g c =
@@ -42,7 +45,7 @@ returns-in_err-keep g c =
     (still_done _ c.in_ok-take_run.ensures
     (part_done _ _ c.in_ok-begin.ensures
     (goes_on sums.rows _ (sums.holds spawner (g.O.Sink.seen c.args.out.now))
-    (still_done c.in_ok-report.report (reports_as c.runs.ensures (c.in_ok-report.ensures [] sums.rows sums.sums))
+    (still_done (report_shown (filter row_fails sums.rows) c.in_ok-ending.ending) (reports_as c.runs.ensures (c.in_ok-ending.ensures [] sums.rows sums.sums))
     (part_stops _ c.from_residual-in_err-keep.ensures.1 c.in_err-keep.ensures.step refl)))))
 
 pub returns-in-Err : goal.returns-in-Err
@@ -53,22 +56,22 @@ returns-in-Err g c =
     (still_done _ c.in_ok-take_run.ensures
     (part_done _ _ c.in_ok-begin.ensures
     (goes_on sums.rows _ (sums.holds spawner (g.O.Sink.seen c.args.out.now))
-    (still_done c.in_ok-report.report (reports_as c.runs.ensures (c.in_ok-report.ensures [] sums.rows sums.sums))
+    (still_done (report_shown (filter row_fails sums.rows) c.in_ok-ending.ending) (reports_as c.runs.ensures (c.in_ok-ending.ensures [] sums.rows sums.sums))
     (part_done _ _ c.in_ok-keep.ensures.step
     (stops c.in-Err.fault refl (record { at = refreshes_as _ _ _ c.in_ok-keep.ensures.kinds (c.in-Err.ensures [] sums.rows sums.sums); rest = refl })))))))
 
-pub returns-in_err-print : goal.returns-in_err-print
-returns-in_err-print g c =
+pub returns-in_err-print_report : goal.returns-in_err-print_report
+returns-in_err-print_report g c =
     let sums = c.in_ok-summary.ensures.step in
     λ spawner.
     part_done _ _ c.in_ok-found.ensures.step
     (still_done _ c.in_ok-take_run.ensures
     (part_done _ _ c.in_ok-begin.ensures
     (goes_on sums.rows _ (sums.holds spawner (g.O.Sink.seen c.args.out.now))
-    (still_done c.in_ok-report.report (reports_as c.runs.ensures (c.in_ok-report.ensures [] sums.rows sums.sums))
+    (still_done (report_shown (filter row_fails sums.rows) c.in_ok-ending.ending) (reports_as c.runs.ensures (c.in_ok-ending.ensures [] sums.rows sums.sums))
     (part_done _ _ c.in_ok-keep.ensures.step
     (part_done _ _ (refreshes_as _ _ _ c.in_ok-keep.ensures.kinds (c.in_default.ensures [] sums.rows sums.sums))
-    (part_stops _ c.from_residual-in_err-print.ensures.1 (prints_as c.deref.ensures.value c.in_err-print.ensures) refl)))))))
+    (part_stops _ c.from_residual-in_err-print_report.ensures.1 (c.in_err-print_report.ensures [] sums.rows sums.sums) refl)))))))
 
 pub returns : goal.returns
 returns g c =
@@ -78,8 +81,8 @@ returns g c =
     (still_done _ c.in_ok-take_run.ensures
     (part_done _ _ c.in_ok-begin.ensures
     (goes_on sums.rows _ (sums.holds spawner (g.O.Sink.seen c.args.out.now))
-    (still_done c.in_ok-report.report (reports_as c.runs.ensures (c.in_ok-report.ensures [] sums.rows sums.sums))
+    (still_done (report_shown (filter row_fails sums.rows) c.in_ok-ending.ending) (reports_as c.runs.ensures (c.in_ok-ending.ensures [] sums.rows sums.sums))
     (part_done _ _ c.in_ok-keep.ensures.step
     (part_done _ _ (refreshes_as _ _ _ c.in_ok-keep.ensures.kinds (c.in_default.ensures [] sums.rows sums.sums))
-    (part_done _ _ (prints_as c.deref.ensures.value c.in_ok-print.ensures)
+    (part_done _ _ (c.in_ok-print_report.ensures [] sums.rows sums.sums)
     gives)))))))

@@ -1,18 +1,21 @@
 use Rattle.std.proofs.Common.{refl}
+use Rattle.std.specs.List.{filter}
+use Rattle.outcome_fold.specs.Answers.{row_fails}
+use Rattle.testr_cli.specs.Reporting.{report_shown}
 use Rattle.testr_cli.specs.Steps.{stops}
-use Rattle.testr_cli.proofs.StepLemmas.{part_done, part_stops, still_done, prints_as, gives}
+use Rattle.testr_cli.proofs.StepLemmas.{part_done, part_stops, still_done, gives}
 use Rattle.testr_cli.proofs.run.tell_run.Goals as goal
 
 pub returns-in-Err : goal.returns-in-Err
 returns-in-Err g c = λ folder site spawner input tags rows sums. stops c.in-Err.fault refl (record { says = c.in-Err.ensures tags rows sums; same = refl })
 
-pub returns-in_err-print : goal.returns-in_err-print
-returns-in_err-print g c = λ folder site spawner input tags rows sums.
-    still_done c.in-Ok.report (c.in-Ok.ensures tags rows sums)
-    (part_stops _ c.from_residual.ensures.1 (prints_as c.deref.ensures.value c.in_err-print.ensures) refl)
+pub returns-in_err-print_report : goal.returns-in_err-print_report
+returns-in_err-print_report g c = λ folder site spawner input tags rows sums.
+    still_done (report_shown (filter row_fails rows) c.in-Ok.ending) (c.in-Ok.ensures tags rows sums)
+    (part_stops _ c.from_residual.ensures.1 (c.in_err-print_report.ensures tags rows sums) refl)
 
 pub returns : goal.returns
 returns g c = λ folder site spawner input tags rows sums.
-    still_done c.in-Ok.report (c.in-Ok.ensures tags rows sums)
-    (part_done _ _ (prints_as c.deref.ensures.value c.in_ok-print.ensures)
+    still_done (report_shown (filter row_fails rows) c.in-Ok.ending) (c.in-Ok.ensures tags rows sums)
+    (part_done _ _ (c.in_ok-print_report.ensures tags rows sums)
     gives)
