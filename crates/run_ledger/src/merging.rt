@@ -18,6 +18,9 @@ use outcome_fold::{Rows, Summary, Timed};
 use std::alloc::Global;
 use sub_number::NoMemory;
 
+// The most bytes of an entry beside its id: twenty digits of a time, and two zero bytes.
+const BESIDE_AN_ID: usize = 22;
+
 /// Gives each id that has a time in these rows that time. It takes one sort of the rows' times; the entries are gone
 /// through once, and those that stay are copied as they are, many at once.
 ///
@@ -57,13 +60,25 @@ fn merge(alloc: Global, earlier: &[u8], later: &[Timed<'_>]) -> Result<Vec<u8>, 
     ensures bytes { (entries : List (List ℕ × ℕ)) → AreOf earlier.now entries → IfOk result (λ bytes. bytes.items ≡ flat_map time_entry (merged entries (map shown_time later.now))) }
     ensures small { IfOk result (λ _. All (λ timed. timed.nanos < 2 ^ 64) later.now) }
 {
-    let mut bytes = Vec::new(alloc);
+    let mut bytes = Vec::with_capacity(alloc, room_for(earlier, later))?;
     let mut rest = earlier;
     for timed in later {
         rest = put_among(rest, timed, &mut bytes)?;
     }
     bytes.extend_from_slice(rest)?;
     Ok(bytes)
+}
+
+// Bytes that are enough for the entries of both. Taken at once, so that no part of them stands twice while they grow; what
+// is not needed is not touched.
+fn room_for(earlier: &[u8], later: &[Timed<'_>]) -> usize {
+    let mut room = earlier.len();
+    for timed in later {
+        room = room
+            .saturating_add(timed.id.bytes().len())
+            .saturating_add(BESIDE_AN_ID);
+    }
+    room
 }
 
 // Puts the entries below this one to the end of the bytes, and then this one. Gives the entries above it.

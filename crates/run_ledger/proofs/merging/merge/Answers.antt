@@ -13,7 +13,7 @@ abbrev IsSmall : Timed → Type 0
 IsSmall timed = timed.nanos < 2 ^ 64
 
 pub loop-timed-init : goal.loop-timed-init
-loop-timed-init c = record { merges = λ entries are. merge_none _ _ entries _ c.new-bytes.ensures.items are; small = All-nil IsSmall }
+loop-timed-init c = record { merges = λ entries are. merge_none _ _ entries _ c.in_ok-bytes.ensures.items are; small = All-nil IsSmall }
 
 pub loop-timed-preserved : goal.loop-timed-preserved
 loop-timed-preserved c =
