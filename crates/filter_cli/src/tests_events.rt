@@ -46,24 +46,25 @@ fn tags(alloc: Global, names: &[u8]) -> Option<Tags> {
 
 // What is kept where these tags are asked for, and nothing else is.
 fn rules(alloc: Global, with_tags: &[u8]) -> Option<Rules> {
+    let with_tags = tags(alloc, with_tags)?;
+    let with_ids = Filters::new(alloc, &[]).ok()?;
+    let without_ids = Filters::new(alloc, &[]).ok()?;
     Some(Rules {
         success: false,
         failure: true,
         skip: true,
         xfail: true,
-        with_tags: tags(alloc, with_tags)?,
+        with_tags,
         without_tags: Tags::new(alloc),
-        with_ids: Filters::new(alloc, &[]).ok()?,
-        without_ids: Filters::new(alloc, &[]).ok()?,
+        with_ids,
+        without_ids,
     })
 }
 
 fn source(alloc: Global, stream: &[u8], fails: &[u64]) -> Option<ListSource> {
-    Some(ListSource::new(
-        Bytes::new(alloc, stream).ok()?,
-        13,
-        fails.to_vec(alloc).ok()?,
-    ))
+    let fails = fails.to_vec(alloc).ok()?;
+    let stream = Bytes::new(alloc, stream).ok()?;
+    Some(ListSource::new(stream, 13, fails))
 }
 
 // What came of the stream, where this was written.
@@ -88,7 +89,7 @@ fn filtered(
     wanted: &[u8],
 ) -> Option<Result<u8, PumpFault>> {
     let mut input = source(alloc, stream, fails)?;
-    let mut out = ListSink::new(alloc, [].to_vec(alloc).ok()?);
+    let mut out = ListSink::new(alloc, Vec::new(alloc));
     let status = filter_stream(alloc, rules, hidden, &mut input, &mut out);
     came(status, &out, wanted)
 }
@@ -100,14 +101,8 @@ fn kept(
     stream: &[u8],
     wanted: &[u8],
 ) -> Option<Result<u8, PumpFault>> {
-    filtered(
-        alloc,
-        &rules(alloc, with_tags)?,
-        hidden,
-        stream,
-        &[],
-        wanted,
-    )
+    let rules = rules(alloc, with_tags)?;
+    filtered(alloc, &rules, hidden, stream, &[], wanted)
 }
 
 #[test]
@@ -128,7 +123,8 @@ fn events_of_kept_tests_stand_where_the_test_completes(rt: HostRuntime) -> Resul
 
 // The reads give 13 bytes each, and the fourth one fails: so `s` was read to its end.
 fn cut_off(alloc: Global) -> Option<Result<u8, PumpFault>> {
-    filtered(alloc, &rules(alloc, b"")?, false, MIXED, &[3], b"x\n")
+    let rules = rules(alloc, b"")?;
+    filtered(alloc, &rules, false, MIXED, &[3], b"x\n")
 }
 
 #[test]
@@ -138,15 +134,21 @@ fn foreign_bytes_are_written_before_the_next_read(rt: HostRuntime) -> Result<(),
     Ok(())
 }
 
+fn tagger_of(alloc: Global, add: &[u8], remove: &[u8]) -> Option<Tagger> {
+    let add = tags(alloc, add)?;
+    let remove = tags(alloc, remove)?;
+    Some(Tagger::new(alloc, add, remove))
+}
+
 fn retagged(
     alloc: Global,
     add: &[u8],
     remove: &[u8],
     wanted: &[u8],
 ) -> Option<Result<u8, PumpFault>> {
-    let tagger = Tagger::new(alloc, tags(alloc, add)?, tags(alloc, remove)?);
     let mut input = source(alloc, WITH_TAGS, &[])?;
-    let mut out = ListSink::new(alloc, [].to_vec(alloc).ok()?);
+    let tagger = tagger_of(alloc, add, remove)?;
+    let mut out = ListSink::new(alloc, Vec::new(alloc));
     let status = tag_stream(alloc, tagger, &mut input, &mut out);
     came(status, &out, wanted)
 }

@@ -24,21 +24,17 @@ fn sink(alloc: Global) -> Result<ListSink, Fail> {
 fn gives(alloc: Global, lines: &[u8], packets: &[u8]) -> Result<bool, Fail> {
     let mut input = source(alloc, lines, 7)?;
     let mut out = sink(alloc)?;
-    let Ok(status) = tap_to_subunit(alloc, &mut input, &mut out) else {
-        return Ok(false);
-    };
-    Ok(status == 0 && out.taken() == packets)
+    let status = tap_to_subunit(alloc, &mut input, &mut out);
+    Ok(matches!(status, Ok(0)) && out.taken() == packets)
 }
 
 // The status of the stream as lines, where these are they.
 fn written(alloc: Global, stream: &[u8], lines: &[u8]) -> Result<Option<u8>, Fail> {
     let mut input = source(alloc, stream, 13)?;
     let mut out = sink(alloc)?;
-    let Ok(status) = pass_notes(alloc, SubunitToTap::new(alloc), &mut input, &mut out) else {
-        return Ok(None);
-    };
+    let status = pass_notes(alloc, SubunitToTap::new(alloc), &mut input, &mut out);
     Ok(if out.taken() == lines {
-        Some(status)
+        status.ok()
     } else {
         None
     })
@@ -88,20 +84,26 @@ fn the_last_line_needs_no_newline(rt: HostRuntime) -> Result<(), Fail> {
     Ok(())
 }
 
-// What a line of so many `a` gives behind a test line, and before its comment.
-fn long_line(alloc: Global, count: usize, chunk: usize) -> Option<ListSink>
-    requires { 1 ≤ chunk }
-{
+// A line of so many `a` behind a test line, and before its comment.
+fn long_text(alloc: Global, count: usize) -> Option<Vec<u8>> {
     let mut lines = Vec::new(alloc);
     lines.extend_from_slice(b"ok\n").ok()?;
     for _ in 0..count {
         lines.push(b'a').ok()?;
     }
     lines.extend_from_slice(b"\n# why").ok()?;
-    let mut input = ListSource::new(Bytes::from_vec(lines), chunk, Vec::new(alloc));
+    Some(lines)
+}
+
+// What it gives.
+fn long_line(alloc: Global, count: usize, chunk: usize) -> Option<ListSink>
+    requires { 1 ≤ chunk }
+{
+    let lines = Bytes::from_vec(long_text(alloc, count)?);
+    let mut input = ListSource::new(lines, chunk, Vec::new(alloc));
     let mut out = ListSink::new(alloc, Vec::new(alloc));
-    tap_to_subunit(alloc, &mut input, &mut out).ok()?;
-    Some(out)
+    let status = tap_to_subunit(alloc, &mut input, &mut out);
+    if status.is_ok() { Some(out) } else { None }
 }
 
 // Whether the line of 65,537 gives two pieces, and then the test its comment.

@@ -44,11 +44,25 @@ fn owned(alloc: Global, words: &[&str]) -> Option<Vec<String>> {
 }
 
 fn source(alloc: Global, stream: &[u8], fails: &[u64]) -> Option<ListSource> {
-    Some(ListSource::new(
-        Bytes::new(alloc, stream).ok()?,
-        13,
-        fails.to_vec(alloc).ok()?,
-    ))
+    let fails = fails.to_vec(alloc).ok()?;
+    let stream = Bytes::new(alloc, stream).ok()?;
+    Some(ListSource::new(stream, 13, fails))
+}
+
+fn are_texts(out: &ListSink, err: &ListSink, text: &[u8], line: &[u8]) -> bool {
+    out.taken() == text && err.taken() == line
+}
+
+// The status of the words over the input.
+fn ran(
+    alloc: Global,
+    words: &[&str],
+    input: &mut ListSource,
+    out: &mut ListSink,
+    err: &mut ListSink,
+) -> Option<u8> {
+    let words = owned(alloc, words)?;
+    Some(filters(alloc, &words, input, out, err))
 }
 
 // The status of the words over the stream, of which these reads fail, where these are the texts of both sinks and so many
@@ -62,16 +76,24 @@ fn status_of(
     line: &[u8],
     left: usize,
 ) -> Option<u8> {
-    let words = owned(alloc, words)?;
     let mut input = source(alloc, stream, fails)?;
     let mut out = ListSink::new(alloc, Vec::new(alloc));
     let mut err = ListSink::new(alloc, Vec::new(alloc));
-    let status = filters(alloc, &words, &mut input, &mut out, &mut err);
-    if out.taken() == text && err.taken() == line && input.left().len() == left {
-        Some(status)
+    let status = ran(alloc, words, &mut input, &mut out, &mut err);
+    if are_texts(&out, &err, text, line) && input.left().len() == left {
+        status
     } else {
         None
     }
+}
+
+// What the filter writes of the stream, where its status is 0.
+fn written(alloc: Global, word: &str, stream: &[u8]) -> Option<ListSink> {
+    let mut input = source(alloc, stream, &[])?;
+    let mut out = ListSink::new(alloc, Vec::new(alloc));
+    let mut err = ListSink::new(alloc, Vec::new(alloc));
+    let status = ran(alloc, &[word], &mut input, &mut out, &mut err);
+    if status == Some(0) { Some(out) } else { None }
 }
 
 // Whether the second filter gives this text and status of what the first one writes of the stream.
@@ -83,13 +105,10 @@ fn gives_through(
     text: &[u8],
     status: u8,
 ) -> bool {
-    let (Some(words), Some(mut input)) = (owned(alloc, &[first]), source(alloc, stream, &[])) else {
-        return false;
-    };
-    let mut out = ListSink::new(alloc, Vec::new(alloc));
-    let mut err = ListSink::new(alloc, Vec::new(alloc));
-    let answer = filters(alloc, &words, &mut input, &mut out, &mut err);
-    answer == 0 && gives(alloc, &[second], out.taken(), text, status)
+    match written(alloc, first, stream) {
+        Some(out) => gives(alloc, &[second], out.taken(), text, status),
+        None => false,
+    }
 }
 
 // Whether it is done, with this text and status.
@@ -102,54 +121,49 @@ fn refuses(alloc: Global, words: &[&str], line: &[u8], status: u8) -> bool {
     status_of(alloc, words, BOTH, &[], b"", line, 26) == Some(status)
 }
 
+// Words, a stream, the text that is written of it, and the status.
+type Done = (&'static [&'static str], &'static [u8], &'static [u8], u8);
+
+const LET_THROUGH: [Done; 5] = [
+    (&["subunit-filter"], BOTH, LOG_AND_FAILED, 0),
+    (&["subunit-filter", "--no-passthrough"], BOTH, FAILED, 0),
+    (
+        &[
+            "subunit-filter",
+            "--success",
+            "--no-failure",
+            "--with-id=^f",
+        ],
+        BOTH,
+        PASSED_AND_LOG,
+        0,
+    ),
+    (
+        &[
+            "subunit-filter",
+            "--only-genuine-failures",
+            "--success",
+            "--failure",
+            "--no-failure",
+        ],
+        BOTH,
+        PASSED,
+        0,
+    ),
+    (&["subunit-filter", "--with-tag=a"], FAILED, b"", 0),
+];
+
 #[test]
 fn tests_are_let_through_as_is_asked_for(rt: HostRuntime) {
-    let alloc = rt.alloc();
-    assert!(rt; gives(alloc, &["subunit-filter"], BOTH, LOG_AND_FAILED, 0));
-    assert!(rt;
-        gives(
-            alloc,
-            &["subunit-filter", "--no-passthrough"],
-            BOTH,
-            FAILED,
-            0
-        )
-    );
-    assert!(rt;
-        gives(
-            alloc,
-            &[
-                "subunit-filter",
-                "--success",
-                "--no-failure",
-                "--with-id=^f"
-            ],
-            BOTH,
-            PASSED_AND_LOG,
-            0
-        )
-    );
-    assert!(rt;
-        gives(
-            alloc,
-            &[
-                "subunit-filter",
-                "--only-genuine-failures",
-                "--success",
-                "--failure",
-                "--no-failure"
-            ],
-            BOTH,
-            PASSED,
-            0
-        )
-    );
-    assert!(rt; gives(alloc, &["subunit-filter", "--with-tag=a"], FAILED, b"", 0));
+    for row in &LET_THROUGH {
+        assert!(rt; gives(rt.alloc(), row.0, row.1, row.2, row.3));
+    }
 }
 
 #[test]
 fn tags_are_added_and_removed(rt: HostRuntime) {
     let alloc = rt.alloc();
+    let wrong = b"subunit-tags: wrong usage\n";
     assert!(rt;
         gives(
             alloc,
@@ -159,106 +173,74 @@ fn tags_are_added_and_removed(rt: HostRuntime) {
             0
         )
     );
-    assert!(rt;
-        refuses(
-            alloc,
-            &["subunit-tags", "-"],
-            b"subunit-tags: wrong usage\n",
-            2
-        )
-    );
-    assert!(rt;
-        refuses(
-            alloc,
-            &["subunit-tags", "a", ""],
-            b"subunit-tags: wrong usage\n",
-            2
-        )
-    );
+    assert!(rt; refuses(alloc, &["subunit-tags", "-"], wrong, 2));
+    assert!(rt; refuses(alloc, &["subunit-tags", "a", ""], wrong, 2));
 }
+
+const LISTED: [Done; 5] = [
+    (&["subunit-ls", "--times"], TIMED, b"foo 1.001\n", 0),
+    (&["subunit-ls", "--no-passthrough"], LOGGED, b"b\n", 1),
+    (
+        &["subunit-ls", "--exists", "--no-passthrough"],
+        LOGGED,
+        b"a\nb\n",
+        1,
+    ),
+    (
+        &["subunit-stats"],
+        TAGGED,
+        b"Total tests:       3\nPassed tests:      1\nFailed tests:      1\nSkipped tests:     1\nSeen tags: a, b\n",
+        1,
+    ),
+    (
+        &["subunit-stats"],
+        b"",
+        b"Total tests:       0\nPassed tests:      0\nFailed tests:      0\nSkipped tests:     0\nSeen tags: \n",
+        0,
+    ),
+];
 
 #[test]
 fn tests_are_listed_and_counted(rt: HostRuntime) {
-    let alloc = rt.alloc();
-    assert!(rt; gives(alloc, &["subunit-ls", "--times"], TIMED, b"foo 1.001\n", 0));
-    assert!(rt;
-        gives(
-            alloc,
-            &["subunit-ls", "--no-passthrough"],
-            LOGGED,
-            b"b\n",
-            1
-        )
-    );
-    assert!(rt;
-        gives(
-            alloc,
-            &["subunit-ls", "--exists", "--no-passthrough"],
-            LOGGED,
-            b"a\nb\n",
-            1
-        )
-    );
-    assert!(rt;
-        gives(
-            alloc,
-            &["subunit-stats"],
-            TAGGED,
-            b"Total tests:       3\nPassed tests:      1\nFailed tests:      1\nSkipped tests:     1\nSeen tags: a, b\n",
-            1
-        )
-    );
-    assert!(rt;
-        gives(
-            alloc,
-            &["subunit-stats"],
-            b"",
-            b"Total tests:       0\nPassed tests:      0\nFailed tests:      0\nSkipped tests:     0\nSeen tags: \n",
-            0
-        )
-    );
+    for row in &LISTED {
+        assert!(rt; gives(rt.alloc(), row.0, row.1, row.2, row.3));
+    }
 }
+
+// Words, the line that refuses them, and the status.
+const REFUSED: [(&[&str], &[u8], u8); 4] = [
+    (
+        &["subunit-filter", "--success", "x"],
+        b"subunit-filter: wrong usage\n",
+        2,
+    ),
+    (
+        &["subunit"],
+        b"usage: testr COMMAND or a subunit filter\n",
+        2,
+    ),
+    (
+        &["subunit-filter", "--with-id=("],
+        b"subunit-filter: bad pattern: (\n",
+        3,
+    ),
+    (
+        &[
+            "subunit-filter",
+            "--with-id=a",
+            "--without-id=[",
+            "--with-id=(",
+        ],
+        b"subunit-filter: bad pattern: [\n",
+        3,
+    ),
+];
 
 #[test]
 fn words_and_patterns_are_refused_before_the_input_is_read(rt: HostRuntime) {
-    let alloc = rt.alloc();
-    assert!(rt;
-        refuses(
-            alloc,
-            &["subunit-filter", "--success", "x"],
-            b"subunit-filter: wrong usage\n",
-            2
-        )
-    );
-    assert!(rt;
-        refuses(
-            alloc,
-            &["subunit"],
-            b"usage: testr COMMAND or a subunit filter\n",
-            2
-        )
-    );
-    assert!(rt;
-        refuses(
-            alloc,
-            &["subunit-filter", "--with-id=("],
-            b"subunit-filter: bad pattern: (\n",
-            3
-        )
-    );
-    assert!(rt;
-        refuses(
-            alloc,
-            &[
-                "subunit-filter",
-                "--with-id=a",
-                "--without-id=[",
-                "--with-id=("
-            ],
-            b"subunit-filter: bad pattern: [\n",
-            3
-        )
-    );
+    for row in &REFUSED {
+        assert!(rt; refuses(rt.alloc(), row.0, row.1, row.2));
+    }
 }
 
 #[test]
@@ -288,13 +270,14 @@ fn failed_and_run(alloc: Global) -> Option<Bytes> {
 
 // The status where these writes fail, where this is the line and at least so many bytes are left.
 fn status_of_writes(alloc: Global, fails: &[u64], line: &[u8], left: usize) -> Option<u8> {
-    let words = owned(alloc, &["subunit-filter"])?;
-    let mut input = ListSource::new(failed_and_run(alloc)?, 65_536, Vec::new(alloc));
-    let mut out = ListSink::new(alloc, fails.to_vec(alloc).ok()?);
+    let fails = fails.to_vec(alloc).ok()?;
+    let stream = failed_and_run(alloc)?;
+    let mut input = ListSource::new(stream, 65_536, Vec::new(alloc));
+    let mut out = ListSink::new(alloc, fails);
     let mut err = ListSink::new(alloc, Vec::new(alloc));
-    let status = filters(alloc, &words, &mut input, &mut out, &mut err);
-    if out.taken().is_empty() && err.taken() == line && input.left().len() >= left {
-        Some(status)
+    let status = ran(alloc, &["subunit-filter"], &mut input, &mut out, &mut err);
+    if are_texts(&out, &err, b"", line) && input.left().len() >= left {
+        status
     } else {
         None
     }

@@ -11,13 +11,13 @@ use packet_codec::{Event, Status, Tags, encode, fits};
 use run_shelf::{ShelfCall, Store, StoreFault};
 use std::alloc::Global;
 use std::test::Fail;
-use sub_number::{IdList, Text};
+use sub_number::{IdList, Text, TimeMap};
 use trial_events::{are, at};
 
 const FORMAT: &[u8] = b"subunit-store 1\n";
 
 // Keeps a file over any stop, in six calls.
-pub fn keep<H: Shelf>(shelf: &mut H, name: &str, bytes: &[u8]) -> Result<(), Failed> {
+pub(crate) fn keep<H: Shelf>(shelf: &mut H, name: &str, bytes: &[u8]) -> Result<(), Failed> {
     shelf.sync_folder()?;
     shelf.start_draft()?;
     shelf.append(bytes)?;
@@ -27,7 +27,7 @@ pub fn keep<H: Shelf>(shelf: &mut H, name: &str, bytes: &[u8]) -> Result<(), Fai
 }
 
 // An empty repository, made in six calls, of which these calls of all are to fail.
-fn repository(alloc: Global, fails: &[u64]) -> Result<MemShelf, Fail> {
+pub(crate) fn repository(alloc: Global, fails: &[u64]) -> Result<MemShelf, Fail> {
     let mut shelf = MemShelf::new(alloc, fails.to_vec(alloc)?);
     keep(&mut shelf, "format", FORMAT)?;
     Ok(shelf)
@@ -87,35 +87,8 @@ pub(crate) fn passed_and_failed(alloc: Global) -> Option<Summary> {
     run.close().ok()
 }
 
-// Whether a and b fail behind the first run, and these ids behind a second one, where a passes and c fails.
-fn behind_two(alloc: Global, name: &str, names: &[u8]) -> Result<Option<bool>, Fail> {
-    let Some(first) = ended(alloc, b'b', Status::Fail, b'a', Status::Fail) else {
-        return Ok(None);
-    };
-    let Some(second) = ended(alloc, b'a', Status::Success, b'c', Status::Fail) else {
-        return Ok(None);
-    };
-    let mut shelf = repository(alloc, &[])?;
-    keep(&mut shelf, "0", &first)?;
-    let before = fails(alloc, &mut shelf, b"ab")?;
-    keep(&mut shelf, name, &second)?;
-    Ok(Some(before && fails(alloc, &mut shelf, names)?))
-}
-
-#[test]
-fn a_partial_run_changes_the_failing_set(rt: HostRuntime) -> Result<(), Fail> {
-    assert_eq!(rt; behind_two(rt.alloc(), "1.part", b"bc")?, Some(true));
-    Ok(())
-}
-
-#[test]
-fn a_full_run_replaces_the_failing_set(rt: HostRuntime) -> Result<(), Fail> {
-    assert_eq!(rt; behind_two(rt.alloc(), "1", b"c")?, Some(true));
-    Ok(())
-}
-
 // Keeps a run in which two tests end so.
-fn keep_ended<H: Shelf>(
+pub(crate) fn keep_ended<H: Shelf>(
     alloc: Global,
     shelf: &mut H,
     name: &str,
@@ -129,105 +102,150 @@ fn keep_ended<H: Shelf>(
     Ok(true)
 }
 
-// Whether these ids fail behind four runs, of which the first and the third are full.
-fn behind_four(alloc: Global, names: &[u8]) -> Result<Option<bool>, Fail> {
+// Whether a and b fail behind the first run, and these ids behind a second one, where a passes and c fails.
+fn behind_two<H: Shelf>(
+    alloc: Global,
+    shelf: &mut H,
+    name: &str,
+    names: &[u8],
+) -> Result<bool, Fail> {
     let (fail, pass) = (Status::Fail, Status::Success);
-    let mut shelf = repository(alloc, &[])?;
-    let kept = keep_ended(alloc, &mut shelf, "0", (b'a', fail), (b'b', fail))?
-        && keep_ended(alloc, &mut shelf, "1.part", (b'a', pass), (b'e', fail))?
-        && keep_ended(alloc, &mut shelf, "2", (b'd', fail), (b'c', fail))?
-        && keep_ended(alloc, &mut shelf, "3.part", (b'c', pass), (b'a', fail))?;
-    if !kept {
-        return Ok(None);
-    }
-    Ok(Some(fails(alloc, &mut shelf, names)?))
+    Ok(
+        keep_ended(alloc, shelf, "0", (b'b', fail), (b'a', fail))?
+            && fails(alloc, shelf, b"ab")?
+            && keep_ended(alloc, shelf, name, (b'a', pass), (b'c', fail))?
+            && fails(alloc, shelf, names)?,
+    )
+}
+
+#[test]
+fn a_partial_run_changes_the_failing_set(rt: HostRuntime) -> Result<(), Fail> {
+    let mut shelf = repository(rt.alloc(), &[])?;
+    assert!(rt; behind_two(rt.alloc(), &mut shelf, "1.part", b"bc")?);
+    Ok(())
+}
+
+#[test]
+fn a_full_run_replaces_the_failing_set(rt: HostRuntime) -> Result<(), Fail> {
+    let mut shelf = repository(rt.alloc(), &[])?;
+    assert!(rt; behind_two(rt.alloc(), &mut shelf, "1", b"c")?);
+    Ok(())
+}
+
+// Whether these ids fail behind four runs, of which the first and the third are full.
+fn behind_four<H: Shelf>(alloc: Global, shelf: &mut H, names: &[u8]) -> Result<bool, Fail> {
+    let (fail, pass) = (Status::Fail, Status::Success);
+    Ok(
+        keep_ended(alloc, shelf, "0", (b'a', fail), (b'b', fail))?
+            && keep_ended(alloc, shelf, "1.part", (b'a', pass), (b'e', fail))?
+            && keep_ended(alloc, shelf, "2", (b'd', fail), (b'c', fail))?
+            && keep_ended(alloc, shelf, "3.part", (b'c', pass), (b'a', fail))?
+            && fails(alloc, shelf, names)?,
+    )
 }
 
 // After the first run a and b fail, after the second b and e, after the third c and d, and after the fourth a and d.
 #[test]
 fn runs_before_the_last_full_one_do_not_count(rt: HostRuntime) -> Result<(), Fail> {
-    assert_eq!(rt; behind_four(rt.alloc(), b"ad")?, Some(true));
+    let mut shelf = repository(rt.alloc(), &[])?;
+    assert!(rt; behind_four(rt.alloc(), &mut shelf, b"ad")?);
     Ok(())
 }
 
-// Whether b and c fail behind two full runs, where the folder fails after the calls that read one of them.
-fn reads_one(alloc: Global) -> Result<Option<bool>, Fail> {
-    // Eighteen calls keep three files, four look at the folder, one looks for the cache, and one reads a run.
-    let mut shelf = repository(alloc, &[24])?;
-    let kept = keep_ended(
-        alloc,
-        &mut shelf,
-        "0",
-        (b'a', Status::Fail),
-        (b'b', Status::Fail),
-    )? && keep_ended(
-        alloc,
-        &mut shelf,
-        "1",
-        (b'c', Status::Fail),
-        (b'b', Status::Fail),
-    )?;
-    if !kept {
-        return Ok(None);
-    }
-    Ok(Some(fails(alloc, &mut shelf, b"bc")?))
+// Whether b and c fail behind two full runs.
+fn behind_full<H: Shelf>(alloc: Global, shelf: &mut H) -> Result<bool, Fail> {
+    let fail = Status::Fail;
+    Ok(
+        keep_ended(alloc, shelf, "0", (b'a', fail), (b'b', fail))?
+            && keep_ended(alloc, shelf, "1", (b'c', fail), (b'b', fail))?
+            && fails(alloc, shelf, b"bc")?,
+    )
 }
 
 #[test]
 fn the_last_full_run_alone_is_read(rt: HostRuntime) -> Result<(), Fail> {
-    assert_eq!(rt; reads_one(rt.alloc())?, Some(true));
+    // Eighteen calls keep three files, four look at the folder, one looks for the cache, and one reads a run. The next fails.
+    let mut shelf = repository(rt.alloc(), &[24])?;
+    assert!(rt; behind_full(rt.alloc(), &mut shelf)?);
     Ok(())
 }
 
-// The seconds of both ids behind a run of a alone, one of b alone, and a partial one of a again.
-fn seconds(alloc: Global) -> Result<Option<(Option<u64>, Option<u64>)>, Fail> {
-    let (Some(first), Some(second), Some(third)) = (
-        timed(alloc, b'a', 2),
-        timed(alloc, b'b', 7),
-        timed(alloc, b'a', 1),
-    ) else {
-        return Ok(None);
+// Keeps a run in which one test takes so many seconds.
+fn keep_timed<H: Shelf>(
+    alloc: Global,
+    shelf: &mut H,
+    name: &str,
+    id: u8,
+    seconds: u32,
+) -> Result<bool, Fail> {
+    let Some(run) = timed(alloc, id, seconds) else {
+        return Ok(false);
     };
-    let mut shelf = repository(alloc, &[])?;
-    keep(&mut shelf, "0", &first)?;
-    keep(&mut shelf, "1", &second)?;
-    keep(&mut shelf, "2.part", &third)?;
-    let (Ok(a), Ok(b)) = (Text::new(alloc, b"a"), Text::new(alloc, b"b")) else {
-        return Ok(None);
-    };
-    let mut store = Store::open(alloc, &mut shelf)?;
+    keep(shelf, name, &run)?;
+    Ok(true)
+}
+
+// A run of a alone, one of b alone, and a partial one of a again.
+fn keep_three<H: Shelf>(alloc: Global, shelf: &mut H) -> Result<bool, Fail> {
+    Ok(
+        keep_timed(alloc, shelf, "0", b'a', 2)?
+            && keep_timed(alloc, shelf, "1", b'b', 7)?
+            && keep_timed(alloc, shelf, "2.part", b'a', 1)?,
+    )
+}
+
+// The time of this id.
+fn time_of(alloc: Global, latest: &TimeMap, id: u8) -> Option<u64> {
+    latest.get(&Text::new(alloc, &[id]).ok()?)
+}
+
+// The times of both ids.
+fn both_times<H: Shelf>(alloc: Global, shelf: &mut H) -> Result<(Option<u64>, Option<u64>), Fail> {
+    let mut store = Store::open(alloc, shelf)?;
     let latest = times(alloc, &mut store)?;
-    Ok(Some((latest.get(&a), latest.get(&b))))
+    Ok((time_of(alloc, &latest, b'a'), time_of(alloc, &latest, b'b')))
 }
 
 #[test]
 fn the_last_time_of_an_id_is_its_time(rt: HostRuntime) -> Result<(), Fail> {
+    let mut shelf = repository(rt.alloc(), &[])?;
     let both = (Some(1_000_000_000), Some(7_000_000_000));
-    assert_eq!(rt; seconds(rt.alloc())?, Some(both));
+    assert!(rt; keep_three(rt.alloc(), &mut shelf)?);
+    assert_eq!(rt; both_times(rt.alloc(), &mut shelf)?, both);
     Ok(())
 }
 
-// How many rows a run has where two packets stand behind so many foreign bytes.
-fn row_count(alloc: Global, foreign: usize) -> Result<Option<usize>, Fail> {
-    let Some(packets) = ended(alloc, b'a', Status::Fail, b'b', Status::Success) else {
-        return Ok(None);
-    };
+// Two packets behind so many foreign bytes.
+fn behind_foreign(alloc: Global, foreign: usize) -> Result<Vec<u8>, Fail> {
     let mut run = vec![in alloc; b'.'; foreign]?;
-    run.extend_from_slice(&packets)?;
-    let mut shelf = repository(alloc, &[])?;
-    keep(&mut shelf, "0", &run)?;
-    let mut store = Store::open(alloc, &mut shelf)?;
+    if let Some(packets) = ended(alloc, b'a', Status::Fail, b'b', Status::Success) {
+        run.extend_from_slice(&packets)?;
+    }
+    Ok(run)
+}
+
+// Keeps them as the first run.
+fn keep_behind_foreign<H: Shelf>(alloc: Global, shelf: &mut H, foreign: usize) -> Result<(), Fail> {
+    let run = behind_foreign(alloc, foreign)?;
+    keep(shelf, "0", &run)?;
+    Ok(())
+}
+
+// How many rows the only run has.
+fn row_count<H: Shelf>(alloc: Global, shelf: &mut H) -> Result<Option<usize>, Fail> {
+    let mut store = Store::open(alloc, shelf)?;
     if store.runs() != 1 {
         return Ok(None);
     }
-    let rows = rows_of(alloc, &mut store, 0)?;
-    Ok(Some(rows.list().len()))
+    Ok(Some(rows_of(alloc, &mut store, 0)?.list().len()))
 }
 
 #[test]
 fn a_packet_may_stand_across_two_pieces(rt: HostRuntime) -> Result<(), Fail> {
     for foreign in [0, 65_530, 65_536, 131_070] {
-        assert_eq!(rt; row_count(rt.alloc(), foreign)?, Some(2));
+        let mut shelf = repository(rt.alloc(), &[])?;
+        keep_behind_foreign(rt.alloc(), &mut shelf, foreign)?;
+        assert_eq!(rt; row_count(rt.alloc(), &mut shelf)?, Some(2));
     }
     Ok(())
 }
@@ -257,15 +275,31 @@ fn a_closed_store_is_not_read(rt: HostRuntime) -> Result<(), Fail> {
     Ok(())
 }
 
-// The ids that fail in a run that is heard in these two pieces.
-fn fail_when_heard(alloc: Global, first: &[u8], second: &[u8]) -> Option<IdList>
+// Hears both pieces.
+fn hear_both(run: &mut WrittenRun, first: &[u8], second: &[u8]) -> Option<()>
+    requires first { ArePackets first.now }
+    requires second { ArePackets second.now }
+{
+    run.hear(first).ok()?;
+    run.hear(second).ok()
+}
+
+// What is kept of a run that is heard in these two pieces.
+fn heard(alloc: Global, first: &[u8], second: &[u8]) -> Option<Summary>
     requires first { ArePackets first.now }
     requires second { ArePackets second.now }
 {
     let mut run = WrittenRun::new(alloc, Tags::new(alloc));
-    run.hear(first).ok()?;
-    run.hear(second).ok()?;
-    run.close().ok()?.failing_ids(alloc).ok()
+    hear_both(&mut run, first, second)?;
+    run.close().ok()
+}
+
+// The ids that fail in it.
+fn fail_when_heard(alloc: Global, first: &[u8], second: &[u8]) -> Option<IdList>
+    requires first { ArePackets first.now }
+    requires second { ArePackets second.now }
+{
+    heard(alloc, first, second)?.failing_ids(alloc).ok()
 }
 
 #[test]

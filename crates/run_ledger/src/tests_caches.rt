@@ -1,13 +1,14 @@
 //! Caches of the failing set: which bytes are one, and what is told with their help.
 
 use super::*;
-use crate::tests::{ended, keep};
+use crate::tests::{keep_ended, repository};
 use edge_io::{MemShelf, Shelf};
 use packet_codec::Status;
 use run_shelf::{Side, Store};
 use std::alloc::Global;
 use std::test::Fail;
 use sub_number::{IdList, Text};
+use trial_events::are;
 
 // How many runs the bytes cover, and how many ids they have, where they are a cache.
 fn held(alloc: Global, bytes: &[u8]) -> Result<Option<(u64, usize)>, Fail> {
@@ -17,69 +18,71 @@ fn held(alloc: Global, bytes: &[u8]) -> Result<Option<(u64, usize)>, Fail> {
     }
 }
 
+const FORMS: [(&[u8], Option<(u64, usize)>); 18] = [
+    (b"subunit-failing 1\n2\nb\0c\0", Some((2, 2))),
+    (b"subunit-failing 1\n0\n", Some((0, 0))),
+    (b"subunit-failing 1\n7\n\0a\0aa\0", Some((7, 3))),
+    (
+        b"subunit-failing 1\n18446744073709551615\n",
+        Some((u64::MAX, 0)),
+    ),
+    (b"subunit-failing 1\n18446744073709551616\n", None),
+    (b"", None),
+    (b"x", None),
+    (b"subunit-failing 1\n", None),
+    (b"subunit-failing 1\n2", None),
+    (b"subunit-failing 1\n\nb\0", None),
+    (b"subunit-failing 1\n02\nb\0", None),
+    (b"subunit-failing 1\n+2\nb\0", None),
+    (b"subunit-failing 1\n2\nb\0b\0", None),
+    (b"subunit-failing 1\n2\nc\0b\0", None),
+    (b"subunit-failing 1\n2\nb\0c", None),
+    (b"subunit-failing 1\n2\nb\0\xff\0", None),
+    (b"subunit-failing 2\n2\nb\0c\0", None),
+    (b"subunit-times 1\n2\nb\0c\0", None),
+];
+
 #[test]
 fn a_cache_is_read_by_its_form_alone(rt: HostRuntime) -> Result<(), Fail> {
-    let alloc = rt.alloc();
-    for (bytes, found) in [
-        (b"subunit-failing 1\n2\nb\0c\0".as_slice(), Some((2, 2))),
-        (b"subunit-failing 1\n0\n".as_slice(), Some((0, 0))),
-        (b"subunit-failing 1\n7\n\0a\0aa\0".as_slice(), Some((7, 3))),
-        (
-            b"subunit-failing 1\n18446744073709551615\n".as_slice(),
-            Some((u64::MAX, 0)),
-        ),
-        (
-            b"subunit-failing 1\n18446744073709551616\n".as_slice(),
-            None,
-        ),
-        (b"".as_slice(), None),
-        (b"x".as_slice(), None),
-        (b"subunit-failing 1\n".as_slice(), None),
-        (b"subunit-failing 1\n2".as_slice(), None),
-        (b"subunit-failing 1\n\nb\0".as_slice(), None),
-        (b"subunit-failing 1\n02\nb\0".as_slice(), None),
-        (b"subunit-failing 1\n+2\nb\0".as_slice(), None),
-        (b"subunit-failing 1\n2\nb\0b\0".as_slice(), None),
-        (b"subunit-failing 1\n2\nc\0b\0".as_slice(), None),
-        (b"subunit-failing 1\n2\nb\0c".as_slice(), None),
-        (b"subunit-failing 1\n2\nb\0\xff\0".as_slice(), None),
-        (b"subunit-failing 2\n2\nb\0c\0".as_slice(), None),
-        (b"subunit-times 1\n2\nb\0c\0".as_slice(), None),
-    ] {
-        assert_eq!(rt; held(alloc, bytes)?, found);
+    for (bytes, found) in FORMS {
+        assert_eq!(rt; held(rt.alloc(), bytes)?, found);
     }
     Ok(())
+}
+
+// The ids b and c.
+fn two_ids(alloc: Global) -> Option<IdList> {
+    let mut ids = IdList::new(alloc);
+    ids.push(Text::new(alloc, b"b").ok()?).ok()?;
+    ids.push(Text::new(alloc, b"c").ok()?).ok()?;
+    Some(ids)
 }
 
 #[test]
 fn a_cache_is_written_by_its_form(rt: HostRuntime) -> Result<(), Fail> {
-    let alloc = rt.alloc();
-    let mut ids = IdList::new(alloc);
-    for id in [b"b", b"c"] {
-        let Ok(text) = Text::new(alloc, id) else {
-            return Err(LedgerFault::NoMemory.into());
-        };
-        ids.push(text).map_err(|_| LedgerFault::NoMemory)?;
-    }
-    let bytes = write_failing_cache(alloc, 2, &ids)?;
+    let ids = two_ids(rt.alloc()).ok_or("memory")?;
+    let bytes = write_failing_cache(rt.alloc(), 2, &ids)?;
     assert_eq!(rt; bytes.bytes(), b"subunit-failing 1\n2\nb\0c\0".as_slice());
     Ok(())
 }
 
-// A repository in which a and b fail in a full run, and then a passes and c fails in a partial one. It is made in eighteen
-// calls. These calls of all are to fail.
+// Keeps a full run in which a and b fail, and then a partial one in which a passes and c fails.
+fn keep_both<H: Shelf>(alloc: Global, shelf: &mut H) -> Result<bool, Fail> {
+    let (fail, pass) = (Status::Fail, Status::Success);
+    Ok(
+        keep_ended(alloc, shelf, "0", (b'b', fail), (b'a', fail))?
+            && keep_ended(alloc, shelf, "1.part", (b'a', pass), (b'c', fail))?,
+    )
+}
+
+// A repository of these two runs, if there is memory for them. It is made in eighteen calls. These calls of all are to fail.
 pub(crate) fn two_runs(alloc: Global, fails: &[u64]) -> Result<Option<MemShelf>, Fail> {
-    let Some(first) = ended(alloc, b'b', Status::Fail, b'a', Status::Fail) else {
-        return Ok(None);
-    };
-    let Some(second) = ended(alloc, b'a', Status::Success, b'c', Status::Fail) else {
-        return Ok(None);
-    };
-    let mut shelf = MemShelf::new(alloc, fails.to_vec(alloc)?);
-    keep(&mut shelf, "format", b"subunit-store 1\n")?;
-    keep(&mut shelf, "0", &first)?;
-    keep(&mut shelf, "1.part", &second)?;
-    Ok(Some(shelf))
+    let mut shelf = repository(alloc, fails)?;
+    match keep_both(alloc, &mut shelf) {
+        Ok(true) => Ok(Some(shelf)),
+        Ok(false) => Ok(None),
+        Err(fault) => Err(fault),
+    }
 }
 
 // Whether these ids of one byte each are told where the file of the cache has these bytes.
@@ -87,33 +90,25 @@ fn fails<H: Shelf>(alloc: Global, shelf: &mut H, cache: &[u8], names: &[u8]) -> 
     let mut store = Store::open(alloc, shelf)?;
     store.put_side(Side::Failing, cache)?;
     let ids = failing(alloc, &mut store)?;
-    let texts = ids.list();
-    Ok(
-        texts.len() == names.len()
-            && texts
-                .iter()
-                .zip(names.iter())
-                .all(|(text, name)| text.bytes() == [*name].as_slice()),
-    )
+    Ok(are(ids.list(), names))
 }
+
+const TAKEN: [(&[u8], &[u8]); 8] = [
+    (b"x", b"bc"),
+    (b"subunit-failing 1\n0\n", b"bc"),
+    (b"subunit-failing 1\n1\na\0b\0", b"bc"),
+    (b"subunit-failing 1\n1\na\0z\0", b"cz"),
+    (b"subunit-failing 1\n2\nb\0c\0", b"bc"),
+    (b"subunit-failing 1\n2\nz\0", b"z"),
+    (b"subunit-failing 1\n02\nz\0", b"bc"),
+    (b"subunit-failing 1\n3\nz\0", b"bc"),
+];
 
 #[test]
 fn a_cache_is_taken_for_the_runs_that_it_covers(rt: HostRuntime) -> Result<(), Fail> {
-    let alloc = rt.alloc();
-    for (cache, names) in [
-        (b"x".as_slice(), b"bc".as_slice()),
-        (b"subunit-failing 1\n0\n".as_slice(), b"bc".as_slice()),
-        (b"subunit-failing 1\n1\na\0b\0".as_slice(), b"bc".as_slice()),
-        (b"subunit-failing 1\n1\na\0z\0".as_slice(), b"cz".as_slice()),
-        (b"subunit-failing 1\n2\nb\0c\0".as_slice(), b"bc".as_slice()),
-        (b"subunit-failing 1\n2\nz\0".as_slice(), b"z".as_slice()),
-        (b"subunit-failing 1\n02\nz\0".as_slice(), b"bc".as_slice()),
-        (b"subunit-failing 1\n3\nz\0".as_slice(), b"bc".as_slice()),
-    ] {
-        let Some(mut shelf) = two_runs(alloc, &[])? else {
-            return Err(LedgerFault::NoMemory.into());
-        };
-        assert!(rt; fails(alloc, &mut shelf, cache, names)?);
+    for (cache, names) in TAKEN {
+        let mut shelf = two_runs(rt.alloc(), &[])?.ok_or("memory")?;
+        assert!(rt; fails(rt.alloc(), &mut shelf, cache, names)?);
     }
     Ok(())
 }

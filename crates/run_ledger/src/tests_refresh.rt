@@ -4,6 +4,7 @@ use super::*;
 use crate::tests::passed_and_failed;
 use crate::tests_caches::two_runs;
 use edge_io::Shelf;
+use outcome_fold::Summary;
 use run_shelf::{Side, Store, read_side};
 use std::alloc::Global;
 use std::test::Fail;
@@ -29,29 +30,17 @@ fn hold_both<H: Shelf>(alloc: Global, shelf: &mut H) -> bool {
 }
 
 // Whether both caches were written, with what is kept of the rows of the second run at hand, where there are no caches yet.
-fn refreshes<H: Shelf>(alloc: Global, shelf: &mut H) -> Result<bool, Fail> {
+fn refreshes<H: Shelf>(alloc: Global, shelf: &mut H, second: &Summary) -> Result<bool, Fail> {
     let mut store = Store::open(alloc, shelf)?;
-    if store.runs() != 2 {
-        return Ok(false);
-    }
-    let Some(summary) = passed_and_failed(alloc) else {
-        return Ok(false);
-    };
-    Ok(refresh_behind(alloc, &mut store, &summary).is_ok())
+    Ok(store.runs() == 2 && refresh_behind(alloc, &mut store, second).is_ok())
 }
 
 // The same, where there are caches of the first run. These are put in ten calls; before that four look at the folder.
-fn refreshes_on<H: Shelf>(alloc: Global, shelf: &mut H) -> Result<bool, Fail> {
+fn refreshes_on<H: Shelf>(alloc: Global, shelf: &mut H, second: &Summary) -> Result<bool, Fail> {
     let mut store = Store::open(alloc, shelf)?;
-    if store.runs() != 2 {
-        return Ok(false);
-    }
-    let Some(summary) = passed_and_failed(alloc) else {
-        return Ok(false);
-    };
     store.put_side(Side::Failing, b"subunit-failing 1\n1\na\0b\0")?;
     store.put_side(Side::Times, b"subunit-times 1\n1\na\x000\0b\x000\0")?;
-    Ok(refresh_behind(alloc, &mut store, &summary).is_ok())
+    Ok(store.runs() == 2 && refresh_behind(alloc, &mut store, second).is_ok())
 }
 
 // Whether b and c fail behind both runs.
@@ -63,38 +52,39 @@ fn still_fail<H: Shelf>(alloc: Global, shelf: &mut H) -> Result<bool, Fail> {
 
 #[test]
 fn both_caches_are_written_by_their_forms(rt: HostRuntime) -> Result<(), Fail> {
-    let alloc = rt.alloc();
-    let Some(mut shelf) = two_runs(alloc, &[])? else {
-        return Err(LedgerFault::NoMemory.into());
-    };
-    assert!(rt; refreshes(alloc, &mut shelf)?);
-    assert!(rt; hold_both(alloc, &mut shelf));
-    assert!(rt; still_fail(alloc, &mut shelf)?);
+    let second = passed_and_failed(rt.alloc()).ok_or("memory")?;
+    let mut shelf = two_runs(rt.alloc(), &[])?.ok_or("memory")?;
+    assert!(rt; refreshes(rt.alloc(), &mut shelf, &second)?);
+    assert!(rt; hold_both(rt.alloc(), &mut shelf));
+    assert!(rt; still_fail(rt.alloc(), &mut shelf)?);
     Ok(())
 }
 
 // Calls 32 to 35 read the caches, and 36 to 45 put them. The next one fails.
 #[test]
 fn a_refresh_behind_caches_reads_no_run(rt: HostRuntime) -> Result<(), Fail> {
-    let alloc = rt.alloc();
-    let Some(mut shelf) = two_runs(alloc, &[46])? else {
-        return Err(LedgerFault::NoMemory.into());
-    };
-    assert!(rt; refreshes_on(alloc, &mut shelf)?);
+    let second = passed_and_failed(rt.alloc()).ok_or("memory")?;
+    let mut shelf = two_runs(rt.alloc(), &[46])?.ok_or("memory")?;
+    assert!(rt; refreshes_on(rt.alloc(), &mut shelf, &second)?);
     assert!(rt; shelf.length("0").is_err());
-    assert!(rt; hold_both(alloc, &mut shelf));
+    assert!(rt; hold_both(rt.alloc(), &mut shelf));
     Ok(())
+}
+
+// Whether a refresh of which this call fails is refused, and leaves both runs.
+fn leaves_the_runs(alloc: Global, number: u64, second: &Summary) -> Result<bool, Fail> {
+    let mut shelf = two_runs(alloc, &[number])?.ok_or("memory")?;
+    Ok(!refreshes_on(alloc, &mut shelf, second)? && still_fail(alloc, &mut shelf)?)
 }
 
 #[test]
 fn a_fault_at_each_call_leaves_the_runs(rt: HostRuntime) -> Result<(), Fail> {
-    let alloc = rt.alloc();
+    let second = passed_and_failed(rt.alloc()).ok_or("memory")?;
     for number in 32..46u64 {
-        let Some(mut shelf) = two_runs(alloc, &[number])? else {
-            return Err(LedgerFault::NoMemory.into());
-        };
-        assert!(rt; !refreshes_on(alloc, &mut shelf)?);
-        assert!(rt; still_fail(alloc, &mut shelf)?);
+        assert!(rt;
+            leaves_the_runs(rt.alloc(), number, &second)?,
+            "call {number}"
+        );
     }
     Ok(())
 }

@@ -68,21 +68,31 @@ fn spaced(alloc: Global, ids: &IdList) -> Option<Vec<u8>> {
     Some(text)
 }
 
-fn is_listed(alloc: Global, output: &[u8], piece: usize, wanted: &[u8]) -> Option<bool> {
+// Whether these are the ids that the child lists.
+fn lists(alloc: Global, spawner: &mut PlanSpawner, wanted: &[u8]) -> Option<bool> {
     let conf = conf_of(alloc, CONF)?;
+    let ids = list_tests(alloc, &conf, spawner).ok()?;
+    let text = spaced(alloc, &ids)?;
+    Some(text.as_slice() == wanted)
+}
+
+fn is_listed(alloc: Global, output: &[u8], piece: usize, wanted: &[u8]) -> Option<bool> {
     let mut spawner = one_child(alloc, output, piece, Finish::Exit(0))?;
-    let ids = list_tests(alloc, &conf, &mut spawner).ok()?;
-    let same = spaced(alloc, &ids)?.as_slice() == wanted;
+    let same = lists(alloc, &mut spawner, wanted)?;
     Some(same && started(&spawner, b"run --list"))
+}
+
+fn refusal_of(alloc: Global, conf: &[u8], spawner: &mut PlanSpawner) -> Option<ListingRefusal> {
+    let conf = conf_of(alloc, conf)?;
+    list_tests(alloc, &conf, spawner).err()
 }
 
 // Why the child's tests are not listed; the list job was started.
 fn refused(alloc: Global, output: &[u8], finish: Finish) -> Option<ListingRefusal> {
-    let conf = conf_of(alloc, CONF)?;
     let mut spawner = one_child(alloc, output, 5, finish)?;
-    let refusal = list_tests(alloc, &conf, &mut spawner).err()?;
+    let refusal = refusal_of(alloc, CONF, &mut spawner);
     if started(&spawner, b"run --list") {
-        Some(refusal)
+        refusal
     } else {
         None
     }
@@ -90,34 +100,38 @@ fn refused(alloc: Global, output: &[u8], finish: Finish) -> Option<ListingRefusa
 
 // Why nothing is started.
 fn not_started(alloc: Global, text: &[u8], fails: &[u64]) -> Option<ListingRefusal> {
-    let conf = conf_of(alloc, text)?;
     let fails = Vec::from_slice(alloc, fails).ok()?;
     let mut spawner = PlanSpawner::new(alloc, Vec::new(alloc), fails);
-    let refusal = list_tests(alloc, &conf, &mut spawner).err()?;
+    let refusal = refusal_of(alloc, text, &mut spawner);
     if spawner.started().is_empty() {
-        Some(refusal)
+        refusal
     } else {
         None
     }
 }
 
+// What a child writes, and the ids that it lists.
+const LISTINGS: [(&[u8], &[u8]); 5] = [
+    (TWO, b"a b "),
+    (OTHERS, b"a "),
+    (CUT, b"a "),
+    (b"", b""),
+    (b"a\nb\n", b""),
+];
+
+fn are_listed(alloc: Global, piece: usize) -> bool {
+    let mut same = true;
+    for row in &LISTINGS {
+        same = same && is_listed(alloc, row.0, piece, row.1) == Some(true);
+    }
+    same
+}
+
 #[test]
 fn ids_of_existing_tests_are_listed_once_in_pieces_of_every_size(rt: HostRuntime) {
-    let table = [
-        (TWO, b"a b ".as_slice()),
-        (OTHERS, b"a ".as_slice()),
-        (CUT, b"a ".as_slice()),
-        (b"".as_slice(), b"".as_slice()),
-        (b"a\nb\n".as_slice(), b"".as_slice()),
-    ];
-    for (output, wanted) in table {
-        for piece in [1, 5, 100] {
-            assert!(rt;
-                is_listed(rt.alloc(), output, piece, wanted) == Some(true),
-                "pieces of {piece}"
-            );
-        }
-    }
+    assert!(rt; are_listed(rt.alloc(), 1));
+    assert!(rt; are_listed(rt.alloc(), 5));
+    assert!(rt; are_listed(rt.alloc(), 100));
 }
 
 #[test]
@@ -141,6 +155,15 @@ fn a_listing_that_is_not_started(rt: HostRuntime) {
     assert!(rt; not_started(alloc, CONF, &[0]) == Some(ListingRefusal::Spawn));
 }
 
+fn call(alloc: Global, spawner: &mut PlanSpawner) -> Option<Result<u32, CallRefusal>> {
+    let conf = conf_of(alloc, CONF)?;
+    match call_out(alloc, &conf, spawner) {
+        Ok(Some(number)) => Some(Ok(number)),
+        Ok(None) => None,
+        Err(refusal) => Some(Err(refusal)),
+    }
+}
+
 // The number that the child tells; the count job was started.
 fn told(
     alloc: Global,
@@ -148,16 +171,12 @@ fn told(
     piece: usize,
     finish: Finish,
 ) -> Option<Result<u32, CallRefusal>> {
-    let conf = conf_of(alloc, CONF)?;
     let mut spawner = one_child(alloc, output, piece, finish)?;
-    let answer = call_out(alloc, &conf, &mut spawner);
-    if !started(&spawner, b"echo 3") {
-        return None;
-    }
-    match answer {
-        Ok(Some(number)) => Some(Ok(number)),
-        Ok(None) => None,
-        Err(refusal) => Some(Err(refusal)),
+    let answer = call(alloc, &mut spawner);
+    if started(&spawner, b"echo 3") {
+        answer
+    } else {
+        None
     }
 }
 
@@ -175,30 +194,34 @@ fn seven_told(alloc: Global, size: usize) -> Option<Result<u32, CallRefusal>> {
     told(alloc, &seven(alloc, size)?, 7, Finish::Exit(0))
 }
 
+// What a child writes, and the number that it tells.
+const NUMBERS: [(&[u8], Result<u32, CallRefusal>); 12] = [
+    (b"3\n", Ok(3)),
+    (b" 12 \r\n", Ok(12)),
+    (b"\n\t\x0b\x0c 007", Ok(7)),
+    (b"0", Ok(0)),
+    (b"999999999", Ok(999_999_999)),
+    (b"1000000000", Err(CallRefusal::NoNumber)),
+    (b"0000000001", Err(CallRefusal::NoNumber)),
+    (b"x", Err(CallRefusal::NoNumber)),
+    (b"-1", Err(CallRefusal::NoNumber)),
+    (b"1 2", Err(CallRefusal::NoNumber)),
+    (b"", Err(CallRefusal::NoNumber)),
+    (b" \n", Err(CallRefusal::NoNumber)),
+];
+
+fn are_told(alloc: Global, piece: usize) -> bool {
+    let mut same = true;
+    for row in &NUMBERS {
+        same = same && told(alloc, row.0, piece, Finish::Exit(0)) == Some(row.1);
+    }
+    same
+}
+
 #[test]
 fn numbers_that_are_called_out(rt: HostRuntime) {
-    let table = [
-        (b"3\n".as_slice(), Ok(3)),
-        (b" 12 \r\n", Ok(12)),
-        (b"\n\t\x0b\x0c 007", Ok(7)),
-        (b"0", Ok(0)),
-        (b"999999999", Ok(999_999_999)),
-        (b"1000000000", Err(CallRefusal::NoNumber)),
-        (b"0000000001", Err(CallRefusal::NoNumber)),
-        (b"x", Err(CallRefusal::NoNumber)),
-        (b"-1", Err(CallRefusal::NoNumber)),
-        (b"1 2", Err(CallRefusal::NoNumber)),
-        (b"", Err(CallRefusal::NoNumber)),
-        (b" \n", Err(CallRefusal::NoNumber)),
-    ];
-    for (output, wanted) in table {
-        for piece in [1, 100] {
-            assert!(rt;
-                told(rt.alloc(), output, piece, Finish::Exit(0)) == Some(wanted),
-                "pieces of {piece}"
-            );
-        }
-    }
+    assert!(rt; are_told(rt.alloc(), 1));
+    assert!(rt; are_told(rt.alloc(), 100));
 }
 
 #[test]
@@ -236,29 +259,38 @@ fn a_call_that_is_not_started(rt: HostRuntime) {
     assert!(rt; called_of_none(rt.alloc(), CONF) == Some(Err(CallRefusal::Spawn)));
 }
 
-// The first of the ids, which are letters.
-fn firsts_of(alloc: Global, letters: &[u8]) -> Option<Vec<u8>> {
+fn letters_of(alloc: Global, letters: &[u8]) -> Option<IdList> {
     let mut ids = IdList::new(alloc);
     for letter in letters {
         ids.push(Text::new(alloc, &[*letter]).ok()?).ok()?;
     }
-    spaced(alloc, &firsts(alloc, ids).ok()?)
+    Some(ids)
+}
+
+// The first of the ids, which are letters.
+fn firsts_of(alloc: Global, letters: &[u8]) -> Option<Vec<u8>> {
+    let ids = letters_of(alloc, letters)?;
+    let firsts = firsts(alloc, ids).ok()?;
+    spaced(alloc, &firsts)
 }
 
 fn are_firsts(alloc: Global, letters: &[u8], wanted: &[u8]) -> Option<bool> {
-    Some(firsts_of(alloc, letters)?.as_slice() == wanted)
+    let text = firsts_of(alloc, letters)?;
+    Some(text.as_slice() == wanted)
 }
+
+// Letters, and the first ones of them.
+const FIRSTS: [(&[u8], &[u8]); 5] = [
+    (b"", b""),
+    (b"a", b"a "),
+    (b"baab", b"b a "),
+    (b"abcabcd", b"a b c d "),
+    (b"aaaa", b"a "),
+];
 
 #[test]
 fn of_repeated_ids_the_first_is_kept(rt: HostRuntime) {
-    let table = [
-        (b"".as_slice(), b"".as_slice()),
-        (b"a", b"a "),
-        (b"baab", b"b a "),
-        (b"abcabcd", b"a b c d "),
-        (b"aaaa", b"a "),
-    ];
-    for (letters, wanted) in table {
-        assert!(rt; are_firsts(rt.alloc(), letters, wanted) == Some(true));
+    for row in &FIRSTS {
+        assert!(rt; are_firsts(rt.alloc(), row.0, row.1) == Some(true));
     }
 }

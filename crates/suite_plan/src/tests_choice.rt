@@ -91,6 +91,21 @@ fn are_shares(shares: &Option<Vec<IdList>>, wanted: &[&str]) -> bool {
     same
 }
 
+fn shares_are(
+    alloc: Global,
+    ids: &str,
+    times: &[(&str, u64)],
+    regex: &str,
+    workers: u32,
+    wanted: &[&str],
+) -> bool
+    requires some { 1 ≤ workers }
+    requires most { workers ≤ MOST_WORKERS }
+{
+    let shares = shares_of(alloc, ids, times, regex, workers);
+    are_shares(&shares, wanted)
+}
+
 fn conf_of(alloc: Global, text: &[u8]) -> Option<Conf> {
     if text.len() > 16_777_216 {
         return None;
@@ -177,18 +192,15 @@ fn a_share_needs_the_option_for_ids(rt: HostRuntime) -> Result<(), Fail> {
     Ok(())
 }
 
+const TIMES: [(&str, u64); 4] = [("a", 5), ("b", 4), ("c", 3), ("d", 3)];
+
 #[test]
 fn shares_by_times_by_groups_and_none_that_is_empty(rt: HostRuntime) -> Result<(), Fail> {
     let alloc = rt.alloc();
-    let times = [("a", 5), ("b", 4), ("c", 3), ("d", 3)];
-    let timed = shares_of(alloc, "a b c d e", &times, "", 2);
-    assert!(rt; are_shares(&timed, &["a d e", "b c"]));
-    let grouped = shares_of(alloc, "a.x a.y b.x", &[], "^[^.]+", 2);
-    assert!(rt; are_shares(&grouped, &["a.x a.y", "b.x"]));
-    let few = shares_of(alloc, "c a b", &[], "", 64);
-    assert!(rt; are_shares(&few, &["a", "b", "c"]));
-    let one = shares_of(alloc, "c a b", &times, "", 1);
-    assert!(rt; are_shares(&one, &["c a b"]));
+    assert!(rt; shares_are(alloc, "a b c d e", &TIMES, "", 2, &["a d e", "b c"]));
+    assert!(rt; shares_are(alloc, "a.x a.y b.x", &[], "^[^.]+", 2, &["a.x a.y", "b.x"]));
+    assert!(rt; shares_are(alloc, "c a b", &[], "", 64, &["a", "b", "c"]));
+    assert!(rt; shares_are(alloc, "c a b", &TIMES, "", 1, &["c a b"]));
     Ok(())
 }
 

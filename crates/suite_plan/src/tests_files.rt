@@ -19,9 +19,10 @@ const WHOLE_LIST: &[u8] =
 
 // A site with one file, whose reads fail at these calls.
 fn site(alloc: Global, name: &[u8], bytes: &[u8], fails: &[u64]) -> Option<MapSite> {
-    let mut site = MapSite::new(alloc, fails.to_vec(alloc).ok()?);
+    let fails = fails.to_vec(alloc).ok()?;
     let name = Text::new(alloc, name).ok()?;
     let bytes = Bytes::new(alloc, bytes).ok()?;
+    let mut site = MapSite::new(alloc, fails);
     site.put(name, bytes).ok()?;
     Some(site)
 }
@@ -107,18 +108,21 @@ fn is_refused(
     not_listed(alloc, text, name, fails) == Some(refusal)
 }
 
-fn ids_are(alloc: Global, text: &[u8], ids: &[&[u8]]) -> Option<bool> {
-    let list = listed(alloc, text)?;
-    let list = list.list();
+fn are_ids(list: &[Text], ids: &[&[u8]]) -> bool {
     if list.len() != ids.len() {
-        return Some(false);
+        return false;
     }
     for (id, given) in list.iter().zip(ids) {
         if id.bytes() != *given {
-            return Some(false);
+            return false;
         }
     }
-    Some(true)
+    true
+}
+
+fn ids_are(alloc: Global, text: &[u8], ids: &[&[u8]]) -> Option<bool> {
+    let list = listed(alloc, text)?;
+    Some(are_ids(list.list(), ids))
 }
 
 #[test]
@@ -169,13 +173,18 @@ fn counted(
     Some(count_processors(alloc, &mut site))
 }
 
-fn workers(alloc: Global, processors: u32) -> Option<Result<u32, TableRefusal>> {
+fn table_of(alloc: Global, processors: u32) -> Option<Vec<u8>> {
     let mut table = Vec::new(alloc);
     for _ in 0..processors {
         table
             .extend_from_slice(b"processor\t: 0\nmodel name\t: x\n\n")
             .ok()?;
     }
+    Some(table)
+}
+
+fn workers(alloc: Global, processors: u32) -> Option<Result<u32, TableRefusal>> {
+    let table = table_of(alloc, processors)?;
     counted(alloc, TABLE, &table, &[])
 }
 

@@ -2,6 +2,7 @@
 
 use crate::tests::{FOO, NOTHING, SHELF_FAULT, Told, call, load, repository, source};
 use edge_io::{MemShelf, Shelf};
+use std::process::Abort;
 use std::sync::Wait;
 use std::test::Fail;
 use std::thread::Threads;
@@ -26,6 +27,10 @@ const A_PASSED_C_FAILED: &[u8] =
 const TIMED: &[u8] =
     b"\xb3\x2b\x02\x0f\x00\x00\x00\x64\x00\x01\x62\xe3\x66\x3a\x02\xb3\x2b\x03\x12\x00\x00\x00\x64\xe1\x9d\xf5\x00\x01\x62\xd0\xa4\x38\x36\xb3\x2b\x02\x0f\x00\x00\x00\x64\x00\x01\x61\x7a\x6f\x6b\xb8\xb3\x2b\x03\x11\x00\x00\x00\x65\x87\xa1\x20\x01\x61\x98\x4b\xbb\x31";
 
+const NO_RUNS: &[u8] = b"testr: no runs\n";
+
+const SLOWEST: &[u8] = b"     1.001  a\n     0.564  b\n";
+
 fn ask<R: Threads + Wait + Sync + AllocGlobal, H: Shelf>(
     rt: &R,
     shelf: &mut H,
@@ -35,50 +40,113 @@ fn ask<R: Threads + Wait + Sync + AllocGlobal, H: Shelf>(
     call(rt, words, shelf, &mut input)
 }
 
+// Whether the program tells this of a repository.
+fn asked<R: Threads + Wait + Sync + AllocGlobal>(
+    rt: &R,
+    shelf: &mut MemShelf,
+    words: &[&str],
+    wanted: (u8, &[u8], &[u8]),
+) -> Result<bool, Fail> {
+    let (status, out, err) = wanted;
+    Ok(ask(rt, shelf, words)?.is(status, out, err))
+}
+
+// What is told of a repository of one run, in which `foo` failed.
+const TOLD_OF_FAIL: [(&[&str], u8, &[u8]); 6] = [
+    (&["testr", "last"], 1, FAIL_REPORT),
+    (&["testr", "last", "--subunit"], 0, FAIL_KEPT),
+    (&["testr", "failing"], 1, b"FAIL: foo\nfailures=1\n"),
+    (&["testr", "failing", "--list"], 1, b"foo\n"),
+    (&["testr", "slowest"], 0, NOTHING),
+    (&["testr", "stats"], 0, b"runs=1\n"),
+];
+
+// Whether this is told, and no run is added.
+fn tells_alone<R: Threads + Wait + Sync + AllocGlobal>(
+    rt: &R,
+    shelf: &mut MemShelf,
+    words: &[&str],
+    status: u8,
+    text: &[u8],
+) -> Result<bool, Fail> {
+    Ok(asked(rt, shelf, words, (status, text, NOTHING))? && shelf.length("1")?.is_none())
+}
+
+fn tells_of_fail<R: Threads + Wait + Sync + AllocGlobal + Abort>(
+    rt: &R,
+    shelf: &mut MemShelf,
+) -> Result<(), Fail> {
+    for (row, (words, status, text)) in TOLD_OF_FAIL.iter().enumerate() {
+        assert!(rt; tells_alone(rt, shelf, words, *status, text)?, "row {row}");
+    }
+    Ok(())
+}
+
 #[test]
 fn a_repository_is_told_of(rt: HostRuntime) -> Result<(), Fail> {
-    let alloc = rt.alloc();
-    let mut shelf = repository(alloc, &[])?;
+    let mut shelf = repository(rt.alloc(), &[])?;
     load(&rt, &mut shelf, FAIL)?;
-    let table = [
-        (["testr", "last"].as_slice(), 1, FAIL_REPORT),
-        (["testr", "last", "--subunit"].as_slice(), 0, FAIL_KEPT),
-        (
-            ["testr", "failing"].as_slice(),
-            1,
-            b"FAIL: foo\nfailures=1\n".as_slice(),
-        ),
-        (
-            ["testr", "failing", "--list"].as_slice(),
-            1,
-            b"foo\n".as_slice(),
-        ),
-        (["testr", "slowest"].as_slice(), 0, NOTHING),
-        (["testr", "stats"].as_slice(), 0, b"runs=1\n".as_slice()),
-    ];
-    for (words, status, text) in table {
-        let told = ask(&rt, &mut shelf, words)?;
-        assert!(rt; told.is(status, text, NOTHING), "{}", words[1]);
-        assert_eq!(rt; shelf.length("1")?, None);
+    tells_of_fail(&rt, &mut shelf)
+}
+
+const TOLD_OF_NONE: [(&str, u8, &[u8], &[u8]); 4] = [
+    ("last", 3, NOTHING, NO_RUNS),
+    ("slowest", 3, NOTHING, NO_RUNS),
+    ("failing", 0, b"failures=0\n", NOTHING),
+    ("stats", 0, b"runs=0\n", NOTHING),
+];
+
+fn tells_of_none<R: Threads + Wait + Sync + AllocGlobal + Abort>(
+    rt: &R,
+    shelf: &mut MemShelf,
+) -> Result<(), Fail> {
+    for (word, status, out, err) in &TOLD_OF_NONE {
+        let words = ["testr", *word];
+        assert!(rt; asked(rt, shelf, &words, (*status, *out, *err))?, "{word}");
     }
     Ok(())
 }
 
 #[test]
 fn an_empty_repository_has_no_last_run(rt: HostRuntime) -> Result<(), Fail> {
-    let alloc = rt.alloc();
-    let mut shelf = repository(alloc, &[])?;
-    let no_runs = b"testr: no runs\n".as_slice();
-    let table = [
-        ("last", 3, NOTHING, no_runs),
-        ("slowest", 3, NOTHING, no_runs),
-        ("failing", 0, b"failures=0\n".as_slice(), NOTHING),
-        ("stats", 0, b"runs=0\n".as_slice(), NOTHING),
-    ];
-    for (word, status, out, err) in table {
-        let told = ask(&rt, &mut shelf, &["testr", word])?;
-        assert!(rt; told.is(status, out, err), "{word}");
-    }
+    let mut shelf = repository(rt.alloc(), &[])?;
+    tells_of_none(&rt, &mut shelf)
+}
+
+// Adds a partial run.
+fn load_partial<R: Threads + Wait + Sync + AllocGlobal>(
+    rt: &R,
+    shelf: &mut MemShelf,
+    stream: &[u8],
+) -> Result<(), Fail> {
+    let mut input = source(rt.alloc(), stream, 7, &[])?;
+    call(rt, &["testr", "load", "--partial"], shelf, &mut input)?;
+    Ok(())
+}
+
+// Whether these are the failing tests.
+fn are_failing<R: Threads + Wait + Sync + AllocGlobal>(
+    rt: &R,
+    shelf: &mut MemShelf,
+    ids: &[u8],
+) -> Result<bool, Fail> {
+    asked(
+        rt,
+        shelf,
+        &["testr", "failing", "--list"],
+        (1, ids, NOTHING),
+    )
+}
+
+fn failing_set_changes<R: Threads + Wait + Sync + AllocGlobal + Abort>(
+    rt: &R,
+    shelf: &mut MemShelf,
+) -> Result<(), Fail> {
+    load(rt, shelf, A_AND_B_FAILED)?;
+    load_partial(rt, shelf, A_PASSED_C_FAILED)?;
+    assert!(rt; are_failing(rt, shelf, b"b\nc\n")?);
+    load(rt, shelf, A_PASSED_C_FAILED)?;
+    assert!(rt; are_failing(rt, shelf, b"c\n")?);
     Ok(())
 }
 
@@ -86,53 +154,66 @@ fn an_empty_repository_has_no_last_run(rt: HostRuntime) -> Result<(), Fail> {
 fn a_partial_run_changes_the_failing_set_and_a_full_one_replaces_it(
     rt: HostRuntime,
 ) -> Result<(), Fail> {
-    let alloc = rt.alloc();
-    let mut shelf = repository(alloc, &[])?;
-    load(&rt, &mut shelf, A_AND_B_FAILED)?;
-    let mut input = source(alloc, A_PASSED_C_FAILED, 7, &[])?;
-    call(&rt, &["testr", "load", "--partial"], &mut shelf, &mut input)?;
-    let told = ask(&rt, &mut shelf, &["testr", "failing", "--list"])?;
-    assert!(rt; told.is(1, b"b\nc\n", NOTHING));
-    load(&rt, &mut shelf, A_PASSED_C_FAILED)?;
-    let told = ask(&rt, &mut shelf, &["testr", "failing", "--list"])?;
-    assert!(rt; told.is(1, b"c\n", NOTHING));
-    Ok(())
+    let mut shelf = repository(rt.alloc(), &[])?;
+    failing_set_changes(&rt, &mut shelf)
 }
 
-#[test]
-fn the_last_of_two_runs_is_told(rt: HostRuntime) -> Result<(), Fail> {
-    let alloc = rt.alloc();
-    let mut shelf = repository(alloc, &[])?;
-    load(&rt, &mut shelf, FOO)?;
-    load(&rt, &mut shelf, TIMED)?;
-    let slowest = b"     1.001  a\n     0.564  b\n".as_slice();
-    let table = [
-        (["testr", "slowest", "--all"].as_slice(), slowest),
-        (["testr", "slowest"].as_slice(), slowest),
-        (["testr", "stats"].as_slice(), b"runs=2\n".as_slice()),
-        (
-            ["testr", "last"].as_slice(),
-            b"Ran 2 tests in 1.565s\nPASSED (id=1)\n".as_slice(),
-        ),
-    ];
-    for (words, text) in table {
-        let told = ask(&rt, &mut shelf, words)?;
-        assert!(rt; told.is(0, text, NOTHING), "{}", words[1]);
+// What is told behind a run of `foo` and one of two tests with times.
+const TOLD_OF_TIMED: [(&[&str], &[u8]); 4] = [
+    (&["testr", "slowest", "--all"], SLOWEST),
+    (&["testr", "slowest"], SLOWEST),
+    (&["testr", "stats"], b"runs=2\n"),
+    (
+        &["testr", "last"],
+        b"Ran 2 tests in 1.565s\nPASSED (id=1)\n",
+    ),
+];
+
+fn tells_of_timed<R: Threads + Wait + Sync + AllocGlobal + Abort>(
+    rt: &R,
+    shelf: &mut MemShelf,
+) -> Result<(), Fail> {
+    for (row, (words, text)) in TOLD_OF_TIMED.iter().enumerate() {
+        assert!(rt; asked(rt, shelf, words, (0, *text, NOTHING))?, "row {row}");
     }
     Ok(())
 }
 
 #[test]
+fn the_last_of_two_runs_is_told(rt: HostRuntime) -> Result<(), Fail> {
+    let mut shelf = repository(rt.alloc(), &[])?;
+    load(&rt, &mut shelf, FOO)?;
+    load(&rt, &mut shelf, TIMED)?;
+    tells_of_timed(&rt, &mut shelf)
+}
+
+#[test]
+fn a_question_wants_a_repository(rt: HostRuntime) -> Result<(), Fail> {
+    let mut bare = MemShelf::new(rt.alloc(), Vec::new(rt.alloc()));
+    let wanted = (3, NOTHING, b"testr: no repository here\n".as_slice());
+    assert!(rt; asked(&rt, &mut bare, &["testr", "stats"], wanted)?);
+    Ok(())
+}
+
+// Whether a question tells of this call of the folder, which fails.
+fn tells_of_call<R: Threads + Wait + Sync + AllocGlobal>(
+    rt: &R,
+    number: u64,
+) -> Result<bool, Fail> {
+    let mut shelf = repository(rt.alloc(), &[number])?;
+    asked(
+        rt,
+        &mut shelf,
+        &["testr", "stats"],
+        (4, NOTHING, SHELF_FAULT),
+    )
+}
+
+#[test]
 fn a_question_wants_a_folder_that_answers(rt: HostRuntime) -> Result<(), Fail> {
-    let alloc = rt.alloc();
-    let mut bare = MemShelf::new(alloc, Vec::new(alloc));
-    let told = ask(&rt, &mut bare, &["testr", "stats"])?;
-    assert!(rt; told.is(3, NOTHING, b"testr: no repository here\n"));
     // The barrier, the length of `format`, its bytes, and the names.
     for number in 0..4u64 {
-        let mut shelf = repository(alloc, &[number])?;
-        let told = ask(&rt, &mut shelf, &["testr", "stats"])?;
-        assert!(rt; told.is(4, NOTHING, SHELF_FAULT), "{number}");
+        assert!(rt; tells_of_call(&rt, number)?, "{number}");
     }
     Ok(())
 }

@@ -1,10 +1,12 @@
 //! The files of the caches under the commands: which one is taken, and which runs are not read then.
 
-use crate::tests::{NOTHING, SHELF_FAULT, call, put, repository, source};
-use crate::tests_run::{CONF, ENDED, call_in, has_started, project_of, put_file};
+use crate::tests::{NOTHING, SHELF_FAULT, put, repository, tells_of};
+use crate::tests_run::{CONF, ENDED, call_in, has_started, project_with};
 use edge_io::MemShelf;
 use std::alloc::Global;
+use std::sync::Wait;
 use std::test::Fail;
+use std::thread::Threads;
 
 // `a` and `b` failed.
 const A_AND_B_FAILED: &[u8] =
@@ -27,82 +29,97 @@ fn three_runs(alloc: Global, cache: &[u8], fails: &[u64]) -> Result<MemShelf, Fa
     Ok(shelf)
 }
 
+// Whether this is told of the failing tests of the three runs.
+fn tells_failing<R: Threads + Wait + Sync + AllocGlobal>(
+    rt: &R,
+    cache: &[u8],
+    fails: &[u64],
+    wanted: (u8, &[u8], &[u8]),
+) -> Result<bool, Fail> {
+    let mut shelf = three_runs(rt.alloc(), cache, fails)?;
+    let words = ["testr", "failing", "--list"];
+    tells_of(rt, &words, &mut shelf, NOTHING, 1, wanted)
+}
+
 #[test]
 fn a_cache_of_all_runs_is_the_answer_and_no_run_is_read(rt: HostRuntime) -> Result<(), Fail> {
-    let alloc = rt.alloc();
     // The barrier, the length and the bytes of `format`, the names, and the length and the bytes of the cache come first.
-    let table = [
-        (
-            b"subunit-failing 1\n3\nz\0".as_slice(),
-            1,
-            b"z\n".as_slice(),
-            NOTHING,
-        ),
-        (b"x".as_slice(), 4, NOTHING, SHELF_FAULT),
-    ];
-    for (cache, status, out, err) in table {
-        let mut shelf = three_runs(alloc, cache, &[6])?;
-        let mut input = source(alloc, NOTHING, 1, &[])?;
-        let told = call(&rt, &["testr", "failing", "--list"], &mut shelf, &mut input)?;
-        assert!(rt; told.is(status, out, err));
-    }
+    let z = (1, b"z\n".as_slice(), NOTHING);
+    assert!(rt; tells_failing(&rt, b"subunit-failing 1\n3\nz\0", &[6], z)?);
+    let fault = (4, NOTHING, SHELF_FAULT);
+    assert!(rt; tells_failing(&rt, b"x", &[6], fault)?);
     Ok(())
 }
+
+const OTHER_CACHES: [&[u8]; 3] = [
+    b"x",
+    b"subunit-failing 1\n2\nb\0c\0",
+    b"subunit-failing 1\n4\nz\0",
+];
 
 #[test]
 fn a_cache_of_fewer_runs_is_gone_on_with_and_one_of_more_is_not_taken(
     rt: HostRuntime,
 ) -> Result<(), Fail> {
-    let alloc = rt.alloc();
-    for cache in [
-        b"x".as_slice(),
-        b"subunit-failing 1\n2\nb\0c\0",
-        b"subunit-failing 1\n4\nz\0",
-    ] {
-        let mut shelf = three_runs(alloc, cache, &[])?;
-        let mut input = source(alloc, NOTHING, 1, &[])?;
-        let told = call(&rt, &["testr", "failing", "--list"], &mut shelf, &mut input)?;
-        assert!(rt; told.is(1, b"c\n", NOTHING));
+    let c = (1, b"c\n".as_slice(), NOTHING);
+    for cache in &OTHER_CACHES {
+        assert!(rt; tells_failing(&rt, cache, &[], c)?);
     }
     Ok(())
 }
 
+// Caches of the times, and the ids of the first worker and the second one.
+const DIVIDED: [(&[u8], &[u8], &[u8]); 2] = [
+    (
+        b"subunit-times 1\n1\na\x009\0b\x002\0c\x001\0",
+        b"a\n",
+        b"b\nc\n",
+    ),
+    // It covers more runs than there are, so no time is known.
+    (
+        b"subunit-times 1\n2\na\x009\0b\x002\0c\x001\0",
+        b"a\nc\n",
+        b"b\n",
+    ),
+];
+
+// A repository of an empty run, with this cache of the times.
+fn with_times(alloc: Global, cache: &[u8]) -> Result<MemShelf, Fail> {
+    let mut shelf = repository(alloc, &[])?;
+    put(alloc, &mut shelf, b"0", NOTHING)?;
+    put(alloc, &mut shelf, b"times.set", cache)?;
+    Ok(shelf)
+}
+
+const LIST_ON_TWO: [&str; 5] = [
+    "testr",
+    "run",
+    "--load-list=l",
+    "--parallel",
+    "--concurrency=2",
+];
+
+// Whether the tests are divided into these jobs.
+fn are_divided<R: Threads + Wait + Sync + AllocGlobal>(
+    rt: &R,
+    cache: &[u8],
+    jobs: &[[&[u8]; 3]],
+) -> Result<bool, Fail> {
+    let outputs = [(NOTHING, ENDED), (NOTHING, ENDED)];
+    let mut project = project_with(rt.alloc(), CONF, &outputs, b"l", b"a\nb\nc\n")?;
+    let mut shelf = with_times(rt.alloc(), cache)?;
+    call_in(rt, &LIST_ON_TWO, &mut shelf, &mut project, &[])?;
+    Ok(has_started(&project, jobs))
+}
+
 #[test]
 fn the_times_of_a_cache_divide_the_tests(rt: HostRuntime) -> Result<(), Fail> {
-    let alloc = rt.alloc();
-    let table = [
-        (
-            b"subunit-times 1\n1\na\x009\0b\x002\0c\x001\0".as_slice(),
-            b"a\n".as_slice(),
-            b"b\nc\n".as_slice(),
-        ),
-        // It covers more runs than there are, so no time is known.
-        (
-            b"subunit-times 1\n2\na\x009\0b\x002\0c\x001\0".as_slice(),
-            b"a\nc\n".as_slice(),
-            b"b\n".as_slice(),
-        ),
-    ];
-    for (cache, first, second) in table {
-        let mut shelf = repository(alloc, &[])?;
-        put(alloc, &mut shelf, b"0", NOTHING)?;
-        put(alloc, &mut shelf, b"times.set", cache)?;
-        let outputs = [(NOTHING, ENDED), (NOTHING, ENDED)];
-        let mut project = project_of(alloc, CONF, &outputs, &[], &[])?;
-        put_file(alloc, &mut project, b"l", b"a\nb\nc\n")?;
-        let words = [
-            "testr",
-            "run",
-            "--load-list=l",
-            "--parallel",
-            "--concurrency=2",
-        ];
-        call_in(&rt, &words, &mut shelf, &mut project, &[])?;
+    for (cache, first, second) in &DIVIDED {
         let jobs: [[&[u8]; 3]; 2] = [
             [b"run ", b".testr-ids.0", first],
             [b"run ", b".testr-ids.1", second],
         ];
-        assert!(rt; has_started(&project, &jobs));
+        assert!(rt; are_divided(&rt, cache, &jobs)?);
     }
     Ok(())
 }

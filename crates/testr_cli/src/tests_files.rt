@@ -1,9 +1,8 @@
 //! `testr load` of files, and the words of the commands.
 
-use crate::tests::{
-    FOO, FOO_KEPT, NOTHING, PASSED_AS_0, Told, has_file, owned, repository, sink, source,
-};
-use crate::{Command, Verb, program, reads};
+use crate::tests::{FOO, FOO_KEPT, NOTHING, PASSED_AS_0, Told, has_file, owned, repository};
+use crate::tests_run::call_with;
+use crate::{Command, Verb, reads};
 use edge_io::{MapSite, MemShelf, PlanSpawner, Shelf};
 use std::alloc::Global;
 use std::sync::Wait;
@@ -14,15 +13,28 @@ use sub_number::{Bytes, Text};
 // `foo` passed, under lane 1.
 const FOO_KEPT_1: &[u8] = b"\xb3\x2d\x03\x0e\x03foo\x01\x31\xd3\xa8\xeb\x76";
 
-// Files `a` and `b`, whose reads fail at these calls.
-fn site(alloc: Global, a: &[u8], b: &[u8], fails: &[u64]) -> Result<MapSite, Fail> {
+// A site with this file, whose reads fail at these calls.
+fn site_a(alloc: Global, a: &[u8], fails: &[u64]) -> Result<MapSite, Fail> {
     let mut site = MapSite::new(alloc, fails.to_vec(alloc)?);
-    site.put(Text::new(alloc, b"a")?, Bytes::new(alloc, a)?)?;
-    site.put(Text::new(alloc, b"b")?, Bytes::new(alloc, b)?)?;
+    put_in(alloc, &mut site, b"a", a)?;
     Ok(site)
 }
 
-// Calls the program over these files, and an input that is not to be read.
+fn put_in(alloc: Global, site: &mut MapSite, name: &[u8], bytes: &[u8]) -> Result<(), Fail> {
+    let name = Text::new(alloc, name)?;
+    let bytes = Bytes::new(alloc, bytes)?;
+    site.put(name, bytes)?;
+    Ok(())
+}
+
+// Files `a` and `b`, whose reads fail at these calls.
+fn site(alloc: Global, a: &[u8], b: &[u8], fails: &[u64]) -> Result<MapSite, Fail> {
+    let mut site = site_a(alloc, a, fails)?;
+    put_in(alloc, &mut site, b"b", b)?;
+    Ok(site)
+}
+
+// Calls the program over these files.
 fn call_at<R: Threads + Wait + Sync + AllocGlobal>(
     rt: &R,
     words: &[&str],
@@ -30,76 +42,87 @@ fn call_at<R: Threads + Wait + Sync + AllocGlobal>(
     site: &mut MapSite,
 ) -> Result<Told, Fail> {
     let alloc = rt.alloc();
-    let words = owned(alloc, words)?;
-    let mut input = source(alloc, FOO, 1, &[0])?;
-    let mut out = sink(alloc, &[])?;
-    let mut err = sink(alloc, &[])?;
     let mut spawner = PlanSpawner::new(alloc, Vec::new(alloc), Vec::new(alloc));
-    let status = program(
-        rt,
-        alloc,
-        &words,
-        shelf,
-        &mut spawner,
-        site,
-        &mut input,
-        &mut out,
-        &mut err,
-    );
-    Ok(Told {
-        status,
-        out: out.taken().to_vec(alloc)?,
-        err: err.taken().to_vec(alloc)?,
-    })
+    call_with(rt, words, shelf, &mut spawner, site, &[])
+}
+
+// Whether it tells this over these files.
+fn tells_at<R: Threads + Wait + Sync + AllocGlobal>(
+    rt: &R,
+    words: &[&str],
+    shelf: &mut MemShelf,
+    site: &mut MapSite,
+    wanted: (u8, &[u8], &[u8]),
+) -> Result<bool, Fail> {
+    let (status, out, err) = wanted;
+    Ok(call_at(rt, words, shelf, site)?.is(status, out, err))
 }
 
 #[test]
 fn one_file_is_recorded_under_lane_0(rt: HostRuntime) -> Result<(), Fail> {
-    let alloc = rt.alloc();
-    let mut shelf = repository(alloc, &[])?;
-    let mut site = site(alloc, FOO, NOTHING, &[])?;
-    let told = call_at(&rt, &["testr", "load", "a"], &mut shelf, &mut site)?;
-    assert!(rt; told.is(0, PASSED_AS_0, NOTHING));
-    assert!(rt; has_file(&mut shelf, "0", FOO_KEPT)?);
+    let mut site = site(rt.alloc(), FOO, NOTHING, &[])?;
+    let mut shelf = repository(rt.alloc(), &[])?;
+    let words = ["testr", "load", "a"];
+    let run = (words.as_slice(), "0", FOO_KEPT);
+    assert!(rt; is_kept(&rt, run, &mut shelf, &mut site)?);
     Ok(())
+}
+
+// Whether a load of which these are the words, the name and the bytes of its run reports that one test passed.
+fn is_kept<R: Threads + Wait + Sync + AllocGlobal>(
+    rt: &R,
+    run: (&[&str], &str, &[u8]),
+    shelf: &mut MemShelf,
+    site: &mut MapSite,
+) -> Result<bool, Fail> {
+    let (words, name, kept) = run;
+    Ok(tells_at(rt, words, shelf, site, (0, PASSED_AS_0, NOTHING))? && has_file(shelf, name, kept)?)
 }
 
 #[test]
 fn each_file_has_a_lane_of_its_own(rt: HostRuntime) -> Result<(), Fail> {
-    let alloc = rt.alloc();
-    let mut shelf = repository(alloc, &[])?;
-    let mut site = site(alloc, NOTHING, FOO, &[])?;
+    let mut site = site(rt.alloc(), NOTHING, FOO, &[])?;
+    let mut shelf = repository(rt.alloc(), &[])?;
     let words = ["testr", "load", "a", "--partial", "b"];
-    let told = call_at(&rt, &words, &mut shelf, &mut site)?;
-    assert!(rt; told.is(0, PASSED_AS_0, NOTHING));
-    assert!(rt; has_file(&mut shelf, "0.part", FOO_KEPT_1)?);
+    let run = (words.as_slice(), "0.part", FOO_KEPT_1);
+    assert!(rt; is_kept(&rt, run, &mut shelf, &mut site)?);
     Ok(())
+}
+
+// Whether the files `a` and this one are refused so, and there is no run.
+fn is_refused<R: Threads + Wait + Sync + AllocGlobal>(
+    rt: &R,
+    name: &str,
+    shelf: &mut MemShelf,
+    site: &mut MapSite,
+    status: u8,
+    line: &[u8],
+) -> Result<bool, Fail> {
+    let words = ["testr", "load", "a", name];
+    Ok(tells_at(rt, &words, shelf, site, (status, NOTHING, line))? && shelf.length("0")?.is_none())
 }
 
 #[test]
 fn a_missing_file_is_named(rt: HostRuntime) -> Result<(), Fail> {
-    let alloc = rt.alloc();
-    let mut shelf = repository(alloc, &[])?;
-    let mut site = site(alloc, FOO, NOTHING, &[])?;
-    let told = call_at(&rt, &["testr", "load", "a", "c"], &mut shelf, &mut site)?;
-    assert!(rt; told.is(3, NOTHING, b"testr: no file c\n"));
-    assert_eq!(rt; shelf.length("0")?, None);
+    let mut site = site(rt.alloc(), FOO, NOTHING, &[])?;
+    let mut shelf = repository(rt.alloc(), &[])?;
+    let line = b"testr: no file c\n";
+    assert!(rt; is_refused(&rt, "c", &mut shelf, &mut site, 3, line)?);
     Ok(())
+}
+
+fn the_read_fails<R: Threads + Wait + Sync + AllocGlobal>(rt: &R, read: u64) -> Result<bool, Fail> {
+    let mut site = site(rt.alloc(), FOO, NOTHING, &[read])?;
+    let mut shelf = repository(rt.alloc(), &[])?;
+    let line = b"testr: fault reading a file\n";
+    is_refused(rt, "b", &mut shelf, &mut site, 4, line)
 }
 
 #[test]
 fn each_read_of_a_file_may_fail(rt: HostRuntime) -> Result<(), Fail> {
-    let alloc = rt.alloc();
     // The bytes of the first one, its end, and the end of the second.
     for read in 0..3 {
-        let mut shelf = repository(alloc, &[])?;
-        let mut site = site(alloc, FOO, NOTHING, &[read])?;
-        let told = call_at(&rt, &["testr", "load", "a", "b"], &mut shelf, &mut site)?;
-        assert!(rt;
-            told.is(4, NOTHING, b"testr: fault reading a file\n"),
-            "read {read}"
-        );
-        assert_eq!(rt; shelf.length("0")?, None);
+        assert!(rt; the_read_fails(&rt, read)?, "read {read}");
     }
     Ok(())
 }
@@ -110,26 +133,40 @@ fn read(alloc: Global, words: &[&str]) -> Result<Option<Command>, Fail> {
     Ok(reads(alloc, &words)?)
 }
 
+// Whether it is a partial load of so many names.
+fn is_partial_load(command: &Option<Command>, names: usize) -> bool {
+    match command {
+        Some(command) => {
+            command.verb == Verb::Load && command.partial && command.names.list().len() == names
+        }
+        None => false,
+    }
+}
+
 #[test]
 fn options_and_names_stand_in_any_order(rt: HostRuntime) -> Result<(), Fail> {
-    let alloc = rt.alloc();
     let words = ["load", "a", "--partial", "-", "--partial"];
-    let Some(command) = read(alloc, &words)? else {
-        assert!(rt; false);
-        return Ok(());
-    };
-    assert!(rt; command.verb == Verb::Load && command.partial);
-    assert_eq!(rt; command.names.list().len(), 2);
+    let command = read(rt.alloc(), &words)?;
+    assert!(rt; is_partial_load(&command, 2));
     Ok(())
+}
+
+const NO_COMMANDS: [&[&str]; 5] = [
+    &["last", "--subunit="],
+    &["stats", "--all"],
+    &["slowest", "-a"],
+    &["init", "a"],
+    &["load", "a\0"],
+];
+
+fn is_no_command(alloc: Global, words: &[&str]) -> Result<bool, Fail> {
+    Ok(read(alloc, words)?.is_none())
 }
 
 #[test]
 fn other_options_and_names_are_refused(rt: HostRuntime) -> Result<(), Fail> {
-    let alloc = rt.alloc();
-    assert!(rt; read(alloc, &["last", "--subunit="])?.is_none());
-    assert!(rt; read(alloc, &["stats", "--all"])?.is_none());
-    assert!(rt; read(alloc, &["slowest", "-a"])?.is_none());
-    assert!(rt; read(alloc, &["init", "a"])?.is_none());
-    assert!(rt; read(alloc, &["load", "a\0"])?.is_none());
+    for (row, words) in NO_COMMANDS.iter().enumerate() {
+        assert!(rt; is_no_command(rt.alloc(), words)?, "row {row}");
+    }
     Ok(())
 }

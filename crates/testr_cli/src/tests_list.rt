@@ -1,10 +1,11 @@
 //! `testr list-tests` over programs in memory, and what is said of a configuration.
 
 use crate::tests::NOTHING;
-use crate::tests_run::{CONF, ENDED, LISTED, call_in, has_started, project_of};
+use crate::tests_run::{CONF, ENDED, LISTED, call_in, has_started, project_of, shows};
 use edge_io::{Finish, MemShelf, Shelf};
-use std::alloc::Global;
+use std::sync::Wait;
 use std::test::Fail;
+use std::thread::Threads;
 
 // The tests `a` and `b`, and `a` once more, are there.
 const A_B_A: &[u8] =
@@ -13,123 +14,139 @@ const A_B_A: &[u8] =
 const BAD_GROUPS: &[u8] =
     b"[DEFAULT]\ntest_command=run $LISTOPT\ntest_list_option=--list\ngroup_regex=(\n";
 
+// A listing: the configuration, the words, and what it tells.
+type Listing<'a> = (&'a [u8], &'a [&'a str], (u8, &'a [u8], &'a [u8]));
+
+const LIST: &[&str] = &["testr", "list-tests"];
+
+// Whether the listing tells this, by a program that ends so, or by none where it does not start.
+fn lists<R: Threads + Wait + Sync + AllocGlobal>(
+    rt: &R,
+    shelf: &mut MemShelf,
+    listing: Listing,
+    finish: Finish,
+    jobs: &[[&[u8]; 3]],
+) -> Result<bool, Fail> {
+    let (conf, words, wanted) = listing;
+    let mut project = project_of(rt.alloc(), conf, &[(A_B_A, finish)], &[], &[])?;
+    Ok(shows(rt, words, shelf, &mut project, wanted)? && has_started(&project, jobs))
+}
+
+const PRINTED: [(&[u8], &[&str], &[u8]); 4] = [
+    (CONF, LIST, b"a\nb\n"),
+    (BAD_GROUPS, LIST, b"a\nb\n"),
+    (CONF, &["testr", "list-tests", "^b", "c"], b"b\n"),
+    (CONF, &["testr", "list-tests", "ab"], NOTHING),
+];
+
+// Whether the listing prints this, where there is no repository, and makes none.
+fn prints<R: Threads + Wait + Sync + AllocGlobal>(
+    rt: &R,
+    conf: &[u8],
+    words: &[&str],
+    text: &[u8],
+) -> Result<bool, Fail> {
+    let mut shelf = MemShelf::new(rt.alloc(), Vec::new(rt.alloc()));
+    let listing = (conf, words, (0, text, NOTHING));
+    Ok(lists(rt, &mut shelf, listing, ENDED, &[LISTED])? && shelf.length("format")?.is_none())
+}
+
 #[test]
 fn the_listed_tests_are_printed_once(rt: HostRuntime) -> Result<(), Fail> {
-    let alloc = rt.alloc();
-    let both = b"a\nb\n".as_slice();
-    let table = [
-        (CONF, ["testr", "list-tests"].as_slice(), both),
-        (BAD_GROUPS, ["testr", "list-tests"].as_slice(), both),
-        (
-            CONF,
-            ["testr", "list-tests", "^b", "c"].as_slice(),
-            b"b\n".as_slice(),
-        ),
-        (CONF, ["testr", "list-tests", "ab"].as_slice(), NOTHING),
-    ];
-    for (row, (conf, words, text)) in table.into_iter().enumerate() {
-        // There is no repository.
-        let mut shelf = MemShelf::new(alloc, Vec::new(alloc));
-        let mut project = project_of(alloc, conf, &[(A_B_A, ENDED)], &[], &[])?;
-        let told = call_in(&rt, words, &mut shelf, &mut project, &[])?;
-        assert!(rt; told.is(0, text, NOTHING), "row {row}");
-        assert!(rt; has_started(&project, &[LISTED]), "row {row}");
-        assert_eq!(rt; shelf.length("format")?, None);
+    for (row, (conf, words, text)) in PRINTED.iter().enumerate() {
+        assert!(rt; prints(&rt, conf, words, text)?, "row {row}");
+    }
+    Ok(())
+}
+
+const OTHER_ENDS: [(Finish, u8, &[u8]); 4] = [
+    (Finish::Exit(3), 3, b"testr: listing ended with 3\n"),
+    (Finish::Exit(-9), 3, b"testr: listing ended with -9\n"),
+    (Finish::ReadFault, 4, b"testr: fault reading a program\n"),
+    (Finish::WaitFault, 4, b"testr: fault reading a program\n"),
+];
+
+#[test]
+fn a_listing_may_end_otherwise(rt: HostRuntime) -> Result<(), Fail> {
+    for (finish, status, line) in &OTHER_ENDS {
+        let mut shelf = MemShelf::new(rt.alloc(), Vec::new(rt.alloc()));
+        let listing = (CONF, LIST, (*status, NOTHING, *line));
+        assert!(rt; lists(&rt, &mut shelf, listing, *finish, &[LISTED])?);
     }
     Ok(())
 }
 
 #[test]
-fn a_listing_may_end_otherwise(rt: HostRuntime) -> Result<(), Fail> {
-    let alloc = rt.alloc();
-    let child = b"testr: fault reading a program\n".as_slice();
-    let table = [
-        (
-            Finish::Exit(3),
-            3,
-            b"testr: listing ended with 3\n".as_slice(),
-        ),
-        (
-            Finish::Exit(-9),
-            3,
-            b"testr: listing ended with -9\n".as_slice(),
-        ),
-        (Finish::ReadFault, 4, child),
-        (Finish::WaitFault, 4, child),
-    ];
-    for (finish, status, line) in table {
-        let mut shelf = MemShelf::new(alloc, Vec::new(alloc));
-        let mut project = project_of(alloc, CONF, &[(A_B_A, finish)], &[], &[])?;
-        let told = call_in(&rt, &["testr", "list-tests"], &mut shelf, &mut project, &[])?;
-        assert!(rt; told.is(status, NOTHING, line));
-        assert!(rt; has_started(&project, &[LISTED]));
-    }
-    let mut shelf = MemShelf::new(alloc, Vec::new(alloc));
-    let mut project = project_of(alloc, CONF, &[(A_B_A, ENDED)], &[], &[])?;
-    let told = call_in(
-        &rt,
-        &["testr", "list-tests"],
-        &mut shelf,
-        &mut project,
-        &[0],
-    )?;
+fn a_listing_that_is_not_written_is_a_fault(rt: HostRuntime) -> Result<(), Fail> {
+    let mut project = project_of(rt.alloc(), CONF, &[(A_B_A, ENDED)], &[], &[])?;
+    let mut shelf = MemShelf::new(rt.alloc(), Vec::new(rt.alloc()));
+    let told = call_in(&rt, LIST, &mut shelf, &mut project, &[0])?;
     assert!(rt; told.is(4, NOTHING, b"testr: fault writing output\n"));
     Ok(())
 }
 
+const NO_COMMAND: &[u8] = b"testr: .testr.conf: no test_command\n";
+
+const NO_LIST_OPTION: &[u8] = b"testr: .testr.conf: test_list_option is needed\n";
+
+const REFUSED: [(&[u8], &[u8]); 7] = [
+    (b"x=1\n", b"testr: .testr.conf line 1: outside a section\n"),
+    (
+        b"[DEFAULT]\n  y\n",
+        b"testr: .testr.conf line 2: not a setting\n",
+    ),
+    (
+        b"[DEFAULT]\ntest_command=a\ntest_command=b\n",
+        b"testr: .testr.conf line 3: repeated\n",
+    ),
+    (b"", NO_COMMAND),
+    (b"[DEFAULT]\ntest_command=\n", NO_COMMAND),
+    (b"[DEFAULT]\ntest_command=run $LISTOPT\n", NO_LIST_OPTION),
+    (
+        b"[DEFAULT]\ntest_command=run\ntest_list_option=--list\n",
+        NO_LIST_OPTION,
+    ),
+];
+
 #[test]
 fn each_refusal_of_a_configuration_has_its_line(rt: HostRuntime) -> Result<(), Fail> {
-    let alloc = rt.alloc();
-    let no_command = b"testr: .testr.conf: no test_command\n".as_slice();
-    let table = [
-        (
-            b"x=1\n".as_slice(),
-            b"testr: .testr.conf line 1: outside a section\n".as_slice(),
-        ),
-        (
-            b"[DEFAULT]\n  y\n",
-            b"testr: .testr.conf line 2: not a setting\n",
-        ),
-        (
-            b"[DEFAULT]\ntest_command=a\ntest_command=b\n",
-            b"testr: .testr.conf line 3: repeated\n",
-        ),
-        (b"", no_command),
-        (b"[DEFAULT]\ntest_command=\n", no_command),
-        (
-            b"[DEFAULT]\ntest_command=run $LISTOPT\n",
-            b"testr: .testr.conf: test_list_option is needed\n",
-        ),
-        (
-            b"[DEFAULT]\ntest_command=run\ntest_list_option=--list\n",
-            b"testr: .testr.conf: test_list_option is needed\n",
-        ),
-    ];
-    for (row, (conf, line)) in table.into_iter().enumerate() {
-        let mut shelf = MemShelf::new(alloc, Vec::new(alloc));
-        let mut project = project_of(alloc, conf, &[(A_B_A, ENDED)], &[], &[])?;
-        let told = call_in(&rt, &["testr", "list-tests"], &mut shelf, &mut project, &[])?;
-        assert!(rt; told.is(3, NOTHING, line), "row {row}");
-        assert_eq!(rt; project.spawner.started().len(), 0);
+    for (row, (conf, line)) in REFUSED.iter().enumerate() {
+        let mut shelf = MemShelf::new(rt.alloc(), Vec::new(rt.alloc()));
+        let listing = (*conf, LIST, (3, NOTHING, *line));
+        assert!(rt; lists(&rt, &mut shelf, listing, ENDED, &[])?, "row {row}");
     }
     Ok(())
 }
 
+// Configurations whose listing does not start, patterns, and the status and the line.
+const NOT_STARTED: [(&[u8], &str, u8, &[u8]); 2] = [
+    (
+        b"[DEFAULT]\ntest_command=run\n",
+        "(",
+        3,
+        b"testr: bad pattern: (\n",
+    ),
+    (CONF, "a", 4, b"testr: fault starting a program\n"),
+];
+
+// Whether this is told where the start fails, and nothing is started.
+fn starts_none<R: Threads + Wait + Sync + AllocGlobal>(
+    rt: &R,
+    conf: &[u8],
+    pattern: &str,
+    wanted: (u8, &[u8], &[u8]),
+) -> Result<bool, Fail> {
+    let mut project = project_of(rt.alloc(), conf, &[(A_B_A, ENDED)], &[], &[0])?;
+    let mut shelf = MemShelf::new(rt.alloc(), Vec::new(rt.alloc()));
+    let words = ["testr", "list-tests", pattern];
+    Ok(shows(rt, &words, &mut shelf, &mut project, wanted)? && has_started(&project, &[]))
+}
+
 #[test]
 fn a_pattern_is_read_before_the_listing_is_started(rt: HostRuntime) -> Result<(), Fail> {
-    let alloc = rt.alloc();
-    let bare = b"[DEFAULT]\ntest_command=run\n".as_slice();
-    let table = [
-        (bare, "(", 3, b"testr: bad pattern: (\n".as_slice()),
-        (CONF, "a", 4, b"testr: fault starting a program\n"),
-    ];
-    for (conf, pattern, status, line) in table {
-        let mut shelf = MemShelf::new(alloc, Vec::new(alloc));
-        let mut project = project_of(alloc, conf, &[(A_B_A, ENDED)], &[], &[0])?;
-        let words = ["testr", "list-tests", pattern];
-        let told = call_in(&rt, &words, &mut shelf, &mut project, &[])?;
-        assert!(rt; told.is(status, NOTHING, line));
-        assert_eq!(rt; project.spawner.started().len(), 0);
+    for (conf, pattern, status, line) in &NOT_STARTED {
+        let wanted = (*status, NOTHING, *line);
+        assert!(rt; starts_none(&rt, conf, pattern, wanted)?);
     }
     Ok(())
 }

@@ -1,12 +1,15 @@
 //! `testr load` of streams: the run that is kept, the report and the status.
 
 use crate::tests::{
-    FOO, FOO_KEPT, NOTHING, PASSED_AS_0, PASSED_AS_1, SHELF_FAULT, call, has_file, load,
-    repository, source,
+    FOO, FOO_KEPT, NOTHING, PASSED_AS_0, PASSED_AS_1, SHELF_FAULT, call, has_file, loads,
+    repository, source, tells_and_leaves, tells_of,
 };
 use edge_io::{MemShelf, Shelf};
 use std::alloc::Global;
+use std::process::Abort;
+use std::sync::Wait;
 use std::test::Fail;
+use std::thread::Threads;
 
 const NO_TESTS: &[u8] = b"Ran 0 tests\nPASSED (id=0)\n";
 
@@ -85,79 +88,119 @@ const CUT: &[u8] = b"\xb3\x29\x03\x3c\xb3\x29\x03\x0c\x03foo\x45\x9d\xfe\x10";
 const CUT_KEPT: &[u8] =
     b"\xb3\x25\x40\x16\x06stdout\x04\xb3\x29\x03\x3c\x01\x30\xec\x41\x8b\x3d\xb3\x2d\x03\x0e\x03foo\x01\x30\xa4\xaf\xdb\xe0";
 
+// Streams, and the run, the report and the status of each.
+const STREAMS: [(&[u8], &[u8], &[u8], u8); 12] = [
+    (FOO, FOO_KEPT, PASSED_AS_0, 0),
+    (NOTHING, NOTHING, NO_TESTS, 0),
+    (FAIL, FAIL_KEPT, FAIL_REPORT, 1),
+    (BOOM, BOOM_KEPT, BOOM_REPORT, 1),
+    (OPEN, OPEN_KEPT, OPEN_REPORT, 1),
+    (UNEXPECTED, UNEXPECTED_KEPT, UNEXPECTED_REPORT, 1),
+    (TIMED, TIMED_KEPT, TIMED_REPORT, 0),
+    (FAIL_SKIP, FAIL_SKIP_KEPT, FAIL_SKIP_REPORT, 1),
+    (END, END_KEPT, NO_TESTS, 0),
+    (LOG, LOG_KEPT, PASSED_AS_0, 0),
+    (DAMAGED, DAMAGED_KEPT, NO_TESTS, 0),
+    (CUT, CUT_KEPT, PASSED_AS_0, 0),
+];
+
+// Whether a load of the whole stream tells this, and keeps this run.
+fn becomes<R: Threads + Wait + Sync + AllocGlobal>(
+    rt: &R,
+    stream: &[u8],
+    piece: usize,
+    run: &[u8],
+    wanted: (u8, &[u8], &[u8]),
+) -> Result<bool, Fail> {
+    let mut shelf = repository(rt.alloc(), &[])?;
+    let words = ["testr", "load"];
+    Ok(
+        tells_and_leaves(rt, &words, &mut shelf, stream, piece, wanted, 0)?
+            && has_file(&mut shelf, "0", run)?,
+    )
+}
+
 #[test]
 fn each_stream_becomes_its_run_and_its_report(rt: HostRuntime) -> Result<(), Fail> {
-    let alloc = rt.alloc();
-    let table = [
-        (FOO, FOO_KEPT, PASSED_AS_0, 0),
-        (NOTHING, NOTHING, NO_TESTS, 0),
-        (FAIL, FAIL_KEPT, FAIL_REPORT, 1),
-        (BOOM, BOOM_KEPT, BOOM_REPORT, 1),
-        (OPEN, OPEN_KEPT, OPEN_REPORT, 1),
-        (UNEXPECTED, UNEXPECTED_KEPT, UNEXPECTED_REPORT, 1),
-        (TIMED, TIMED_KEPT, TIMED_REPORT, 0),
-        (FAIL_SKIP, FAIL_SKIP_KEPT, FAIL_SKIP_REPORT, 1),
-        (END, END_KEPT, NO_TESTS, 0),
-        (LOG, LOG_KEPT, PASSED_AS_0, 0),
-        (DAMAGED, DAMAGED_KEPT, NO_TESTS, 0),
-        (CUT, CUT_KEPT, PASSED_AS_0, 0),
-    ];
-    for (row, (stream, run, report, status)) in table.into_iter().enumerate() {
+    for (row, (stream, run, report, status)) in STREAMS.iter().enumerate() {
+        let wanted = (*status, *report, NOTHING);
         // In reads of one byte, of seven bytes, and in one read.
         for piece in [1, 7, 100] {
-            let mut shelf = repository(alloc, &[])?;
-            let mut input = source(alloc, stream, piece, &[])?;
-            let told = call(&rt, &["testr", "load"], &mut shelf, &mut input)?;
             assert!(rt;
-                told.is(status, report, NOTHING),
+                becomes(&rt, stream, piece, run, wanted)?,
                 "row {row}, pieces of {piece}"
             );
-            assert!(rt;
-                has_file(&mut shelf, "0", run)?,
-                "row {row}, pieces of {piece}"
-            );
-            assert_eq!(rt; input.left().len(), 0);
         }
     }
     Ok(())
 }
 
+// Whether a load by these words passes with this report, and keeps its run under this name.
+fn keeps_as<R: Threads + Wait + Sync + AllocGlobal>(
+    rt: &R,
+    words: &[&str],
+    shelf: &mut MemShelf,
+    report: &[u8],
+    name: &str,
+) -> Result<bool, Fail> {
+    Ok(
+        tells_of(rt, words, shelf, FOO, 12, (0, report, NOTHING))?
+            && has_file(shelf, name, FOO_KEPT)?,
+    )
+}
+
+fn partial_runs_are_named<R: Threads + Wait + Sync + AllocGlobal + Abort>(
+    rt: &R,
+    shelf: &mut MemShelf,
+) -> Result<(), Fail> {
+    let words = ["testr", "load", "--partial"];
+    assert!(rt; keeps_as(rt, &words, shelf, PASSED_AS_0, "0.part")?);
+    assert_eq!(rt; shelf.length("0")?, None);
+    let words = ["testr", "load", "--partial", "--partial"];
+    assert!(rt; keeps_as(rt, &words, shelf, PASSED_AS_1, "1.part")?);
+    assert_eq!(rt; shelf.length("1")?, None);
+    let report = b"Ran 1 tests\nPASSED (id=2)\n";
+    assert!(rt; keeps_as(rt, &["testr", "load"], shelf, report, "2")?);
+    Ok(())
+}
+
 #[test]
 fn a_partial_run_has_a_name_of_its_own_and_the_next_number(rt: HostRuntime) -> Result<(), Fail> {
-    let alloc = rt.alloc();
-    let mut shelf = repository(alloc, &[])?;
-    let mut input = source(alloc, FOO, 12, &[])?;
-    let told = call(&rt, &["testr", "load", "--partial"], &mut shelf, &mut input)?;
-    assert!(rt; told.is(0, PASSED_AS_0, NOTHING));
-    assert!(rt; has_file(&mut shelf, "0.part", FOO_KEPT)?);
-    assert_eq!(rt; shelf.length("0")?, None);
-    let mut again = source(alloc, FOO, 12, &[])?;
-    let words = ["testr", "load", "--partial", "--partial"].as_slice();
-    let told = call(&rt, words, &mut shelf, &mut again)?;
-    assert!(rt; told.is(0, PASSED_AS_1, NOTHING));
-    assert!(rt; has_file(&mut shelf, "1.part", FOO_KEPT)?);
-    assert_eq!(rt; shelf.length("1")?, None);
-    let told = load(&rt, &mut shelf, FOO)?;
-    assert!(rt; told.is(0, b"Ran 1 tests\nPASSED (id=2)\n", NOTHING));
-    assert!(rt; has_file(&mut shelf, "2", FOO_KEPT)?);
+    let mut shelf = repository(rt.alloc(), &[])?;
+    partial_runs_are_named(&rt, &mut shelf)
+}
+
+// Whether the caches have these bytes.
+fn has_caches(shelf: &mut MemShelf, failing: &[u8], times: &[u8]) -> Result<bool, Fail> {
+    Ok(has_file(shelf, "failing.set", failing)? && has_file(shelf, "times.set", times)?)
+}
+
+// The status of a partial load of a failure.
+fn partial_status<R: Threads + Wait + Sync + AllocGlobal>(
+    rt: &R,
+    shelf: &mut MemShelf,
+) -> Result<u8, Fail> {
+    let mut input = source(rt.alloc(), FAIL, 12, &[])?;
+    Ok(call(rt, &["testr", "load", "--partial"], shelf, &mut input)?.status)
+}
+
+fn caches_cover<R: Threads + Wait + Sync + AllocGlobal + Abort>(
+    rt: &R,
+    shelf: &mut MemShelf,
+) -> Result<(), Fail> {
+    let times = b"subunit-times 1\n1\nfoo\x001000500000\x00";
+    assert!(rt; loads(rt, shelf, TIMED, (0, TIMED_REPORT, NOTHING))?);
+    assert!(rt; has_caches(shelf, b"subunit-failing 1\n1\n", times)?);
+    let times = b"subunit-times 1\n2\nfoo\x001000500000\x00";
+    assert_eq!(rt; partial_status(rt, shelf)?, 1);
+    assert!(rt; has_caches(shelf, b"subunit-failing 1\n2\nfoo\x00", times)?);
     Ok(())
 }
 
 #[test]
 fn the_caches_cover_the_runs_behind_each_load(rt: HostRuntime) -> Result<(), Fail> {
-    let alloc = rt.alloc();
-    let mut shelf = repository(alloc, &[])?;
-    let times = b"subunit-times 1\n1\nfoo\x001000500000\x00";
-    assert!(rt; load(&rt, &mut shelf, TIMED)?.is(0, TIMED_REPORT, NOTHING));
-    assert!(rt; has_file(&mut shelf, "failing.set", b"subunit-failing 1\n1\n")?);
-    assert!(rt; has_file(&mut shelf, "times.set", times)?);
-    let mut input = source(alloc, FAIL, 12, &[])?;
-    let told = call(&rt, &["testr", "load", "--partial"], &mut shelf, &mut input)?;
-    assert_eq!(rt; told.status, 1);
-    let times = b"subunit-times 1\n2\nfoo\x001000500000\x00";
-    assert!(rt; has_file(&mut shelf, "failing.set", b"subunit-failing 1\n2\nfoo\x00")?);
-    assert!(rt; has_file(&mut shelf, "times.set", times)?);
-    Ok(())
+    let mut shelf = repository(rt.alloc(), &[])?;
+    caches_cover(&rt, &mut shelf)
 }
 
 // The largest packet: a file of zeros, and the checksum that zlib gives for it.
@@ -180,38 +223,58 @@ fn begins_piece(shelf: &mut MemShelf, place: u64, head: &[u8]) -> Result<bool, F
     Ok(&buf[..count] == head)
 }
 
-#[test]
-fn the_largest_packet_is_kept_in_64_pieces(rt: HostRuntime) -> Result<(), Fail> {
-    let alloc = rt.alloc();
-    let packet = largest_packet(alloc)?;
-    assert_eq!(rt; packet.len(), 4_194_303);
-    let mut shelf = repository(alloc, &[])?;
-    let told = load(&rt, &mut shelf, &packet)?;
-    assert!(rt; told.is(0, NO_TESTS, NOTHING));
-    assert_eq!(rt; shelf.length("0")?, Some(63 * 65_558 + 65_557));
+fn has_pieces<R: Threads + Wait + Sync + AllocGlobal + Abort>(
+    rt: &R,
+    shelf: &mut MemShelf,
+) -> Result<(), Fail> {
     let whole = b"\xb3\x25\x40\x81\x00\x16\x06stdout\x81\x00\x00";
     for number in 0..63 {
         assert!(rt;
-            begins_piece(&mut shelf, number * 65_558, whole)?,
+            begins_piece(shelf, number * 65_558, whole)?,
             "piece {number}"
         );
     }
     let last = b"\xb3\x25\x40\x81\x00\x15\x06stdout\x80\xff\xff";
-    assert!(rt; begins_piece(&mut shelf, 63 * 65_558, last)?);
+    assert!(rt; begins_piece(shelf, 63 * 65_558, last)?);
+    Ok(())
+}
+
+// Loads it without a test.
+fn load_largest<R: Threads + Wait + Sync + AllocGlobal + Abort>(
+    rt: &R,
+    shelf: &mut MemShelf,
+) -> Result<(), Fail> {
+    let packet = largest_packet(rt.alloc())?;
+    assert_eq!(rt; packet.len(), 4_194_303);
+    assert!(rt; loads(rt, shelf, &packet, (0, NO_TESTS, NOTHING))?);
     Ok(())
 }
 
 #[test]
+fn the_largest_packet_is_kept_in_64_pieces(rt: HostRuntime) -> Result<(), Fail> {
+    let mut shelf = repository(rt.alloc(), &[])?;
+    load_largest(&rt, &mut shelf)?;
+    assert_eq!(rt; shelf.length("0")?, Some(63 * 65_558 + 65_557));
+    has_pieces(&rt, &mut shelf)
+}
+
+// Whether a load of these bytes tells this, into a folder of which this call fails.
+fn loads_where<R: Threads + Wait + Sync + AllocGlobal>(
+    rt: &R,
+    bytes: &[u8],
+    call: u64,
+    wanted: (u8, &[u8], &[u8]),
+) -> Result<bool, Fail> {
+    let mut shelf = repository(rt.alloc(), &[call])?;
+    loads(rt, &mut shelf, bytes, wanted)
+}
+
+#[test]
 fn packets_of_a_piece_or_more_are_added_one_by_one(rt: HostRuntime) -> Result<(), Fail> {
-    let alloc = rt.alloc();
-    let packet = largest_packet(alloc)?;
+    let packet = largest_packet(rt.alloc())?;
     // Five calls up to the draft, one for each of the 64 pieces, and the sync, the publish and the barrier.
-    let mut shelf = repository(alloc, &[71])?;
-    let told = load(&rt, &mut shelf, &packet)?;
-    assert!(rt; told.is(4, NOTHING, SHELF_FAULT));
+    assert!(rt; loads_where(&rt, &packet, 71, (4, NOTHING, SHELF_FAULT))?);
     // Eleven calls more bring up the caches.
-    let mut shelf = repository(alloc, &[83])?;
-    let told = load(&rt, &mut shelf, &packet)?;
-    assert!(rt; told.is(0, NO_TESTS, NOTHING));
+    assert!(rt; loads_where(&rt, &packet, 83, (0, NO_TESTS, NOTHING))?);
     Ok(())
 }

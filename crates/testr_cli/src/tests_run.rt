@@ -3,10 +3,11 @@
 use crate::program;
 use crate::tests::{
     FOO, FOO_KEPT, NOTHING, PASSED_AS_0, PASSED_AS_1, SHELF_FAULT, Told, has_file, load, owned,
-    put, repository, sink, source,
+    put, repository, sink, source, told_of,
 };
-use edge_io::{Finish, Job, MapSite, Plan, PlanSpawner, Shelf, Spawner};
+use edge_io::{Finish, Job, ListSink, MapSite, MemShelf, Plan, PlanSpawner, Shelf, Spawner};
 use std::alloc::Global;
+use std::process::Abort;
 use std::sync::Wait;
 use std::test::Fail;
 use std::thread::Threads;
@@ -93,13 +94,58 @@ pub fn put_file(
     name: &[u8],
     bytes: &[u8],
 ) -> Result<(), Fail> {
-    project
-        .site
-        .put(Text::new(alloc, name)?, Bytes::new(alloc, bytes)?)?;
+    let name = Text::new(alloc, name)?;
+    let bytes = Bytes::new(alloc, bytes)?;
+    project.site.put(name, bytes)?;
     Ok(())
 }
 
-// A project of this configuration, whose programs give these outputs in this order. Reads and starts of these numbers fail.
+fn plan_of(alloc: Global, output: &[u8], finish: Finish) -> Result<Plan, Fail> {
+    let output = Bytes::new(alloc, output)?;
+    Ok(Plan {
+        output,
+        piece: 5,
+        finish,
+    })
+}
+
+fn push_plans(
+    alloc: Global,
+    plans: &mut Vec<Plan>,
+    outputs: &[(&[u8], Finish)],
+) -> Result<(), Fail> {
+    for (output, finish) in outputs {
+        let plan = plan_of(alloc, output, *finish)?;
+        plans.push(plan)?;
+    }
+    Ok(())
+}
+
+fn spawner_of(
+    alloc: Global,
+    outputs: &[(&[u8], Finish)],
+    starts: &[u64],
+) -> Result<PlanSpawner, Fail> {
+    let mut plans = Vec::new(alloc);
+    push_plans(alloc, &mut plans, outputs)?;
+    let starts = starts.to_vec(alloc)?;
+    Ok(PlanSpawner::new(alloc, plans, starts))
+}
+
+// A project whose programs give these outputs in this order. Reads and starts of these numbers fail.
+fn bare_project(
+    alloc: Global,
+    outputs: &[(&[u8], Finish)],
+    reads: &[u64],
+    starts: &[u64],
+) -> Result<Project, Fail> {
+    let reads = reads.to_vec(alloc)?;
+    let spawner = spawner_of(alloc, outputs, starts)?;
+    let site = MapSite::new(alloc, reads);
+    Ok(Project { site, spawner })
+}
+
+// One of this configuration.
 pub fn project_of(
     alloc: Global,
     conf: &[u8],
@@ -107,21 +153,37 @@ pub fn project_of(
     reads: &[u64],
     starts: &[u64],
 ) -> Result<Project, Fail> {
-    let mut plans = Vec::new(alloc);
-    for (output, finish) in outputs {
-        let output = Bytes::new(alloc, output)?;
-        plans.push(Plan {
-            output,
-            piece: 5,
-            finish: *finish,
-        })?;
-    }
-    let mut project = Project {
-        site: MapSite::new(alloc, reads.to_vec(alloc)?),
-        spawner: PlanSpawner::new(alloc, plans, starts.to_vec(alloc)?),
-    };
+    let mut project = bare_project(alloc, outputs, reads, starts)?;
     put_file(alloc, &mut project, b".testr.conf", conf)?;
     Ok(project)
+}
+
+// One whose programs start, with this file beside the configuration.
+pub fn project_with(
+    alloc: Global,
+    conf: &[u8],
+    outputs: &[(&[u8], Finish)],
+    name: &[u8],
+    bytes: &[u8],
+) -> Result<Project, Fail> {
+    let mut project = project_of(alloc, conf, outputs, &[], &[])?;
+    put_file(alloc, &mut project, name, bytes)?;
+    Ok(project)
+}
+
+// Calls the program over an input that is not to be read.
+fn call_words<R: Threads + Wait + Sync + AllocGlobal, H: Shelf, S: Spawner>(
+    rt: &R,
+    words: &[String],
+    shelf: &mut H,
+    spawner: &mut S,
+    site: &mut MapSite,
+    out: &mut ListSink,
+    err: &mut ListSink,
+) -> Result<u8, Fail> {
+    let alloc = rt.alloc();
+    let mut input = source(alloc, FOO, 1, &[0])?;
+    Ok(program(rt, alloc, words, shelf, spawner, site, &mut input, out, err))
 }
 
 // Calls the program over an input that is not to be read, and an output that fails at these writes.
@@ -135,17 +197,10 @@ pub fn call_with<R: Threads + Wait + Sync + AllocGlobal, H: Shelf, S: Spawner>(
 ) -> Result<Told, Fail> {
     let alloc = rt.alloc();
     let words = owned(alloc, words)?;
-    let mut input = source(alloc, FOO, 1, &[0])?;
     let mut out = sink(alloc, writes)?;
     let mut err = sink(alloc, &[])?;
-    let status = program(
-        rt, alloc, &words, shelf, spawner, site, &mut input, &mut out, &mut err,
-    );
-    Ok(Told {
-        status,
-        out: out.taken().to_vec(alloc)?,
-        err: err.taken().to_vec(alloc)?,
-    })
+    let status = call_words(rt, &words, shelf, spawner, site, &mut out, &mut err)?;
+    told_of(alloc, status, &out, &err)
 }
 
 // Calls it over a project.
@@ -184,271 +239,356 @@ pub fn has_started(project: &Project, wanted: &[[&[u8]; 3]]) -> bool {
     true
 }
 
+// Whether the program tells this over a project.
+pub fn shows<R: Threads + Wait + Sync + AllocGlobal>(
+    rt: &R,
+    words: &[&str],
+    shelf: &mut MemShelf,
+    project: &mut Project,
+    wanted: (u8, &[u8], &[u8]),
+) -> Result<bool, Fail> {
+    let (status, out, err) = wanted;
+    Ok(call_in(rt, words, shelf, project, &[])?.is(status, out, err))
+}
+
+// A call that runs tests: its words, what it tells without a line of a refusal, and the name and the bytes of its run.
+type Run<'a> = (&'a [&'a str], u8, &'a [u8], &'a str, &'a [u8]);
+
+// Whether the run is so, and these jobs were started.
+fn is_run<R: Threads + Wait + Sync + AllocGlobal>(
+    rt: &R,
+    shelf: &mut MemShelf,
+    project: &mut Project,
+    run: Run,
+    jobs: &[[&[u8]; 3]],
+) -> Result<bool, Fail> {
+    let (words, status, report, name, kept) = run;
+    Ok(
+        shows(rt, words, shelf, project, (status, report, NOTHING))?
+            && has_file(shelf, name, kept)?
+            && has_started(project, jobs),
+    )
+}
+
+// Whether the run is so in an empty repository, by a project of this configuration and these outputs.
+fn is_first_run<R: Threads + Wait + Sync + AllocGlobal>(
+    rt: &R,
+    conf: &[u8],
+    outputs: &[(&[u8], Finish)],
+    run: Run,
+    jobs: &[[&[u8]; 3]],
+) -> Result<bool, Fail> {
+    let mut project = project_of(rt.alloc(), conf, outputs, &[], &[])?;
+    let mut shelf = repository(rt.alloc(), &[])?;
+    is_run(rt, &mut shelf, &mut project, run, jobs)
+}
+
+const ALL: [[&[u8]; 3]; 1] = [[b"run ", NOTHING, NOTHING]];
+
+const BAD_ENDS: [(Finish, &[u8], &[u8]); 3] = [
+    (Finish::Exit(2), RETURNED_2, RETURNED_2_REPORT),
+    (Finish::ReadFault, NOT_READ, NOT_READ_REPORT),
+    (Finish::WaitFault, NOT_READ, NOT_READ_REPORT),
+];
+
 #[test]
 fn a_worker_that_does_not_end_well_fails(rt: HostRuntime) -> Result<(), Fail> {
-    let alloc = rt.alloc();
-    let table = [
-        (Finish::Exit(2), RETURNED_2, RETURNED_2_REPORT),
-        (Finish::ReadFault, NOT_READ, NOT_READ_REPORT),
-        (Finish::WaitFault, NOT_READ, NOT_READ_REPORT),
-    ];
-    for (finish, run, report) in table {
-        let mut shelf = repository(alloc, &[])?;
-        let mut project = project_of(alloc, CONF, &[(BEGUN, finish)], &[], &[])?;
-        let told = call_in(&rt, &["testr", "run"], &mut shelf, &mut project, &[])?;
-        assert!(rt; told.is(1, report, NOTHING));
-        assert!(rt; has_file(&mut shelf, "0", run)?);
-        assert!(rt; has_started(&project, &[[b"run ", NOTHING, NOTHING]]));
+    for (finish, kept, report) in &BAD_ENDS {
+        let outputs = [(BEGUN, *finish)];
+        let words = ["testr", "run"];
+        let run = (words.as_slice(), 1, *report, "0", *kept);
+        assert!(rt; is_first_run(&rt, CONF, &outputs, run, &ALL)?);
     }
     Ok(())
 }
 
+const FULL_RUNS: [(&[&str], &str); 5] = [
+    (&["testr", "run"], "0"),
+    (&["testr", "run", "--concurrency=2"], "0"),
+    (&["testr", "run", "--parallel", "--concurrency=1"], "0"),
+    (&["testr", "run", "--parallel"], "0"),
+    (&["testr", "run", "--partial"], "0.part"),
+];
+
 #[test]
 fn one_worker_runs_all_tests_as_a_full_run(rt: HostRuntime) -> Result<(), Fail> {
-    let alloc = rt.alloc();
-    let table = [
-        (["testr", "run"].as_slice(), "0"),
-        (["testr", "run", "--concurrency=2"].as_slice(), "0"),
-        (
-            ["testr", "run", "--parallel", "--concurrency=1"].as_slice(),
-            "0",
-        ),
-        (["testr", "run", "--parallel"].as_slice(), "0"),
-        (["testr", "run", "--partial"].as_slice(), "0.part"),
-    ];
-    for (words, name) in table {
-        let mut shelf = repository(alloc, &[])?;
-        let mut project = project_of(alloc, CONF, &[(FOO, ENDED)], &[], &[])?;
-        let told = call_in(&rt, words, &mut shelf, &mut project, &[])?;
-        assert!(rt; told.is(0, PASSED_AS_0, NOTHING), "{name}");
-        assert!(rt; has_file(&mut shelf, name, FOO_KEPT)?, "{name}");
-        assert!(rt; has_started(&project, &[[b"run ", NOTHING, NOTHING]]));
+    for (row, (words, name)) in FULL_RUNS.iter().enumerate() {
+        let run = (*words, 0, PASSED_AS_0, *name, FOO_KEPT);
+        assert!(rt;
+            is_first_run(&rt, CONF, &[(FOO, ENDED)], run, &ALL)?,
+            "row {row}"
+        );
     }
+    Ok(())
+}
+
+const ON_TWO: [&str; 4] = ["testr", "run", "--parallel", "--concurrency=2"];
+
+const ONE_OF_TWO: [(&[u8], Finish); 3] = [(A_AND_B, ENDED), (FAILED, ENDED), (FOO, ENDED)];
+
+// The lanes are recorded side by side.
+fn has_either(shelf: &mut MemShelf) -> Result<bool, Fail> {
+    Ok(has_file(shelf, "0", FAILED_FIRST)? || has_file(shelf, "0", PASSED_FIRST)?)
+}
+
+fn one_lane_fails<R: Threads + Wait + Sync + AllocGlobal + Abort>(
+    rt: &R,
+    shelf: &mut MemShelf,
+    project: &mut Project,
+) -> Result<(), Fail> {
+    let wanted = (1, ONE_OF_TWO_REPORT, NOTHING);
+    assert!(rt; shows(rt, &ON_TWO, shelf, project, wanted)?);
+    assert!(rt; has_either(shelf)?);
+    let words = ["testr", "failing", "--list"];
+    let wanted = (1, b"foo\n".as_slice(), NOTHING);
+    assert!(rt; shows(rt, &words, shelf, project, wanted)?);
     Ok(())
 }
 
 #[test]
 fn a_test_that_fails_on_one_of_two_lanes_fails(rt: HostRuntime) -> Result<(), Fail> {
-    let alloc = rt.alloc();
-    let mut shelf = repository(alloc, &[])?;
-    let outputs = [(A_AND_B, ENDED), (FAILED, ENDED), (FOO, ENDED)];
-    let mut project = project_of(alloc, CONF, &outputs, &[], &[])?;
-    let words = ["testr", "run", "--parallel", "--concurrency=2"];
-    let told = call_in(&rt, &words, &mut shelf, &mut project, &[])?;
-    assert!(rt; told.is(1, ONE_OF_TWO_REPORT, NOTHING));
-    // The lanes are recorded side by side.
-    let failed_first = has_file(&mut shelf, "0", FAILED_FIRST)?;
-    assert!(rt; failed_first || has_file(&mut shelf, "0", PASSED_FIRST)?);
-    let words = ["testr", "failing", "--list"];
-    let told = call_in(&rt, &words, &mut shelf, &mut project, &[])?;
-    assert!(rt; told.is(1, b"foo\n", NOTHING));
-    Ok(())
+    let mut project = project_of(rt.alloc(), CONF, &ONE_OF_TWO, &[], &[])?;
+    let mut shelf = repository(rt.alloc(), &[])?;
+    one_lane_fails(&rt, &mut shelf, &mut project)
 }
+
+const TWO_EMPTY: [(&[u8], Finish); 3] = [(A_AND_B, ENDED), (NOTHING, ENDED), (NOTHING, ENDED)];
+
+const DISCOVERED_JOBS: [[&[u8]; 3]; 3] = [
+    [
+        b"OS_STDOUT_CAPTURE=${OS_STDOUT_CAPTURE:-1} \\\n${PYTHON:-python} -m subunit.run discover -t ./ . --list ",
+        NOTHING,
+        NOTHING,
+    ],
+    [
+        b"OS_STDOUT_CAPTURE=${OS_STDOUT_CAPTURE:-1} \\\n${PYTHON:-python} -m subunit.run discover -t ./ .  --load-list .testr-ids.0",
+        b".testr-ids.0",
+        b"a\n",
+    ],
+    [
+        b"OS_STDOUT_CAPTURE=${OS_STDOUT_CAPTURE:-1} \\\n${PYTHON:-python} -m subunit.run discover -t ./ .  --load-list .testr-ids.1",
+        b".testr-ids.1",
+        b"b\n",
+    ],
+];
 
 #[test]
 fn the_jobs_of_a_listing_and_of_two_workers(rt: HostRuntime) -> Result<(), Fail> {
-    let alloc = rt.alloc();
-    let mut shelf = repository(alloc, &[])?;
-    let outputs = [(A_AND_B, ENDED), (NOTHING, ENDED), (NOTHING, ENDED)];
-    let mut project = project_of(alloc, DISCOVERED, &outputs, &[], &[])?;
-    let words = ["testr", "run", "--parallel", "--concurrency=2"];
-    let told = call_in(&rt, &words, &mut shelf, &mut project, &[])?;
-    assert!(rt; told.is(0, NO_TESTS, NOTHING));
-    assert_eq!(rt; shelf.length("0")?, Some(0));
-    let jobs: [[&[u8]; 3]; 3] = [
-        [
-            b"OS_STDOUT_CAPTURE=${OS_STDOUT_CAPTURE:-1} \\\n${PYTHON:-python} -m subunit.run discover -t ./ . --list ",
-            NOTHING,
-            NOTHING,
-        ],
-        [
-            b"OS_STDOUT_CAPTURE=${OS_STDOUT_CAPTURE:-1} \\\n${PYTHON:-python} -m subunit.run discover -t ./ .  --load-list .testr-ids.0",
-            b".testr-ids.0",
-            b"a\n",
-        ],
-        [
-            b"OS_STDOUT_CAPTURE=${OS_STDOUT_CAPTURE:-1} \\\n${PYTHON:-python} -m subunit.run discover -t ./ .  --load-list .testr-ids.1",
-            b".testr-ids.1",
-            b"b\n",
-        ],
-    ];
-    assert!(rt; has_started(&project, &jobs));
+    let run = (ON_TWO.as_slice(), 0, NO_TESTS, "0", NOTHING);
+    assert!(rt; is_first_run(&rt, DISCOVERED, &TWO_EMPTY, run, &DISCOVERED_JOBS)?);
     Ok(())
+}
+
+const COUNTED_JOBS: [[&[u8]; 3]; 5] = [
+    [b"echo 3", NOTHING, NOTHING],
+    LISTED,
+    [b"run ", b".testr-ids.0", b"a\n"],
+    [b"run ", b".testr-ids.1", b"b\n"],
+    [b"run ", b".testr-ids.2", b"c\n"],
+];
+
+// Whether there are three workers where this number is called out.
+fn counts_three<R: Threads + Wait + Sync + AllocGlobal>(
+    rt: &R,
+    number: &[u8],
+) -> Result<bool, Fail> {
+    let outputs = [
+        (number, ENDED),
+        (A_B_AND_C, ENDED),
+        (NOTHING, ENDED),
+        (NOTHING, ENDED),
+        (NOTHING, ENDED),
+    ];
+    let words = ["testr", "run", "--parallel"];
+    let run = (words.as_slice(), 0, NO_TESTS, "0", NOTHING);
+    is_first_run(rt, COUNTED, &outputs, run, &COUNTED_JOBS)
 }
 
 #[test]
 fn the_number_of_workers_is_called_out(rt: HostRuntime) -> Result<(), Fail> {
-    let alloc = rt.alloc();
-    let jobs: [[&[u8]; 3]; 5] = [
-        [b"echo 3", NOTHING, NOTHING],
-        LISTED,
-        [b"run ", b".testr-ids.0", b"a\n"],
-        [b"run ", b".testr-ids.1", b"b\n"],
-        [b"run ", b".testr-ids.2", b"c\n"],
-    ];
+    assert!(rt; counts_three(&rt, b"3\n")?);
     // A worker without tests is not started.
-    for number in [b"3\n".as_slice(), b"100"] {
-        let mut shelf = repository(alloc, &[])?;
-        let outputs = [
-            (number, ENDED),
-            (A_B_AND_C, ENDED),
-            (NOTHING, ENDED),
-            (NOTHING, ENDED),
-            (NOTHING, ENDED),
-        ];
-        let mut project = project_of(alloc, COUNTED, &outputs, &[], &[])?;
-        let words = ["testr", "run", "--parallel"];
-        let told = call_in(&rt, &words, &mut shelf, &mut project, &[])?;
-        assert!(rt; told.is(0, NO_TESTS, NOTHING));
-        assert!(rt; has_started(&project, &jobs));
-    }
+    assert!(rt; counts_three(&rt, b"100")?);
     Ok(())
 }
 
+const THREE_LISTED: [(&[u8], Finish); 3] = [(A_B_AND_C, ENDED), (NOTHING, ENDED), (NOTHING, ENDED)];
+
+const JOBS_OF_THREE: [[&[u8]; 3]; 3] = [
+    LISTED,
+    [b"run ", b".testr-ids.0", b"a\nc\n"],
+    [b"run ", b".testr-ids.1", b"b\n"],
+];
+
 #[test]
 fn a_listing_of_processors_gives_the_number_of_workers(rt: HostRuntime) -> Result<(), Fail> {
-    let alloc = rt.alloc();
-    let mut shelf = repository(alloc, &[])?;
-    let outputs = [(A_B_AND_C, ENDED), (NOTHING, ENDED), (NOTHING, ENDED)];
-    let mut project = project_of(alloc, CONF, &outputs, &[], &[])?;
     let table = b"processor\t: 0\nmodel\nprocessor\t: 1\n";
-    put_file(alloc, &mut project, b"/proc/cpuinfo", table)?;
+    let mut project = project_with(rt.alloc(), CONF, &THREE_LISTED, b"/proc/cpuinfo", table)?;
+    let mut shelf = repository(rt.alloc(), &[])?;
     let words = ["testr", "run", "--parallel", "--concurrency=0"];
-    let told = call_in(&rt, &words, &mut shelf, &mut project, &[])?;
-    assert!(rt; told.is(0, NO_TESTS, NOTHING));
-    let jobs: [[&[u8]; 3]; 3] = [
-        LISTED,
-        [b"run ", b".testr-ids.0", b"a\nc\n"],
-        [b"run ", b".testr-ids.1", b"b\n"],
-    ];
-    assert!(rt; has_started(&project, &jobs));
+    let run = (words.as_slice(), 0, NO_TESTS, "0", NOTHING);
+    assert!(rt; is_run(&rt, &mut shelf, &mut project, run, &JOBS_OF_THREE)?);
     Ok(())
+}
+
+// A repository with a run of this stream.
+fn loaded<R: Threads + Wait + Sync + AllocGlobal>(rt: &R, stream: &[u8]) -> Result<MemShelf, Fail> {
+    let mut shelf = repository(rt.alloc(), &[])?;
+    load(rt, &mut shelf, stream)?;
+    Ok(shelf)
+}
+
+// Configurations and ids, and the command, the first worker's ids and the second one's.
+const SHARED: [(&[u8], &[u8], &[u8], &[u8], &[u8]); 2] = [
+    (CONF, b"a\nb\nc\nd\ne\n", b"run ", b"a\nd\ne\n", b"b\nc\n"),
+    (GROUPED, b"y.x\nx.x\nx.y\n", b"run", b"x.x\nx.y\n", b"y.x\n"),
+];
+
+const LIST_ON_TWO: [&str; 5] = [
+    "testr",
+    "run",
+    "--load-list=l",
+    "--parallel",
+    "--concurrency=2",
+];
+
+// Whether the ids are shared by these jobs, behind a run of which the times are known.
+fn are_shared<R: Threads + Wait + Sync + AllocGlobal>(
+    rt: &R,
+    conf: &[u8],
+    ids: &[u8],
+    jobs: &[[&[u8]; 3]],
+) -> Result<bool, Fail> {
+    let outputs = [(NOTHING, ENDED), (NOTHING, ENDED)];
+    let mut project = project_with(rt.alloc(), conf, &outputs, b"l", ids)?;
+    let mut shelf = loaded(rt, TIMED)?;
+    let run = (LIST_ON_TWO.as_slice(), 0, NO_TESTS_AS_1, "1.part", NOTHING);
+    is_run(rt, &mut shelf, &mut project, run, jobs)
 }
 
 #[test]
 fn the_tests_are_shared_by_their_times_and_groups(rt: HostRuntime) -> Result<(), Fail> {
-    let alloc = rt.alloc();
-    let table = [
-        (
-            CONF,
-            b"a\nb\nc\nd\ne\n".as_slice(),
-            b"run ".as_slice(),
-            b"a\nd\ne\n".as_slice(),
-            b"b\nc\n".as_slice(),
-        ),
-        (GROUPED, b"y.x\nx.x\nx.y\n", b"run", b"x.x\nx.y\n", b"y.x\n"),
-    ];
-    for (conf, ids, command, first, second) in table {
-        let mut shelf = repository(alloc, &[])?;
-        load(&rt, &mut shelf, TIMED)?;
-        let outputs = [(NOTHING, ENDED), (NOTHING, ENDED)];
-        let mut project = project_of(alloc, conf, &outputs, &[], &[])?;
-        put_file(alloc, &mut project, b"l", ids)?;
-        let words = [
-            "testr",
-            "run",
-            "--load-list=l",
-            "--parallel",
-            "--concurrency=2",
-        ];
-        let told = call_in(&rt, &words, &mut shelf, &mut project, &[])?;
-        assert!(rt; told.is(0, NO_TESTS_AS_1, NOTHING));
+    for (conf, ids, command, first, second) in &SHARED {
         let jobs: [[&[u8]; 3]; 2] = [
             [command, b".testr-ids.0", first],
             [command, b".testr-ids.1", second],
         ];
-        assert!(rt; has_started(&project, &jobs));
+        assert!(rt; are_shared(&rt, conf, ids, &jobs)?);
     }
     Ok(())
+}
+
+// Words, and the ids of the tests that they choose where `a` and `b` failed.
+const CHOSEN: [(&[&str], &[u8]); 5] = [
+    (&["testr", "run", "--failing"], b"a\nb\n"),
+    (&["testr", "run", "--failing", "--load-list=l"], b"b\n"),
+    (&["testr", "run", "--load-list=l"], b"c\nb\n"),
+    (&["testr", "run", "--load-list", "l", "c", "x"], b"c\n"),
+    (&["testr", "run", "--failing", "^[ac]"], b"a\n"),
+];
+
+fn are_chosen<R: Threads + Wait + Sync + AllocGlobal>(
+    rt: &R,
+    words: &[&str],
+    ids: &[u8],
+) -> Result<bool, Fail> {
+    let outputs = [(NOTHING, ENDED)];
+    let mut project = project_with(rt.alloc(), CONF, &outputs, b"l", b" c\n\nb \r\nc")?;
+    let mut shelf = loaded(rt, A_AND_B_FAILED)?;
+    let run = (words, 0, NO_TESTS_AS_1, "1.part", NOTHING);
+    let jobs: [[&[u8]; 3]; 1] = [[b"run ", b".testr-ids.0", ids]];
+    is_run(rt, &mut shelf, &mut project, run, &jobs)
 }
 
 #[test]
 fn chosen_tests_are_a_partial_run_of_theirs(rt: HostRuntime) -> Result<(), Fail> {
-    let alloc = rt.alloc();
-    let table = [
-        (
-            ["testr", "run", "--failing"].as_slice(),
-            b"a\nb\n".as_slice(),
-        ),
-        (
-            ["testr", "run", "--failing", "--load-list=l"].as_slice(),
-            b"b\n".as_slice(),
-        ),
-        (
-            ["testr", "run", "--load-list=l"].as_slice(),
-            b"c\nb\n".as_slice(),
-        ),
-        (
-            ["testr", "run", "--load-list", "l", "c", "x"].as_slice(),
-            b"c\n".as_slice(),
-        ),
-        (
-            ["testr", "run", "--failing", "^[ac]"].as_slice(),
-            b"a\n".as_slice(),
-        ),
-    ];
-    for (row, (words, ids)) in table.into_iter().enumerate() {
-        let mut shelf = repository(alloc, &[])?;
-        load(&rt, &mut shelf, A_AND_B_FAILED)?;
-        let mut project = project_of(alloc, CONF, &[(NOTHING, ENDED)], &[], &[])?;
-        put_file(alloc, &mut project, b"l", b" c\n\nb \r\nc")?;
-        let told = call_in(&rt, words, &mut shelf, &mut project, &[])?;
-        assert!(rt; told.is(0, NO_TESTS_AS_1, NOTHING), "row {row}");
-        assert!(rt;
-            has_started(&project, &[[b"run ", b".testr-ids.0", ids]]),
-            "row {row}"
-        );
-        assert_eq!(rt; shelf.length("1.part")?, Some(0));
+    for (row, (words, ids)) in CHOSEN.iter().enumerate() {
+        assert!(rt; are_chosen(&rt, words, ids)?, "row {row}");
     }
     Ok(())
 }
 
+// Words that choose no test, and how many programs they start.
+const NONE_LEFT: [(&[&str], usize); 4] = [
+    (&["testr", "run", "--load-list=l"], 0),
+    (&["testr", "run", "--failing"], 0),
+    (&["testr", "run", "--failing", "--parallel"], 0),
+    (&["testr", "run", "c", "^$"], 1),
+];
+
+fn none_is_left<R: Threads + Wait + Sync + AllocGlobal>(
+    rt: &R,
+    words: &[&str],
+    shelf: &mut MemShelf,
+    project: &mut Project,
+    started: usize,
+) -> Result<bool, Fail> {
+    Ok(
+        shows(rt, words, shelf, project, (0, NO_TESTS, NOTHING))?
+            && project.spawner.started().len() == started
+            && shelf.length("0.part")? == Some(0),
+    )
+}
+
+fn starts_only<R: Threads + Wait + Sync + AllocGlobal>(
+    rt: &R,
+    words: &[&str],
+    started: usize,
+) -> Result<bool, Fail> {
+    let outputs = [(A_AND_B, ENDED)];
+    let mut project = project_with(rt.alloc(), NO_ID_OPTION, &outputs, b"l", NOTHING)?;
+    let mut shelf = repository(rt.alloc(), &[])?;
+    none_is_left(rt, words, &mut shelf, &mut project, started)
+}
+
 #[test]
 fn where_no_test_is_left_no_worker_starts(rt: HostRuntime) -> Result<(), Fail> {
-    let alloc = rt.alloc();
-    let table = [
-        (["testr", "run", "--load-list=l"].as_slice(), 0),
-        (["testr", "run", "--failing"].as_slice(), 0),
-        (["testr", "run", "--failing", "--parallel"].as_slice(), 0),
-        (["testr", "run", "c", "^$"].as_slice(), 1),
-    ];
-    for (row, (words, started)) in table.into_iter().enumerate() {
-        let mut shelf = repository(alloc, &[])?;
-        let mut project = project_of(alloc, NO_ID_OPTION, &[(A_AND_B, ENDED)], &[], &[])?;
-        put_file(alloc, &mut project, b"l", NOTHING)?;
-        let told = call_in(&rt, words, &mut shelf, &mut project, &[])?;
-        assert!(rt; told.is(0, NO_TESTS, NOTHING), "row {row}");
-        assert_eq!(rt; project.spawner.started().len(), started);
-        assert_eq!(rt; shelf.length("0.part")?, Some(0));
+    for (row, (words, started)) in NONE_LEFT.iter().enumerate() {
+        assert!(rt; starts_only(&rt, words, *started)?, "row {row}");
     }
+    Ok(())
+}
+
+fn slow_is_not_counted<R: Threads + Wait + Sync + AllocGlobal + Abort>(
+    rt: &R,
+    shelf: &mut MemShelf,
+    project: &mut Project,
+) -> Result<(), Fail> {
+    let wanted = (0, PASSED_AS_0, NOTHING);
+    assert!(rt; shows(rt, &["testr", "run"], shelf, project, wanted)?);
+    let wanted = (0, b"Ran 2 tests\nPASSED (id=0)\n".as_slice(), NOTHING);
+    assert!(rt; shows(rt, &["testr", "last"], shelf, project, wanted)?);
     Ok(())
 }
 
 #[test]
 fn tests_with_a_filter_tag_are_not_counted(rt: HostRuntime) -> Result<(), Fail> {
-    let alloc = rt.alloc();
-    let mut shelf = repository(alloc, &[])?;
-    let mut project = project_of(alloc, TAGGED, &[(A_SLOW_AND_B, ENDED)], &[], &[])?;
-    let told = call_in(&rt, &["testr", "run"], &mut shelf, &mut project, &[])?;
-    assert!(rt; told.is(0, PASSED_AS_0, NOTHING));
-    let told = call_in(&rt, &["testr", "last"], &mut shelf, &mut project, &[])?;
-    assert!(rt; told.is(0, b"Ran 2 tests\nPASSED (id=0)\n", NOTHING));
+    let mut project = project_of(rt.alloc(), TAGGED, &[(A_SLOW_AND_B, ENDED)], &[], &[])?;
+    let mut shelf = repository(rt.alloc(), &[])?;
+    slow_is_not_counted(&rt, &mut shelf, &mut project)
+}
+
+const THREE_STARTS: [(&[u8], Finish); 3] = [(A_AND_B, ENDED), (FOO, ENDED), (FOO, ENDED)];
+
+const TWO_JOBS: [[&[u8]; 3]; 2] = [LISTED, [b"run ", b".testr-ids.0", b"a\n"]];
+
+fn the_second_worker_fails<R: Threads + Wait + Sync + AllocGlobal + Abort>(
+    rt: &R,
+    shelf: &mut MemShelf,
+    project: &mut Project,
+) -> Result<(), Fail> {
+    let line = b"testr: fault starting a program\n".as_slice();
+    assert!(rt; shows(rt, &ON_TWO, shelf, project, (4, NOTHING, line))?);
+    assert!(rt; has_started(project, &TWO_JOBS));
+    assert_eq!(rt; shelf.length("0")?, None);
     Ok(())
 }
 
 #[test]
 fn a_start_that_fails_leaves_the_runs(rt: HostRuntime) -> Result<(), Fail> {
-    let alloc = rt.alloc();
-    let mut shelf = repository(alloc, &[])?;
-    let outputs = [(A_AND_B, ENDED), (FOO, ENDED), (FOO, ENDED)];
-    let mut project = project_of(alloc, CONF, &outputs, &[], &[2])?;
-    let words = ["testr", "run", "--parallel", "--concurrency=2"];
-    let told = call_in(&rt, &words, &mut shelf, &mut project, &[])?;
-    assert!(rt; told.is(4, NOTHING, b"testr: fault starting a program\n"));
-    let jobs: [[&[u8]; 3]; 2] = [LISTED, [b"run ", b".testr-ids.0", b"a\n"]];
-    assert!(rt; has_started(&project, &jobs));
-    assert_eq!(rt; shelf.length("0")?, None);
-    Ok(())
+    let mut project = project_of(rt.alloc(), CONF, &THREE_STARTS, &[], &[2])?;
+    let mut shelf = repository(rt.alloc(), &[])?;
+    the_second_worker_fails(&rt, &mut shelf, &mut project)
 }
 
 // So many bytes that are no packet.
@@ -458,48 +598,85 @@ fn foreign(alloc: Global, size: usize) -> Result<Vec<u8>, Fail> {
     Ok(bytes)
 }
 
-#[test]
-fn an_append_that_fails_leaves_the_runs(rt: HostRuntime) -> Result<(), Fail> {
-    let alloc = rt.alloc();
-    // Four calls look at the runs, one begins the new one, and the third one behind it fails.
+// A project whose first program gives so many bytes that an append fails.
+fn long_and_short(alloc: Global) -> Result<Project, Fail> {
+    let bytes = foreign(alloc, 300_000)?;
+    project_of(
+        alloc,
+        CONF,
+        &[(bytes.as_slice(), ENDED), (FOO, ENDED)],
+        &[],
+        &[],
+    )
+}
+
+// A repository of one run. Four calls look at the runs, one begins the new one, and the third one behind it fails.
+fn fails_to_append(alloc: Global) -> Result<MemShelf, Fail> {
     let mut shelf = repository(alloc, &[7])?;
     put(alloc, &mut shelf, b"0", FOO_KEPT)?;
-    let bytes = foreign(alloc, 300_000)?;
-    let outputs = [(bytes.as_slice(), ENDED), (FOO, ENDED)];
-    let mut project = project_of(alloc, CONF, &outputs, &[], &[])?;
+    Ok(shelf)
+}
+
+fn the_append_fails<R: Threads + Wait + Sync + AllocGlobal + Abort>(
+    rt: &R,
+    shelf: &mut MemShelf,
+    project: &mut Project,
+) -> Result<(), Fail> {
     let words = ["testr", "run"];
-    let told = call_in(&rt, &words, &mut shelf, &mut project, &[])?;
-    assert!(rt; told.is(4, NOTHING, SHELF_FAULT));
+    assert!(rt; shows(rt, &words, shelf, project, (4, NOTHING, SHELF_FAULT))?);
     assert_eq!(rt; shelf.length("1")?, None);
-    assert!(rt; has_file(&mut shelf, "0", FOO_KEPT)?);
-    let told = call_in(&rt, &words, &mut shelf, &mut project, &[])?;
-    assert!(rt; told.is(0, PASSED_AS_1, NOTHING));
-    assert!(rt; has_file(&mut shelf, "1", FOO_KEPT)?);
+    assert!(rt; has_file(shelf, "0", FOO_KEPT)?);
+    assert!(rt; shows(rt, &words, shelf, project, (0, PASSED_AS_1, NOTHING))?);
+    assert!(rt; has_file(shelf, "1", FOO_KEPT)?);
     Ok(())
 }
 
 #[test]
+fn an_append_that_fails_leaves_the_runs(rt: HostRuntime) -> Result<(), Fail> {
+    let mut project = long_and_short(rt.alloc())?;
+    let mut shelf = fails_to_append(rt.alloc())?;
+    the_append_fails(&rt, &mut shelf, &mut project)
+}
+
+// Whether a run whose report is not written tells of it, and is kept.
+fn keeps_unreported<R: Threads + Wait + Sync + AllocGlobal>(
+    rt: &R,
+    shelf: &mut MemShelf,
+    project: &mut Project,
+) -> Result<bool, Fail> {
+    let line = b"testr: fault writing output\n".as_slice();
+    Ok(
+        call_in(rt, &["testr", "run"], shelf, project, &[0])?.is(4, NOTHING, line)
+            && has_file(shelf, "0", FOO_KEPT)?,
+    )
+}
+
+#[test]
 fn a_report_that_is_not_written_leaves_the_new_run(rt: HostRuntime) -> Result<(), Fail> {
-    let alloc = rt.alloc();
-    let mut shelf = repository(alloc, &[])?;
-    let mut project = project_of(alloc, CONF, &[(FOO, ENDED)], &[], &[])?;
-    let told = call_in(&rt, &["testr", "run"], &mut shelf, &mut project, &[0])?;
-    assert!(rt; told.is(4, NOTHING, b"testr: fault writing output\n"));
-    assert!(rt; has_file(&mut shelf, "0", FOO_KEPT)?);
+    let mut project = project_of(rt.alloc(), CONF, &[(FOO, ENDED)], &[], &[])?;
+    let mut shelf = repository(rt.alloc(), &[])?;
+    assert!(rt; keeps_unreported(&rt, &mut shelf, &mut project)?);
+    Ok(())
+}
+
+fn the_next_call_fails<R: Threads + Wait + Sync + AllocGlobal + Abort>(
+    rt: &R,
+    shelf: &mut MemShelf,
+    project: &mut Project,
+) -> Result<(), Fail> {
+    let passed = (0, PASSED_AS_0, NOTHING);
+    assert!(rt; shows(rt, &["testr", "run"], shelf, project, passed)?);
+    let fault = (4, NOTHING, SHELF_FAULT);
+    assert!(rt; shows(rt, &["testr", "last"], shelf, project, fault)?);
+    assert!(rt; has_file(shelf, "0", FOO_KEPT)?);
     Ok(())
 }
 
 #[test]
 fn once_the_caches_are_kept_the_folder_is_not_called(rt: HostRuntime) -> Result<(), Fail> {
-    let alloc = rt.alloc();
+    let mut project = project_of(rt.alloc(), CONF, &[(FOO, ENDED)], &[], &[])?;
     // Four calls look at the runs, one begins the new one, one adds to it and three keep it. Behind them the file of the
     // times is looked for, and each cache takes five. The next one fails.
-    let mut shelf = repository(alloc, &[20])?;
-    let mut project = project_of(alloc, CONF, &[(FOO, ENDED)], &[], &[])?;
-    let told = call_in(&rt, &["testr", "run"], &mut shelf, &mut project, &[])?;
-    assert!(rt; told.is(0, PASSED_AS_0, NOTHING));
-    let told = call_in(&rt, &["testr", "last"], &mut shelf, &mut project, &[])?;
-    assert!(rt; told.is(4, NOTHING, SHELF_FAULT));
-    assert!(rt; has_file(&mut shelf, "0", FOO_KEPT)?);
-    Ok(())
+    let mut shelf = repository(rt.alloc(), &[20])?;
+    the_next_call_fails(&rt, &mut shelf, &mut project)
 }

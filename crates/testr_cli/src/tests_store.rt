@@ -1,13 +1,15 @@
 //! The folder of `init` and `load`: what it must have, what it gets, and what a fault or a stop leaves of it.
 
 use crate::tests::{
-    FOO, FOO_KEPT, NOTHING, PASSED_AS_0, PASSED_AS_1, SHELF_FAULT, Told, call, has_file, load, put,
-    repository, source,
+    FOO, FOO_KEPT, NOTHING, PASSED_AS_0, PASSED_AS_1, SHELF_FAULT, Told, call, has_file, load,
+    loads, put, repository, source, tells_and_leaves,
 };
 use crate::tests_load::{FAIL, FAIL_KEPT};
-use crate::tests_run::{CONF, ENDED, call_in, has_started, project_of};
+use crate::tests_run::{CONF, ENDED, has_started, project_of, shows};
 use edge_io::{Failed, MemShelf, Shelf};
 use itoa::Buffer;
+use std::alloc::Global;
+use std::process::Abort;
 use std::sync::Wait;
 use std::test::Fail;
 use std::thread::Threads;
@@ -24,74 +26,125 @@ fn init<R: Threads + Wait + Sync + AllocGlobal, H: Shelf>(
     call(rt, &["testr", "init"], shelf, &mut input)
 }
 
+// Whether `testr init` tells this.
+fn inits<R: Threads + Wait + Sync + AllocGlobal>(
+    rt: &R,
+    shelf: &mut MemShelf,
+    status: u8,
+    line: &[u8],
+) -> Result<bool, Fail> {
+    Ok(init(rt, shelf)?.is(status, NOTHING, line))
+}
+
+// How many files the folder has.
+fn count(alloc: Global, shelf: &mut MemShelf) -> Result<usize, Fail> {
+    Ok(shelf.names(alloc)?.len())
+}
+
+fn is_made_once<R: Threads + Wait + Sync + AllocGlobal + Abort>(
+    rt: &R,
+    shelf: &mut MemShelf,
+) -> Result<(), Fail> {
+    assert!(rt; loads(rt, shelf, FOO, (3, NOTHING, NO_STORE))?);
+    assert_eq!(rt; count(rt.alloc(), shelf)?, 0);
+    assert!(rt; inits(rt, shelf, 0, NOTHING)?);
+    assert!(rt; has_file(shelf, "format", FORMAT)?);
+    assert!(rt; inits(rt, shelf, 3, b"testr: a repository is already here\n")?);
+    assert_eq!(rt; count(rt.alloc(), shelf)?, 1);
+    Ok(())
+}
+
+fn takes_two_runs<R: Threads + Wait + Sync + AllocGlobal + Abort>(
+    rt: &R,
+    shelf: &mut MemShelf,
+) -> Result<(), Fail> {
+    assert!(rt; loads(rt, shelf, FOO, (0, PASSED_AS_0, NOTHING))?);
+    assert!(rt; loads(rt, shelf, FOO, (0, PASSED_AS_1, NOTHING))?);
+    assert!(rt; has_file(shelf, "0", FOO_KEPT)?);
+    assert!(rt; has_file(shelf, "1", FOO_KEPT)?);
+    // The format, the runs and the two caches.
+    assert_eq!(rt; count(rt.alloc(), shelf)?, 5);
+    Ok(())
+}
+
 #[test]
 fn a_repository_is_made_once(rt: HostRuntime) -> Result<(), Fail> {
-    let alloc = rt.alloc();
+    let mut shelf = MemShelf::new(rt.alloc(), Vec::new(rt.alloc()));
+    is_made_once(&rt, &mut shelf)?;
+    takes_two_runs(&rt, &mut shelf)
+}
+
+// Whether a load is refused with this line, the input is not read, and there are so many files as before.
+fn refuses_load<R: Threads + Wait + Sync + AllocGlobal>(
+    rt: &R,
+    shelf: &mut MemShelf,
+    line: &[u8],
+    files: usize,
+) -> Result<bool, Fail> {
+    let wanted = (3, NOTHING, line);
+    Ok(
+        tells_and_leaves(rt, &["testr", "load"], shelf, FOO, 12, wanted, 12)?
+            && count(rt.alloc(), shelf)? == files,
+    )
+}
+
+const OTHER_FORMATS: [&[u8]; 4] = [b"1\n", NOTHING, b"subunit-store 1", b"subunit-store 1\n\n"];
+
+fn of_format(alloc: Global, bytes: &[u8]) -> Result<MemShelf, Fail> {
     let mut shelf = MemShelf::new(alloc, Vec::new(alloc));
-    assert!(rt; load(&rt, &mut shelf, FOO)?.is(3, NOTHING, NO_STORE));
-    assert_eq!(rt; shelf.names(alloc)?.len(), 0);
-    assert!(rt; init(&rt, &mut shelf)?.is(0, NOTHING, NOTHING));
-    assert!(rt; has_file(&mut shelf, "format", FORMAT)?);
-    let line = b"testr: a repository is already here\n";
-    assert!(rt; init(&rt, &mut shelf)?.is(3, NOTHING, line));
-    assert_eq!(rt; shelf.names(alloc)?.len(), 1);
-    assert!(rt; load(&rt, &mut shelf, FOO)?.is(0, PASSED_AS_0, NOTHING));
-    assert!(rt; load(&rt, &mut shelf, FOO)?.is(0, PASSED_AS_1, NOTHING));
-    assert!(rt; has_file(&mut shelf, "0", FOO_KEPT)?);
-    assert!(rt; has_file(&mut shelf, "1", FOO_KEPT)?);
-    // The format, the runs and the two caches.
-    assert_eq!(rt; shelf.names(alloc)?.len(), 5);
-    Ok(())
+    put(alloc, &mut shelf, b"format", bytes)?;
+    Ok(shelf)
 }
 
 #[test]
 fn another_format_is_refused(rt: HostRuntime) -> Result<(), Fail> {
-    let alloc = rt.alloc();
-    let line = b"testr: unknown repository format\n";
-    for bytes in [
-        b"1\n".as_slice(),
-        NOTHING,
-        b"subunit-store 1",
-        b"subunit-store 1\n\n",
-    ] {
-        let mut shelf = MemShelf::new(alloc, Vec::new(alloc));
-        put(alloc, &mut shelf, b"format", bytes)?;
-        let mut input = source(alloc, FOO, 12, &[])?;
-        let told = call(&rt, &["testr", "load"], &mut shelf, &mut input)?;
-        assert!(rt; told.is(3, NOTHING, line));
-        assert_eq!(rt; input.left().len(), 12);
-        assert_eq!(rt; shelf.names(alloc)?.len(), 1);
+    for (row, bytes) in OTHER_FORMATS.iter().enumerate() {
+        let mut shelf = of_format(rt.alloc(), bytes)?;
+        let line = b"testr: unknown repository format\n";
+        assert!(rt; refuses_load(&rt, &mut shelf, line, 1)?, "row {row}");
     }
     Ok(())
 }
 
-#[test]
-fn a_missing_run_is_named(rt: HostRuntime) -> Result<(), Fail> {
-    let alloc = rt.alloc();
+fn lacks_run_1(alloc: Global) -> Result<MemShelf, Fail> {
     let mut shelf = repository(alloc, &[])?;
     put(alloc, &mut shelf, b"0", FOO_KEPT)?;
     put(alloc, &mut shelf, b"2", FOO_KEPT)?;
-    let mut input = source(alloc, FOO, 12, &[])?;
-    let told = call(&rt, &["testr", "load"], &mut shelf, &mut input)?;
-    assert!(rt; told.is(3, NOTHING, b"testr: run 1 is missing\n"));
-    assert_eq!(rt; input.left().len(), 12);
-    assert_eq!(rt; shelf.names(alloc)?.len(), 3);
-    Ok(())
+    Ok(shelf)
 }
 
 #[test]
-fn a_number_has_one_run_and_other_names_have_none(rt: HostRuntime) -> Result<(), Fail> {
-    let alloc = rt.alloc();
+fn a_missing_run_is_named(rt: HostRuntime) -> Result<(), Fail> {
+    let mut shelf = lacks_run_1(rt.alloc())?;
+    assert!(rt; refuses_load(&rt, &mut shelf, b"testr: run 1 is missing\n", 3)?);
+    Ok(())
+}
+
+// A repository of an empty run, and files beside it that are none.
+fn with_other_names(alloc: Global) -> Result<MemShelf, Fail> {
     let mut shelf = repository(alloc, &[])?;
     put(alloc, &mut shelf, b"0", NOTHING)?;
     put(alloc, &mut shelf, b"0.part", FOO_KEPT)?;
     put(alloc, &mut shelf, b"01", FOO_KEPT)?;
     put(alloc, &mut shelf, b"lock", FOO_KEPT)?;
-    assert!(rt; load(&rt, &mut shelf, FOO)?.is(0, PASSED_AS_1, NOTHING));
-    assert!(rt; has_file(&mut shelf, "0", NOTHING)?);
-    assert!(rt; has_file(&mut shelf, "0.part", FOO_KEPT)?);
-    assert!(rt; has_file(&mut shelf, "1", FOO_KEPT)?);
+    Ok(shelf)
+}
+
+fn has_run_1<R: Threads + Wait + Sync + AllocGlobal + Abort>(
+    rt: &R,
+    shelf: &mut MemShelf,
+) -> Result<(), Fail> {
+    assert!(rt; loads(rt, shelf, FOO, (0, PASSED_AS_1, NOTHING))?);
+    assert!(rt; has_file(shelf, "0", NOTHING)?);
+    assert!(rt; has_file(shelf, "0.part", FOO_KEPT)?);
+    assert!(rt; has_file(shelf, "1", FOO_KEPT)?);
     Ok(())
+}
+
+#[test]
+fn a_number_has_one_run_and_other_names_have_none(rt: HostRuntime) -> Result<(), Fail> {
+    let mut shelf = with_other_names(rt.alloc())?;
+    has_run_1(&rt, &mut shelf)
 }
 
 // Publishes an empty file, in whatever folder.
@@ -101,50 +154,74 @@ fn publish_empty<H: Shelf>(shelf: &mut H, name: &str) -> Result<(), Failed> {
     shelf.publish(name)
 }
 
-#[test]
-fn a_full_repository_takes_no_run(rt: HostRuntime) -> Result<(), Fail> {
-    let alloc = rt.alloc();
+// A repository with a run of each number.
+fn full(alloc: Global) -> Result<MemShelf, Fail> {
     let mut shelf = repository(alloc, &[])?;
+    fill(&mut shelf)?;
+    Ok(shelf)
+}
+
+fn fill(shelf: &mut MemShelf) -> Result<(), Fail> {
     let mut digits = Buffer::new();
     for number in 0..1_000_000u32 {
-        publish_empty(&mut shelf, digits.format(number))?;
+        publish_empty(shelf, digits.format(number))?;
     }
-    let line = b"testr: the repository is full\n";
-    let mut input = source(alloc, FOO, 12, &[])?;
-    let told = call(&rt, &["testr", "load"], &mut shelf, &mut input)?;
-    assert!(rt; told.is(3, NOTHING, line));
-    assert_eq!(rt; input.left().len(), 12);
+    Ok(())
+}
+
+// Whether a run is refused with this line, and nothing is started.
+fn refuses_run<R: Threads + Wait + Sync + AllocGlobal>(
+    rt: &R,
+    shelf: &mut MemShelf,
+    line: &[u8],
+) -> Result<bool, Fail> {
     // A pattern that is none is refused later, and a worker would pass.
-    let mut project = project_of(alloc, CONF, &[(FOO, ENDED)], &[], &[])?;
-    let told = call_in(&rt, &["testr", "run", "(p"], &mut shelf, &mut project, &[])?;
-    assert!(rt; told.is(3, NOTHING, line));
-    assert!(rt; has_started(&project, &[]));
+    let mut project = project_of(rt.alloc(), CONF, &[(FOO, ENDED)], &[], &[])?;
+    let words = ["testr", "run", "(p"];
+    Ok(shows(rt, &words, shelf, &mut project, (3, NOTHING, line))? && has_started(&project, &[]))
+}
+
+fn refuses_both<R: Threads + Wait + Sync + AllocGlobal + Abort>(
+    rt: &R,
+    shelf: &mut MemShelf,
+) -> Result<(), Fail> {
+    let line = b"testr: the repository is full\n".as_slice();
+    let wanted = (3, NOTHING, line);
+    let words = ["testr", "load"];
+    assert!(rt; tells_and_leaves(rt, &words, shelf, FOO, 12, wanted, 12)?);
+    assert!(rt; refuses_run(rt, shelf, line)?);
     assert_eq!(rt; shelf.length("1000000")?, None);
     Ok(())
 }
 
 #[test]
+fn a_full_repository_takes_no_run(rt: HostRuntime) -> Result<(), Fail> {
+    let mut shelf = full(rt.alloc())?;
+    refuses_both(&rt, &mut shelf)
+}
+
+// Whether a load of which this call fails tells of it, and the next one reports so and keeps run 0.
+fn fails_at<R: Threads + Wait + Sync + AllocGlobal>(
+    rt: &R,
+    shelf: &mut MemShelf,
+    report: &[u8],
+) -> Result<bool, Fail> {
+    Ok(
+        loads(rt, shelf, FOO, (4, NOTHING, SHELF_FAULT))?
+            && loads(rt, shelf, FOO, (0, report, NOTHING))?
+            && has_file(shelf, "0", FOO_KEPT)?,
+    )
+}
+
+#[test]
 fn each_call_of_the_folder_may_fail_at_a_load(rt: HostRuntime) -> Result<(), Fail> {
-    let alloc = rt.alloc();
     // The barrier, the format's length and bytes, the names, the draft, its bytes, its sync, the publish, the barrier. The
     // end of the input decides no further packet, so that nothing is added behind it.
-    for failing in 0..9 {
-        let mut shelf = repository(alloc, &[failing])?;
-        assert!(rt;
-            load(&rt, &mut shelf, FOO)?.is(4, NOTHING, SHELF_FAULT),
-            "call {failing}"
-        );
+    for call in 0..9 {
+        let mut shelf = repository(rt.alloc(), &[call])?;
         // What was published before the last barrier failed is there.
-        let report = if failing == 8 {
-            PASSED_AS_1
-        } else {
-            PASSED_AS_0
-        };
-        assert!(rt;
-            load(&rt, &mut shelf, FOO)?.is(0, report, NOTHING),
-            "call {failing}"
-        );
-        assert!(rt; has_file(&mut shelf, "0", FOO_KEPT)?, "call {failing}");
+        let report = if call == 8 { PASSED_AS_1 } else { PASSED_AS_0 };
+        assert!(rt; fails_at(&rt, &mut shelf, report)?, "call {call}");
     }
     Ok(())
 }
@@ -158,62 +235,122 @@ fn failing<R: Threads + Wait + Sync + AllocGlobal, H: Shelf>(
     call(rt, &["testr", "failing", "--list"], shelf, &mut input)
 }
 
+// Whether `foo` alone is listed as failing.
+fn foo_fails<R: Threads + Wait + Sync + AllocGlobal>(
+    rt: &R,
+    shelf: &mut MemShelf,
+) -> Result<bool, Fail> {
+    Ok(failing(rt, shelf)?.is(1, b"foo\n", NOTHING))
+}
+
+// Whether a load tells of a fault, and its run is kept and told of.
+fn keeps_and_tells<R: Threads + Wait + Sync + AllocGlobal>(
+    rt: &R,
+    shelf: &mut MemShelf,
+) -> Result<bool, Fail> {
+    Ok(
+        loads(rt, shelf, FAIL, (4, NOTHING, SHELF_FAULT))?
+            && has_file(shelf, "0", FAIL_KEPT)?
+            && foo_fails(rt, shelf)?,
+    )
+}
+
+// Whether a load of the failure answers 1.
+fn load_answers_1<R: Threads + Wait + Sync + AllocGlobal>(
+    rt: &R,
+    shelf: &mut MemShelf,
+) -> Result<bool, Fail> {
+    Ok(load(rt, shelf, FAIL)?.status == 1)
+}
+
 #[test]
 fn a_fault_at_the_caches_leaves_the_new_run(rt: HostRuntime) -> Result<(), Fail> {
-    let alloc = rt.alloc();
     // Nine calls keep the run. Behind them the file of the times is looked for, and each cache takes five calls.
-    for failing_call in 9..20 {
-        let mut shelf = repository(alloc, &[failing_call])?;
-        let told = load(&rt, &mut shelf, FAIL)?;
-        assert!(rt; told.is(4, NOTHING, SHELF_FAULT), "call {failing_call}");
-        assert!(rt;
-            has_file(&mut shelf, "0", FAIL_KEPT)?,
-            "call {failing_call}"
-        );
-        let told = failing(&rt, &mut shelf)?;
-        assert!(rt; told.is(1, b"foo\n", NOTHING), "call {failing_call}");
+    for call in 9..20 {
+        let mut shelf = repository(rt.alloc(), &[call])?;
+        assert!(rt; keeps_and_tells(&rt, &mut shelf)?, "call {call}");
     }
-    let mut shelf = repository(alloc, &[20])?;
-    assert_eq!(rt; load(&rt, &mut shelf, FAIL)?.status, 1);
+    Ok(())
+}
+
+#[test]
+fn the_caches_take_eleven_calls(rt: HostRuntime) -> Result<(), Fail> {
+    let mut shelf = repository(rt.alloc(), &[20])?;
+    assert!(rt; load_answers_1(&rt, &mut shelf)?);
+    Ok(())
+}
+
+// A repository of a run of `foo` that passed and one of `foo` that failed.
+fn passed_and_failed<R: Threads + Wait + Sync + AllocGlobal + Abort>(
+    rt: &R,
+) -> Result<MemShelf, Fail> {
+    let mut shelf = repository(rt.alloc(), &[])?;
+    assert!(rt; loads(rt, &mut shelf, FOO, (0, PASSED_AS_0, NOTHING))?);
+    assert!(rt; load_answers_1(rt, &mut shelf)?);
+    Ok(shelf)
+}
+
+// Whether `foo` is listed as failing after a stop.
+fn foo_fails_after<R: Threads + Wait + Sync + AllocGlobal>(
+    rt: &R,
+    shelf: &MemShelf,
+    moment: u64,
+    choice: bool,
+) -> Result<bool, Fail> {
+    let mut image = shelf.image(moment, choice)?;
+    foo_fails(rt, &mut image)
+}
+
+fn foo_fails_after_each<R: Threads + Wait + Sync + AllocGlobal + Abort>(
+    rt: &R,
+    shelf: &MemShelf,
+) -> Result<(), Fail> {
+    // The first load makes 20 calls, and the second one has kept its run after nine of its own.
+    for moment in 29..42 {
+        for choice in [false, true] {
+            assert!(rt;
+                foo_fails_after(rt, shelf, moment, choice)?,
+                "moment {moment}, {choice}"
+            );
+        }
+    }
     Ok(())
 }
 
 #[test]
 fn a_stop_at_the_caches_changes_no_answer(rt: HostRuntime) -> Result<(), Fail> {
-    let alloc = rt.alloc();
-    let mut shelf = repository(alloc, &[])?;
-    assert!(rt; load(&rt, &mut shelf, FOO)?.is(0, PASSED_AS_0, NOTHING));
-    assert_eq!(rt; load(&rt, &mut shelf, FAIL)?.status, 1);
-    // The first load makes 20 calls, and the second one has kept its run after nine of its own.
-    for moment in 29..42 {
-        for choice in [false, true] {
-            let mut image = shelf.image(moment, choice)?;
-            let told = failing(&rt, &mut image)?;
-            assert!(rt; told.is(1, b"foo\n", NOTHING), "moment {moment}, {choice}");
-        }
+    let shelf = passed_and_failed(&rt)?;
+    foo_fails_after_each(&rt, &shelf)
+}
+
+// Whether an init tells of a fault, and what the next load tells is this.
+fn init_fails<R: Threads + Wait + Sync + AllocGlobal>(
+    rt: &R,
+    shelf: &mut MemShelf,
+    wanted: (u8, &[u8], &[u8]),
+) -> Result<bool, Fail> {
+    Ok(inits(rt, shelf, 4, SHELF_FAULT)? && loads(rt, shelf, FOO, wanted)?)
+}
+
+#[test]
+fn each_call_of_the_folder_may_fail_at_an_init(rt: HostRuntime) -> Result<(), Fail> {
+    // The barrier, the format's length, the draft, its bytes, its sync, the publish, the barrier.
+    for call in 0..7 {
+        let mut shelf = MemShelf::new(rt.alloc(), [call].to_vec(rt.alloc())?);
+        let wanted = if call == 6 {
+            (0, PASSED_AS_0, NOTHING)
+        } else {
+            (3, NOTHING, NO_STORE)
+        };
+        assert!(rt; init_fails(&rt, &mut shelf, wanted)?, "call {call}");
     }
     Ok(())
 }
 
 #[test]
-fn each_call_of_the_folder_may_fail_at_an_init(rt: HostRuntime) -> Result<(), Fail> {
-    let alloc = rt.alloc();
-    // The barrier, the format's length, the draft, its bytes, its sync, the publish, the barrier.
-    for failing in 0..7 {
-        let mut shelf = MemShelf::new(alloc, [failing].to_vec(alloc)?);
-        assert!(rt;
-            init(&rt, &mut shelf)?.is(4, NOTHING, SHELF_FAULT),
-            "call {failing}"
-        );
-        let told = load(&rt, &mut shelf, FOO)?;
-        if failing == 6 {
-            assert!(rt; told.is(0, PASSED_AS_0, NOTHING), "call {failing}");
-        } else {
-            assert!(rt; told.is(3, NOTHING, NO_STORE), "call {failing}");
-        }
-    }
-    let mut shelf = MemShelf::new(alloc, [7].to_vec(alloc)?);
-    assert!(rt; init(&rt, &mut shelf)?.is(0, NOTHING, NOTHING));
+fn an_init_takes_seven_calls(rt: HostRuntime) -> Result<(), Fail> {
+    let mut shelf = MemShelf::new(rt.alloc(), [7].to_vec(rt.alloc())?);
+    assert!(rt; inits(&rt, &mut shelf, 0, NOTHING)?);
     Ok(())
 }
 
@@ -228,26 +365,50 @@ fn report_after<R: Threads + Wait + Sync + AllocGlobal>(
     load(rt, &mut image, FOO)
 }
 
-#[test]
-fn a_stop_leaves_the_new_run_wholly_or_not_at_all(rt: HostRuntime) -> Result<(), Fail> {
-    let alloc = rt.alloc();
-    let mut shelf = repository(alloc, &[])?;
-    assert!(rt; load(&rt, &mut shelf, FOO)?.is(0, PASSED_AS_0, NOTHING));
+// Whether run 0 is there wholly, or not at all.
+fn is_whole_or_none(image: &mut MemShelf, there: bool) -> Result<bool, Fail> {
+    Ok(has_file(image, "0", FOO_KEPT)? == there && image.length("0")?.is_some() == there)
+}
+
+fn is_there_after(shelf: &MemShelf, moment: u64, choice: bool, there: bool) -> Result<bool, Fail> {
+    let mut image = shelf.image(moment, choice)?;
+    is_whole_or_none(&mut image, there)
+}
+
+// Whether a stop leaves the run where it is to be there, and nothing of it where it is not.
+fn is_left_after<R: Threads + Wait + Sync + AllocGlobal>(
+    rt: &R,
+    shelf: &MemShelf,
+    moment: u64,
+    choice: bool,
+) -> Result<bool, Fail> {
     // Eight calls end with the publish, and the ninth is the last barrier.
+    let there = moment >= 9 || (moment == 8 && choice);
+    let report = if there { PASSED_AS_1 } else { PASSED_AS_0 };
+    Ok(
+        report_after(rt, shelf, moment, choice)?.is(0, report, NOTHING)
+            && is_there_after(shelf, moment, choice, there)?,
+    )
+}
+
+fn is_left_after_each<R: Threads + Wait + Sync + AllocGlobal + Abort>(
+    rt: &R,
+    shelf: &MemShelf,
+) -> Result<(), Fail> {
     for moment in 0..11 {
         for choice in [false, true] {
-            let there = moment >= 9 || (moment == 8 && choice);
-            let report = if there { PASSED_AS_1 } else { PASSED_AS_0 };
-            let told = report_after(&rt, &shelf, moment, choice)?;
-            assert!(rt; told.is(0, report, NOTHING), "moment {moment}, {choice}");
-            let mut image = shelf.image(moment, choice)?;
-            assert_eq!(rt;
-                has_file(&mut image, "0", FOO_KEPT)?,
-                there,
-                "moment {moment}"
+            assert!(rt;
+                is_left_after(rt, shelf, moment, choice)?,
+                "moment {moment}, {choice}"
             );
-            assert_eq!(rt; image.length("0")?.is_some(), there, "moment {moment}");
         }
     }
     Ok(())
+}
+
+#[test]
+fn a_stop_leaves_the_new_run_wholly_or_not_at_all(rt: HostRuntime) -> Result<(), Fail> {
+    let mut shelf = repository(rt.alloc(), &[])?;
+    assert!(rt; loads(&rt, &mut shelf, FOO, (0, PASSED_AS_0, NOTHING))?);
+    is_left_after_each(&rt, &shelf)
 }

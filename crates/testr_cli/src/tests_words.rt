@@ -3,12 +3,17 @@
 use crate::{Command, Verb, reads};
 use std::alloc::Global;
 
-fn owned(alloc: Global, words: &[&str]) -> Option<Vec<String>> {
-    let mut list = Vec::new(alloc);
+fn push_words(alloc: Global, list: &mut Vec<String>, words: &[&str]) -> Option<()> {
     for word in words {
         let word = String::from_str(alloc, word).ok()?;
         list.push(word).ok()?;
     }
+    Some(())
+}
+
+fn owned(alloc: Global, words: &[&str]) -> Option<Vec<String>> {
+    let mut list = Vec::new(alloc);
+    push_words(alloc, &mut list, words)?;
     Some(list)
 }
 
@@ -79,131 +84,122 @@ fn is_named(alloc: Global, words: &[&str], verb: Verb, wanted: &[&str]) -> bool 
     }
 }
 
+const FLAGS: [(&[&str], [bool; 3]); 5] = [
+    (&["run"], [false, false, false]),
+    (&["run", "--partial"], [true, false, false]),
+    (&["run", "--failing"], [false, true, false]),
+    (&["run", "--parallel"], [false, false, true]),
+    (
+        &["run", "--parallel", "--failing", "--partial", "--failing"],
+        [true, true, true],
+    ),
+];
+
 #[test]
 fn flags_of_a_run_stand_in_any_order_and_may_be_repeated(rt: HostRuntime) {
     let alloc = rt.alloc();
-    let table = [
-        (["run"].as_slice(), [false, false, false]),
-        (["run", "--partial"].as_slice(), [true, false, false]),
-        (["run", "--failing"].as_slice(), [false, true, false]),
-        (["run", "--parallel"].as_slice(), [false, false, true]),
-        (
-            ["run", "--parallel", "--failing", "--partial", "--failing"].as_slice(),
-            [true, true, true],
-        ),
-    ];
-    for (row, (words, flags)) in table.into_iter().enumerate() {
-        assert!(rt; is_run_with(alloc, words, flags), "row {row}");
+    for (row, (words, flags)) in FLAGS.iter().enumerate() {
+        assert!(rt; is_run_with(alloc, words, *flags), "row {row}");
     }
 }
+
+const NUMBERS: [(&[&str], u32); 6] = [
+    (&["run", "--concurrency=0"], 0),
+    (&["run", "--concurrency=1"], 1),
+    (&["run", "--concurrency=10"], 10),
+    (&["run", "--concurrency", "64"], 64),
+    (&["run", "--concurrency=3", "--concurrency=2"], 2),
+    (&["run", "--concurrency=3", "a", "--concurrency", "0"], 0),
+];
 
 #[test]
 fn the_last_number_of_workers_stands(rt: HostRuntime) {
     let alloc = rt.alloc();
-    let table = [
-        (["run", "--concurrency=0"].as_slice(), 0),
-        (["run", "--concurrency=1"].as_slice(), 1),
-        (["run", "--concurrency=10"].as_slice(), 10),
-        (["run", "--concurrency", "64"].as_slice(), 64),
-        (["run", "--concurrency=3", "--concurrency=2"].as_slice(), 2),
-        (
-            ["run", "--concurrency=3", "a", "--concurrency", "0"].as_slice(),
-            0,
-        ),
-    ];
-    for (row, (words, number)) in table.into_iter().enumerate() {
-        assert!(rt; workers(alloc, words) == Some(number), "row {row}");
+    for (row, (words, number)) in NUMBERS.iter().enumerate() {
+        assert!(rt; workers(alloc, words) == Some(*number), "row {row}");
     }
 }
+
+const NO_NUMBERS: [&str; 13] = [
+    "",
+    "65",
+    "100",
+    "4294967297",
+    "x",
+    "1x",
+    "+1",
+    "-1",
+    "00",
+    "01",
+    " 1",
+    "1 ",
+    "1.0",
+];
 
 #[test]
 fn the_number_of_workers_is_a_decimal_up_to_64(rt: HostRuntime) {
     let alloc = rt.alloc();
-    let values = [
-        "",
-        "65",
-        "100",
-        "4294967297",
-        "x",
-        "1x",
-        "+1",
-        "-1",
-        "00",
-        "01",
-        " 1",
-        "1 ",
-        "1.0",
-    ];
-    for (row, value) in values.into_iter().enumerate() {
+    for (row, value) in NO_NUMBERS.iter().enumerate() {
         assert!(rt;
-            is_no_command(alloc, &["run", "--concurrency", value]),
+            is_no_command(alloc, &["run", "--concurrency", *value]),
             "row {row}"
         );
     }
 }
 
+const WRONG_VALUES: [&[&str]; 5] = [
+    &["run", "--concurrency=x", "--concurrency=3"],
+    &["run", "--concurrency=3", "--concurrency=x"],
+    &["run", "--concurrency=65", "--concurrency=64"],
+    &["run", "--concurrency=", "--concurrency=3"],
+    // The next word is the value, whatever it begins with.
+    &["run", "--concurrency", "--concurrency=3"],
+];
+
 #[test]
 fn a_value_that_is_no_number_is_refused_wherever_it_stands(rt: HostRuntime) {
     let alloc = rt.alloc();
-    let table = [
-        ["run", "--concurrency=x", "--concurrency=3"].as_slice(),
-        ["run", "--concurrency=3", "--concurrency=x"].as_slice(),
-        ["run", "--concurrency=65", "--concurrency=64"].as_slice(),
-        ["run", "--concurrency=", "--concurrency=3"].as_slice(),
-        // The next word is the value, whatever it begins with.
-        ["run", "--concurrency", "--concurrency=3"].as_slice(),
-    ];
-    for (row, words) in table.into_iter().enumerate() {
+    for (row, words) in WRONG_VALUES.iter().enumerate() {
         assert!(rt; is_no_command(alloc, words), "row {row}");
     }
 }
 
+const FILES: [(&[&str], &str); 8] = [
+    (&["run", "--load-list=ids"], "ids"),
+    (&["run", "--load-list", "ids"], "ids"),
+    (&["run", "--load-list=a=b"], "a=b"),
+    (&["run", "--load-list="], ""),
+    (&["run", "--load-list", ""], ""),
+    (&["run", "--load-list", "--partial"], "--partial"),
+    (&["run", "--load-list=a", "--load-list=b"], "b"),
+    (&["run", "--load-list=a", "x", "--load-list="], ""),
+];
+
 #[test]
 fn the_last_load_list_stands(rt: HostRuntime) {
     let alloc = rt.alloc();
-    let table = [
-        (["run", "--load-list=ids"].as_slice(), "ids"),
-        (["run", "--load-list", "ids"].as_slice(), "ids"),
-        (["run", "--load-list=a=b"].as_slice(), "a=b"),
-        (["run", "--load-list="].as_slice(), ""),
-        (["run", "--load-list", ""].as_slice(), ""),
-        (["run", "--load-list", "--partial"].as_slice(), "--partial"),
-        (["run", "--load-list=a", "--load-list=b"].as_slice(), "b"),
-        (["run", "--load-list=a", "x", "--load-list="].as_slice(), ""),
-    ];
-    for (row, (words, file)) in table.into_iter().enumerate() {
+    for (row, (words, file)) in FILES.iter().enumerate() {
         assert!(rt; is_load_list(alloc, words, file), "row {row}");
     }
 }
 
+const NAMES: [(&[&str], Verb, &[&str]); 5] = [
+    (
+        &["run", "b", "--failing", "a", "b"],
+        Verb::Run,
+        &["b", "a", "b"],
+    ),
+    (&["run", "-", "", "("], Verb::Run, &["-", "", "("]),
+    (&["list-tests"], Verb::ListTests, &[]),
+    (&["list-tests", "b", "a"], Verb::ListTests, &["b", "a"]),
+    (&["list-tests", "-", "\n"], Verb::ListTests, &["-", "\n"]),
+];
+
 #[test]
 fn patterns_are_names_in_their_order(rt: HostRuntime) {
     let alloc = rt.alloc();
-    let table = [
-        (
-            ["run", "b", "--failing", "a", "b"].as_slice(),
-            Verb::Run,
-            ["b", "a", "b"].as_slice(),
-        ),
-        (
-            ["run", "-", "", "("].as_slice(),
-            Verb::Run,
-            ["-", "", "("].as_slice(),
-        ),
-        (["list-tests"].as_slice(), Verb::ListTests, [].as_slice()),
-        (
-            ["list-tests", "b", "a"].as_slice(),
-            Verb::ListTests,
-            ["b", "a"].as_slice(),
-        ),
-        (
-            ["list-tests", "-", "\n"].as_slice(),
-            Verb::ListTests,
-            ["-", "\n"].as_slice(),
-        ),
-    ];
-    for (row, (words, verb, names)) in table.into_iter().enumerate() {
-        assert!(rt; is_named(alloc, words, verb, names), "row {row}");
+    for (row, (words, verb, names)) in NAMES.iter().enumerate() {
+        assert!(rt; is_named(alloc, words, *verb, names), "row {row}");
     }
 }
 
@@ -219,31 +215,32 @@ fn there_may_be_more_than_64_patterns(rt: HostRuntime) {
     assert!(rt; is_no_command(alloc, &words));
 }
 
+const NO_COMMANDS: [&[&str]; 19] = [
+    &["runn"],
+    &["Run"],
+    &["list"],
+    &["run", "--"],
+    &["run", "--partial=1"],
+    &["run", "--failing="],
+    &["run", "--concurrency"],
+    &["run", "--load-list"],
+    &["run", "--load"],
+    &["run", "--subunit"],
+    &["run", "-p"],
+    &["run", "a\0"],
+    &["run", "--load-list=a\0"],
+    &["run", "--load-list", "a\0"],
+    &["list-tests", "--partial"],
+    &["list-tests", "--load-list=a"],
+    &["list-tests", "a\0"],
+    &["load", "--failing"],
+    &["load", "--concurrency=1"],
+];
+
 #[test]
 fn other_words_of_runs_and_lists_are_refused(rt: HostRuntime) {
     let alloc = rt.alloc();
-    let table = [
-        ["runn"].as_slice(),
-        ["Run"].as_slice(),
-        ["list"].as_slice(),
-        ["run", "--"].as_slice(),
-        ["run", "--partial=1"].as_slice(),
-        ["run", "--failing="].as_slice(),
-        ["run", "--concurrency"].as_slice(),
-        ["run", "--load-list"].as_slice(),
-        ["run", "--load"].as_slice(),
-        ["run", "--subunit"].as_slice(),
-        ["run", "-p"].as_slice(),
-        ["run", "a\0"].as_slice(),
-        ["run", "--load-list=a\0"].as_slice(),
-        ["run", "--load-list", "a\0"].as_slice(),
-        ["list-tests", "--partial"].as_slice(),
-        ["list-tests", "--load-list=a"].as_slice(),
-        ["list-tests", "a\0"].as_slice(),
-        ["load", "--failing"].as_slice(),
-        ["load", "--concurrency=1"].as_slice(),
-    ];
-    for (row, words) in table.into_iter().enumerate() {
+    for (row, words) in NO_COMMANDS.iter().enumerate() {
         assert!(rt; is_no_command(alloc, words), "row {row}");
     }
 }

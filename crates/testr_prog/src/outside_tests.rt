@@ -1,25 +1,38 @@
 // What no clause says of the files by name and of the programs that are started: which calls of the system are made.
 
+use crate::real_child::RealChild;
 use crate::real_site::RealSite;
 use crate::real_spawner::RealSpawner;
-use crate::tests::{enter_home, holds, is_there, leave_home, shell};
+use crate::tests::{check_cause, enter_home, holds, is_there, leave_home, shell};
 use edge_io::{Child, Failed, Found, IdFile, Job, Site, Spawner};
 use std::alloc::Global;
+use std::io::ErrorKind;
+use std::process::Abort;
 use std::test::Fail;
 use std::{fs, io};
 use sub_number::{Bytes, Text};
 
-fn ids_of(alloc: Global, name: &str, text: &str) -> Option<IdFile> {
-    Some(IdFile {
-        name: Text::new(alloc, name.as_bytes()).ok()?,
-        bytes: Bytes::new(alloc, text.as_bytes()).ok()?,
+fn plain_job(alloc: Global, command: &str) -> Option<Job> {
+    let command = Bytes::new(alloc, command.as_bytes()).ok()?;
+    Some(Job {
+        command,
+        id_file: None,
     })
 }
 
-fn job_of(alloc: Global, command: &str, id_file: Option<IdFile>) -> Option<Job> {
+fn ids_of(alloc: Global, name: &str) -> Option<IdFile> {
+    let name = Text::new(alloc, name.as_bytes()).ok()?;
+    let bytes = Bytes::new(alloc, b"a\nb c\n").ok()?;
+    Some(IdFile { name, bytes })
+}
+
+// A job with a file of this name, which holds two ids.
+fn job_with_ids(alloc: Global, command: &str, name: &str) -> Option<Job> {
+    let command = Bytes::new(alloc, command.as_bytes()).ok()?;
+    let ids = ids_of(alloc, name)?;
     Some(Job {
-        command: Bytes::new(alloc, command.as_bytes()).ok()?,
-        id_file,
+        command,
+        id_file: Some(ids),
     })
 }
 
@@ -48,19 +61,37 @@ fn gives_all<C: Child>(child: &mut C, wanted: &[u8]) -> bool {
     false
 }
 
-// Whether a child of this job gives these bytes and then ends so.
-fn job_gives(rt: &HostRuntime, job: Option<Job>, wanted: &[u8], status: i32) -> bool {
-    let Some(job) = job else {
-        return false;
-    };
-    match RealSpawner::new(rt.alloc(), rt).start(&job) {
-        Ok(mut child) => gives_all(&mut child, wanted) && child.wait() == Ok(status),
+fn started<'r>(rt: &'r HostRuntime, job: &Job) -> Result<RealChild<'r, HostRuntime>, Failed> {
+    let mut spawner = RealSpawner::new(rt.alloc(), rt);
+    spawner.start(job)
+}
+
+// Whether the child gives these bytes and then ends so.
+fn ends_so<C: Child>(child: &mut C, wanted: &[u8], status: i32) -> bool {
+    gives_all(child, wanted) && child.wait() == Ok(status)
+}
+
+fn job_gives(rt: &HostRuntime, job: &Job, wanted: &[u8], status: i32) -> bool {
+    match started(rt, job) {
+        Ok(mut child) => ends_so(&mut child, wanted, status),
         Err(Failed) => false,
     }
 }
 
+// Whether a child of this command gives these bytes and then ends so.
 fn gives(rt: &HostRuntime, command: &str, wanted: &[u8], status: i32) -> bool {
-    job_gives(rt, job_of(rt.alloc(), command, None), wanted, status)
+    match plain_job(rt.alloc(), command) {
+        Some(job) => job_gives(rt, &job, wanted, status),
+        None => false,
+    }
+}
+
+// Whether one that has a file of ids gives these bytes and then exits with 0.
+fn gives_with_ids(rt: &HostRuntime, command: &str, name: &str, wanted: &[u8]) -> bool {
+    match job_with_ids(rt.alloc(), command, name) {
+        Some(job) => job_gives(rt, &job, wanted, 0),
+        None => false,
+    }
 }
 
 const ENDS: [(&str, &[u8], i32); 6] = [
@@ -74,31 +105,29 @@ const ENDS: [(&str, &[u8], i32); 6] = [
 
 #[test]
 fn a_child_gives_its_bytes_and_its_end(rt: HostRuntime) {
-    for (command, wanted, status) in ENDS {
-        assert!(rt; gives(&rt, command, wanted, status));
+    for row in &ENDS {
+        assert!(rt; gives(&rt, row.0, row.1, row.2));
     }
+}
+
+fn check_has_nothing(rt: &impl Abort, host: &HostRuntime) {
+    assert!(rt; gives(host, "cat; echo end", b"end\n", 0));
+    assert!(rt; gives(host, "ls -l /proc/self/fd | grep -c kept-open", b"0\n", 1));
 }
 
 // A child has no input, and no file of this program is open in it.
 #[test]
 fn a_child_has_nothing_of_the_program(rt: HostRuntime) -> Result<(), Fail> {
-    let home = enter_home(&rt, "child")?;
+    enter_home(&rt, "child")?;
     let file = fs::File::create_new(&rt, "kept-open")?;
-    assert!(rt; gives(&rt, "cat; echo end", b"end\n", 0));
-    assert!(rt; gives(&rt, "ls -l /proc/self/fd | grep -c kept-open", b"0\n", 1));
+    check_has_nothing(&rt, &rt);
     drop(file);
-    leave_home(&rt, &home)?;
+    leave_home(&rt, "child")?;
     Ok(())
 }
 
 // Whether a child that is stopped in mid-stream gives nothing more and was ended by the signal.
-fn ends_stopped(rt: &HostRuntime, command: &str) -> bool {
-    let Some(job) = job_of(rt.alloc(), command, None) else {
-        return false;
-    };
-    let Ok(mut child) = RealSpawner::new(rt.alloc(), rt).start(&job) else {
-        return false;
-    };
+fn is_stopped<C: Child>(child: &mut C) -> bool {
     let mut buf = [0u8; 9];
     let ready = child.read(&mut buf);
     child.stop();
@@ -108,75 +137,110 @@ fn ends_stopped(rt: &HostRuntime, command: &str) -> bool {
     ready == Ok(6) && left == Ok(0) && status == Ok(-9) && child.wait() == Ok(-9)
 }
 
+fn job_is_stopped(rt: &HostRuntime, job: &Job) -> bool {
+    match started(rt, job) {
+        Ok(mut child) => is_stopped(&mut child),
+        Err(Failed) => false,
+    }
+}
+
+fn ends_stopped(rt: &HostRuntime, command: &str) -> bool {
+    match plain_job(rt.alloc(), command) {
+        Some(job) => job_is_stopped(rt, &job),
+        None => false,
+    }
+}
+
 #[test]
 fn a_child_is_stopped(rt: HostRuntime) {
     assert!(rt; ends_stopped(&rt, "echo ready; exec sleep 600"));
 }
 
-fn with_ids(alloc: Global, command: &str, name: &str) -> Option<Job> {
-    let ids = ids_of(alloc, name, "a\nb c\n")?;
-    job_of(alloc, command, Some(ids))
+fn check_ids(rt: &impl Abort, host: &HostRuntime, before: &str) -> io::Result<()> {
+    let show = "cat .testr-ids.0; ls -l .testr-ids.0 | cut -c 1-10";
+    shell(host, before)?;
+    assert!(rt; gives_with_ids(host, show, ".testr-ids.0", b"a\nb c\n-rw-------\n"));
+    assert!(rt; !is_there(host, ".testr-ids.0"));
+    Ok(())
 }
 
 // The file stands there while the child runs, for its owner alone, and is gone after the wait. Whatever had its name is
 // removed and not opened.
 #[test]
 fn a_child_reads_its_ids(rt: HostRuntime) -> Result<(), Fail> {
-    let home = enter_home(&rt, "ids")?;
-    let show = "cat .testr-ids.0; ls -l .testr-ids.0 | cut -c 1-10";
+    enter_home(&rt, "ids")?;
     fs::write(&rt, "dotfile", "mine")?;
-    for before in [
-        "true",
-        "ln -s dotfile .testr-ids.0",
-        "mkfifo .testr-ids.0",
-        "echo old > .testr-ids.0",
-    ] {
-        shell(&rt, before)?;
-        let job = with_ids(rt.alloc(), show, ".testr-ids.0");
-        assert!(rt; job_gives(&rt, job, b"a\nb c\n-rw-------\n", 0));
-        assert!(rt; !is_there(&rt, ".testr-ids.0"));
-    }
+    check_ids(&rt, &rt, "true")?;
+    check_ids(&rt, &rt, "ln -s dotfile .testr-ids.0")?;
+    check_ids(&rt, &rt, "mkfifo .testr-ids.0")?;
+    check_ids(&rt, &rt, "echo old > .testr-ids.0")?;
     assert!(rt; holds(&rt, "dotfile", "mine"));
-    leave_home(&rt, &home)?;
+    leave_home(&rt, "ids")?;
     Ok(())
 }
 
 // What another program put in the file's place is left alone.
 #[test]
 fn a_replaced_file_of_ids_is_left(rt: HostRuntime) -> Result<(), Fail> {
-    let home = enter_home(&rt, "replaced-ids")?;
-    let replace = "rm ids; echo mine > ids";
-    assert!(rt; job_gives(&rt, with_ids(rt.alloc(), replace, "ids"), b"", 0));
+    enter_home(&rt, "replaced-ids")?;
+    assert!(rt; gives_with_ids(&rt, "rm ids; echo mine > ids", "ids", b""));
     assert!(rt; holds(&rt, "ids", "mine\n"));
-    leave_home(&rt, &home)?;
+    leave_home(&rt, "replaced-ids")?;
     Ok(())
 }
 
-fn start_fails(rt: &HostRuntime, job: Option<Job>, why: &str) -> io::Result<bool> {
-    let Some(job) = job else {
-        return Ok(false);
-    };
-    let mut spawner = RealSpawner::new(rt.alloc(), rt);
-    let failed = spawner.start(&job).is_err();
-    match spawner.cause() {
-        Some(cause) => Ok(failed && format!(in rt.alloc(); "{cause}")?.as_str() == why),
-        None => Ok(false),
+fn check_start(
+    rt: &impl Abort,
+    host: &HostRuntime,
+    spawner: &mut RealSpawner<'_, HostRuntime>,
+    job: &Job,
+    why: &str,
+) -> io::Result<()> {
+    assert!(rt; spawner.start(job).is_err());
+    check_cause(rt, host, spawner.cause(), why)
+}
+
+fn check_job(rt: &impl Abort, host: &HostRuntime, job: &Job, why: &str) -> io::Result<()> {
+    let mut spawner = RealSpawner::new(host.alloc(), host);
+    check_start(rt, host, &mut spawner, job, why)
+}
+
+// Looks at how the start of a command with a file of ids fails.
+fn check_no_start(
+    rt: &impl Abort,
+    host: &HostRuntime,
+    command: &str,
+    name: &str,
+    why: &str,
+) -> io::Result<()> {
+    match job_with_ids(host.alloc(), command, name) {
+        Some(job) => check_job(rt, host, &job, why),
+        None => Err(io::Error::from(ErrorKind::OutOfMemory)),
     }
 }
 
 #[test]
 fn a_start_that_fails_leaves_no_file(rt: HostRuntime) -> Result<(), Fail> {
-    let home = enter_home(&rt, "no-start")?;
-    let lost = with_ids(rt.alloc(), "true", "nowhere/ids");
+    enter_home(&rt, "no-start")?;
     let why = "make nowhere/ids: No such file or directory (os error 2)";
-    assert!(rt; start_fails(&rt, lost, why)?);
-    let nul = with_ids(rt.alloc(), "true\0", "ids");
-    assert!(rt; start_fails(&rt, nul, "start sh: nul byte found in provided data")?);
+    check_no_start(&rt, &rt, "true", "nowhere/ids", why)?;
+    check_no_start(
+        &rt,
+        &rt,
+        "true\0",
+        "ids",
+        "start sh: nul byte found in provided data",
+    )?;
     assert!(rt; !is_there(&rt, "ids"));
     fs::create_dir(&rt, "ids")?;
-    let folder = with_ids(rt.alloc(), "true", "ids");
-    assert!(rt; start_fails(&rt, folder, "make ids: Is a directory (os error 21)")?);
-    leave_home(&rt, &home)?;
+    check_no_start(
+        &rt,
+        &rt,
+        "true",
+        "ids",
+        "make ids: Is a directory (os error 21)",
+    )?;
+    leave_home(&rt, "no-start")?;
     Ok(())
 }
 
@@ -211,40 +275,62 @@ const UNREAD: [(&str, Result<Found, Failed>); 5] = [
     ("lost", Err(Failed)),
 ];
 
+fn check_reads(rt: &impl Abort, site: &mut RealSite<'_, HostRuntime>) {
+    for row in &READS {
+        assert!(rt; finds(site, row.0, row.1, row.2));
+    }
+}
+
+fn check_unread(rt: &impl Abort, site: &mut RealSite<'_, HostRuntime>) {
+    let mut buf = [0u8; 3];
+    for row in &UNREAD {
+        assert_eq!(rt; site.read_at(row.0, 0, &mut buf), row.1);
+    }
+}
+
+fn check_files(rt: &impl Abort, site: &mut RealSite<'_, HostRuntime>) {
+    check_reads(rt, site);
+    check_unread(rt, site);
+}
+
 #[test]
 fn files_are_read_by_name(rt: HostRuntime) -> Result<(), Fail> {
-    let home = enter_home(&rt, "site")?;
+    enter_home(&rt, "site")?;
     shell(&rt, FILES)?;
-    let mut site = RealSite::new(rt.alloc(), &rt);
-    for (name, place, wanted) in READS {
-        assert!(rt; finds(&mut site, name, place, wanted));
-    }
-    let mut buf = [0u8; 3];
-    for (name, answer) in UNREAD {
-        assert_eq!(rt; site.read_at(name, 0, &mut buf), answer);
-    }
-    leave_home(&rt, &home)?;
+    check_files(&rt, &mut RealSite::new(rt.alloc(), &rt));
+    leave_home(&rt, "site")?;
     Ok(())
+}
+
+fn check_removed(rt: &impl Abort, host: &HostRuntime, site: &mut RealSite<'_, HostRuntime>) {
+    assert!(rt; finds(site, "file", 0, b"abc"));
+    assert!(rt; fs::remove_file(host, "file").is_ok());
+    assert!(rt; finds(site, "file", 3, b"de"));
+}
+
+fn check_pipe(rt: &impl Abort, site: &mut RealSite<'_, HostRuntime>) {
+    let mut buf = [0u8; 3];
+    assert!(rt; finds(site, "pipe", 0, b"fgh"));
+    assert!(rt; finds(site, "pipe", 3, b"ij"));
+    assert!(rt; finds(site, "pipe", 5, b""));
+    assert_eq!(rt; site.read_at("pipe", 0, &mut buf), Err(Failed));
+    assert_eq!(rt; site.read_at("file", 0, &mut buf), Ok(Found::Absent));
+}
+
+fn check_open_files(rt: &impl Abort, host: &HostRuntime, site: &mut RealSite<'_, HostRuntime>) {
+    check_removed(rt, host, site);
+    check_pipe(rt, site);
 }
 
 // A file that was opened is read on though its name is gone, and so is a pipe, which ends.
 #[test]
 fn an_open_file_is_kept(rt: HostRuntime) -> Result<(), Fail> {
-    let home = enter_home(&rt, "kept")?;
+    enter_home(&rt, "kept")?;
     shell(
         &rt,
         "printf abcde > file; mkfifo pipe; printf fghij > pipe &",
     )?;
-    let mut site = RealSite::new(rt.alloc(), &rt);
-    assert!(rt; finds(&mut site, "file", 0, b"abc"));
-    fs::remove_file(&rt, "file")?;
-    assert!(rt; finds(&mut site, "file", 3, b"de"));
-    assert!(rt; finds(&mut site, "pipe", 0, b"fgh"));
-    assert!(rt; finds(&mut site, "pipe", 3, b"ij"));
-    assert!(rt; finds(&mut site, "pipe", 5, b""));
-    let mut buf = [0u8; 3];
-    assert_eq!(rt; site.read_at("pipe", 0, &mut buf), Err(Failed));
-    assert_eq!(rt; site.read_at("file", 0, &mut buf), Ok(Found::Absent));
-    leave_home(&rt, &home)?;
+    check_open_files(&rt, &rt, &mut RealSite::new(rt.alloc(), &rt));
+    leave_home(&rt, "kept")?;
     Ok(())
 }
