@@ -19,7 +19,7 @@ use crate::store::{open, take_run};
 use crate::working::run_workers;
 use crate::{Refusal, Verdict};
 use edge_io::{Shelf, Sink, Site, Spawner};
-use outcome_fold::Summary;
+use outcome_fold::{Summary, copies_of};
 use packet_codec::Tags;
 use std::alloc::Global;
 use std::mem::forget;
@@ -100,7 +100,7 @@ fn read_asked<'a>(
 {
     let partial = is_partial(command);
     match compile(alloc, &command.names, conf.group_regex()) {
-        Ok(compiled) => match copied(alloc, conf.filter_tags()) {
+        Ok(compiled) => match copies_of(alloc, conf.filter_tags().list()) {
             Ok(filter_tags) => Ok(Asked {
                 compiled,
                 partial,
@@ -110,17 +110,6 @@ fn read_asked<'a>(
         },
         Err(refusal) => Err(refusal),
     }
-}
-
-// A copy of the tags.
-fn copied(alloc: Global, tags: &Tags) -> Result<Tags, NoMemory>
-    ensures { IfOk result (λ copy. copy ≡ tags.now) }
-{
-    let mut copy = Tags::new(alloc);
-    for tag in tags.list() {
-        copy.push(tag.copy()?)?;
-    }
-    Ok(copy)
 }
 
 // Whether the run is of a part of the tests: it is called so, or its tests are chosen.
