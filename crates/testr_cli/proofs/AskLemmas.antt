@@ -4,18 +4,11 @@ use Rattle.std.specs.Prelude.{◌↔◌}
 use Rattle.run_shelf.specs.declared.found.Found.{Found}
 use Rattle.testr_cli.specs.Ask.{CopiesLast, PrintsAnswer, AnswersOf}
 use Rattle.testr_cli.specs.Outside.{Shown}
-use Rattle.testr_cli.specs.Says.{OfBytes, OfLastRun}
+use Rattle.testr_cli.specs.Says.{OfBytes}
 use Rattle.testr_cli.specs.declared.command.Question.{Question}
 use Rattle.testr_cli.specs.declared.command.Question.TheVariants.{Last, Failing, Slowest, Stats}
 use Rattle.testr_cli.specs.declared.answer.Verdict.{Verdict}
 use Rattle.testr_cli.specs.declared.answer.Refusal.{Refusal}
-
--- the last run's bytes are of the last run
-pub bytes_of_last : (question : Question) → OfBytes question → OfLastRun question
-bytes_of_last (Last subunit) is = tt
-bytes_of_last (Failing list) is = is
-bytes_of_last (Slowest all) is = tt
-bytes_of_last Stats is = is
 
 module _ (question : Question) (b : Bool) (is : IsTrue b ↔ OfBytes question) where
   pub of_bytes : b ≡ true → OfBytes question

@@ -22,7 +22,7 @@ use Rattle.filter_cli.proofs.BadLemmas.{good_not_bad}
 use Rattle.std.proofs.lemmas.Bool.{cases_lt}
 use Rattle.suite_plan.specs.Listing.{ListsSo, HasFailed, HasListingCause, ListsTests}
 use Rattle.suite_plan.specs.LoadList.{IsLoadList, HasNoId, HasListCause, NamesList, ReadsLoadList}
-use Rattle.suite_plan.specs.Processors.{GivesProcessors, HasTableCause, CountsProcessors, table_name}
+use Rattle.suite_plan.specs.Processors.{GivesProcessors, CountsProcessors, table_name}
 use Rattle.suite_plan.specs.Texts.{most_text, HasTooMuch}
 use Rattle.suite_plan.specs.declared.calling.CallRefusal.{CallRefusal}
 use Rattle.suite_plan.specs.declared.calling.CallRefusal.TheVariants as call

@@ -1,17 +1,15 @@
 -- What is recorded of files, one after another.
 use Rattle.std.proofs.Common.{◌≡◌, ℕ, ◌+◌, ◌<◌, ◌≤◌, Option, Some, None, IfSome, List, [], ◌∷◌, ◌++◌, map, OnOk, Result, Ok, Err, true, refl, sym, ap, subst, ◌∙◌, append_assoc, append-nil, length, length-append, take, drop, arith}
 use Rattle.std.specs.Prelude.{IsSomeAnd, IfErr, IsErrAnd}
-use Rattle.std.proofs.lemmas.List.{map-append, take-append-drop, length-take-le}
+use Rattle.std.proofs.lemmas.List.{map-append, take-append-drop}
 use Rattle.std.proofs.lemmas.List.Elements.{All-nil, All-cons, All-append}
 use Rattle.std.proofs.lemmas.Grind.{flat_map-append}
-use Rattle.edge_io.specs.Causes.{Rose}
 use Rattle.edge_io.specs.Disk.{Files, Folder}
 use Rattle.edge_io.specs.Seen.{Seen}
 use Rattle.edge_io.specs.Spawners.{Spawning}
 use Rattle.edge_io.specs.Sites.{Finds, FitsIn, GivesPart}
 use Rattle.edge_io.specs.declared.site.Found.{Found}
 use Rattle.edge_io.specs.declared.site.Found.TheVariants.{Read}
-use Rattle.edge_io.specs.Steps.{Goes, Grown}
 use Rattle.packet_codec.specs.Grammar.{AreBytes}
 use Rattle.packet_codec.specs.Canonical.{canonical}
 use Rattle.packet_codec.specs.declared.event.Event.{Event}
@@ -25,21 +23,12 @@ use Rattle.suite_run.specs.Summed.{GivesSums}
 use Rattle.worker_lane.specs.Recorded.{HasRecorded, IsRecorded}
 use Rattle.worker_lane.specs.Scribing.{Scribing, holding, Recording, HasNone}
 use Rattle.worker_lane.proofs.RecordingLemmas.{recording_ended, recording_whole}
-use Rattle.testr_cli.specs.Files.{AreFiles, HasRecordedInTurn, AreFrontOf, IsFile, NoneFailed, RecordsFilePieces, RecordsFile, RecordsFiles, RecordsInTurn, RecordsSources, HasFileCause, HasFilesCause}
+use Rattle.testr_cli.specs.Files.{AreFiles, HasRecordedInTurn, AreFrontOf, IsFile, NoneFailed, RecordsFilePieces, RecordsFile, RecordsFiles, RecordsInTurn, RecordsSources, HasFilesCause}
 use Rattle.testr_cli.specs.Outside.{Filed, filed, fed, work}
-use Rattle.testr_cli.specs.Recording.{most_bytes, HasWriteCause, WritesPackets, Records}
+use Rattle.testr_cli.specs.Recording.{most_bytes, WritesPackets, Records}
 use Rattle.testr_cli.specs.declared.recording.RecordFault.{RecordFault}
-use Rattle.testr_cli.specs.declared.recording.RecordFault.TheVariants.{Shelf, Input, TooLong, Site, NoFile, FileTooLong, NoMemory}
 
 -- ---- the bytes of one file
-
-front_at_first : (name : List ℕ) (told : Option Files) → AreFrontOf name told []
-front_at_first name None = tt
-front_at_first name (Some files) = by (files name)
-  where
-    by : (file : Option (List ℕ)) → IfSome file (λ all. (rest : List ℕ) × (all ≡ [] ++ rest))
-    by None = tt
-    by (Some all) = (all, refl)
 
 drop_front : (front rest : List ℕ) → drop (length front) (front ++ rest) ≡ rest
 drop_front [] rest = refl
@@ -83,46 +72,10 @@ front_all name (Some files) bytes buf some front found = by (files name) front f
         let none : rest ≡ [] = none_left rest (omega (arith, ends, ap length is, length-append bytes rest)) in
         ap (λ (l : List ℕ). Some l) (is ∙ ap (λ (l : List ℕ). bytes ++ l) none ∙ append-nil bytes)
 
--- with this read more was read than a file may have
-pub file_longer : (name : List ℕ) (told now : Option Files) (bytes buf : List ℕ) (place count : ℕ) (found : Found) → now ≡ told → length bytes ≡ place → found ≡ Read count → FitsIn buf found → most_bytes < place + count → AreFrontOf name told bytes → IfSome now (λ files. Finds (files name) place buf found) → IfSome told (λ files. IsSomeAnd (files name) (λ all. most_bytes < length all))
-file_longer name told now bytes buf place count found same size is fits more front given =
-    let next : AreFrontOf name told (bytes ++ take count buf) = front_next name told now bytes buf place count found same size is front given in
-    let many : most_bytes < length (bytes ++ take count buf) = omega (arith, more, size, length-take-le count buf (fits_count buf found count is fits), length-append bytes (take count buf)) in
-    at told next
-    (subst (λ (o : Option Files). IfSome o (λ files. Finds (files name) place buf (Read count))) same
-    (subst (λ (f : Found). IfSome now (λ files. Finds (files name) place buf f)) is given))
-    many
-  where
-    by : (file : Option (List ℕ)) (all_read : List ℕ) → IfSome file (λ all. (rest : List ℕ) × (all ≡ all_read ++ rest)) → IsSomeAnd file (λ all. GivesPart all place buf count) → most_bytes < length all_read → IsSomeAnd file (λ all. most_bytes < length all)
-    by None all_read front found many = absurd found
-    by (Some all) all_read (rest, is) part many = omega (arith, many, ap length is, length-append all_read rest)
-
-    at : (told : Option Files) → AreFrontOf name told (bytes ++ take count buf) → IfSome told (λ files. Finds (files name) place buf (Read count)) → most_bytes < length (bytes ++ take count buf) → IfSome told (λ files. IsSomeAnd (files name) (λ all. most_bytes < length all))
-    at None front found many = tt
-    at (Some files) front found many = by (files name) (bytes ++ take count buf) front found many
-
-pub front_as : (name : List ℕ) (told new : Option Files) (bytes : List ℕ) → new ≡ told → AreFrontOf name told bytes → AreFrontOf name new bytes
-front_as name told new bytes same front = subst (λ (o : Option Files). AreFrontOf name o bytes) (sym same) front
-
 -- ---- faults
 
 pub counts_then : (a m b : Filed) → NoneFailed a m → NoneFailed m b → NoneFailed a b
 counts_then a m b first second = record { folder = second.folder ∙ first.folder; site = second.site ∙ first.site }
-
--- a fault of a write behind what was recorded of the file
-pub file_write_cause : (name : List ℕ) (before : Filed) (folder between : Seen Folder) (site : Seen Files) (fault : RecordFault) → NoneFailed before (filed between site) → HasWriteCause between folder fault → HasFileCause name before (filed folder site) fault
-file_write_cause name before folder between site (Shelf call) none cause = (subst (λ (n : ℕ). Rose n folder.faults) none.folder cause.0, none.site, cause.1)
-file_write_cause name before folder between site Input none cause = absurd cause
-file_write_cause name before folder between site TooLong none cause = absurd cause
-file_write_cause name before folder between site Site none cause = absurd cause
-file_write_cause name before folder between site (NoFile given) none cause = absurd cause
-file_write_cause name before folder between site (FileTooLong given) none cause = absurd cause
-file_write_cause name before folder between site NoMemory none cause = record { folder = cause ∙ none.folder; site = none.site }
-
--- an exit by `?`
-pub caused_at : {A : Type 0} (name : List ℕ) (before after : Filed) (result : Result A RecordFault) (fault : RecordFault) → IsErrAnd result (λ given. given ≡ fault) → HasFileCause name before after fault → IfErr result (HasFileCause name before after)
-caused_at name before after (Ok done) fault is cause = tt
-caused_at name before after (Err given) fault is cause = subst (HasFileCause name before after) (sym is) cause
 
 pub caused_in : {A : Type 0} (names : List (List ℕ)) (before after : Filed) (result : Result A RecordFault) (fault : RecordFault) → IsErrAnd result (λ given. given ≡ fault) → HasFilesCause names before after fault → IfErr result (HasFilesCause names before after)
 caused_in names before after (Ok done) fault is cause = tt
@@ -194,26 +147,6 @@ files_more names name told sources bytes files whole = record {
         ∙ ap (λ (l : List (Option (List ℕ))). l ++ files name ∷ []) are
         ∙ ap (λ (o : Option (List ℕ)). map (λ bytes. Some bytes) sources ++ o ∷ []) whole
         ∙ sym (map-append (λ bytes. Some bytes) sources (bytes ∷ []))
-
-pub records_none : (before : Filed) → ((a : Option Folder) → Goes a a (Grown [])) → RecordsInTurn [] before before []
-records_none before grows = record {
-  few = omega arith;
-  sources = [];
-  are_files = record { count = refl; are = none before.site.told };
-  are_bytes = All-nil AreBytes;
-  sizes = All-nil (λ bytes. length bytes ≤ most_bytes);
-  events = [];
-  recorded = refl;
-  packets = refl;
-  run_is = All-nil (λ byte. byte < 256);
-  written = grows before.folder.told;
-  counts = record { folder = refl; site = refl };
-  files = refl;
-}
-  where
-    none : (told : Option Files) → IfSome told (λ files. map files [] ≡ map (λ bytes. Some bytes) [])
-    none None = tt
-    none (Some files) = refl
 
 place_is : (lane n m : ℕ) → lane ≡ n → m ≡ n → lane ≡ 0 + m
 place_is lane n m is same = omega (arith, is, same)

@@ -17,7 +17,7 @@ use Rattle.run_shelf.proofs.DraftLemmas.{goes_writes}
 use Rattle.run_shelf.specs.Repository.{run_of}
 use Rattle.run_shelf.specs.Holds.{kinds_of}
 use Rattle.run_shelf.specs.Images.{HasFormatBeside, PassesFormat}
-use Rattle.testr_cli.specs.Steps.{Step, Then, stops, goes_on, Still, Gives, At}
+use Rattle.testr_cli.specs.Steps.{Then, stops, goes_on, Still, Gives, At}
 use Rattle.testr_cli.specs.Outside.{Work, work_folder, work_out}
 use Rattle.testr_cli.specs.Runs.{HasRunAndCaches}
 use Rattle.testr_cli.specs.Store.{Makes, Opens, TakesRun, Keeps}

@@ -1,10 +1,10 @@
 -- A command is the one that is performed.
-use Rattle.std.proofs.Common.{◌≡◌, ◌⊎◌, inl, inr, Bool, IsTrue, ℕ, ◌<◌, ◌≤◌, length, Option, None, Some, Result, Err, refl, sym, ap, subst, ◌∙◌}
+use Rattle.std.proofs.Common.{◌≡◌, ◌⊎◌, inl, inr, ◌<◌, ◌≤◌, length, Option, None, Some, Result, Err, refl, sym, ap, subst}
 use Rattle.std.specs.Prelude.{nat_le}
 use Rattle.std.proofs.lemmas.Bool.{cond-true, cond-false, le-leb, lt-leb}
 use Rattle.sub_number.specs.declared.memory.NoMemory.{NoMemory}
 use Rattle.testr_cli.specs.Outside.{Work}
-use Rattle.testr_cli.specs.Program.{Performs, GivesUp, PerformsOrNot}
+use Rattle.testr_cli.specs.Program.{Performs, GivesUp}
 use Rattle.testr_cli.specs.Tasks.{Task, load, task_with}
 use Rattle.testr_cli.specs.declared.command.Command.{Command}
 use Rattle.testr_cli.specs.declared.command.Verb.{Verb}

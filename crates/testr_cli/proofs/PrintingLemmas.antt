@@ -1,30 +1,16 @@
 -- Parts that are printed through a buffer.
-use Rattle.std.proofs.Common.{◌≡◌, ℕ, ◌+◌, ◌≤◌, List, [], ◌∷◌, ◌++◌, append_assoc, append-nil, length, length-append, take, drop, take-append-drop, ◌<◌, get_or, Option, Result, Ok, Err, refl, sym, ap, subst, ◌∙◌, arith}
+use Rattle.std.proofs.Common.{◌≡◌, ℕ, ◌+◌, List, [], ◌++◌, append_assoc, append-nil, length, length-append, take, drop, take-append-drop, ◌<◌, get_or, Option, Result, Ok, Err, refl, sym, ap, subst, ◌∙◌, arith}
 use Rattle.std.proofs.lemmas.List.{take_at, take_more, flat_map_more}
 use Rattle.std.proofs.lemmas.List.Concat.{flat_map-append}
 use Rattle.std.specs.List.{flat_map}
 use Rattle.std.specs.Io.KnownBytes.{Appends}
-use Rattle.std.proofs.KnownBytes.{Appends-trans, Appends-nil}
+use Rattle.std.proofs.KnownBytes.{Appends-trans}
 use Rattle.edge_io.specs.Bytes.{AppendsPrefix}
 use Rattle.edge_io.specs.Causes.{HasCause}
 use Rattle.edge_io.specs.Seen.{Seen}
 use Rattle.testr_cli.specs.declared.reporting.PrintFault.{PrintFault}
 use Rattle.testr_cli.specs.Reporting.{Prints}
 use Rattle.testr_cli.specs.Printing.{Passes}
-
--- all is held
-pub passes_held : (part held kept : List ℕ) (a : Seen (List ℕ)) → kept ≡ held ++ part → Passes part held a kept a (Ok tt)
-passes_held part held kept a is = record {
-  taken = [];
-  rest = held ++ part;
-  parts = refl;
-  grows = Appends-nil a.told;
-  keeps = is;
-  count = record { later = omega arith; failed = tt; done = refl };
-}
-
-pub passes_none : (held : List ℕ) (a : Seen (List ℕ)) → Passes [] held a held a (Ok tt)
-passes_none held a = passes_held [] held held a (sym (append-nil held))
 
 -- one behind another
 pub passes_then : {p q held mid kept : List ℕ} {a b c : Seen (List ℕ)} {r : Result (Unit {0}) PrintFault} → Passes p held a mid b (Ok tt) → Passes q mid b kept c r → Passes (p ++ q) held a kept c r

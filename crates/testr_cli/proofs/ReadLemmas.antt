@@ -2,14 +2,6 @@
 use Rattle.std.proofs.Common.{◌≡◌, ℕ, Option, None, Some, IfSome, List, ◌++◌, sym, ap, subst, ◌∙◌, append-nil}
 use Rattle.std.specs.Io.KnownBytes.{Consumes, IsAtEnd}
 
--- what was read to the end of a told input is all of it
-pub read_is_all : (left after : Option (List ℕ)) (bytes told : List ℕ) → left ≡ Some told → Consumes left after bytes → IsAtEnd after → told ≡ bytes
-read_is_all None after bytes told is reads ends = cc
-read_is_all (Some x) None bytes told is reads ends = absurd reads
-read_is_all (Some x) (Some y) bytes told is reads ends =
-    let same : x ≡ told = cc in
-    sym same ∙ reads ∙ ap (λ l. bytes ++ l) ends ∙ append-nil bytes
-
 -- so what holds of it holds of the told input
 pub told_all : (P : List ℕ → Type 0) (left after : Option (List ℕ)) (bytes : List ℕ) → Consumes left after bytes → IsAtEnd after → P bytes → IfSome left P
 told_all P None after bytes reads ends holds = tt

@@ -71,10 +71,6 @@ packet_appended before after old new slice start (event, g) start-is slice-is = 
   },
 )
 
--- nothing was gathered
-pub folds_nothing : (rows : WrittenRun) (packets run : List ℕ) → packets ≡ [] → HasWritten [] rows run → HasWritten [] rows (run ++ packets)
-folds_nothing rows packets run none has = rw none (rw (append-nil run) has)
-
 -- ---- what is recorded
 
 -- the input has more than was read, where that is more than it may have

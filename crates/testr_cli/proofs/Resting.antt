@@ -1,10 +1,10 @@
 -- What stays of a folder, and what a stop of it leaves, one step after another.
-use Rattle.std.proofs.Common.{◌≡◌, ◌∷◌, ◌++◌, [], Option, None, Some, IfSome, IsSome, Bool, ℕ, List, All, Result, Ok, Err, refl, sym, ap, subst, ◌∙◌}
+use Rattle.std.proofs.Common.{◌≡◌, ◌∷◌, ◌++◌, [], Option, None, Some, IfSome, Bool, List, All, Result, Ok, Err, refl, sym, ap, subst, ◌∙◌}
 use Rattle.std.proofs.lemmas.List.Elements.{All-head, All-tail}
 use Rattle.edge_io.specs.Disk.{Files, Disk, Folder, IsImage}
 use Rattle.edge_io.specs.Moments.{LeavesOnly, Passes}
 use Rattle.edge_io.specs.Seen.{Seen}
-use Rattle.edge_io.specs.Steps.{Goes, Settled, Stays, HasDraft, Opened, Dropped, Grown, GrownInPart}
+use Rattle.edge_io.specs.Steps.{Goes, Settled, Stays, Opened, Dropped}
 use Rattle.edge_io.proofs.Going.{goes_then, goes_weaker}
 use Rattle.edge_io.proofs.Passing.{passes_same, passes_then, passes_weaker}
 use Rattle.run_shelf.specs.declared.faults.ShelfCall.{ShelfCall}
@@ -17,7 +17,6 @@ use Rattle.run_shelf.specs.Holds.{kinds_of, FitsFolder}
 use Rattle.run_shelf.specs.Images.{PassesOld}
 use Rattle.run_shelf.specs.Outcomes.{FailsAt, OpenFails, Surveys}
 use Rattle.testr_cli.specs.Runs.{KeepsFiles}
-use Rattle.run_shelf.proofs.DraftLemmas.{draft_after, fits_beside}
 use Rattle.testr_cli.specs.Store.{Opens, Begins}
 use Rattle.testr_cli.specs.declared.store.KeepFault.{KeepFault}
 
@@ -141,27 +140,6 @@ same_at_first (Some s) = record { disk = refl; past = refl }
 pub same_then : (a b c : Option Folder) → Goes a b SameButDraft → Goes b c SameButDraft → Goes a c SameButDraft
 same_then a b c first second = goes_then a b c SameButDraft SameButDraft SameButDraft first second (λ s m t p q. record { disk = q.disk ∙ p.disk; past = q.past ∙ p.past })
 
-pub grown_same : (piece : List ℕ) (a b : Option Folder) → Goes a b (Grown piece) → Goes a b SameButDraft
-grown_same piece a b grown = goes_weaker a b (Grown piece) SameButDraft grown (λ s t is. record { disk = ap (λ (f : Folder). f.disk) is; past = ap (λ (f : Folder). f.past) is })
-
-pub part_same : (piece : List ℕ) (a b : Option Folder) → Goes a b (GrownInPart piece) → Goes a b SameButDraft
-part_same piece a b grown = goes_weaker a b (GrownInPart piece) SameButDraft grown (λ s t is. record { disk = ap (λ (f : Folder). f.disk) is.2; past = ap (λ (f : Folder). f.past) is.2 })
-
-pub grown_draft : (piece : List ℕ) (a b : Option Folder) → HasDraft a → Goes a b (Grown piece) → HasDraft b
-grown_draft piece None b has grown = untold b grown
-  where
-    untold : (b : Option Folder) → Goes None b (Grown piece) → HasDraft b
-    untold None grown = tt
-    untold (Some t) grown = absurd grown
-grown_draft piece (Some s) None has grown = absurd grown
-grown_draft piece (Some s) (Some t) has grown = draft_after s t piece has grown
-
-opened_draft : (a b : Option Folder) → Goes a b Opened → HasDraft b
-opened_draft None None opened = tt
-opened_draft None (Some t) opened = absurd opened
-opened_draft (Some s) None opened = absurd opened
-opened_draft (Some s) (Some t) opened = subst IsSome (sym (ap (λ (f : Folder). f.draft) opened)) refl
-
 opened_same : (a b : Option Folder) → Goes a b Opened → Goes a b SameButDraft
 opened_same a b opened = goes_weaker a b Opened SameButDraft opened (λ s t is. record { disk = ap (λ (f : Folder). f.disk) is; past = ap (λ (f : Folder). f.past) is })
 
@@ -171,18 +149,6 @@ dropped_same a b dropped = goes_weaker a b Dropped SameButDraft dropped (λ s t 
 pub begin_rests : (a b : Seen Folder) (result : Result (Unit {0}) KeepFault) → Begins a b result → Goes a.told b.told Rests
 begin_rests a b (Ok done) begins = rests_of_same a.told b.told (opened_same a.told b.told begins.begun)
 begin_rests a b (Err fault) begins = rests_of_same a.told b.told (dropped_same a.told b.told begins.not_begun)
-
-pub begun_draft : (a b : Option Folder) → Goes a b Opened → HasDraft b
-begun_draft = opened_draft
-
--- what was found of the folder fits it when the run is kept
-pub fits_still : (kinds : List Bool) (a b c : Option Folder) → IfSome a (FitsFolder kinds) → Goes a b Opened → Goes b c SameButDraft → IfSome c (FitsFolder kinds)
-fits_still kinds a b c fits opened same = at a c fits (same_then a b c (opened_same a b opened) same)
-  where
-    at : (a c : Option Folder) → IfSome a (FitsFolder kinds) → Goes a c SameButDraft → IfSome c (FitsFolder kinds)
-    at a None fits same = tt
-    at None (Some t) fits same = absurd same
-    at (Some s) (Some t) fits same = fits_beside kinds s t same.disk fits
 
 pub surveyed_fits : (kinds : List Bool) (a b : Option Folder) → Goes a b (Surveys kinds) → IfSome b (FitsFolder kinds)
 surveyed_fits kinds None None surveyed = tt

@@ -1,15 +1,14 @@
 -- How the selection of a run's tests goes on, step by step.
-use Rattle.std.proofs.Common.{◌≡◌, ◌⊎◌, inl, inr, ℕ, zero, suc, ◌<◌, ◌≤◌, true, false, Bool, Option, None, Some, Result, Ok, Err, IfOk, IfErr, List, refl, sym, ap, subst, ◌∙◌, arith}
+use Rattle.std.proofs.Common.{◌≡◌, ℕ, zero, suc, ◌<◌, ◌≤◌, true, false, Bool, Option, None, Some, Result, Ok, Err, IfOk, refl, ap, subst, ◌∙◌, arith}
 use Rattle.std.specs.Prelude.{IsErrAnd, min}
 use Rattle.std.specs.Option.{unwrap_or}
 use Rattle.std.proofs.lemmas.Result.{err_from_is_err_and}
 use Rattle.sub_number.specs.declared.memory.NoMemory.{NoMemory}
 use Rattle.testr_conf.specs.Settings.{Settings}
-use Rattle.suite_plan.specs.Calling.{CallsOut}
 use Rattle.suite_plan.specs.Choosing.{Ids, base_ids, chosen_ids}
 use Rattle.suite_plan.specs.Processors.{CountsProcessors}
 use Rattle.suite_plan.specs.declared.sharing.TheConstants.{MOST_WORKERS}
-use Rattle.testr_cli.specs.Outside.{Work, work_site, work_spawner}
+use Rattle.testr_cli.specs.Outside.{Work, work_site}
 use Rattle.testr_cli.specs.Perhaps.{when, Perhaps, refused}
 use Rattle.testr_cli.specs.Selecting.{Chooses, CountsWorkers, UsesAsked, UsesCalled}
 use Rattle.testr_cli.specs.Steps.{Step, Then, Gives, At}

@@ -1,5 +1,5 @@
 -- What a stop leaves is sound, one step after another; and what is kept behind a run and its caches.
-use Rattle.std.proofs.Common.{◌≡◌, ◌⊎◌, inl, inr, ℕ, ◌<◌, ◌≤◌, Bool, Option, None, Some, IfSome, Result, List, [], ◌∷◌, ◌++◌, length, length-append, get_or, Ok, refl, sym, ap, subst, ◌∙◌, arith}
+use Rattle.std.proofs.Common.{◌≡◌, ◌⊎◌, inl, inr, ℕ, ◌<◌, Bool, Option, None, Some, IfSome, Result, List, [], ◌∷◌, ◌++◌, length, length-append, get_or, Ok, refl, sym, ap, subst, ◌∙◌, arith}
 use Rattle.std.specs.Prelude.{IsSomeAnd, slice_get}
 use Rattle.edge_io.specs.Disk.{Files, Disk, Folder, IsImage, put, put_same}
 use Rattle.edge_io.specs.Moments.{LeavesOnly, Passes}
@@ -17,7 +17,7 @@ use Rattle.run_ledger.proofs.SoundLemmas.{sound_beside}
 use Rattle.run_shelf.specs.Holds.{FitsFolder}
 use Rattle.run_shelf.specs.Images.{HasRunBeside, KeepsRun, PassesRun}
 use Rattle.run_shelf.specs.Outcomes.{Surveys}
-use Rattle.run_shelf.specs.Repository.{Run, run_of, run_at, most_runs, Shows, IsRepository}
+use Rattle.run_shelf.specs.Repository.{Run, run_at, most_runs, Shows, IsRepository}
 use Rattle.run_shelf.specs.Sides.{side_name, SameButSides, KeepsButSides, PassesButSides}
 use Rattle.run_shelf.specs.declared.side.Side.TheVariants.{Failing, Times}
 use Rattle.run_shelf.proofs.Joining.{at_rest_images}

@@ -1,7 +1,7 @@
 -- What was recorded of the sources, whether of the input or of files.
-use Rattle.std.proofs.Common.{◌≡◌, ℕ, ◌+◌, ◌≤◌, Option, IfSome, List, [], ◌∷◌, All, Ok, refl, sym, ap, subst, ◌∙◌, append-nil, length, arith}
+use Rattle.std.proofs.Common.{◌≡◌, ℕ, ◌+◌, ◌≤◌, Option, List, [], ◌∷◌, All, Ok, refl, sym, append-nil, length, arith}
 use Rattle.std.proofs.lemmas.List.Elements.{All-nil, All-cons}
-use Rattle.edge_io.specs.Disk.{Files, Folder}
+use Rattle.edge_io.specs.Disk.{Files}
 use Rattle.edge_io.specs.Steps.{Goes, Grown}
 use Rattle.packet_codec.specs.Grammar.{AreBytes}
 use Rattle.packet_codec.specs.declared.event.Event.{Event}

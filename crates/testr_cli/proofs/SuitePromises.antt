@@ -1,11 +1,10 @@
 -- What is promised of `run` and `list-tests`, from their answers.
-use Rattle.std.proofs.Common.{◌≡◌, ◌⊎◌, inl, inr, ℕ, ◌≤◌, Option, None, Some, Result, Ok, Err, List, ◌∷◌, refl, sym, ap, subst, ◌∙◌, true, false, Bool, arith}
+use Rattle.std.proofs.Common.{◌≡◌, ◌⊎◌, inl, inr, ℕ, ◌≤◌, Option, None, Some, Result, Ok, Err, List, ◌∷◌, sym, ap, subst, ◌∙◌, arith}
 use Rattle.edge_io.specs.Disk.{IsImage}
 use Rattle.edge_io.specs.Steps.{Goes}
 use Rattle.edge_io.proofs.Going.{goes_weaker}
 use Rattle.edge_io.proofs.Passing.{passes_weaker}
-use Rattle.testr_cli.specs.Outside.{Outside, Work, work_of, SomeRose, SameCounts, RisesAt}
-use Rattle.testr_cli.specs.Verdicts.{verdict_code}
+use Rattle.testr_cli.specs.Outside.{Outside, Work, work_of, SomeRose, RisesAt}
 use Rattle.testr_cli.specs.Answer.{refusal_code, code_of, place_in}
 use Rattle.testr_cli.specs.Program.{GivesUp, KeepsRuns}
 use Rattle.testr_cli.specs.SuiteProgram.{SuiteAnswers, SuitePromises, PerformsSuite, CanPerformSuite, IsChildFault, ListsAll, RunsAll, TestrPromises}

@@ -2,11 +2,9 @@
 use Rattle.std.proofs.Common.{◌≡◌, ℕ, ◌<◌, ◌-◌, true, false, Bool, Option, None, Some, IfSome, IsSomeAnd, List, [], length, Result, Ok, Err, IfOk, refl, sym, ap, subst, ◌∙◌, arith}
 use Rattle.edge_io.specs.Disk.{Folder}
 use Rattle.run_shelf.specs.declared.faults.ShelfCall.{ShelfCall}
-use Rattle.run_shelf.specs.declared.faults.StoreFault.{StoreFault}
 use Rattle.run_shelf.specs.declared.faults.StoreFault.TheVariants as store_fault
 use Rattle.edge_io.specs.Causes.{RisesExactlyIf}
 use Rattle.run_shelf.specs.Holds.{FitsFolder}
-use Rattle.run_shelf.specs.Stores.{Closes, store_failed}
 use Rattle.run_ledger.specs.declared.fault.LedgerFault.{LedgerFault}
 use Rattle.run_ledger.specs.declared.fault.LedgerFault.TheVariants as ledger_fault
 use Rattle.run_ledger.specs.Outcomes.{LedgerCloses, ledger_failed}
@@ -23,13 +21,6 @@ use Rattle.testr_cli.specs.declared.command.Question.{Question}
 use Rattle.testr_cli.specs.declared.command.Question.TheVariants.{Last, Failing}
 use Rattle.testr_cli.specs.declared.told.Told.{Told}
 use Rattle.testr_cli.specs.declared.told.TellFault.{TellFault}
-
--- an open store answers only where a call of the folder failed
-pub store_fails : {T : Type 0} (n m : ℕ) (before after : Option ShelfCall) (result : Result T StoreFault) (fault : StoreFault) → result ≡ Err fault → before ≡ None → Closes before after result → RisesExactlyIf n m (store_failed result) → RisesExactlyIf n m true
-store_fails n m before after result (store_fault.Shelf call) is unbroken closes counts = subst (λ r. RisesExactlyIf n m (store_failed r)) is counts
-store_fails n m before after result (store_fault.Closed call) is unbroken closes counts =
-    let closed : before ≡ Some call = (closes.closed call).0 is in
-    cc
 
 -- and so does a call that reads its runs
 pub ledger_fails : {T : Type 0} (n m : ℕ) (before after : Option ShelfCall) (result : Result T LedgerFault) (fault : LedgerFault) (told : TellFault) → result ≡ Err fault → told ≡ fault_of_ledger fault → before ≡ None → LedgerCloses before after result → RisesExactlyIf n m (ledger_failed result) → RisesExactlyIf n m (fault_fails told)

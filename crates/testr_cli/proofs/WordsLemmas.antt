@@ -1,7 +1,6 @@
 -- Which command words are.
-use Rattle.std.proofs.Common.{◌≡◌, ℕ, Bool, true, false, List, [], ◌∷◌, ◌++◌, drop, map, None, Some, Option, String, string_bytes, cond, append_assoc, append-nil, refl, sym, ap, ◌∙◌}
+use Rattle.std.proofs.Common.{◌≡◌, ℕ, Bool, true, false, List, [], ◌∷◌, ◌++◌, drop, map, None, Some, Option, String, string_bytes, cond, append_assoc, refl, sym, ap, ◌∙◌}
 use Rattle.std.specs.declared.alloc.Global.{Global}
-use Rattle.std.specs.Str.{bytes_eq}
 use Rattle.std.specs.Prelude.{◌&&◌, ◌||◌}
 use Rattle.std.specs.List.{list_any, list_all}
 use Rattle.std.proofs.lemmas.List.Folds.{list_all-append}
@@ -28,24 +27,9 @@ by_case : (b : Bool) (done front rest : List (List ℕ)) → and_then (cond b (S
 by_case true done front rest = ap Some (sym (append_assoc done front rest))
 by_case false done front rest = refl
 
-pub behind_more : (done front rest : List (List ℕ)) → list_all is_text front ≡ true → behind done (front ++ rest) ≡ behind (done ++ front) rest
-behind_more done front rest texts =
-    ap (λ b. and_then (cond b (Some (front ++ rest)) None) (λ r. Some (done ++ r))) (list_all-append is_text front rest ∙ ap (λ b. b && list_all is_text rest) texts)
-    ∙ by_case (list_all is_text rest) done front rest
-
 pub behind_none : (done front rest : List (List ℕ)) → list_all is_text front ≡ false → behind done (front ++ rest) ≡ None
 behind_none done front rest no_texts =
     ap (λ b. and_then (cond b (Some (front ++ rest)) None) (λ r. Some (done ++ r))) (list_all-append is_text front rest ∙ ap (λ b. b && list_all is_text rest) no_texts)
-
-pub behind_all : (done : List (List ℕ)) → behind done [] ≡ Some done
-behind_all done = ap Some (append-nil done)
-
-pub behind_front : (names : List (List ℕ)) → behind [] names ≡ if_texts names
-behind_front names = by (list_all is_text names)
-  where
-    by : (b : Bool) → and_then (cond b (Some names) None) (λ rest. Some rest) ≡ cond b (Some names) None
-    by true = refl
-    by false = refl
 
 pub any_map : {A B : Type 0} (p : B → Bool) (f : A → B) (xs : List A) → list_any p (map f xs) ≡ list_any (λ x. p (f x)) xs
 any_map p f [] = refl

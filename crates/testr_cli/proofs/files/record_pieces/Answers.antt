@@ -1,4 +1,4 @@
-use Rattle.std.proofs.Common.{◌≡◌, [], ◌∙◌, ◌++◌, ap, sym, subst, take, length, length-append, append_assoc, arith}
+use Rattle.std.proofs.Common.{[], ◌∙◌, ◌++◌, ap, sym, subst, take, length-append, append_assoc, arith}
 use Rattle.std.proofs.lemmas.List.{length-take-le}
 use Rattle.stream_reader.proofs.FrontLemmas.{are_both}
 use Rattle.run_ledger.specs.Writing.{HasWritten}

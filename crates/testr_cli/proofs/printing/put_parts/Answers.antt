@@ -1,4 +1,3 @@
-use Rattle.std.proofs.Common.{◌≡◌, [], rules}
 use Rattle.std.proofs.lemmas.Result.{err_from_is_err_and}
 use Rattle.testr_cli.proofs.PrintingLemmas.{passes_more, passes_failed}
 use Rattle.sub_text.specs.Texts.{part_bytes}

@@ -1,7 +1,6 @@
-use Rattle.std.proofs.Common.{refl, arith}
-use Rattle.worker_lane.proofs.RecordingLemmas.{packets_none, packets_then}
+use Rattle.std.proofs.Common.{arith}
+use Rattle.worker_lane.proofs.RecordingLemmas.{packets_then}
 use Rattle.stream_reader.proofs.RoomLemmas.{spent_short}
-use Rattle.testr_cli.proofs.RecordLemmas.{folds_nothing}
 use Rattle.testr_cli.proofs.recording.gather_packets.Goals as goal
 
 pub loop-packets-preserved : goal.loop-packets-preserved

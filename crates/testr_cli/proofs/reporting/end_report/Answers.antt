@@ -1,4 +1,4 @@
-use Rattle.std.proofs.Common.{◌≡◌, ◌++◌, ap, ◌∙◌}
+use Rattle.std.proofs.Common.{◌++◌, ap, ◌∙◌}
 use Rattle.std.specs.List.{filter, flat_map}
 use Rattle.outcome_fold.specs.Answers.{row_fails}
 use Rattle.sub_text.specs.Texts.{failure_of, summary_lines}

@@ -1,10 +1,9 @@
-use Rattle.std.proofs.Common.{◌≡◌, ◌∷◌, inl, true, false, drop, refl, sym, ap, subst, ◌∙◌}
+use Rattle.std.proofs.Common.{◌≡◌, ◌∷◌, true, false, drop, refl, sym, ap, ◌∙◌}
 use Rattle.std.proofs.lemmas.List.{take_rest}
 use Rattle.command_words.specs.Items.{texts}
-use Rattle.testr_cli.specs.Words.{names_testr, testr_word, asked_by}
+use Rattle.testr_cli.specs.Words.{names_testr, testr_word}
 use Rattle.testr_cli.proofs.SparingLemmas.{none_spare, behind_spare}
 use Rattle.testr_cli.proofs.SuitePromises.{testr_behind}
-use Rattle.testr_cli.proofs.Performing.{refuses}
 use Rattle.testr_cli.proofs.WordsLemmas.{names_first, names_other}
 use Rattle.testr_cli.proofs.top.program.Goals as goal
 

@@ -1,4 +1,4 @@
-use Rattle.std.proofs.Common.{◌≡◌, inl, inr, Some, None, refl, sym, ap, subst, ◌∙◌}
+use Rattle.std.proofs.Common.{inl, inr, refl, sym, ap, ◌∙◌}
 use Rattle.testr_cli.specs.Drawings.{drawing_of}
 use Rattle.testr_cli.specs.Suites.{suite_of}
 use Rattle.testr_cli.specs.Tasks.{task_of}
