@@ -122,30 +122,43 @@ fn a_report_shows_each_failure_and_then_the_summary(rt: HostRuntime) -> Result<(
     Ok(())
 }
 
-// Whether the parts of the row of `foo` that ended so, with this text, are these bytes together.
-fn parts_are(alloc: Global, ended: Ended, text: &[u8], block: &[u8]) -> Option<bool> {
+// Whether these are the parts of the row of `foo` that ended so, with this text.
+fn parts_are(alloc: Global, ended: Ended, text: &[u8], parts: [&[u8]; 8]) -> Option<bool> {
     let row = row(alloc, b"foo", ended, None, text)?;
-    let mut out = Vec::new(alloc);
-    for part in failure_parts(&row) {
-        out.extend_from_slice(part).ok()?;
+    for (found, part) in failure_parts(&row).into_iter().zip(parts) {
+        if found != part {
+            return Some(false);
+        }
     }
-    Some(is_text(&out, block))
+    Some(true)
 }
 
-const UNEXPECTED: &[u8] =
-    b"======================================================================\nUNEXPECTED SUCCESS: foo\n----------------------------------------------------------------------\nboom\n";
+const DOUBLE: &[u8] = b"======================================================================\n";
+
+const SINGLE: &[u8] = b"----------------------------------------------------------------------\n";
 
 #[test]
 fn the_parts_of_a_failure_are_its_block_of_the_report(rt: HostRuntime) -> Result<(), Fail> {
     let alloc = rt.alloc();
-    assert_eq!(rt;
-        parts_are(alloc, Ended::UxSuccess, b"boom", UNEXPECTED),
-        Some(true)
-    );
-    assert_eq!(rt;
-        parts_are(alloc, Ended::UxSuccess, b"boom\n", UNEXPECTED),
-        Some(true)
-    );
+    let parts: [&[u8]; 8] = [
+        DOUBLE, b"FAIL", b": ", b"foo", b"\n", SINGLE, b"boom", b"\n",
+    ];
+    assert_eq!(rt; parts_are(alloc, Ended::Fail, b"boom", parts), Some(true));
+    let parts: [&[u8]; 8] = [
+        DOUBLE, b"FAIL", b": ", b"foo", b"\n", SINGLE, b"boom\n", b"",
+    ];
+    assert_eq!(rt; parts_are(alloc, Ended::Fail, b"boom\n", parts), Some(true));
+    let parts: [&[u8]; 8] = [
+        DOUBLE,
+        b"UNEXPECTED SUCCESS",
+        b": ",
+        b"foo",
+        b"\n",
+        SINGLE,
+        b"",
+        b"",
+    ];
+    assert_eq!(rt; parts_are(alloc, Ended::UxSuccess, b"", parts), Some(true));
     Ok(())
 }
 
