@@ -3,6 +3,9 @@
 //! This room knows how options are written, and nothing of what a command does with them. The rules stand in
 //! docs/COMMANDS.md, "Words".
 //!
+//! For want of memory a public call answers `NoMemory`, which comes for nothing else; what it was lent is then as
+//! before, where it does not say otherwise.
+//!
 //! - `table`: which options a command has
 //! - `item`: what words are
 //! - `reading`: reads the words

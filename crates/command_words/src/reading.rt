@@ -23,8 +23,6 @@ enum Meaning<'a> {
 /// What the words are, in their order. None comes exactly where one of them is refused: an option that the command does
 /// not have, or with a value where it has none, or without one where it needs one; one dash and more than that; what is
 /// no text.
-///
-/// `NoMemory` comes only for want of memory.
 pub fn read_items<'a, T: OptionTable>(
     alloc: Global,
     table: &T,

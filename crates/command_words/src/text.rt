@@ -14,8 +14,6 @@ pub(crate) fn is_word(word: &str) -> bool
 }
 
 /// The word as a text. None comes exactly where it has a NUL or 2^30 bytes and more; `read_items` gives no such word.
-///
-/// `NoMemory` comes only for want of memory.
 pub fn text_of(alloc: Global, word: &str) -> Result<Option<Text>, NoMemory>
     ensures { IfOk result (λ text. text ≡ (if is_text word.now then Some word.now else None)) }
 {

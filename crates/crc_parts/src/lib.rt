@@ -3,6 +3,9 @@
 //! This room knows zlib's CRC-32 of bytes that stand among others, and nothing of packets. The register goes through
 //! bytes linearly: so the checksum of a part follows from the registers before it and behind it, and from its length.
 //!
+//! For want of memory a public call answers `NoMemory`, which comes for nothing else; what it was lent is then as
+//! before, where it does not say otherwise.
+//!
 //! - `prefixes`: the registers along bytes that come in pieces, one every 64 bytes
 //! - `part`: the checksum of a part from two registers, by products of polynomials
 //! - `powers`: the table for these products

@@ -44,8 +44,6 @@ impl Model for Prefixes {
 
 impl Prefixes {
     /// Of no bytes yet.
-    ///
-    /// `NoMemory` comes only for want of memory.
     pub fn new(alloc: Global) -> Result<Self, NoMemory>
         ensures { IfOk result (λ prefixes. HasPrefixes prefixes []) }
     {

@@ -20,7 +20,7 @@ const FIRST_SECOND: u32 = 1_500_000_000;
 /// Appends the packets of the lane's test of this number, for which `number` was drawn: that it begins, and how it ends.
 /// `spare` is overwritten.
 ///
-/// `NoMemory` comes only for want of memory. Some of the bytes may then have been appended.
+/// With `NoMemory` some of the bytes may have been appended.
 pub(crate) fn put_test(
     lane: u32,
     test: u32,

@@ -24,8 +24,6 @@ pub struct Job {
 
 impl Job {
     /// Another job of the same parts.
-    ///
-    /// `NoMemory` comes only for want of memory.
     pub fn copy(&self, alloc: Global) -> Result<Self, NoMemory>
         ensures { IfOk result (λ job. job ≡ self.now) }
     {

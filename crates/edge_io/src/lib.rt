@@ -3,6 +3,9 @@
 //! Each trait counts its faults, and a call answers `Failed` only where that count rose. What an object holds or has
 //! left is told only by implementations that know it, and clauses on content hold where it is told.
 //!
+//! For want of memory a public call answers `NoMemory`, which comes for nothing else; what it was lent is then as
+//! before, where it does not say otherwise.
+//!
 //! - `failed`: the answer of a call that failed.
 //! - `source`, `sink`: where bytes come from and go, and the writing of a whole piece.
 //! - `shelf`: a folder, its drafts, and what a stop at each moment may leave of it.

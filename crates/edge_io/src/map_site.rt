@@ -32,8 +32,6 @@ impl MapSite {
     }
 
     /// A file more, in place of any other of that name. It is no call of those that are counted.
-    ///
-    /// `NoMemory` comes only for want of memory, and leaves the files as before.
     pub fn put(&mut self, name: Text, bytes: Bytes) -> Result<(), NoMemory>
         ensures ok { OnOk result (site_files self.new ≡ put (site_files self.old) name bytes) }
         ensures err { OnErr result (site_files self.new ≡ site_files self.old) }

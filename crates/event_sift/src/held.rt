@@ -41,7 +41,7 @@ impl Held {
 
     /// Takes an event that does not complete its test, which is open then.
     ///
-    /// `NoMemory` comes only for want of memory. Nothing is known then of what is held.
+    /// After `NoMemory` nothing is known of what is held.
     pub fn go_on(&mut self, key: TestKey, event: Event) -> Result<(), NoMemory>
         ensures { OnOk result (parts_in self.new ≡ map.insert (parts_in self.old) key (unwrap_or (map.get (parts_in self.old) key) [] ++ event ∷ [])) }
     {
@@ -53,7 +53,7 @@ impl Held {
 
     /// The events of the test with this last one, moved out. The test is no longer open.
     ///
-    /// `NoMemory` comes only for want of memory. The events of the test are lost then.
+    /// With `NoMemory` the events of the test are lost.
     pub fn finish(&mut self, key: &TestKey, event: Event) -> Result<Part, NoMemory>
         ensures part { IfOk result (λ part. part ≡ unwrap_or (map.get (parts_in self.old) key.now) [] ++ event ∷ []) }
         ensures rest { OnOk result (parts_in self.new ≡ map.remove (parts_in self.old) key.now) }

@@ -123,7 +123,7 @@ impl HeldPackets {
 
     /// Puts the test that was heard last, if there is one, among the others.
     ///
-    /// `NoMemory` comes only for want of memory. Its packets are lost then.
+    /// With `NoMemory` its packets are lost.
     pub fn put_down(&mut self) -> Result<(), NoMemory>
         ensures { OnOk result ((self.new.last ≡ None) × (others_in self.new ≡ packets_in self.old)) }
     {
@@ -156,7 +156,7 @@ impl HeldPackets {
 
     /// Makes this test the one that was heard last, without a packet where none of it is held.
     ///
-    /// `NoMemory` comes only for want of memory. Nothing is known then of what is held.
+    /// After `NoMemory` nothing is known of what is held.
     pub fn turn_to(&mut self, key: TestKey) -> Result<(), NoMemory>
         ensures last { OnOk result (IsSomeAnd self.new.last (λ last. last.key ≡ key)) }
         ensures held { OnOk result (packets_in self.new ≡ begun_at (packets_in self.old) key) }
@@ -169,7 +169,7 @@ impl HeldPackets {
 
     /// Holds the packet behind those of the test that was heard last.
     ///
-    /// `NoMemory` comes only for want of memory.
+    /// After `NoMemory` nothing is known of the test that was heard last.
     #[inline(always)]
     pub fn go_on(&mut self, packet: &Packet<'_>) -> Result<(), NoMemory>
         ensures last { (e : AnEvent) (last : AHeldTest) → SpellsEvent packet.now e → self.old.last ≡ Some last → OnOk result (self.new.last ≡ Some (one_more last (canonical e))) }
@@ -207,7 +207,7 @@ impl HeldPackets {
     /// Ends the test that was heard last. Where it is kept, its packets are appended, and this one behind them. Nothing of it
     /// is held any more.
     ///
-    /// `NoMemory` comes only for want of memory. Of what was appended nothing is known then.
+    /// After `NoMemory` nothing is known of what was appended.
     #[inline(always)]
     pub fn finish(
         &mut self,
@@ -228,7 +228,7 @@ impl HeldPackets {
 
     /// Appends the packets of the test, if it is among the others.
     ///
-    /// `NoMemory` comes only for want of memory. Of what was appended nothing is known then.
+    /// After `NoMemory` nothing is known of what was appended.
     pub fn put(&self, key: &TestKey, out: &mut Vec<u8>) -> Result<(), NoMemory>
         ensures { OnOk result (out.new.items ≡ out.old.items ++ packets_at (others_in self.now) key.now) }
     {

@@ -4,6 +4,9 @@
 //! events, and of whole lists of events. What speaks of a test is held from the first event of the test until one completes
 //! it, as events or as the bytes of their packets.
 //!
+//! For want of memory a public call answers `NoMemory`, which comes for nothing else; what it was lent is then as
+//! before, where it does not say otherwise.
+//!
 //! - `rules`, `predicate`: which rows are kept, and what says so of one after another
 //! - `part`, `held`: the events of the open tests
 //! - `part_row`: the row of some events of a test

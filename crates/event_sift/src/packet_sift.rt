@@ -110,8 +110,8 @@ impl<'a, P: Predicate + Drop> PacketSift<'a, P> {
     /// Takes the event that the packet spells, and appends the packets that are released now: that of an event without an
     /// id at once, all packets of a test, in order, where this one completes it and it is kept, and else none.
     ///
-    /// `NoMemory` comes only for want of memory. The sift is given up then: its rules are as before, its predicate goes by
-    /// them, and of the packets that it held, and of what was appended, nothing is known.
+    /// After `NoMemory` the sift is given up: its rules are as before, its predicate goes by them, and of the packets
+    /// that it held, and of what was appended, nothing is known.
     pub fn hear(&mut self, packet: &Packet<'_>, out: &mut Vec<u8>) -> Result<(), NoMemory>
         requires faithful { P.rules (predicate_of self.old) ≡ rules_of self.old }
         ensures released { (seen : List AnEvent) (e : AnEvent) → SpellsEvent packet.now e → HasSifted self.old seen → OnOk result (out.new.items ≡ out.old.items ++ packets_of (released (keeps (rules_of self.old)) seen e)) }
@@ -178,7 +178,7 @@ impl<'a, P: Predicate + Drop> PacketSift<'a, P> {
 
     /// Ends the sift, and appends the packets of the open tests that are kept, by route, no route first, and then by id.
     ///
-    /// `NoMemory` comes only for want of memory. The sift is given up then too, and of what was appended nothing is known.
+    /// After `NoMemory` the sift is given up too, and of what was appended nothing is known.
     pub fn close(self, out: &mut Vec<u8>) -> Result<(), NoMemory>
         requires faithful { P.rules (predicate_of self) ≡ rules_of self }
         ensures { (seen : List AnEvent) → HasSifted self.entry seen → OnOk result (out.new.items ≡ out.old.items ++ packets_of (released_at_end (keeps (rules_of self.entry)) seen)) }

@@ -34,7 +34,7 @@ impl Part {
 
     /// This event alone, with room for one more, since most tests have two.
     ///
-    /// `NoMemory` comes only for want of memory, and the event is lost then.
+    /// With `NoMemory` the event is lost.
     pub fn begun(alloc: Global, event: Event) -> Result<Self, NoMemory>
         ensures { IfOk result (λ part. part ≡ event ∷ []) }
     {
@@ -45,7 +45,7 @@ impl Part {
 
     /// Takes one event more.
     ///
-    /// `NoMemory` comes only for want of memory, and the event is lost then.
+    /// With `NoMemory` the event is lost.
     pub fn push(&mut self, event: Event) -> Result<(), NoMemory>
         ensures { OnOk result (self.new ≡ self.old ++ event ∷ []) }
     {

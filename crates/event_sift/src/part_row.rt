@@ -63,8 +63,6 @@ fn row_text(alloc: Global, ended: Ended, part: &[Event]) -> Result<Bytes, NoMemo
 }
 
 /// The row of a part of the test, which ended so and took this long.
-///
-/// `NoMemory` comes only for want of memory.
 pub fn part_row(
     alloc: Global,
     key: TestKey,

@@ -14,7 +14,7 @@ pub trait Predicate {
 
     /// Whether the test of the row is kept.
     ///
-    /// `NoMemory` comes only for want of memory.
+    /// After `NoMemory` its rules are as before, and nothing else is known of it.
     fn is_kept(&mut self, row: &Row) -> Result<bool, NoMemory>
         ensures kept { IfOk result (λ kept. kept ≡ keeps (rules self.old) row.now) }
         ensures rules { rules self.new ≡ rules self.old };

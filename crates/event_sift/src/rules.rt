@@ -91,8 +91,6 @@ impl<'r> ByRules<'r> {
     ghost use Rattle.event_sift.specs.Sifted.{asked_by};
 
     /// The predicate that these rules are.
-    ///
-    /// `NoMemory` comes only for want of memory.
     pub fn new(alloc: Global, rules: &'r Rules) -> Result<Self, NoMemory>
         ensures { IfOk result (λ predicate. asked_by predicate ≡ rules.now) }
     {
@@ -127,8 +125,6 @@ impl<'r> Predicate for ByRules<'r> {
 /// Whether the rules keep the row: how the test ended is allowed, the row has every tag that is asked for and none that
 /// is not wanted, and in its id one of the patterns that are asked for is found, where there are any, and none of the
 /// others. For many rows `ByRules` is quicker.
-///
-/// `NoMemory` comes only for want of memory.
 pub fn keep(alloc: Global, rules: &Rules, row: &Row) -> Result<bool, NoMemory>
     ensures { IfOk result (λ kept. kept ≡ keeping.keeps rules.now row.now) }
 {

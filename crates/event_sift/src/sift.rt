@@ -100,8 +100,8 @@ impl<'a, P: Predicate + Drop> Sift<'a, P> {
     /// Takes the event, and gives the events that are released now: an event without an id at once, all events of a
     /// test, in order, where this one completes it and it is kept, and else none.
     ///
-    /// `NoMemory` comes only for want of memory. The sift is given up then: its rules are as before, its predicate goes by
-    /// them, and of the events that it held nothing is known.
+    /// After `NoMemory` the sift is given up: its rules are as before, its predicate goes by them, and of the events
+    /// that it held nothing is known.
     pub fn add(&mut self, event: Event) -> Result<Vec<Event>, NoMemory>
         requires faithful { P.rules (predicate_of self.old) ≡ rules_of self.old }
         ensures released { (seen : List AnEvent) → HasSifted self.old seen → IfOk result (λ events. events.items ≡ released (keeps (rules_of self.old)) seen event) }
@@ -136,7 +136,7 @@ impl<'a, P: Predicate + Drop> Sift<'a, P> {
 
     /// Ends the sift, and gives the events of the open tests that are kept, by route, no route first, and then by id.
     ///
-    /// `NoMemory` comes only for want of memory. The sift is given up then too.
+    /// After `NoMemory` the sift is given up too.
     pub fn close(self) -> Result<Vec<Event>, NoMemory>
         requires faithful { P.rules (predicate_of self) ≡ rules_of self }
         ensures { (seen : List AnEvent) → HasSifted self.entry seen → IfOk result (λ events. events.items ≡ released_at_end (keeps (rules_of self.entry)) seen) }

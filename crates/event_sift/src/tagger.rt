@@ -49,8 +49,6 @@ impl Tagger {
     }
 
     /// The tags that an event gets which has none, where it has room for them.
-    ///
-    /// `NoMemory` comes only for want of memory.
     pub fn plain_tags(&self) -> Result<Option<Tags>, NoMemory>
         ensures { IfOk result (λ tags. tags ≡ plain_tags self.now) }
     {
@@ -59,8 +57,6 @@ impl Tagger {
 
     /// The tags that an event gets which has these: the tags and the added ones without the removed ones, in the order of
     /// their bytes, each once. All are lent, and none is copied.
-    ///
-    /// `NoMemory` comes only for want of memory.
     pub fn tags_for<'t>(&'t self, own: Vec<&'t [u8]>) -> Result<Vec<&'t [u8]>, NoMemory>
         ensures { IfOk result (λ tags. lent_bytes tags.items ≡ tags_with self.now.add self.now.remove (Some (lent_bytes own.entry.items))) }
     {
@@ -73,8 +69,6 @@ impl Tagger {
 
     /// Gives the event its tags and the added ones without the removed ones, in the order of their bytes, each once, and
     /// no tags where none are left. An event that would no longer fit into a packet stays as it was.
-    ///
-    /// `NoMemory` comes only for want of memory, and then the event is as before.
     pub fn apply(&self, event: &mut Event) -> Result<(), NoMemory>
         ensures ok { OnOk result (event.new ≡ tagged self.now event.old) }
         ensures err { OnErr result (event.new ≡ event.old) }

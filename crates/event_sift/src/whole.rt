@@ -51,8 +51,6 @@ fn take_all<P: Predicate + Drop>(
 }
 
 /// What a sift of these rules releases of the events, in order: while they come, and then at the end.
-///
-/// `NoMemory` comes only for want of memory.
 pub fn filtered_events(
     alloc: Global,
     rules: &Rules,

@@ -33,7 +33,7 @@ pub enum Asked {
 
 /// The filter that the words ask for. None comes exactly where they ask for none.
 ///
-/// `NoMemory` comes only for want of memory, and not where the first word names no filter.
+/// `NoMemory` does not come where the first word names no filter.
 pub fn read_asked(alloc: Global, words: &[String]) -> Result<Option<Asked>, NoMemory>
     ensures { asking.Reads (texts words.now) result }
 {

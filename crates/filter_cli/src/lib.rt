@@ -1,5 +1,8 @@
 //! Filters: a stream in, a text out, in one pass.
 //!
+//! For want of memory a public call answers `NoMemory`, which comes for nothing else; what it was lent is then as
+//! before, where it does not say otherwise. What it did outside by then stands.
+//!
 //! - `top`: the top call, from words to an answer
 //! - `asked`, `patterns`, `retagging`, `selection`, `tool`: which filter the words ask for
 //! - `refusal`, `telling`: why a filter was not done, and the lines that tell of it

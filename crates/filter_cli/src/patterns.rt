@@ -36,7 +36,7 @@ impl Patterns {
 
     /// Adds the pattern at the end.
     ///
-    /// `NoMemory` comes only for want of memory.
+    /// After `NoMemory` nothing is known of the patterns.
     pub fn push(&mut self, pattern: Text) -> Result<(), NoMemory>
         ensures { OnOk result (self.new ≡ self.old ++ pattern ∷ []) }
     {
@@ -71,7 +71,7 @@ pub enum PatternsFault {
 
 /// The rules of the selection, its patterns compiled.
 ///
-/// `Bad` comes only with the first bad pattern in the order of the words, and `NoMemory` only for want of memory.
+/// `Bad` comes only with the first bad pattern in the order of the words.
 pub fn rules_of(alloc: Global, selection: Selection) -> Result<Rules, PatternsFault>
     ensures rules { IfOk result (λ rules. rules ≡ checked.rules_of selection) }
     ensures patterns { checked.Compiles selection.patterns result }

@@ -22,8 +22,6 @@ pub struct Retagging {
 
 /// The change of tags that the words behind the name ask for. None comes exactly where a word is `-`, the empty one, or
 /// no text.
-///
-/// `NoMemory` comes only for want of memory.
 pub fn read_retagging(alloc: Global, words: &[String]) -> Result<Option<Retagging>, NoMemory>
     ensures { IfOk result (λ asked. asked ≡ retagging.retagging_of (texts words.now)) }
 {

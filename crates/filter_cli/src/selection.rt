@@ -56,8 +56,6 @@ enum Added {
 }
 
 /// What the options ask for. Of flags that set the same the last one stands; the values of the others are added.
-///
-/// `NoMemory` comes only for want of memory.
 pub fn selection_of(alloc: Global, items: &[Item<'_>]) -> Result<Selection, NoMemory>
     ensures { IfOk result (λ selection. selection ≡ selecting.selection_of (map shown items.now)) }
 {

@@ -36,8 +36,6 @@ impl<'t> Tagging<'t> {
     ghost use Rattle.std.specs.Prelude.{IfOk};
 
     /// Nothing was taken yet.
-    ///
-    /// `NoMemory` comes only for want of memory.
     pub(crate) fn new(alloc: Global, tagger: &'t Tagger) -> Result<Self, NoMemory>
         ensures tagger { IfOk result (λ tagging. tagging.tagger.now ≡ tagger.now) }
         ensures lent { IfOk result (λ tagging. lent_bytes tagging.lent.items ≡ tags_with tagging.tagger.now.add tagging.tagger.now.remove None) }

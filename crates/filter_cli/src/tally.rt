@@ -79,7 +79,7 @@ impl Tally {
 
     /// Counts one row more.
     ///
-    /// `NoMemory` comes only for want of memory. Nothing is known then of what was counted.
+    /// After `NoMemory` nothing is known of what was counted.
     pub(crate) fn add(&mut self, row: &Row) -> Result<(), NoMemory>
         ensures { (rows : List ARow) → HasTallied self.old rows → OnOk result (HasTallied self.new (rows ++ row.now ∷ [])) }
     {
@@ -90,7 +90,7 @@ impl Tally {
 
     /// Counts these rows too.
     ///
-    /// `NoMemory` comes only for want of memory. Nothing is known then of what was counted.
+    /// After `NoMemory` nothing is known of what was counted.
     pub(crate) fn add_all(&mut self, rows: &[Row]) -> Result<(), NoMemory>
         ensures { (before : List ARow) → HasTallied self.old before → OnOk result (HasTallied self.new (before ++ rows.now)) }
     {

@@ -250,8 +250,6 @@ impl Fold {
 impl Fold {
     /// Takes the event, and gives the row of the part of its test that it completes. `None` comes exactly where it
     /// completes none.
-    ///
-    /// `NoMemory` comes only for want of memory, and then the fold is as before.
     pub fn add(&mut self, event: &Event) -> Result<Option<Row>, NoMemory>
         ensures row { (seen : List AnEvent) → HasSeen self.old seen → IfOk result (λ row. row ≡ completed_row seen event.now) }
         ensures ok { (seen : List AnEvent) → HasSeen self.old seen → OnOk result (HasSeen self.new (seen ++ event.now ∷ [])) }
@@ -266,8 +264,6 @@ impl Fold {
 
     /// The same of the event that the packet spells, which is not made: what is needed of it is copied from where it
     /// stands.
-    ///
-    /// `NoMemory` comes only for want of memory, and then the fold is as before.
     pub fn hear(&mut self, packet: &Packet<'_>) -> Result<Option<Row>, NoMemory>
         ensures row { (seen : List AnEvent) (e : AnEvent) → SpellsEvent packet.now e → HasSeen self.old seen → IfOk result (λ row. row ≡ completed_row seen e) }
         ensures ok { (seen : List AnEvent) (e : AnEvent) → SpellsEvent packet.now e → HasSeen self.old seen → OnOk result (HasSeen self.new (seen ++ e ∷ [])) }
@@ -280,8 +276,6 @@ impl Fold {
     }
 
     /// Ends the fold, and gives a row for each open test, by route, no route first, and then by id.
-    ///
-    /// `NoMemory` comes only for want of memory.
     pub fn close(self) -> Result<Vec<Row>, NoMemory>
         ensures { (seen : List AnEvent) → HasSeen self seen → IfOk result (λ rows. rows.items ≡ open_rows seen) }
     {
@@ -347,8 +341,6 @@ impl Outcomes {
     }
 
     /// Takes the event.
-    ///
-    /// `NoMemory` comes only for want of memory, and then the outcomes are as before.
     pub fn add(&mut self, event: &Event) -> Result<(), NoMemory>
         ensures ok { (seen : List AnEvent) → HasFolded self.old seen → OnOk result (HasFolded self.new (seen ++ event.now ∷ [])) }
         ensures err { (seen : List AnEvent) → HasFolded self.old seen → OnErr result (HasFolded self.new seen) }
@@ -362,8 +354,6 @@ impl Outcomes {
 
     /// The same of the event that the packet spells, which is not made: what is needed of it is copied from where it
     /// stands.
-    ///
-    /// `NoMemory` comes only for want of memory, and then the outcomes are as before.
     pub fn hear(&mut self, packet: &Packet<'_>) -> Result<(), NoMemory>
         ensures ok { (seen : List AnEvent) (e : AnEvent) → SpellsEvent packet.now e → HasFolded self.old seen → OnOk result (HasFolded self.new (seen ++ e ∷ [])) }
         ensures err { (seen : List AnEvent) → HasFolded self.old seen → OnErr result (HasFolded self.new seen) }
@@ -377,8 +367,6 @@ impl Outcomes {
 
     /// Ends the run, and gives its rows: by route, no route first, and in a route first the completed ones in the order
     /// of their completing events, then the open ones by id.
-    ///
-    /// `NoMemory` comes only for want of memory.
     pub fn close(self) -> Result<Rows, NoMemory>
         ensures { (seen : List AnEvent) → HasFolded self seen → IfOk result (λ rows. rows ≡ rows_are.rows_of seen) }
     {

@@ -2,6 +2,9 @@
 //!
 //! The rules stand in docs/FORMATS.md under "The fold". `specs/` states them of whole lists of events.
 //!
+//! For want of memory a public call answers `NoMemory`, which comes for nothing else; what it was lent is then as
+//! before, where it does not say otherwise.
+//!
 //! - `test_key`: which test an event speaks of
 //! - `part`: what the events of a part of a test say together, and the text that is kept of it
 //! - `row`: how a test ended, and what became of it

@@ -48,7 +48,7 @@ impl LongestTimes {
 
     /// Gives the id this time, unless it has a longer one. The id is moved where it has none yet.
     ///
-    /// `NoMemory` comes only for want of memory. Nothing is known then of the times.
+    /// After `NoMemory` nothing is known of the times.
     #[inline]
     pub(crate) fn raise(&mut self, id: Text, nanos: u64) -> Result<(), NoMemory>
         ensures { OnOk result (self.new ≡ fin.insert self.old id (max nanos (unwrap_or (fin.get self.old id) 0))) }
@@ -66,8 +66,6 @@ impl LongestTimes {
     }
 
     /// Each id that has a time, with it, in the order of the ids' bytes, each once. No id is copied.
-    ///
-    /// `NoMemory` comes only for want of memory.
     pub(crate) fn list(&self, alloc: Global) -> Result<Vec<Timed<'_>>, NoMemory>
         ensures times { IfOk result (λ times. map shown_time times.items ≡ fin.entries self.now) }
         ensures texts { IfOk result (λ times. All (λ timed. IsShortText timed.id.now) times.items) }

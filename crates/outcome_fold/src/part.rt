@@ -43,8 +43,6 @@ impl KeptText {
     }
 
     /// Appends the piece, of which no more is copied than is kept.
-    ///
-    /// `NoMemory` comes only for want of memory, and then the text is as before.
     pub fn append(&mut self, piece: &[u8]) -> Result<(), NoMemory>
         ensures ok { OnOk result (self.new ≡ take text_limit (self.old ++ piece.now)) }
         ensures err { OnErr result (self.new ≡ self.old) }
@@ -154,8 +152,6 @@ pub(crate) struct Said<'a> {
 }
 
 /// What the event says. Its tags are copied.
-///
-/// `NoMemory` comes only for want of memory.
 pub(crate) fn said_by(alloc: Global, event: &Event) -> Result<Said<'_>, NoMemory>
     ensures { IfOk result (λ said. Says said event.now) }
 {
@@ -167,8 +163,6 @@ pub(crate) fn said_by(alloc: Global, event: &Event) -> Result<Said<'_>, NoMemory
 }
 
 /// What the packet's event says. Its tags are copied, and its text stays where it stands.
-///
-/// `NoMemory` comes only for want of memory.
 #[inline(always)]
 pub(crate) fn said_in<'p>(alloc: Global, packet: &'p Packet<'_>) -> Result<Said<'p>, NoMemory>
     ensures { (e : AnEvent) → SpellsEvent packet.now e → IfOk result (λ said. Says said e) }
@@ -203,8 +197,6 @@ fn other_tags(alloc: Global, kept: &Tags, packet: &Packet<'_>) -> Result<Option<
 
 impl Started {
     /// Takes what the packet's event says, one more of the part. Tags that are the same as before are not copied.
-    ///
-    /// `NoMemory` comes only for want of memory, and then all is as before.
     pub(crate) fn hear(&mut self, alloc: Global, packet: &Packet<'_>) -> Result<(), NoMemory>
         ensures ok { (e : AnEvent) → SpellsEvent packet.now e → OnOk result (self.new ≡ after self.old e) }
         ensures err { OnErr result (self.new ≡ self.old) }
@@ -220,8 +212,6 @@ impl Started {
 
 impl Started {
     /// What a part says whose first event says this.
-    ///
-    /// `NoMemory` comes only for want of memory.
     pub(crate) fn begun(alloc: Global, mut said: Said<'_>) -> Result<Self, NoMemory>
         ensures { IfOk result (λ started. started ≡ after_said (fresh_said said.entry) said.entry) }
     {
@@ -235,8 +225,6 @@ impl Started {
     }
 
     /// Takes what one event more says.
-    ///
-    /// `NoMemory` comes only for want of memory, and then all is as before.
     pub(crate) fn take(&mut self, said: &mut Said<'_>) -> Result<(), NoMemory>
         ensures ok { OnOk result (self.new ≡ after_said self.old said.old) }
         ensures err { OnErr result ((self.new ≡ self.old) × (said.new ≡ said.old)) }

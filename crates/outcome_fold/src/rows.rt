@@ -50,8 +50,6 @@ impl Rows {
     }
 
     /// The ids of the rows that fail, in the order of their bytes, each once.
-    ///
-    /// `NoMemory` comes only for want of memory.
     pub fn failing_ids(&self, alloc: Global) -> Result<IdList, NoMemory>
         ensures { IfOk result (λ ids. ids ≡ answers.failing_of self.now) }
     {
@@ -59,8 +57,6 @@ impl Rows {
     }
 
     /// The ids of the tests that ran, where none of the id's rows fails, in the order of their bytes, each once.
-    ///
-    /// `NoMemory` comes only for want of memory.
     pub fn passed_ids(&self, alloc: Global) -> Result<IdList, NoMemory>
         ensures { IfOk result (λ ids. ids ≡ answers.passed_of self.now) }
     {
@@ -70,7 +66,7 @@ impl Rows {
     /// Takes the ids of `passed_ids` out of the set, and adds those of `failing_ids`: what a partial run makes of the
     /// failing tests.
     ///
-    /// `NoMemory` comes only for want of memory. Nothing is known then of the set.
+    /// After `NoMemory` nothing is known of the set.
     pub fn change_failing(&self, alloc: Global, failed: &mut TextSet) -> Result<(), NoMemory>
         ensures { OnOk result (failed.new ≡ in_byte_order (without failed.old (answers.passed_of self.now) ++ answers.failing_of self.now)) }
     {
@@ -78,8 +74,6 @@ impl Rows {
     }
 
     /// Each id of a test that ran and has a time, with the longest of its times in nanoseconds.
-    ///
-    /// `NoMemory` comes only for want of memory.
     pub fn times(&self, alloc: Global) -> Result<TimeMap, NoMemory>
         ensures { IfOk result (λ times. times ≡ answers.times_of self.now) }
     {
@@ -87,8 +81,6 @@ impl Rows {
     }
 
     /// The tags of the tests that ran, in the order of their bytes, each once.
-    ///
-    /// `NoMemory` comes only for want of memory.
     pub fn seen_tags(&self, alloc: Global) -> Result<Tags, NoMemory>
         ensures { IfOk result (λ tags. tags ≡ answers.seen_tags_of self.now) }
     {
@@ -105,8 +97,6 @@ impl Rows {
 }
 
 /// The ids of the rows that fail. Each is copied once.
-///
-/// `NoMemory` comes only for want of memory.
 pub(crate) fn failing_set(alloc: Global, rows: &[Row]) -> Result<TextSet, NoMemory>
     ensures { IfOk result (λ ids. ids ≡ answers.failing_of rows.now) }
 {
@@ -411,8 +401,6 @@ impl Groups {
 }
 
 /// The rows route by route, no route first, and those of one route in their order.
-///
-/// `NoMemory` comes only for want of memory.
 pub fn by_route(alloc: Global, rows: Vec<Row>) -> Result<Vec<Row>, NoMemory>
     ensures { IfOk result (λ ordered. ordered.items ≡ rows_are.by_route rows.items) }
 {

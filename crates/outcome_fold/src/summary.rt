@@ -116,8 +116,6 @@ impl Summary {
     }
 
     /// The same of the rows route by route, no route first, and those of one route in their order.
-    ///
-    /// `NoMemory` comes only for want of memory.
     pub(crate) fn in_order(self, alloc: Global) -> Result<Self, NoMemory>
         ensures { (filter_tags : List (List ℕ)) (rows : List ARow) → Sums filter_tags rows self → IfOk result (Sums filter_tags (rows_are.by_route rows)) }
     {
@@ -150,8 +148,6 @@ impl Summary {
     }
 
     /// The ids of the rows that fail, in the order of their bytes, each once.
-    ///
-    /// `NoMemory` comes only for want of memory.
     pub fn failing_ids(&self, alloc: Global) -> Result<IdList, NoMemory>
         ensures { (filter_tags : List (List ℕ)) (rows : List ARow) → Sums filter_tags rows self.now → IfOk result (λ ids. ids ≡ answers.failing_of rows) }
     {
@@ -161,7 +157,7 @@ impl Summary {
     /// Takes the ids of the tests that ran, where none of the id's rows fails, out of the set, and adds those of the rows
     /// that fail: what a partial run makes of the failing tests.
     ///
-    /// `NoMemory` comes only for want of memory. Nothing is known then of the set.
+    /// After `NoMemory` nothing is known of the set.
     pub fn change_failing(&self, alloc: Global, failed: &mut TextSet) -> Result<(), NoMemory>
         ensures { (filter_tags : List (List ℕ)) (rows : List ARow) → Sums filter_tags rows self.now → OnOk result (failed.new ≡ in_byte_order (without failed.old (answers.passed_of rows) ++ answers.failing_of rows)) }
     {
@@ -173,8 +169,6 @@ impl Summary {
 
     /// Each id of a test that ran and has a time, with the longest of its times, in the order of the ids' bytes, each once. No
     /// id is copied.
-    ///
-    /// `NoMemory` comes only for want of memory.
     pub fn times(&self, alloc: Global) -> Result<Vec<Timed<'_>>, NoMemory>
         ensures times { (filter_tags : List (List ℕ)) (rows : List ARow) → Sums filter_tags rows self.now → IfOk result (λ times. map shown_time times.items ≡ fin.entries (answers.times_of rows)) }
         ensures kept { IfOk result (λ times. map shown_time times.items ≡ fin.entries (times_kept self.now)) }

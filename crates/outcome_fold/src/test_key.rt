@@ -20,8 +20,6 @@ pub struct TestKey {
 }
 
 /// The test that the event speaks of. `None` comes exactly where it has no id.
-///
-/// `NoMemory` comes only for want of memory.
 pub fn key_of(event: &Event) -> Result<Option<TestKey>, NoMemory>
     ensures { IfOk result (λ key. key ≡ test_of event.now) }
 {
@@ -34,8 +32,6 @@ pub fn key_of(event: &Event) -> Result<Option<TestKey>, NoMemory>
 }
 
 /// The test that the packet's event speaks of. `None` comes exactly where it has no id.
-///
-/// `NoMemory` comes only for want of memory.
 #[inline(always)]
 pub fn key_in(alloc: Global, packet: &Packet<'_>) -> Result<Option<TestKey>, NoMemory>
     ensures { (e : AnEvent) → SpellsEvent packet.now e → IfOk result (λ key. key ≡ test_of e) }
@@ -48,8 +44,6 @@ pub fn key_in(alloc: Global, packet: &Packet<'_>) -> Result<Option<TestKey>, NoM
 }
 
 /// Another route of the same bytes.
-///
-/// `NoMemory` comes only for want of memory.
 pub fn copy_route(route: &Option<Text>) -> Result<Option<Text>, NoMemory>
     ensures { IfOk result (λ copy. copy ≡ route.now) }
 {

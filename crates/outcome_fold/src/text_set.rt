@@ -47,8 +47,6 @@ impl TextSet {
     }
 
     /// Adds a copy of the text, where it is not in the set yet. Where it is, nothing is copied.
-    ///
-    /// `NoMemory` comes only for want of memory, and then the set is as before.
     pub fn insert(&mut self, text: &Text) -> Result<(), NoMemory>
         ensures ok { OnOk result (self.new ≡ in_byte_order (text.now ∷ self.old)) }
         ensures err { OnErr result (self.new ≡ self.old) }
@@ -61,8 +59,6 @@ impl TextSet {
     }
 
     /// Adds the text, which is moved, where it is not in the set yet.
-    ///
-    /// `NoMemory` comes only for want of memory, and then the set is as before.
     pub fn put(&mut self, text: Text) -> Result<(), NoMemory>
         ensures ok { OnOk result (self.new ≡ in_byte_order (text ∷ self.old)) }
         ensures err { OnErr result (self.new ≡ self.old) }
@@ -89,7 +85,7 @@ impl TextSet {
 
     /// Adds a copy of each of the texts that is not in the set yet.
     ///
-    /// `NoMemory` comes only for want of memory. Nothing is known then of the set.
+    /// After `NoMemory` nothing is known of the set.
     pub fn insert_all(&mut self, texts: &[Text]) -> Result<(), NoMemory>
         ensures { OnOk result (self.new ≡ in_byte_order (self.old ++ texts.now)) }
     {
@@ -102,7 +98,7 @@ impl TextSet {
 
     /// Adds each of the ids, which are moved, that is not in the set yet.
     ///
-    /// `NoMemory` comes only for want of memory. Nothing is known then of the set.
+    /// After `NoMemory` nothing is known of the set.
     pub fn put_all(&mut self, ids: IdList) -> Result<(), NoMemory>
         ensures { OnOk result (self.new ≡ in_byte_order (self.old ++ ids)) }
     {
@@ -132,8 +128,6 @@ impl TextSet {
     }
 
     /// The texts in the order of their bytes, as tags. They are moved.
-    ///
-    /// `NoMemory` comes only for want of memory.
     pub fn into_tags(self, alloc: Global) -> Result<Tags, NoMemory>
         ensures { IfOk result (λ tags. tags ≡ self) }
     {
@@ -145,8 +139,6 @@ impl TextSet {
     }
 
     /// The texts in the order of their bytes, as ids. They are moved.
-    ///
-    /// `NoMemory` comes only for want of memory.
     pub fn into_ids(self, alloc: Global) -> Result<IdList, NoMemory>
         ensures { IfOk result (λ ids. ids ≡ self) }
     {
@@ -159,8 +151,6 @@ impl TextSet {
 }
 
 /// The tags in the order of their bytes, each once. Each is copied once.
-///
-/// `NoMemory` comes only for want of memory.
 pub fn sorted_tags(alloc: Global, tags: &[Text]) -> Result<Tags, NoMemory>
     ensures { IfOk result (λ sorted. sorted ≡ in_byte_order tags.now) }
 {
@@ -188,8 +178,6 @@ fn are_in_order(tags: &[Text]) -> bool
 }
 
 /// Copies of the tags, in their order.
-///
-/// `NoMemory` comes only for want of memory.
 pub fn copies_of(alloc: Global, tags: &[Text]) -> Result<Tags, NoMemory>
     ensures { IfOk result (λ copies. copies ≡ tags.now) }
 {

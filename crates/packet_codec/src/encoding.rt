@@ -16,8 +16,7 @@ use sub_number::{NoMemory, Text, crc_of, write_number};
 
 /// Appends the shortest spelling of the event (the Subunit README, "Packet format"), with zlib's CRC-32 at its end.
 ///
-/// Its size is that of `size`, and `fits` tells whether there is one. `NoMemory` comes only for want of memory, and
-/// `out` then has what it had.
+/// Its size is that of `size`, and `fits` tells whether there is one.
 pub fn encode(event: &Event, out: &mut Vec<u8>) -> Result<(), NoMemory>
     requires { Fits event.now }
     ensures ok { OnOk result (out.new.items ≡ out.old.items ++ canonical event.now) }

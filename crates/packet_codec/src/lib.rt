@@ -3,8 +3,11 @@
 //! This room knows one packet, both ways, and nothing of streams or files. A spelling may use any width of number; the
 //! shortest one is the canonical one, which is what is written.
 //!
+//! For want of memory a public call answers `NoMemory`, which comes for nothing else; what it was lent is then as
+//! before, where it does not say otherwise.
+//!
 //! - `event`, `stamp`, `status`, `tags`: an event and its parts
-//! - `looking`: whether some bytes begin with a packet
+//! - `looking`, `front`: whether some bytes begin with a packet, and what their front is
 //! - `packet`: a packet of which all is tested; it stands on `header` and `parts`, which read from the front
 //! - `decoding`: the event of a packet
 //! - `fields`: the fields of a packet, each on its own

@@ -17,8 +17,6 @@ use sub_number::NoMemory;
 
 /// Appends the shortest spelling of the event that has this piece of a file of this name and nothing else, under the
 /// route of a lane. It fits.
-///
-/// `NoMemory` comes only for want of memory, and `out` is then as before.
 pub fn put_piece_under(
     lane: u32,
     name: &[u8],

@@ -252,8 +252,6 @@ fn put_packet(
 }
 
 /// Appends the shortest spelling of the event with the change, which has this size.
-///
-/// `NoMemory` comes only for want of memory, and `out` then has what it had.
 #[inline(always)]
 pub fn put_changed(
     header: Header,

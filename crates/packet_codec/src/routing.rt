@@ -12,8 +12,6 @@ use sub_number::{NoMemory, Text};
 
 /// Puts the event under the route of a lane: the lane's number where it had no route, and the number, `/` and the old
 /// route where it had one.
-///
-/// `NoMemory` comes only for want of memory, and the event is then as before.
 pub fn reroute(alloc: Global, event: &mut Event, lane: u32) -> Result<(), NoMemory>
     requires lane { lane < 64 }
     requires text { IsShortText (route_under lane event.old.route) }

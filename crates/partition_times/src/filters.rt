@@ -48,8 +48,6 @@ impl Filters {
     }
 
     /// Whether some pattern is found in the id. They are looked for one by one, up to the first that is found.
-    ///
-    /// `NoMemory` comes only for want of memory.
     pub fn found(&self, alloc: Global, id: &Text) -> Result<bool, NoMemory>
         ensures { IfOk result (λ found. found ≡ is_found self.now id.now) }
     {
@@ -141,8 +139,6 @@ impl<'f> Model for Finder<'f> {
 
 impl Filters {
     /// What looks for the patterns.
-    ///
-    /// `NoMemory` comes only for want of memory.
     pub fn finder(&self, alloc: Global) -> Result<Finder<'_>, NoMemory>
         ensures { IfOk result (λ finder. finder ≡ self.now) }
     {
@@ -173,8 +169,6 @@ impl<'f> Finder<'f> {
 }
 
 /// The ids in which some pattern is found, in their order, and all of them where there is no pattern.
-///
-/// `NoMemory` comes only for want of memory.
 pub fn pick(alloc: Global, ids: &IdList, filters: &Filters) -> Result<IdList, NoMemory>
     ensures { IfOk result (λ picked. picked ≡ picked_ids filters.now ids.now) }
 {

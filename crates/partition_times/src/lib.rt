@@ -3,6 +3,9 @@
 //! This room knows patterns, groups of ids and shares of work, and nothing of where ids and times come from. The rules
 //! stand in docs/FORMATS.md, "Patterns", "Groups" and "Shares". The crate `regex` does all matching.
 //!
+//! For want of memory a public call answers `NoMemory`, which comes for nothing else; what it was lent is then as
+//! before, where it does not say otherwise.
+//!
 //! - `pattern`: one pattern, compiled
 //! - `filters`: patterns, what looks for them, and the ids in which some pattern is found
 //! - `groups`: ids that stay together

@@ -121,8 +121,6 @@ fn append(list: &mut IdList, ids: Vec<Text>) -> Result<(), NoMemory>
 /// Ids of one group stay together, in their order. The groups with the longest known times are given away first, each
 /// to the worker that has least to do by then, and the groups without a known time go round in turn. So the known time
 /// of the largest share is not far from the best: `bound` and `best` say how far.
-///
-/// `NoMemory` comes only for want of memory.
 pub fn partition(
     alloc: Global,
     ids: &IdList,

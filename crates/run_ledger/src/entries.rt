@@ -117,8 +117,6 @@ fn is_short_text(bytes: &[u8]) -> bool
 }
 
 /// The times that these entries hold, in a map. Each id is copied once.
-///
-/// `NoMemory` comes only for want of memory.
 pub(crate) fn map_of(alloc: Global, bytes: &[u8]) -> Result<TimeMap, NoMemory>
     ensures { (times : FinMap text_cmp ℕ) → AreTimeEntries bytes.now times → IfOk result (λ found. found ≡ times) }
 {

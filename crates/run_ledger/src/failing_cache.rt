@@ -24,8 +24,6 @@ pub struct FailingCache {
 }
 
 /// The bytes of the cache of these ids, of so many runs. Where the ids are in order, they are read again as that.
-///
-/// `NoMemory` comes only for want of memory.
 pub fn write_failing_cache(alloc: Global, covers: u64, ids: &IdList) -> Result<Bytes, NoMemory>
     ensures bytes { IfOk result (λ bytes. bytes ≡ failing_cache covers ids.now) }
     ensures form { IfOk result (λ bytes. IsStrictlySortedBy text_cmp ids.now → IsFailingCache bytes covers ids.now) }
@@ -50,8 +48,8 @@ fn write_entries(ids: &[Text], bytes: &mut Vec<u8>) -> Result<(), NoMemory>
     Ok(())
 }
 
-/// What the bytes hold, where they are a cache of the failing set. `None` comes exactly where they are none, and `NoMemory`
-/// only for want of memory. Each byte is looked at a few times.
+/// What the bytes hold, where they are a cache of the failing set. `None` comes exactly where they are none. Each byte
+/// is looked at a few times.
 pub fn read_failing_cache(alloc: Global, bytes: &[u8]) -> Result<Option<FailingCache>, NoMemory>
     ensures some { IfOk result (λ found. IfSome found (λ cache. IsFailingCache bytes.now cache.covers cache.ids)) }
     ensures none { IfOk result (λ found. IfNone found ((covers : ℕ) (ids : List (List ℕ)) → IsFailingCache bytes.now covers ids → ⊥)) }

@@ -3,6 +3,9 @@
 //! This room knows runs as bytes, and what their tests became; it knows nothing of files or of printed text. The rules
 //! stand in docs/FORMATS.md, "Streams", "The fold" and "What the runs say together".
 //!
+//! For want of memory a public call answers `NoMemory`, which comes for nothing else; what it was lent is then as
+//! before, where it does not say otherwise. What it did outside by then stands.
+//!
 //! - `run_reader`, `folding`: the rows of one run, read in pieces
 //! - `written_run`: the rows of one run, told while it is written
 //! - `fault`: why nothing is said of the runs of a store

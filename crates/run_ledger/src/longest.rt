@@ -12,8 +12,6 @@ use sub_number::{NoMemory, Text};
 
 /// The ids of the rows of tests that ran and have a time, in the order of their bytes, each once and with its longest time.
 /// It takes one sort, and no id is copied.
-///
-/// `NoMemory` comes only for want of memory.
 pub(crate) fn longest_times<'r>(alloc: Global, rows: &'r [Row]) -> Result<Vec<Timed<'r>>, NoMemory>
     ensures times { IfOk result (λ times. (sorted : List (List ℕ × ℕ)) × AreSorted (timed_of rows.now) sorted × (map shown_time times.items ≡ last_of_each sorted)) }
     ensures timed { IfOk result (λ times. All IsTimed (map shown_time times.items)) }

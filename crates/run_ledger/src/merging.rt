@@ -24,7 +24,7 @@ const BESIDE_AN_ID: usize = 22;
 /// Gives each id that has a time in these rows that time. It takes one sort of the rows' times; the entries are gone
 /// through once, and those that stay are copied as they are, many at once.
 ///
-/// `NoMemory` comes only for want of memory.
+/// After `NoMemory` nothing is known of the entries.
 pub(crate) fn replace_times(
     alloc: Global,
     latest: &mut Entries,
@@ -41,7 +41,7 @@ pub(crate) fn replace_times(
 /// Gives each id that has a time in the rows of which this is kept that time. The entries are gone through once, and those
 /// that stay are copied as they are, many at once.
 ///
-/// `NoMemory` comes only for want of memory.
+/// After `NoMemory` nothing is known of the entries.
 pub(crate) fn replace_summed(
     alloc: Global,
     latest: &mut Entries,

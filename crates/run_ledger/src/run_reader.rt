@@ -26,8 +26,6 @@ impl RunReader {
     ghost use Rattle.run_ledger.specs.Reading.{HasRead, AreRowsOf};
 
     /// A run of which nothing was read.
-    ///
-    /// `NoMemory` comes only for want of memory.
     pub fn new(alloc: Global) -> Result<Self, NoMemory>
         ensures { IfOk result (λ run. HasRead run []) }
     {
@@ -41,7 +39,7 @@ impl RunReader {
 
     /// Takes the next bytes of the run.
     ///
-    /// `NoMemory` comes only for want of memory. Nothing is known then of the rows.
+    /// After `NoMemory` nothing is known of the rows.
     pub fn feed(&mut self, piece: &[u8]) -> Result<(), NoMemory>
         ensures { (bytes : List ℕ) → HasRead self.old bytes → OnOk result (HasRead self.new (bytes ++ piece.now)) }
     {
@@ -75,8 +73,6 @@ impl RunReader {
     }
 
     /// Ends the run, and gives its rows.
-    ///
-    /// `NoMemory` comes only for want of memory.
     pub fn close(self) -> Result<Rows, NoMemory>
         ensures { (bytes : List ℕ) → HasRead self bytes → IfOk result (AreRowsOf bytes) }
     {

@@ -11,7 +11,7 @@ use sub_number::NoMemory;
 /// Takes one run more, whose rows these are. A full run replaces the ids by those that fail in it; a partial run takes
 /// those out that passed in it, and adds those that fail.
 ///
-/// `NoMemory` comes only for want of memory. Nothing is known then of the ids.
+/// After `NoMemory` nothing is known of the ids.
 pub fn take_run(
     alloc: Global,
     failed: &mut TextSet,

@@ -31,8 +31,6 @@ pub(crate) struct EntriesCache {
 }
 
 /// The bytes of the cache of these times, of so many runs. They are read again as that.
-///
-/// `NoMemory` comes only for want of memory.
 #[tactic(auto, using(crate::proofs::TimedLemmas::entries_by_id))]
 pub fn write_times_cache(alloc: Global, covers: u64, times: &TimeMap) -> Result<Bytes, NoMemory>
     ensures bytes { IfOk result (λ bytes. bytes ≡ times_cache covers times.now) }
@@ -47,8 +45,6 @@ pub fn write_times_cache(alloc: Global, covers: u64, times: &TimeMap) -> Result<
 
 /// The bytes of the cache of these times, of so many runs. The entries are not copied: the heading is put before them in the
 /// memory where they stand.
-///
-/// `NoMemory` comes only for want of memory.
 pub(crate) fn write_entries_cache(
     alloc: Global,
     covers: u64,
@@ -107,8 +103,8 @@ fn write_time(id: &Text, time: Option<u64>, bytes: &mut Vec<u8>) -> Result<(), N
     Ok(())
 }
 
-/// What the bytes hold, where they are a cache of the times. `None` comes exactly where they are none, and `NoMemory` only
-/// for want of memory. Each byte is looked at a few times.
+/// What the bytes hold, where they are a cache of the times. `None` comes exactly where they are none. Each byte is
+/// looked at a few times.
 pub fn read_times_cache(alloc: Global, bytes: &[u8]) -> Result<Option<TimesCache>, NoMemory>
     ensures some { IfOk result (λ found. IfSome found (λ cache. IsTimesCache bytes.now cache.covers cache.times)) }
     ensures none { IfOk result (λ found. IfNone found ((covers : ℕ) (times : FinMap text_cmp ℕ) → IsTimesCache bytes.now covers times → ⊥)) }

@@ -35,8 +35,6 @@ impl Found {
     }
 
     /// The same runs, for a second look at them.
-    ///
-    /// `NoMemory` comes only for want of memory.
     pub fn copy(&self, alloc: Global) -> Result<Found, NoMemory>
         ensures { IfOk result (λ found. kinds_of found ≡ kinds_of self.now) }
     {

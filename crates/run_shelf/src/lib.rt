@@ -1,5 +1,8 @@
 //! A repository of numbered runs in a folder, which no stop can damage.
 //!
+//! For want of memory a public call answers `NoMemory`, which comes for nothing else; what it was lent is then as
+//! before, where it does not say otherwise. What it did outside by then stands.
+//!
 //! - `faults`: which call of the folder failed, and why a call of this crate was refused
 //! - `found`: what is known of a folder that was looked at
 //! - `file`: one file more, wholly or not at all, and the file that makes a folder a repository

@@ -137,8 +137,8 @@ const FORMAT_SIZE: usize = 16;
 ///
 /// `NoStore` comes exactly where the file `format` is not there, `UnknownFormat` exactly where it has other bytes, and
 /// `Gap(k)` exactly where it is right, k is the least number without a run, and a greater number has one. `Shelf` comes
-/// only where a call of the folder failed, and `NoMemory` only for want of memory. The files are as before at each exit,
-/// and but for a failed `SyncFolder` nothing is pending.
+/// only where a call of the folder failed. The files are as before at each exit, and but for a failed `SyncFolder`
+/// nothing is pending.
 pub fn survey<H: Shelf>(alloc: Global, shelf: &mut H) -> Result<Found, OpenFault>
     ensures found { IfOk result (λ found. Goes (H.seen shelf.old).told (H.seen shelf.new).told (Surveys (kinds_of found))) }
     ensures room { IfOk result HasRoom }

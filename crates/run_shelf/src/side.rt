@@ -37,7 +37,7 @@ impl Side {
 /// The bytes of this file, and `None` exactly where it is not there. It makes at most two calls of the folder, in which
 /// nothing changes.
 ///
-/// `Store` comes only with the call of the folder that failed, and `NoMemory` only for want of memory.
+/// `Store` comes only with the call of the folder that failed.
 pub fn read_side<H: Shelf>(
     alloc: Global,
     shelf: &mut H,

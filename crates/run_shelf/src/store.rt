@@ -138,8 +138,8 @@ impl<'h, H: Shelf> Store<'h, H> {
 
     /// The bytes of the file of this cache, as `read_side`.
     ///
-    /// `Store` comes only with the call of the folder that failed, and with `Closed` exactly where one had failed before,
-    /// which comes first. `NoMemory` comes only for want of memory, and leaves the store open.
+    /// `Store` comes only with the call of the folder that failed, and with `Closed` exactly where one had failed
+    /// before, which comes first.
     pub fn side(&mut self, alloc: Global, side: Side) -> Result<Option<Bytes>, SideFault>
         requires fits { FitsUnlessBroken (store_kinds self.old) (store_fault self.old) (H.seen self.old.shelf.now).told }
         ensures same_reference { self.new.shelf.ghost_name ≡ self.old.shelf.ghost_name }

@@ -3,6 +3,9 @@
 //! This room knows where packets stand in a stream, and nothing of where the stream comes from. What is no packet is
 //! kept as foreign bytes. The rule stands in docs/FORMATS.md, "Streams".
 //!
+//! For want of memory a public call answers `NoMemory`, which comes for nothing else; what it was lent is then as
+//! before, where it does not say otherwise.
+//!
 //! - `note`: an event, or foreign bytes
 //! - `reader`: the bytes fed, and the notes that they decide; it stands on `buffer`, the bytes held
 //! - `first`: what the first note is made of, before it is let go of

@@ -19,8 +19,6 @@ pub enum Note {
 
 impl Note {
     /// The event that the note says: its own, or for foreign bytes one with these bytes as a piece of the file `stdout`.
-    ///
-    /// `NoMemory` comes only for want of memory.
     pub fn into_event(self, alloc: Global) -> Result<Event, NoMemory>
         ensures { IfOk result (λ event. event ≡ event_of self) }
     {
@@ -32,8 +30,6 @@ impl Note {
 }
 
 /// The bytes as an event: a piece of the file `stdout`, runnable, and nothing else.
-///
-/// `NoMemory` comes only for want of memory.
 pub fn stdout_event(alloc: Global, bytes: Bytes) -> Result<Event, NoMemory>
     ensures { IfOk result (λ event. event ≡ event_of_bytes bytes) }
 {

@@ -54,8 +54,6 @@ impl Model for Reader {
 
 impl Reader {
     /// A reader to which nothing was fed, with all the room that it will ever need.
-    ///
-    /// `NoMemory` comes only for want of memory.
     pub fn new(alloc: Global) -> Result<Self, NoMemory>
         ensures { IfOk result (λ reader. reader ≡ record { bytes = []; ended = false }) }
     {
@@ -84,8 +82,6 @@ impl Reader {
     /// Before the end a note is given only where no bytes that may follow would change it. So bytes are held back as
     /// long as they may become a packet, and so are fewer than 65,536 foreign bytes that may be followed by others.
     /// After None before the end at most 4,259,837 bytes are held.
-    ///
-    /// `NoMemory` comes only for want of memory, and leaves the reader as before.
     pub fn next(&mut self) -> Result<Option<Note>, NoMemory>
         ensures some { IfOk result (λ answer. IfSome answer (λ note. GivesNote self.old note self.new)) }
         ensures none { IfOk result (λ answer. IfNone answer (IsSpent self.old.ended self.old.bytes × (self.new ≡ self.old))) }

@@ -46,8 +46,6 @@ fn read_piece(reader: &mut Reader, notes: &mut Vec<Note>, piece: &[u8]) -> Resul
 }
 
 /// The notes of a stream that comes in these pieces. They are those of the joined pieces, however these were cut.
-///
-/// `NoMemory` comes only for want of memory.
 pub fn notes_of_pieces(alloc: Global, pieces: &[Bytes]) -> Result<Vec<Note>, NoMemory>
     ensures { IfOk result (λ notes. HasNotes (flat_map (λ piece. piece) pieces.now) notes.items) }
 {

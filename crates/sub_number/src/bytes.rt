@@ -24,8 +24,6 @@ impl Model for Bytes {
 
 impl Bytes {
     /// A copy of the bytes.
-    ///
-    /// `NoMemory` comes only for want of memory.
     pub fn new(alloc: Global, bytes: &[u8]) -> Result<Self, NoMemory>
         ensures { IfOk result (λ owned. owned ≡ bytes.now) }
     {

@@ -72,8 +72,6 @@ pub fn number_size(value: u32) -> usize
 }
 
 /// Appends the shortest spelling of the value, by the number encoding of the Subunit README.
-///
-/// `NoMemory` comes only for want of memory, and then `out` is as before.
 pub fn write_number(out: &mut Vec<u8>, value: u32) -> Result<(), NoMemory>
     requires { value < 2 ^ 30 }
     ensures ok { OnOk result (out.new.items ≡ out.old.items ++ shortest_number value) }

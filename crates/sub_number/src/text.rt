@@ -113,7 +113,7 @@ impl Model for Text {
 impl Text {
     /// The text of these bytes.
     ///
-    /// `NotText` comes exactly where they are no such text, and `NoMemory` only for want of memory.
+    /// `NotText` comes exactly where they are no such text.
     pub fn new(alloc: Global, bytes: &[u8]) -> Result<Self, TextFault>
         ensures ok { IfOk result (λ text. (text ≡ bytes.now) × IsShortText bytes.now) }
         ensures not_text { result ≡ Err TextFault.NotText → ¬ (IsShortText bytes.now) }
@@ -128,8 +128,6 @@ impl Text {
     }
 
     /// The text of these bytes, which are known to be one, so that they are not tested again.
-    ///
-    /// `NoMemory` comes only for want of memory.
     pub fn from_tested(alloc: Global, bytes: &[u8]) -> Result<Self, NoMemory>
         requires { IsShortText bytes.now }
         ensures { IfOk result (λ text. text ≡ bytes.now) }
@@ -159,8 +157,6 @@ impl Text {
     }
 
     /// Another text of the same bytes, over the same allocator.
-    ///
-    /// `NoMemory` comes only for want of memory.
     pub fn copy(&self) -> Result<Self, NoMemory>
         ensures { IfOk result (λ text. text ≡ self.now) }
     {

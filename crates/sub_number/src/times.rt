@@ -57,8 +57,6 @@ impl TimeMap {
 
     /// Gives the id this time in place of any earlier one, and leaves the other ids as they are. Where it has one, no
     /// memory is taken.
-    ///
-    /// `NoMemory` comes only for want of memory, and then each id is as before.
     pub fn put(&mut self, id: &Text, nanos: u64) -> Result<(), NoMemory>
         ensures ok { OnOk result (self.new ≡ map.insert self.old id.now nanos) }
         ensures err { OnErr result (self.new ≡ self.old) }
@@ -73,8 +71,6 @@ impl TimeMap {
     }
 
     /// The ids that have a time, each once, in the order of their bytes.
-    ///
-    /// `NoMemory` comes only for want of memory.
     pub fn ids(&self, alloc: Global) -> Result<IdList, NoMemory>
         ensures { IfOk result (λ ids. ids ≡ map.keys self.now) }
     {

@@ -58,8 +58,6 @@ fn write_ids(ids: &[Text], list: bool, text: &mut Vec<u8>) -> Result<(), NoMemor
 }
 
 /// Appends the failing ids: as a list, each id alone on a line; else each behind `FAIL: `, and then their number.
-///
-/// `NoMemory` comes only for want of memory, and then nothing is appended.
 pub fn failing_text(ids: &IdList, list: bool, out: &mut Vec<u8>) -> Result<(), NoMemory>
     ensures ok { OnOk result (out.new.items ≡ out.old.items ++ failing_text_of ids.now list) }
     ensures err { OnErr result (out.new.items ≡ out.old.items) }

@@ -2,6 +2,15 @@
 //!
 //! The texts stand in docs/COMMANDS.md under "Printed texts". `specs/` states each of them as a list of bytes that the
 //! rows, ids and numbers decide.
+//!
+//! For want of memory a public call answers `NoMemory`, which comes for nothing else; what it was lent is then as
+//! before, where it does not say otherwise.
+//!
+//! - `report`, `summary`: the report of a run, and how it ends
+//! - `failing`, `slowest`, `stats`: failing ids, slowest tests, and counts
+//! - `listing`: the line of an id in the listing of a stream
+//! - `seconds`: times in seconds
+//! - `laws`: the summary of lanes does not tell in which order they come
 #![tactic(auto)]
 
 mod failing;

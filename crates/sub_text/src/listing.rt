@@ -34,8 +34,6 @@ fn write_line(row: &Row, times: bool, out: &mut Vec<u8>) -> Result<(), NoMemory>
 
 /// Appends the row's id and a newline. With `times`, a space and the row's time in seconds stand between them, where it
 /// has one.
-///
-/// `NoMemory` comes only for want of memory, and then nothing is appended.
 pub fn ls_line(row: &Row, times: bool, out: &mut Vec<u8>) -> Result<(), NoMemory>
     ensures ok { OnOk result (out.new.items ≡ out.old.items ++ ls_line_of row.now times) }
     ensures err { OnErr result (out.new.items ≡ out.old.items) }

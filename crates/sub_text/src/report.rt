@@ -91,8 +91,6 @@ fn write_failures(rows: &[Row], text: &mut Vec<u8>) -> Result<(), NoMemory>
 
 /// Appends the report of the run of this number: each row that fails with its text, in the order of the rows, and then
 /// the summary.
-///
-/// `NoMemory` comes only for want of memory, and then nothing is appended.
 pub fn report_text(
     rows: &Rows,
     run: u32,

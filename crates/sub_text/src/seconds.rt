@@ -32,8 +32,6 @@ fn places(number: u32) -> [u8; 4]
 }
 
 /// Appends the nanoseconds as seconds with a point and three places, halves up.
-///
-/// `NoMemory` comes only for want of memory, and then nothing is appended.
 pub fn seconds_text(nanos: u128, out: &mut Vec<u8>) -> Result<(), NoMemory>
     ensures ok { OnOk result (out.new.items ≡ out.old.items ++ seconds_of nanos) }
     ensures err { OnErr result (out.new.items ≡ out.old.items) }

@@ -98,8 +98,6 @@ fn write_lines(rows: &[&Row], text: &mut Vec<u8>) -> Result<(), NoMemory>
 
 /// Appends the tests that ran and have a time, each with its seconds on a line: the longest first, of equal times by
 /// id, then by route. There are ten, or all.
-///
-/// `NoMemory` comes only for want of memory, and then nothing is appended.
 pub fn slowest_text(
     alloc: Global,
     rows: &Rows,

@@ -91,8 +91,6 @@ fn write_stats(counts: Counts, tags: &[Text], text: &mut Vec<u8>) -> Result<(), 
 }
 
 /// Appends these counts and these tags as `stats_text` does.
-///
-/// `NoMemory` comes only for want of memory, and then nothing is appended.
 pub fn counts_text(counts: Counts, tags: &Tags, out: &mut Vec<u8>) -> Result<(), NoMemory>
     ensures ok { OnOk result (out.new.items ≡ out.old.items ++ stats_lines counts tags.now) }
     ensures err { OnErr result (out.new.items ≡ out.old.items) }
@@ -107,8 +105,6 @@ pub fn counts_text(counts: Counts, tags: &Tags, out: &mut Vec<u8>) -> Result<(),
 
 /// Appends how many tests there are, how many of them passed, failed and were skipped, and the tags that were seen, in
 /// the order of their bytes. Tests that are only known to exist are left out.
-///
-/// `NoMemory` comes only for want of memory, and then nothing is appended.
 pub fn stats_text(rows: &Rows, out: &mut Vec<u8>) -> Result<(), NoMemory>
     ensures ok { OnOk result (out.new.items ≡ out.old.items ++ stats_of rows.now) }
     ensures err { OnErr result (out.new.items ≡ out.old.items) }

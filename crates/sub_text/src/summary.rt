@@ -68,8 +68,6 @@ fn write_second_line(counts: Counts, run: u32, text: &mut Vec<u8>) -> Result<(),
 
 /// Appends the summary of the run of this number: how many tests ran and how long they took, and whether they passed.
 /// A row that has one of the tags and does not fail is left out.
-///
-/// `NoMemory` comes only for want of memory, and then nothing is appended.
 pub fn summary_text(
     rows: &Rows,
     run: u32,
@@ -83,8 +81,6 @@ pub fn summary_text(
 }
 
 /// The same, by how many rows there are.
-///
-/// `NoMemory` comes only for want of memory, and then nothing is appended.
 pub fn summary_from(counts: Counts, run: u32, out: &mut Vec<u8>) -> Result<(), NoMemory>
     ensures ok { OnOk result (out.new.items ≡ out.old.items ++ summary_lines counts run) }
     ensures err { OnErr result (out.new.items ≡ out.old.items) }

@@ -40,10 +40,10 @@ impl From<NoMemory> for CallRefusal {
 /// (docs/FORMATS.md, "What a count job tells"). `None` comes exactly where `test_run_concurrency` is not set; then nothing
 /// is started.
 ///
-/// `Spawn` comes exactly where the start fails, and raises the spawner's count of faults; `Child` exactly where the reads
-/// of the child or the wait for it fail; `NoNumber` exactly where the child ended with another status than 0, its output
-/// has more than 64 bytes, or is not 1 to 9 digits between white space and newlines; and `NoMemory` only for want of
-/// memory. In each case the child was waited for, and before that stopped where it was not read to its end.
+/// `Spawn` comes exactly where the start fails, and raises the spawner's count of faults; `Child` exactly where the
+/// reads of the child or the wait for it fail; `NoNumber` exactly where the child ended with another status than 0, its
+/// output has more than 64 bytes, or is not 1 to 9 digits between white space and newlines. In each case the child was
+/// waited for, and before that stopped where it was not read to its end.
 pub fn call_out<S: Spawner>(
     alloc: Global,
     conf: &Conf,

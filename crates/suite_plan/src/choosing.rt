@@ -13,8 +13,6 @@ use std::alloc::Global;
 use sub_number::{IdList, NoMemory, Text};
 
 /// The ids, in their order, that stand among the others too. Both are moved, and none is copied.
-///
-/// `NoMemory` comes only for want of memory.
 pub fn in_both(alloc: Global, ids: IdList, others: IdList) -> Result<IdList, NoMemory>
     ensures { IfOk result (λ both. both ≡ ids_in_both ids others) }
 {
@@ -48,8 +46,6 @@ fn picked(alloc: Global, ids: IdList, filters: &Filters) -> Result<IdList, NoMem
 
 /// The ids, of which each stands once, in which some pattern is found, or all of them where there is no pattern, in their
 /// order.
-///
-/// `NoMemory` comes only for want of memory.
 pub fn choose(alloc: Global, ids: IdList, filters: &Filters) -> Result<IdList, NoMemory>
     requires distinct { IsDistinct bytes_eq ids }
     ensures { IfOk result (λ chosen. chosen ≡ chosen_of filters.now ids) }
@@ -84,8 +80,6 @@ fn choose_given(
 /// that a load list has, in the order of the failing ids; else the failing ids, or those of the load list, or those of a
 /// listing, of which each stands once, whichever is given first. `None` comes exactly where none of the three is given:
 /// then one worker runs all tests.
-///
-/// `NoMemory` comes only for want of memory.
 pub fn chosen(
     alloc: Global,
     failing: Option<IdList>,

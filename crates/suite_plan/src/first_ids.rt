@@ -33,7 +33,7 @@ impl FirstIds {
 
     /// One id more.
     ///
-    /// `NoMemory` comes only for want of memory. Nothing is known then of the ids.
+    /// After `NoMemory` nothing is known of the ids.
     pub(crate) fn add(&mut self, id: Text) -> Result<(), NoMemory>
         ensures { (ids : List (List ℕ)) → HasFirsts self.old ids → OnOk result (HasFirsts self.new (ids ++ id ∷ [])) }
     {
@@ -55,8 +55,6 @@ impl FirstIds {
 }
 
 /// The ids in their order, of repeats the first. So each stands once. They are moved.
-///
-/// `NoMemory` comes only for want of memory.
 pub fn firsts(alloc: Global, ids: IdList) -> Result<IdList, NoMemory>
     ensures firsts { IfOk result (λ list. list ≡ firsts ids) }
     ensures distinct { IfOk result (λ list. IsDistinct bytes_eq list) }

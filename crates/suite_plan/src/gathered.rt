@@ -25,8 +25,6 @@ impl Gathered {
     ghost use Rattle.suite_plan.specs.Listing.{Lists};
 
     /// Nothing was read yet.
-    ///
-    /// `NoMemory` comes only for want of memory.
     pub(crate) fn new(alloc: Global) -> Result<Self, NoMemory>
         ensures has { IfOk result (λ gathered. HasGathered gathered []) }
         ensures room { IfOk result HasRoom }
@@ -39,8 +37,6 @@ impl Gathered {
     }
 
     /// The output has ended: gives the ids that it lists.
-    ///
-    /// `NoMemory` comes only for want of memory.
     pub(crate) fn close(self) -> Result<IdList, NoMemory>
         ensures lists { (bytes : List ℕ) → HasGathered self bytes → IfOk result (λ ids. Lists ids bytes) }
         ensures distinct { (bytes : List ℕ) → HasGathered self bytes → IfOk result (IsDistinct bytes_eq) }

@@ -16,7 +16,7 @@ use sub_number::{NoMemory, Text};
 
 /// Gathers the ids of all notes that can be told of the bytes held, in order.
 ///
-/// `NoMemory` comes only for want of memory. Nothing is known then of the ids.
+/// After `NoMemory` nothing is known of the ids.
 pub(crate) fn gather_notes(reader: &mut Reader, found: &mut FirstIds) -> Result<(), NoMemory>
     ensures gathered { (notes : List ANote) → HasIdsOf found.old (events_of notes) → OnOk result (GathersNotes notes reader.old reader.new found.new) }
     ensures held { OnOk result (reader.new.ended ≡ false → length reader.new.bytes ≤ most_held) }

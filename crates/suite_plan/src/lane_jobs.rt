@@ -14,8 +14,7 @@ use testr_conf::{Conf, JobFault};
 /// The jobs of the workers in the order of their lanes: where no shares are given one job of all tests, else one for
 /// each share, whose id file has the number of its lane. Where there is no share there is no job.
 ///
-/// `NoOption` comes exactly where there is a share, `$IDOPTION` is in the command and `test_id_option` is not set;
-/// `NoMemory` only for want of memory.
+/// `NoOption` comes exactly where there is a share, `$IDOPTION` is in the command and `test_id_option` is not set.
 pub fn jobs_of_lanes(
     alloc: Global,
     conf: &Conf,

@@ -5,6 +5,9 @@
 //! the runs that are kept, nor of what workers give. The rules stand in docs/FORMATS.md, "The configuration", "Lists of
 //! ids", "Jobs", "Patterns" and "Shares", and in docs/COMMANDS.md.
 //!
+//! For want of memory a public call answers `NoMemory`, which comes for nothing else; what it was lent is then as
+//! before, where it does not say otherwise. What it did outside by then stands.
+//!
 //! - `texts`: files that are read whole, and must not be too long
 //! - `conf_file`, `load_list`, `processors`: the configuration, a list of ids, and the table of processors
 //! - `output`, `head`, `gathering`, `gathered`: what a child gives, read to its end

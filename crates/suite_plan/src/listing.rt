@@ -56,10 +56,10 @@ impl From<JobFault> for ListingRefusal {
 /// Runs the list job of the configuration, and gives the ids of the tests of which its output tells that they exist, in
 /// order, of repeats the first (docs/FORMATS.md, "Listings"). Foreign bytes and other events are passed over.
 ///
-/// `NoListOption` comes exactly where there is no list job; then nothing is started. `Spawn` comes exactly where the start
-/// fails, and raises the spawner's count of faults; `Child` exactly where the reads of the child or the wait for it fail;
-/// `Failed` exactly where the child ended with another status than 0; and `NoMemory` only for want of memory. In each
-/// case the child was waited for, and before that stopped where it was not read to its end.
+/// `NoListOption` comes exactly where there is no list job; then nothing is started. `Spawn` comes exactly where the
+/// start fails, and raises the spawner's count of faults; `Child` exactly where the reads of the child or the wait for
+/// it fail; `Failed` exactly where the child ended with another status than 0. In each case the child was waited for,
+/// and before that stopped where it was not read to its end.
 pub fn list_tests<S: Spawner>(
     alloc: Global,
     conf: &Conf,

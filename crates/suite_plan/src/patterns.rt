@@ -29,8 +29,8 @@ pub enum PatternRefusal<'a> {
 
 /// The patterns and the regex of the groups, each compiled once. Without a regex each test is a group of its own.
 ///
-/// `Bad` comes only with the first bad one of the patterns, in their order, and with the regex only where all of them are
-/// good. `NoMemory` comes only for want of memory.
+/// `Bad` comes only with the first bad one of the patterns, in their order, and with the regex only where all of them
+/// are good.
 pub fn compile<'a>(
     alloc: Global,
     patterns: &'a IdList,

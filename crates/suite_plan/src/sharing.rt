@@ -18,8 +18,6 @@ pub const MOST_WORKERS: u32 = 64;
 /// One worker gets all ids in their order. Among several they are shared out by their groups and known times, as
 /// docs/FORMATS.md says under "Shares". No share is empty, so that there may be fewer than workers; where there is no id
 /// there is no share.
-///
-/// `NoMemory` comes only for want of memory.
 pub fn share_out(
     alloc: Global,
     ids: IdList,

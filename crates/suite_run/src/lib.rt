@@ -3,6 +3,9 @@
 //! This room knows jobs, children and the run that is written; it knows nothing of what a job is for, nor of what is printed.
 //! The rules stand in docs/FORMATS.md, "What a lane gives", and docs/DISK.md.
 //!
+//! For want of memory a public call answers `NoMemory`, which comes for nothing else; what it was lent is then as
+//! before, where it does not say otherwise. What it did outside by then stands.
+//!
 //! - `starting`: a child for each job, as the lane of its place
 //! - `recording`: the lanes, read to their ends and added to the run, and what is kept of the rows of what was added
 //! - `laws`: what is added where the children tell their output

@@ -39,9 +39,9 @@ pub enum LanesRefusal {
 /// gives what is kept of the rows of what was added, where these tags filter: the thread that adds a packet folds its event,
 /// so that the run need not be read again.
 ///
-/// `Shelf` comes exactly where a call of the folder failed, also where memory ran out too. The lanes are read to their ends
-/// also where the folder fails, unless memory runs out (no clause says so). `NoMemory` comes only for want of memory; all
-/// children were then stopped and waited for (no clause says so). What was added is not known at either.
+/// `Shelf` comes exactly where a call of the folder failed, also where memory ran out too. The lanes are read to their
+/// ends also where the folder fails, unless memory runs out (no clause says so). With `NoMemory` all children were
+/// stopped and waited for (no clause says so). What was added is not known at either.
 pub fn record_lanes<R: Threads + Wait + Sync, C: Child + Send + Drop, H: Shelf>(
     rt: &R,
     alloc: Global,

@@ -23,8 +23,8 @@ pub enum StartRefusal {
 /// Starts the jobs in order, each child as the lane of its place: the first is lane 0, the next one lane 1, and so on.
 /// There are 64 at most.
 ///
-/// `Spawn` comes exactly where a start fails, `NoMemory` only for want of memory. In both cases no further job is started,
-/// and the children that were started are stopped and waited for (no clause says so).
+/// `Spawn` comes exactly where a start fails. Then, and for want of memory, no further job is started, and the children
+/// that were started are stopped and waited for (no clause says so).
 pub fn start_lanes<S: Spawner>(
     alloc: Global,
     spawner: &mut S,

@@ -53,7 +53,7 @@ impl Comment {
 
     /// Appends the line and a newline, and keeps the first bytes.
     ///
-    /// `NoMemory` comes only for want of memory.
+    /// After `NoMemory` nothing is known of the comment.
     pub(crate) fn add_line(&mut self, line: &[u8]) -> Result<(), NoMemory>
         ensures { OnOk result (self.new ≡ take comment_limit (self.old ++ with_newline line.now)) }
     {
@@ -66,8 +66,6 @@ impl Comment {
     }
 
     /// The comment as a file, where it is not empty.
-    ///
-    /// `NoMemory` comes only for want of memory.
     pub(crate) fn into_file(self, alloc: Global) -> Result<Option<FilePart>, NoMemory>
         ensures file { IfOk result (λ file. file ≡ comment_file self) }
         ensures short { IfOk result (λ file. IfSome file IsShortFile) }

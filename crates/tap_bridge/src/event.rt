@@ -28,8 +28,6 @@ fn mime_of(alloc: Global, file: &Option<FilePart>) -> Result<Option<Text>, NoMem
 }
 
 /// The event of the test of this id, with this file.
-///
-/// `NoMemory` comes only for want of memory.
 pub(crate) fn test_event(
     alloc: Global,
     id: TestId,
@@ -87,7 +85,7 @@ fn missing_event(alloc: Global, number: u64) -> Result<Event, NoMemory>
 
 /// Appends the events of the missing tests from the one number up to the other, without it.
 ///
-/// `NoMemory` comes only for want of memory.
+/// After `NoMemory` nothing is known of the events.
 pub(crate) fn add_missing(
     alloc: Global,
     first: u64,
@@ -105,7 +103,7 @@ pub(crate) fn add_missing(
 
 /// Appends the event of a plan of no tests that skips them, where it is one.
 ///
-/// `NoMemory` comes only for want of memory.
+/// After `NoMemory` nothing is known of the events.
 pub(crate) fn add_skipped_file(
     alloc: Global,
     plan: Plan,
@@ -122,8 +120,6 @@ pub(crate) fn add_skipped_file(
 }
 
 /// The event of a line that gives the run up.
-///
-/// `NoMemory` comes only for want of memory.
 pub(crate) fn bail_out_event(alloc: Global, line: &[u8]) -> Result<Event, NoMemory>
     requires { length line.now ≤ spec.longest_line }
     ensures event { IfOk result (λ event. event ≡ spec.event_with line.now Fail None) }
@@ -134,8 +130,6 @@ pub(crate) fn bail_out_event(alloc: Global, line: &[u8]) -> Result<Event, NoMemo
 }
 
 /// The line and a newline as a piece of the file `stdout`.
-///
-/// `NoMemory` comes only for want of memory.
 pub(crate) fn output_event(alloc: Global, line: &[u8]) -> Result<Event, NoMemory>
     requires { length line.now ≤ spec.longest_line }
     ensures event { IfOk result (λ event. event ≡ event_of_output (spec.with_newline line.now)) }

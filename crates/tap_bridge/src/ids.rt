@@ -64,8 +64,6 @@ fn text_of(alloc: Global, text: &str) -> Result<TestId, NoMemory>
 }
 
 /// The bytes, which are not too many for it, as an id, with U+FFFD for what is no UTF-8 and for each NUL.
-///
-/// `NoMemory` comes only for want of memory.
 pub(crate) fn id_of(alloc: Global, bytes: &[u8]) -> Result<TestId, NoMemory>
     requires { length bytes.now < 2 ^ 17 }
     ensures { IfOk result (λ id. id ≡ spec.id_of bytes.now) }
@@ -92,8 +90,6 @@ fn describe(description: &[u8], name: &mut Vec<u8>) -> Result<(), NoMemory>
 }
 
 /// The id of the test of this number and description. `name` lends its room.
-///
-/// `NoMemory` comes only for want of memory.
 pub(crate) fn test_id(
     alloc: Global,
     number: u64,

@@ -3,6 +3,9 @@
 //! The rules stand in docs/FORMATS.md under "TAP". `specs/` states the grammar of one line apart from what a list of
 //! lines means.
 //!
+//! For want of memory a public call answers `NoMemory`, which comes for nothing else; what it was lent is then as
+//! before, where it does not say otherwise.
+//!
 //! - `blanks`, `number`, `directive`: the parts of a line
 //! - `plan`, `test_line`, `line`: what one line is
 //! - `ids`, `comment`, `event`: the parts of the events, and the events

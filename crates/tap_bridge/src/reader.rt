@@ -154,7 +154,7 @@ impl TapReader {
     /// it. A test line's own event comes only with the next plan, test line or bail out, or at the end, since the
     /// comment lines behind it belong to it.
     ///
-    /// `NoMemory` comes only for want of memory, and then the reader is given up: nothing is said of what it knows.
+    /// After `NoMemory` the reader is given up: nothing is said of what it knows.
     pub fn line(&mut self, line: &[u8]) -> Result<Vec<Event>, NoMemory>
         requires { length line.now ≤ spec.longest_line }
         ensures events { (lines : List (List ℕ)) → HasRead self.old lines → IfOk result (λ events. events.items ≡ spec.events_at (map spec.input_of lines) (spec.input_of line.now)) }
@@ -170,7 +170,7 @@ impl TapReader {
 
     /// The same as `line`, but what the line decides is appended to a list, which a caller of many lines may keep.
     ///
-    /// `NoMemory` comes only for want of memory, and then the reader is given up: nothing is said of what it knows.
+    /// After `NoMemory` the reader is given up: nothing is said of what it knows.
     pub fn line_into(&mut self, line: &[u8], events: &mut Vec<Event>) -> Result<(), NoMemory>
         requires { length line.now ≤ spec.longest_line }
         ensures events { (lines : List (List ℕ)) → HasRead self.old lines → OnOk result (events.new.items ≡ events.old.items ++ spec.events_at (map spec.input_of lines) (spec.input_of line.now)) }
@@ -185,7 +185,7 @@ impl TapReader {
     /// whether it was taken. Such a line decides nothing, so that a caller of many lines asks this first. Where the line
     /// was not taken nothing has changed, and one of the calls above is to take it.
     ///
-    /// `NoMemory` comes only for want of memory, and then the reader is given up: nothing is said of what it knows.
+    /// After `NoMemory` the reader is given up: nothing is said of what it knows.
     pub fn comment(&mut self, line: &[u8]) -> Result<bool, NoMemory>
         requires { length line.now ≤ spec.longest_line }
         ensures which { (lines : List (List ℕ)) → HasRead self.old lines → IfOk result (λ taken. taken ≡ spec.is_awaited (map spec.input_of lines) (spec.input_of line.now)) }
@@ -203,8 +203,6 @@ impl TapReader {
 
     /// Ends the lines, and gives what the end decides: the event of the test that waits, and of each test that the plan
     /// promised and no line gave.
-    ///
-    /// `NoMemory` comes only for want of memory.
     pub fn close(mut self) -> Result<Vec<Event>, NoMemory>
         ensures events { (lines : List (List ℕ)) → HasRead self lines → IfOk result (λ events. events.items ≡ spec.events_at_end (map spec.input_of lines)) }
         ensures fits { IfOk result (λ events. All Fits events.items) }

@@ -39,8 +39,6 @@ fn comment_with(alloc: Global, reason: &[u8]) -> Result<Comment, NoMemory>
 
 impl Waiting {
     /// The test of the line, which has this number. `name` lends its room.
-    ///
-    /// `NoMemory` comes only for want of memory.
     pub(crate) fn begun(
         alloc: Global,
         number: u64,
@@ -58,8 +56,6 @@ impl Waiting {
     }
 
     /// Its event.
-    ///
-    /// `NoMemory` comes only for want of memory.
     pub(crate) fn into_event(self, alloc: Global) -> Result<Event, NoMemory>
         ensures event { IfOk result (λ event. event ≡ kept_event self) }
         ensures fits { IfOk result Fits }

@@ -117,8 +117,6 @@ impl TapWriter {
 
     /// Appends the line of the row, with the next number from 1 on. A row of a test that is there and did not run has
     /// none.
-    ///
-    /// `NoMemory` comes only for want of memory, and then the writer is as before and nothing is appended.
     pub fn row(&mut self, row: &Row, out: &mut Vec<u8>) -> Result<(), NoMemory>
         ensures text { (rows : List ARow) → spec.HasWritten self.old rows → OnOk result (out.new.items ≡ out.old.items ++ spec.text_at rows row.now) }
         ensures so_far { (rows : List ARow) → spec.text_so_far (rows ++ row.now ∷ []) ≡ spec.text_so_far rows ++ spec.text_at rows row.now }
@@ -137,8 +135,6 @@ impl TapWriter {
     }
 
     /// Appends the plan, which ends the text: how many lines were written.
-    ///
-    /// `NoMemory` comes only for want of memory, and then nothing is appended.
     pub fn close(self, out: &mut Vec<u8>) -> Result<(), NoMemory>
         ensures text { (rows : List ARow) → spec.HasWritten self rows → OnOk result (out.new.items ≡ out.old.items ++ spec.plan_line (spec.lines_in rows)) }
         ensures whole { (rows : List ARow) → spec.tap_text rows ≡ spec.text_so_far rows ++ spec.plan_line (spec.lines_in rows) }

@@ -4,6 +4,8 @@
 //! name, a spawner of programs, an input and two sinks. Its contract is the theorem of each command. It knows the words,
 //! the order of the steps and the refusals, and never a real file or process.
 //!
+//! For want of memory a call refuses so, and for nothing else; what it did outside by then stands, and its status is 5.
+//!
 //! - `command`, `drawing`, `words`, `values`: which words are a command
 //! - `store`, `recording`, `files`, `refreshing`, `reporting`, `printing`, `told`, `copying`, `asking`: the steps, each with why it refuses
 //! - `selecting`, `planning`, `working`: which tests run, what each worker is started with, and the workers themselves
@@ -11,6 +13,8 @@
 //! - `init`, `load`, `ask`, `run`, `list`, `selftest`: the commands, each a chain of steps
 //! - `top`: `program`, `testr` and `quiet`
 //! - `laws`, `suite_laws`: each named refusal comes exactly where its cause is
+//!
+//! Its tests stand in rooms of their own above it, `load_trials` and `run_trials`.
 #![tactic(auto)]
 
 mod answer;
@@ -53,28 +57,3 @@ pub use suite_laws::suite_refusals_are_exact;
 pub use told::TellFault;
 pub use top::{program, quiet, testr};
 pub use words::{UsageFault, reads};
-
-#[cfg(test)]
-mod tests;
-#[cfg(test)]
-mod tests_ask;
-#[cfg(test)]
-mod tests_caches;
-#[cfg(test)]
-mod tests_copying;
-#[cfg(test)]
-mod tests_files;
-#[cfg(test)]
-mod tests_list;
-#[cfg(test)]
-mod tests_load;
-#[cfg(test)]
-mod tests_printing;
-#[cfg(test)]
-mod tests_run;
-#[cfg(test)]
-mod tests_selftest;
-#[cfg(test)]
-mod tests_store;
-#[cfg(test)]
-mod tests_words;

@@ -45,7 +45,7 @@ fn put_failures<O: Sink, const ROOM: usize>(
 }
 
 // Puts the parts behind what is gathered, one after another.
-pub(crate) fn put_parts<O: Sink, const ROOM: usize>(
+fn put_parts<O: Sink, const ROOM: usize>(
     out: &mut O,
     gathered: &mut ArrayVec<u8, ROOM>,
     parts: &[&[u8]],

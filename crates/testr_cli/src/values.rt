@@ -28,8 +28,6 @@ pub(crate) fn workers_in(items: &[Item<'_>]) -> Option<u32>
 
 /// The file of the ids that are wanted, by the last option that names one; none in the answer where no option does. None
 /// comes exactly where that name is no text.
-///
-/// `NoMemory` comes only for want of memory.
 pub(crate) fn load_list_in(
     alloc: Global,
     items: &[Item<'_>],

@@ -47,8 +47,6 @@ pub fn is_testr(words: &[String]) -> bool
 }
 
 /// The command that the words behind `testr` are. None comes exactly where they are none.
-///
-/// `NoMemory` comes only for want of memory.
 pub fn reads(alloc: Global, words: &[String]) -> Result<Option<Command>, NoMemory>
     ensures { IfOk result (λ command. command ≡ command_of (texts words.now)) }
 {

@@ -69,9 +69,8 @@ fn read_tags(alloc: Global, value: Option<Text>) -> Result<Tags, NoMemory>
 impl Conf {
     /// The configuration that a text of at most 16 MiB gives (docs/FORMATS.md, "The configuration").
     ///
-    /// `BadLine`, `NoSection` and `Repeated` come with the number of the first line that is refused, exactly where it is
-    /// refused so; `NoCommand` comes exactly where no line is refused and `test_command` is not set or empty; and
-    /// `NoMemory` only for want of memory.
+    /// `BadLine`, `NoSection` and `Repeated` come with the number of the first line that is refused, exactly where it
+    /// is refused so; `NoCommand` comes exactly where no line is refused and `test_command` is not set or empty.
     pub fn read(alloc: Global, text: &[u8]) -> Result<Self, ConfFault>
         requires { length text.now ≤ 16777216 }
         ensures read { IfOk result (λ conf. conf_of text.now ≡ Ok conf) }
@@ -118,8 +117,7 @@ impl Conf {
 impl Conf {
     /// The job that lists the tests: `test_command` with `$LISTOPT` replaced by `test_list_option`.
     ///
-    /// `NoOption` comes exactly where that is not set, or `$LISTOPT` is not in the command; `NoMemory` only for want of
-    /// memory.
+    /// `NoOption` comes exactly where that is not set, or `$LISTOPT` is not in the command.
     pub fn list_job(&self, alloc: Global) -> Result<Job, JobFault>
         ensures job { IfOk result (λ job. list_job_of self.now ≡ Ok job) }
         ensures refused { IfErr result (λ fault. (list_job_of self.now ≡ Err fault) ⊎ (fault ≡ JobFault.NoMemory)) }
@@ -143,7 +141,7 @@ impl Conf {
     }
 
     /// The job that tells how many tests may run at a time, which is `test_run_concurrency` as it is. `None` comes
-    /// exactly where that is not set, and `NoMemory` only for want of memory.
+    /// exactly where that is not set.
     pub fn count_job(&self, alloc: Global) -> Result<Option<Job>, NoMemory>
         ensures job { IfOk result (λ job. job ≡ count_job_of self.now) }
         ensures text { IfOk result (λ job. IfSome job (λ some. IsText some.command)) }
@@ -162,8 +160,8 @@ impl Conf {
     ///
     /// With ids, `$IDFILE` is the name of the lane's id file, `$IDLIST` the ids with a space between each two, and
     /// `$IDOPTION` is `test_id_option` with these replaced in it. Without them `$IDLIST` is `test_id_list_default`. All
-    /// else is nothing. `NoOption` comes exactly where there are ids, `$IDOPTION` is in the command and `test_id_option`
-    /// is not set; `NoMemory` only for want of memory.
+    /// else is nothing. `NoOption` comes exactly where there are ids, `$IDOPTION` is in the command and
+    /// `test_id_option` is not set.
     pub fn run_job(&self, alloc: Global, ids: Option<&IdList>, lane: u32) -> Result<Job, JobFault>
         requires { lane < 64 }
         ensures job { IfOk result (λ job. run_job_of self.now (option_copied ids.entry) lane ≡ Ok job) }

@@ -44,8 +44,7 @@ fn push_id(alloc: Global, number: u32, id: &[u8], ids: &mut IdList) -> Result<()
 /// The ids of a list of at most 16 MiB: its lines, without the white space at both ends of each, in order. Empty lines
 /// are left out (docs/FORMATS.md, "Lists of ids").
 ///
-/// `NotText` names the first line that is not UTF-8 or has a NUL, and comes exactly where there is one; `NoMemory` comes
-/// only for want of memory.
+/// `NotText` names the first line that is not UTF-8 or has a NUL, and comes exactly where there is one.
 pub fn read_ids(alloc: Global, text: &[u8]) -> Result<IdList, IdsFault>
     requires { length text.now ≤ 16777216 }
     ensures ids { IfOk result (λ ids. ids_in text.now ≡ Ok ids) }

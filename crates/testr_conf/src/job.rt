@@ -35,8 +35,6 @@ fn id_file_name(alloc: Global, lane: u32) -> Result<Text, NoMemory>
 }
 
 /// The ids in their order, each on a line.
-///
-/// `NoMemory` comes only for want of memory.
 pub fn id_lines(alloc: Global, ids: &[Text]) -> Result<Vec<u8>, NoMemory>
     ensures { IfOk result (λ lines. lines.items ≡ id_lines ids.now) }
 {

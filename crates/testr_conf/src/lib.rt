@@ -1,5 +1,8 @@
 //! The `.testr.conf` of a project, and the jobs that it asks for.
 //!
+//! For want of memory a public call answers `NoMemory`, which comes for nothing else; what it was lent is then as
+//! before, where it does not say otherwise.
+//!
 //! - `conf`: the configuration, read from a text, and its jobs.
 //! - `fault`: why no configuration was read, and why no job was made.
 //! - `line`: one line of the text.

@@ -1,4 +1,14 @@
 //! The program: the real input, outputs, arguments and folder behind the top call.
+//!
+//! These rooms know files and processes of the system, and nothing of packets or runs.
+//!
+//! - `folder_shelf`, `folder`, `published`: the folder of runs, its draft, and the files that are published in it
+//! - `lock`, `identity`: who may use the folder beside others, and whether a name still leads to the file that was opened
+//! - `real_spawner`, `real_child`, `id_paper`: worker processes, and the files of ids that they are told
+//! - `real_site`: files of the project by name
+//! - `stream_source`, `stream_sink`, `descriptors`: standard input and outputs, also where they are closed
+//! - `cause`, `counting`: why a call of the system failed, and the count of such faults
+//! - `help`, `filter_help`: the texts of `--help`
 #![tactic(auto)]
 
 mod cause;

@@ -3,6 +3,9 @@
 //! This room knows what one worker's output becomes, and nothing of other workers. The rule stands in docs/FORMATS.md,
 //! "What is recorded of a stream".
 //!
+//! For want of memory a public call answers `NoMemory`, which comes for nothing else; what it was lent is then as
+//! before, where it does not say otherwise.
+//!
 //! - `scribe`: the bytes fed, and the packets that are recorded of them
 //! - `waiting`: what is still to be given of a note
 //! - `stdout`: bytes as a packet

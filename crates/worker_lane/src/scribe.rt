@@ -49,8 +49,6 @@ impl Model for Scribe {
 
 impl Scribe {
     /// A scribe to which nothing was fed. The lane is below 64.
-    ///
-    /// `NoMemory` comes only for want of memory.
     pub fn new(alloc: Global, lane: u32) -> Result<Self, NoMemory>
         requires { lane < 64 }
         ensures empty { IfOk result (λ scribe. scribe ≡ record { lane = lane; waiting = []; held = record { bytes = []; ended = false } }) }
@@ -94,8 +92,6 @@ impl Scribe {
     /// Appends the next recorded packet, and answers true: under the lane, where it fits there, from the parts that were
     /// read, and else as a piece of the file `stdout`. False comes where there is none: before the end, until more bytes
     /// are fed; behind the end, where all were given. After false before the end at most 4,259,837 bytes are held.
-    ///
-    /// `NoMemory` comes only for want of memory, and leaves the scribe and `out` as before.
     pub fn next_into(&mut self, out: &mut Vec<u8>) -> Result<bool, NoMemory>
         ensures given { IfOk result (λ given. given ≡ true → GivesPacket self.old out.old.items self.new out.new.items) }
         ensures packet { IfOk result (λ given. given ≡ true → GivesOne self.old out.old.items self.new out.new.items) }
@@ -107,8 +103,6 @@ impl Scribe {
     }
 
     /// The next recorded packet. None comes where `next_into` answers false.
-    ///
-    /// `NoMemory` comes only for want of memory, and leaves the scribe as before.
     pub fn next(&mut self) -> Result<Option<Bytes>, NoMemory>
         ensures some { IfOk result (λ answer. IfSome answer (λ packet. GivesPacket self.old [] self.new packet)) }
         ensures shorter { IfOk result (λ answer. IfSome answer (λ packet. most_left self.new < most_left self.old)) }
@@ -125,8 +119,6 @@ impl Scribe {
 
     /// The packet that tells of the end of the lane. None exactly where the child ended with 0. The ending is not
     /// `NoMemory`.
-    ///
-    /// `NoMemory` comes only for want of memory.
     pub fn ending(&self, ending: &Ending) -> Result<Option<Bytes>, NoMemory>
         requires { ending.now ≡ without_memory → ⊥ }
         ensures packet { IfOk result (λ answer. option_to_list answer ≡ map canonical (ending_events self.now.lane ending.now)) }

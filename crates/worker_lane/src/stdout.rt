@@ -15,8 +15,6 @@ pub(crate) fn are_bytes(bytes: &[u8])
 {}
 
 /// Appends the packet of the bytes as a piece of the file `stdout`, under the lane.
-///
-/// `NoMemory` comes only for want of memory, and `out` is then as before.
 #[inline(never)]
 pub(crate) fn put_stdout(lane: u32, bytes: &[u8], out: &mut Vec<u8>) -> Result<(), NoMemory>
     requires lane { lane < 64 }

@@ -16,7 +16,7 @@ const PART: usize = 65_536;
 /// Appends all packets that are recorded of the bytes fed and were not given yet, in order: before the end, those that
 /// these bytes decide; behind the end, all.
 ///
-/// `NoMemory` comes only for want of memory. Some of the packets may then have been given, and `out` has them.
+/// With `NoMemory` some of the packets may have been given, and `out` has them.
 pub fn take_packets(scribe: &mut Scribe, out: &mut Vec<u8>) -> Result<(), NoMemory>
     ensures given { GivesPackets scribe.old out.old.items scribe.new out.new.items }
     ensures none { OnOk result (HasNone scribe.new) }
@@ -47,8 +47,6 @@ fn record_piece(scribe: &mut Scribe, out: &mut Vec<u8>, piece: &[u8]) -> Result<
 
 /// The packets that are recorded under the lane of a stream that comes in these pieces. They are those of the joined
 /// pieces, however these were cut. The lane is below 64.
-///
-/// `NoMemory` comes only for want of memory.
 pub fn recorded_of_pieces(alloc: Global, lane: u32, pieces: &[Bytes]) -> Result<Vec<u8>, NoMemory>
     requires { lane < 64 }
     ensures { IfOk result (λ written. IsRecorded lane (flat_map (λ piece. piece) pieces.now) written.items) }

@@ -29,8 +29,6 @@ pub struct Belt {
 impl Belt {
     /// A belt with room for so many lots, its taker, and a pass for each lane, with the numbers 0, 1 and so on. There are
     /// 1 to 64 lanes, and room for 1 to 1,024 lots.
-    ///
-    /// `NoMemory` comes only for want of memory.
     pub fn new(
         alloc: Global,
         lanes: u32,

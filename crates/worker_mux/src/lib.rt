@@ -5,6 +5,9 @@
 //! each step, the lots that were taken of a lane and then those on the belt, from front to back, are the lots that its pass
 //! has put.
 //!
+//! For want of memory a public call answers `NoMemory`, which comes for nothing else; what it was lent is then as
+//! before, where it does not say otherwise. What it did outside by then stands.
+//!
 //! - `belt`: the queue, and its calls
 //! - `pass`: who puts and who takes
 //! - `knowledge`: what clauses see of both; no value of it is made

@@ -10,7 +10,8 @@ pub trait Listener {
     /// What it has heard since it was the first of the two: these pieces, each of which is whole packets.
     ghost heard: { Self → Self → List (List ℕ) → Type 0 };
 
-    /// Hears the next piece, which is known to be whole packets and need not be tested. `NoMemory` comes only for want of memory; nothing is known then of what it has heard.
+    /// Hears the next piece, which is known to be whole packets and need not be tested. After `NoMemory` nothing is
+    /// known of what it has heard.
     fn hear(&mut self, piece: &[u8]) -> Result<(), NoMemory>
         requires packets { ArePackets piece.now }
         ensures hears { (begun : Self) (pieces : List (List ℕ)) → heard begun self.old pieces → OnOk result (heard begun self.new (pieces ++ piece.now ∷ [])) };

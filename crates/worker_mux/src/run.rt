@@ -43,8 +43,7 @@ const ROOM: usize = 16;
 /// lanes; of each lane whose child tells they are all its events, once and in order. Where a call of the folder failed,
 /// the recorder is closed, and the lanes were still read to their ends (no clause says so).
 ///
-/// `NoMemory` comes only for want of memory. All children were then stopped and waited for (no clause says so), and what was
-/// added is not known.
+/// With `NoMemory` all children were stopped and waited for (no clause says so), and what was added is not known.
 pub fn run_lanes<R: Threads + Wait + Sync, C: Child + Send + Drop, H: Shelf>(
     rt: &R,
     alloc: Global,

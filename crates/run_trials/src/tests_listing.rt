@@ -1,11 +1,11 @@
 //! `testr list-tests` over programs in memory, and what is said of a configuration.
 
-use crate::tests::NOTHING;
-use crate::tests_run::{CONF, ENDED, LISTED, call_in, has_started, project_of, shows};
+use crate::configured::{CONF, ENDED, LISTED};
 use edge_io::{Finish, MemShelf, Shelf};
 use std::sync::Wait;
 use std::test::Fail;
 use std::thread::Threads;
+use trial_calls::{NOTHING, call_in, has_started, project_of, shows};
 
 // The tests `a` and `b`, and `a` once more, are there.
 const A_B_A: &[u8] =

@@ -1,7 +1,7 @@
 //! The words of `run` and `list-tests`.
 
-use crate::{Command, Verb, reads};
 use std::alloc::Global;
+use testr_cli::{Command, Verb, reads};
 
 fn push_words(alloc: Global, list: &mut Vec<String>, words: &[&str]) -> Option<()> {
     for word in words {

@@ -1,12 +1,12 @@
 //! The files of the caches under the commands: which one is taken, and which runs are not read then.
 
-use crate::tests::{NOTHING, SHELF_FAULT, put, repository, tells_of};
-use crate::tests_run::{CONF, ENDED, call_in, has_started, project_with};
+use crate::configured::{CONF, ENDED, project_beside};
 use edge_io::MemShelf;
 use std::alloc::Global;
 use std::sync::Wait;
 use std::test::Fail;
 use std::thread::Threads;
+use trial_calls::{NOTHING, SHELF_FAULT, call_in, has_started, put, repository, tells_of};
 
 // `a` and `b` failed.
 const A_AND_B_FAILED: &[u8] =
@@ -106,7 +106,7 @@ fn are_divided<R: Threads + Wait + Sync + AllocGlobal>(
     jobs: &[[&[u8]; 3]],
 ) -> Result<bool, Fail> {
     let outputs = [(NOTHING, ENDED), (NOTHING, ENDED)];
-    let mut project = project_with(rt.alloc(), CONF, &outputs, b"l", b"a\nb\nc\n")?;
+    let mut project = project_beside(rt.alloc(), CONF, &outputs, b"l", b"a\nb\nc\n")?;
     let mut shelf = with_times(rt.alloc(), cache)?;
     call_in(rt, &LIST_ON_TWO, &mut shelf, &mut project, &[])?;
     Ok(has_started(&project, jobs))

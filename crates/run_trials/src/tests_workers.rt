@@ -1,10 +1,6 @@
 //! The workers of `testr run`: how many there are, which tests each one is told, and what comes of the order in which they
 //! give their packets.
 
-use crate::{
-    FOO, NOTHING, NamedFiles, Scene, call_in, call_with, has_file, has_started, play, project_of,
-    put_file, repository,
-};
 use edge_io::{Child, Failed, Finish, Job, MapSite, Spawner};
 use std::alloc::Global;
 use std::sync::atomic::{AtomicU32, Ordering};
@@ -13,6 +9,10 @@ use std::test::Fail;
 use std::thread;
 use std::thread::Threads;
 use sub_number::{Bytes, Text};
+use trial_calls::{
+    FOO, NOTHING, NamedFiles, Scene, call_in, call_with, has_file, has_started, play, project_of,
+    put_file, repository,
+};
 
 const GOOD: &[u8] = b"[DEFAULT]\ntest_command=run\n";
 

@@ -1,14 +1,15 @@
 //! `testr load` of files, and the words of the commands.
 
-use crate::tests::{FOO, FOO_KEPT, NOTHING, PASSED_AS_0, Told, has_file, owned, repository};
-use crate::tests_run::call_with;
-use crate::{Command, Verb, reads};
 use edge_io::{MapSite, MemShelf, PlanSpawner, Shelf};
 use std::alloc::Global;
 use std::sync::Wait;
 use std::test::Fail;
 use std::thread::Threads;
 use sub_number::{Bytes, Text};
+use testr_cli::{Command, Verb, reads};
+use trial_calls::{
+    FOO, FOO_KEPT, NOTHING, PASSED_AS_0, Told, call_with, has_file, owned, repository,
+};
 
 // `foo` passed, under lane 1.
 const FOO_KEPT_1: &[u8] = b"\xb3\x2d\x03\x0e\x03foo\x01\x31\xd3\xa8\xeb\x76";

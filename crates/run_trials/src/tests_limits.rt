@@ -1,8 +1,8 @@
 //! Files of `testr run` and `testr list-tests` that are too long, or are not there.
 
-use crate::{NamedFiles, Scene, play};
 use std::alloc::Global;
 use std::test::Fail;
+use trial_calls::{NamedFiles, Scene, play};
 
 const CONF: &[u8] =
     b"[DEFAULT]\ntest_command=run $LISTOPT\ntest_list_option=--list\ntest_run_concurrency=\n";

@@ -1,22 +1,17 @@
 //! `testr load` of streams: the run that is kept, the report and the status.
 
-use crate::tests::{
-    FOO, FOO_KEPT, NOTHING, PASSED_AS_0, PASSED_AS_1, SHELF_FAULT, call, has_file, loads,
-    repository, source, tells_and_leaves, tells_of,
-};
 use edge_io::{MemShelf, Shelf};
 use std::alloc::Global;
 use std::process::Abort;
 use std::sync::Wait;
 use std::test::Fail;
 use std::thread::Threads;
+use trial_calls::{
+    FAIL, FAIL_KEPT, FOO, FOO_KEPT, NOTHING, PASSED_AS_0, PASSED_AS_1, SHELF_FAULT, call,
+    call_over, has_file, loads, repository, source, tells_and_leaves, tells_of,
+};
 
 const NO_TESTS: &[u8] = b"Ran 0 tests\nPASSED (id=0)\n";
-
-// `foo` failed.
-pub const FAIL: &[u8] = b"\xb3\x29\x06\x0c\x03foo\x15\x50\x6f\xa3";
-
-pub const FAIL_KEPT: &[u8] = b"\xb3\x2d\x06\x0e\x03foo\x01\x30\xec\x4f\xd5\x84";
 
 const FAIL_REPORT: &[u8] =
     b"======================================================================\nFAIL: foo\n----------------------------------------------------------------------\nRan 1 tests\nFAILED (id=0, failures=1)\n";
@@ -277,4 +272,73 @@ fn packets_of_a_piece_or_more_are_added_one_by_one(rt: HostRuntime) -> Result<()
     // Eleven calls more bring up the caches.
     assert!(rt; loads_where(&rt, &packet, 83, (0, NO_TESTS, NOTHING))?);
     Ok(())
+}
+
+// So many bytes has an id that no buffer of the report holds.
+const LONG: usize = 70_000;
+
+// A test of such an id, all of `x`, failed. The checksum is that of zlib.
+fn long_failure(alloc: Global) -> Result<Vec<u8>, Fail> {
+    let mut packet = Vec::new(alloc);
+    packet.extend_from_slice(b"\xb3\x29\x06\x81\x11\x7d\x81\x11\x70")?;
+    packet.resize(LONG + 9, b'x')?;
+    packet.extend_from_slice(b"\xd8\x53\x44\xb8")?;
+    Ok(packet)
+}
+
+const LONG_FRONT: &[u8] =
+    b"======================================================================\nFAIL: ";
+
+const LONG_END: &[u8] =
+    b"\n----------------------------------------------------------------------\nRan 1 tests\nFAILED (id=0, failures=1)\n";
+
+fn long_report(alloc: Global) -> Result<Vec<u8>, Fail> {
+    let mut report = Vec::new(alloc);
+    report.extend_from_slice(LONG_FRONT)?;
+    report.resize(LONG_FRONT.len() + LONG, b'x')?;
+    report.extend_from_slice(LONG_END)?;
+    Ok(report)
+}
+
+// Whether a load tells this, over an output that fails at these writes.
+fn loads_over<R: Threads + Wait + Sync + AllocGlobal>(
+    rt: &R,
+    bytes: &[u8],
+    writes: &[u64],
+    wanted: (u8, &[u8], &[u8]),
+) -> Result<bool, Fail> {
+    let (status, out, err) = wanted;
+    let mut shelf = repository(rt.alloc(), &[])?;
+    let mut input = source(rt.alloc(), bytes, 65_536, &[])?;
+    let told = call_over(rt, &["testr", "load"], &mut shelf, &mut input, writes, &[])?;
+    Ok(told.is(status, out, err))
+}
+
+fn is_written_in_three<R: Threads + Wait + Sync + AllocGlobal + Abort>(
+    rt: &R,
+    packet: &[u8],
+    report: &[u8],
+) -> Result<(), Fail> {
+    assert!(rt; loads_over(rt, packet, &[], (1, report, NOTHING))?);
+    let line = b"testr: fault writing output\n".as_slice();
+    // What stands before the id has no room with it, and it has none at all. What follows is written at the end.
+    for (write, taken) in [
+        (0u64, 0usize),
+        (1, LONG_FRONT.len()),
+        (2, LONG_FRONT.len() + LONG),
+    ] {
+        let front = &report[..taken.min(report.len())];
+        assert!(rt;
+            loads_over(rt, packet, &[write], (4, front, line))?,
+            "write {write}"
+        );
+    }
+    Ok(())
+}
+
+#[test]
+fn what_has_no_room_behind_the_others_has_them_written_first(rt: HostRuntime) -> Result<(), Fail> {
+    let packet = long_failure(rt.alloc())?;
+    let report = long_report(rt.alloc())?;
+    is_written_in_three(&rt, &packet, &report)
 }

@@ -1,19 +1,16 @@
 //! `testr run` over workers in memory: the jobs, the run that is kept, the report and the status.
 
-use crate::program;
-use crate::tests::{
-    FOO, FOO_KEPT, NOTHING, PASSED_AS_0, PASSED_AS_1, SHELF_FAULT, Told, has_file, load, owned,
-    put, repository, sink, source, told_of,
-};
-use edge_io::{Finish, Job, ListSink, MapSite, MemShelf, Plan, PlanSpawner, Shelf, Spawner};
+use crate::configured::{CONF, ENDED, LISTED, project_beside};
+use edge_io::{Finish, MemShelf, Shelf, Spawner};
 use std::alloc::Global;
 use std::process::Abort;
 use std::sync::Wait;
 use std::test::Fail;
 use std::thread::Threads;
-use sub_number::{Bytes, Text};
-
-pub const CONF: &[u8] = b"[DEFAULT]\ntest_command=run $LISTOPT\ntest_list_option=--list\n";
+use trial_calls::{
+    FOO, FOO_KEPT, NOTHING, PASSED_AS_0, PASSED_AS_1, Project, SHELF_FAULT, call_in, has_file,
+    has_started, load, project_of, put, repository, shows,
+};
 
 const COUNTED: &[u8] =
     b"[DEFAULT]\ntest_command=run $LISTOPT\ntest_list_option=--list\ntest_run_concurrency=echo 3\n";
@@ -27,13 +24,9 @@ const TAGGED: &[u8] = b"[DEFAULT]\ntest_command=run\nfilter_tags=slow\n";
 const DISCOVERED: &[u8] =
     b"[DEFAULT]\ntest_command=OS_STDOUT_CAPTURE=${OS_STDOUT_CAPTURE:-1} \\\n             ${PYTHON:-python} -m subunit.run discover -t ./ . $LISTOPT $IDOPTION\ntest_id_option=--load-list $IDFILE\ntest_list_option=--list\n";
 
-pub const LISTED: [&[u8]; 3] = [b"run --list", NOTHING, NOTHING];
-
 const NO_TESTS: &[u8] = b"Ran 0 tests\nPASSED (id=0)\n";
 
 const NO_TESTS_AS_1: &[u8] = b"Ran 0 tests\nPASSED (id=1)\n";
-
-pub const ENDED: Finish = Finish::Exit(0);
 
 // `foo` is in progress, and what is kept of a worker that gave it and ended with 2, or was not read to its end.
 const BEGUN: &[u8] = b"\xb3\x29\x02\x0c\x03foo\x8e\xc1-\xb5";
@@ -63,7 +56,7 @@ const ONE_OF_TWO_REPORT: &[u8] =
     b"======================================================================\nFAIL: foo\n----------------------------------------------------------------------\nRan 2 tests\nFAILED (id=0, failures=1)\n";
 
 // The tests that are there.
-pub const A_AND_B: &[u8] = b"\xb3\x29\x01\n\x01aw\xc8\x0f1\xb3\x29\x01\n\x01b\xee\xc1\x5e\x8b";
+const A_AND_B: &[u8] = b"\xb3\x29\x01\n\x01aw\xc8\x0f1\xb3\x29\x01\n\x01b\xee\xc1\x5e\x8b";
 
 const A_B_AND_C: &[u8] =
     b"\xb3\x29\x01\n\x01aw\xc8\x0f1\xb3\x29\x01\n\x01b\xee\xc1\x5e\x8b\xb3\x29\x01\n\x01c\x99\xc6n\x1d";
@@ -80,176 +73,6 @@ const TIMED: &[u8] =
     b"\xb3\x2b\x02\x0f\x00\x00\x00d\x00\x01azok\xb8\xb3\x2b\x03\x0f\x00\x00\x00i\x00\x01a\x9f\x7e\xa7\x26\xb3\x2b\x02\x0f\x00\x00\x00d\x00\x01b\xe3f\x3a\x02\xb3\x2b\x03\x0f\x00\x00\x00h\x00\x01b\xbe\xcb\x91\xf9\xb3\x2b\x02\x0f\x00\x00\x00d\x00\x01c\x94a\n\x94\xb3\x2b\x03\x0f\x00\x00\x00g\x00\x01c\x91\xaf\xb19\xb3\x2b\x02\x0f\x00\x00\x00d\x00\x01d\n\x05\x9f7\xb3\x2b\x03\x0f\x00\x00\x00g\x00\x01d\x0f\xcb\x24\x9a";
 
 const GROUPED: &[u8] = b"[DEFAULT]\ntest_command=run\ngroup_regex=^[^.]+\n";
-
-// The files of a project, and the programs that it is started with.
-#[derive(Drop)]
-pub struct Project {
-    pub site: MapSite,
-    pub spawner: PlanSpawner,
-}
-
-pub fn put_file(
-    alloc: Global,
-    project: &mut Project,
-    name: &[u8],
-    bytes: &[u8],
-) -> Result<(), Fail> {
-    let name = Text::new(alloc, name)?;
-    let bytes = Bytes::new(alloc, bytes)?;
-    project.site.put(name, bytes)?;
-    Ok(())
-}
-
-fn plan_of(alloc: Global, output: &[u8], finish: Finish) -> Result<Plan, Fail> {
-    let output = Bytes::new(alloc, output)?;
-    Ok(Plan {
-        output,
-        piece: 5,
-        finish,
-    })
-}
-
-fn push_plans(
-    alloc: Global,
-    plans: &mut Vec<Plan>,
-    outputs: &[(&[u8], Finish)],
-) -> Result<(), Fail> {
-    for (output, finish) in outputs {
-        let plan = plan_of(alloc, output, *finish)?;
-        plans.push(plan)?;
-    }
-    Ok(())
-}
-
-fn spawner_of(
-    alloc: Global,
-    outputs: &[(&[u8], Finish)],
-    starts: &[u64],
-) -> Result<PlanSpawner, Fail> {
-    let mut plans = Vec::new(alloc);
-    push_plans(alloc, &mut plans, outputs)?;
-    let starts = starts.to_vec(alloc)?;
-    Ok(PlanSpawner::new(alloc, plans, starts))
-}
-
-// A project whose programs give these outputs in this order. Reads and starts of these numbers fail.
-fn bare_project(
-    alloc: Global,
-    outputs: &[(&[u8], Finish)],
-    reads: &[u64],
-    starts: &[u64],
-) -> Result<Project, Fail> {
-    let reads = reads.to_vec(alloc)?;
-    let spawner = spawner_of(alloc, outputs, starts)?;
-    let site = MapSite::new(alloc, reads);
-    Ok(Project { site, spawner })
-}
-
-// One of this configuration.
-pub fn project_of(
-    alloc: Global,
-    conf: &[u8],
-    outputs: &[(&[u8], Finish)],
-    reads: &[u64],
-    starts: &[u64],
-) -> Result<Project, Fail> {
-    let mut project = bare_project(alloc, outputs, reads, starts)?;
-    put_file(alloc, &mut project, b".testr.conf", conf)?;
-    Ok(project)
-}
-
-// One whose programs start, with this file beside the configuration.
-pub fn project_with(
-    alloc: Global,
-    conf: &[u8],
-    outputs: &[(&[u8], Finish)],
-    name: &[u8],
-    bytes: &[u8],
-) -> Result<Project, Fail> {
-    let mut project = project_of(alloc, conf, outputs, &[], &[])?;
-    put_file(alloc, &mut project, name, bytes)?;
-    Ok(project)
-}
-
-// Calls the program over an input that is not to be read.
-fn call_words<R: Threads + Wait + Sync + AllocGlobal, H: Shelf, S: Spawner>(
-    rt: &R,
-    words: &[String],
-    shelf: &mut H,
-    spawner: &mut S,
-    site: &mut MapSite,
-    out: &mut ListSink,
-    err: &mut ListSink,
-) -> Result<u8, Fail> {
-    let alloc = rt.alloc();
-    let mut input = source(alloc, FOO, 1, &[0])?;
-    Ok(program(rt, alloc, words, shelf, spawner, site, &mut input, out, err))
-}
-
-// Calls the program over an input that is not to be read, and an output that fails at these writes.
-pub fn call_with<R: Threads + Wait + Sync + AllocGlobal, H: Shelf, S: Spawner>(
-    rt: &R,
-    words: &[&str],
-    shelf: &mut H,
-    spawner: &mut S,
-    site: &mut MapSite,
-    writes: &[u64],
-) -> Result<Told, Fail> {
-    let alloc = rt.alloc();
-    let words = owned(alloc, words)?;
-    let mut out = sink(alloc, writes)?;
-    let mut err = sink(alloc, &[])?;
-    let status = call_words(rt, &words, shelf, spawner, site, &mut out, &mut err)?;
-    told_of(alloc, status, &out, &err)
-}
-
-// Calls it over a project.
-pub fn call_in<R: Threads + Wait + Sync + AllocGlobal, H: Shelf>(
-    rt: &R,
-    words: &[&str],
-    shelf: &mut H,
-    project: &mut Project,
-    writes: &[u64],
-) -> Result<Told, Fail> {
-    let Project { site, spawner } = project;
-    call_with(rt, words, shelf, spawner, site, writes)
-}
-
-// Whether the job has this command, and a file of ids of this name with these bytes, or none where the two are empty.
-fn is_job(job: &Job, parts: &[&[u8]; 3]) -> bool {
-    let [command, name, ids] = parts;
-    let has_file = match &job.id_file {
-        Some(file) => file.name.bytes() == *name && file.bytes.bytes() == *ids,
-        None => name.is_empty() && ids.is_empty(),
-    };
-    job.command.bytes() == *command && has_file
-}
-
-// Whether these jobs were started, in this order.
-pub fn has_started(project: &Project, wanted: &[[&[u8]; 3]]) -> bool {
-    let jobs = project.spawner.started();
-    if jobs.len() != wanted.len() {
-        return false;
-    }
-    for (job, parts) in jobs.iter().zip(wanted) {
-        if !is_job(job, parts) {
-            return false;
-        }
-    }
-    true
-}
-
-// Whether the program tells this over a project.
-pub fn shows<R: Threads + Wait + Sync + AllocGlobal>(
-    rt: &R,
-    words: &[&str],
-    shelf: &mut MemShelf,
-    project: &mut Project,
-    wanted: (u8, &[u8], &[u8]),
-) -> Result<bool, Fail> {
-    let (status, out, err) = wanted;
-    Ok(call_in(rt, words, shelf, project, &[])?.is(status, out, err))
-}
 
 // A call that runs tests: its words, what it tells without a line of a refusal, and the name and the bytes of its run.
 type Run<'a> = (&'a [&'a str], u8, &'a [u8], &'a str, &'a [u8]);
@@ -423,7 +246,7 @@ const JOBS_OF_THREE: [[&[u8]; 3]; 3] = [
 #[test]
 fn a_listing_of_processors_gives_the_number_of_workers(rt: HostRuntime) -> Result<(), Fail> {
     let table = b"processor\t: 0\nmodel\nprocessor\t: 1\n";
-    let mut project = project_with(rt.alloc(), CONF, &THREE_LISTED, b"/proc/cpuinfo", table)?;
+    let mut project = project_beside(rt.alloc(), CONF, &THREE_LISTED, b"/proc/cpuinfo", table)?;
     let mut shelf = repository(rt.alloc(), &[])?;
     let words = ["testr", "run", "--parallel", "--concurrency=0"];
     let run = (words.as_slice(), 0, NO_TESTS, "0", NOTHING);
@@ -460,7 +283,7 @@ fn are_shared<R: Threads + Wait + Sync + AllocGlobal>(
     jobs: &[[&[u8]; 3]],
 ) -> Result<bool, Fail> {
     let outputs = [(NOTHING, ENDED), (NOTHING, ENDED)];
-    let mut project = project_with(rt.alloc(), conf, &outputs, b"l", ids)?;
+    let mut project = project_beside(rt.alloc(), conf, &outputs, b"l", ids)?;
     let mut shelf = loaded(rt, TIMED)?;
     let run = (LIST_ON_TWO.as_slice(), 0, NO_TESTS_AS_1, "1.part", NOTHING);
     is_run(rt, &mut shelf, &mut project, run, jobs)
@@ -493,7 +316,7 @@ fn are_chosen<R: Threads + Wait + Sync + AllocGlobal>(
     ids: &[u8],
 ) -> Result<bool, Fail> {
     let outputs = [(NOTHING, ENDED)];
-    let mut project = project_with(rt.alloc(), CONF, &outputs, b"l", b" c\n\nb \r\nc")?;
+    let mut project = project_beside(rt.alloc(), CONF, &outputs, b"l", b" c\n\nb \r\nc")?;
     let mut shelf = loaded(rt, A_AND_B_FAILED)?;
     let run = (words, 0, NO_TESTS_AS_1, "1.part", NOTHING);
     let jobs: [[&[u8]; 3]; 1] = [[b"run ", b".testr-ids.0", ids]];
@@ -536,7 +359,7 @@ fn starts_only<R: Threads + Wait + Sync + AllocGlobal>(
     started: usize,
 ) -> Result<bool, Fail> {
     let outputs = [(A_AND_B, ENDED)];
-    let mut project = project_with(rt.alloc(), NO_ID_OPTION, &outputs, b"l", NOTHING)?;
+    let mut project = project_beside(rt.alloc(), NO_ID_OPTION, &outputs, b"l", NOTHING)?;
     let mut shelf = repository(rt.alloc(), &[])?;
     none_is_left(rt, words, &mut shelf, &mut project, started)
 }

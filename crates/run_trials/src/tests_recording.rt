@@ -1,6 +1,5 @@
 //! That the packets of a worker are recorded as they come.
 
-use crate::{FOO, FOO_KEPT, NOTHING, call_with, has_file, repository};
 use edge_io::{Child, Failed, Job, MapSite, NamesFault, Shelf, Spawner};
 use std::alloc::Global;
 use std::sync::Arc;
@@ -8,6 +7,7 @@ use std::sync::atomic::{AtomicBool, Ordering};
 use std::test::Fail;
 use std::thread;
 use sub_number::{Bytes, Text};
+use trial_calls::{FOO, FOO_KEPT, NOTHING, call_with, has_file, repository};
 
 // A folder that notes when the packet is added to it.
 #[derive(Drop)]

@@ -1,10 +1,10 @@
 //! The steps of `testr run`: the first one that refuses decides, though each later one would refuse, too.
 
-use crate::{FOO, FOO_KEPT, NamedFiles, SHELF_FAULT, Scene, play};
 use edge_io::Finish;
 use std::sync::Wait;
 use std::test::Fail;
 use std::thread::Threads;
+use trial_calls::{FOO, FOO_KEPT, NamedFiles, SHELF_FAULT, Scene, play};
 
 const READ_FAULT: &[u8] = b"testr: fault reading a file\n";
 

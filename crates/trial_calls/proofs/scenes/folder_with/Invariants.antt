@@ -1,7 +1,7 @@
 use Rattle.std.proofs.Common.{◌≡◌}
 use Rattle.std.specs.Prelude.{None}
 use Rattle.edge_io.specs.MemState.{folder_of}
-use Rattle.testr_trials.proofs.scenes.folder_with.Given as goal
+use Rattle.trial_calls.proofs.scenes.folder_with.Given as goal
 
 -- nothing is pending between two files
 abbrev pub invariant-loop-name : goal.invariant-loop-name

@@ -2,7 +2,7 @@
 
 use crate::calls::call_with;
 use crate::told::Told;
-use edge_io::{Finish, Job, MapSite, Plan, PlanSpawner, Shelf, Spawner};
+use edge_io::{Finish, Job, MapSite, MemShelf, Plan, PlanSpawner, Shelf, Spawner};
 use std::alloc::Global;
 use std::sync::Wait;
 use std::test::Fail;
@@ -25,9 +25,9 @@ pub fn put_file(
     name: &[u8],
     bytes: &[u8],
 ) -> Result<(), Fail> {
-    project
-        .site
-        .put(Text::new(alloc, name)?, Bytes::new(alloc, bytes)?)?;
+    let name = Text::new(alloc, name)?;
+    let bytes = Bytes::new(alloc, bytes)?;
+    project.site.put(name, bytes)?;
     Ok(())
 }
 
@@ -42,6 +42,61 @@ pub fn project_of(
     project_with(alloc, &[(b".testr.conf", conf)], outputs, reads, starts)
 }
 
+// A program that gives this output, five bytes at once.
+fn plan_of(alloc: Global, output: &[u8], finish: Finish) -> Result<Plan, Fail> {
+    let output = Bytes::new(alloc, output)?;
+    Ok(Plan {
+        output,
+        piece: 5,
+        finish,
+    })
+}
+
+// A loop that owns nothing, so that an early end drops nothing.
+fn push_plans(
+    alloc: Global,
+    plans: &mut Vec<Plan>,
+    outputs: &[(&[u8], Finish)],
+) -> Result<(), Fail> {
+    for (output, finish) in outputs {
+        let plan = plan_of(alloc, output, *finish)?;
+        plans.push(plan)?;
+    }
+    Ok(())
+}
+
+// Programs that give these outputs in this order. Starts of these numbers fail.
+fn spawner_of(
+    alloc: Global,
+    outputs: &[(&[u8], Finish)],
+    starts: &[u64],
+) -> Result<PlanSpawner, Fail> {
+    let mut plans = Vec::new(alloc);
+    push_plans(alloc, &mut plans, outputs)?;
+    let starts = starts.to_vec(alloc)?;
+    Ok(PlanSpawner::new(alloc, plans, starts))
+}
+
+// A project without files.
+fn bare_project(
+    alloc: Global,
+    outputs: &[(&[u8], Finish)],
+    reads: &[u64],
+    starts: &[u64],
+) -> Result<Project, Fail> {
+    let reads = reads.to_vec(alloc)?;
+    let spawner = spawner_of(alloc, outputs, starts)?;
+    let site = MapSite::new(alloc, reads);
+    Ok(Project { site, spawner })
+}
+
+fn put_files(alloc: Global, project: &mut Project, files: &[(&[u8], &[u8])]) -> Result<(), Fail> {
+    for (name, bytes) in files {
+        put_file(alloc, project, name, bytes)?;
+    }
+    Ok(())
+}
+
 /// A project of these files, whose programs give these outputs in this order. Reads and starts of these numbers fail.
 pub fn project_with(
     alloc: Global,
@@ -50,29 +105,9 @@ pub fn project_with(
     reads: &[u64],
     starts: &[u64],
 ) -> Result<Project, Fail> {
-    let plans = plans_of(alloc, outputs)?;
-    let mut project = Project {
-        site: MapSite::new(alloc, reads.to_vec(alloc)?),
-        spawner: PlanSpawner::new(alloc, plans, starts.to_vec(alloc)?),
-    };
-    for (name, bytes) in files {
-        put_file(alloc, &mut project, name, bytes)?;
-    }
+    let mut project = bare_project(alloc, outputs, reads, starts)?;
+    put_files(alloc, &mut project, files)?;
     Ok(project)
-}
-
-// Programs that give these outputs, five bytes at once.
-fn plans_of(alloc: Global, outputs: &[(&[u8], Finish)]) -> Result<Vec<Plan>, Fail> {
-    let mut plans = Vec::new(alloc);
-    for (output, finish) in outputs {
-        let output = Bytes::new(alloc, output)?;
-        plans.push(Plan {
-            output,
-            piece: 5,
-            finish: *finish,
-        })?;
-    }
-    Ok(plans)
 }
 
 /// Calls the program over a project, and an output that fails at these writes.
@@ -110,4 +145,16 @@ pub fn has_started(project: &Project, wanted: &[[&[u8]; 3]]) -> bool {
         }
     }
     true
+}
+
+/// Whether the program tells this over a project: the status, the bytes of the output, and those of the sink of errors.
+pub fn shows<R: Threads + Wait + Sync + AllocGlobal>(
+    rt: &R,
+    words: &[&str],
+    shelf: &mut MemShelf,
+    project: &mut Project,
+    wanted: (u8, &[u8], &[u8]),
+) -> Result<bool, Fail> {
+    let (status, out, err) = wanted;
+    Ok(call_in(rt, words, shelf, project, &[])?.is(status, out, err))
 }

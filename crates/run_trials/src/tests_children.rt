@@ -1,6 +1,5 @@
 //! Workers that are watched: the orders in which they give their packets, and that they are read to their ends.
 
-use crate::{FOO, FOO_KEPT, NOTHING, SHELF_FAULT, call_with, has_file, put, repository};
 use edge_io::{Child, Failed, Job, MapSite, Shelf, Spawner};
 use std::alloc::Global;
 use std::sync::Arc;
@@ -8,6 +7,7 @@ use std::sync::atomic::{AtomicU32, Ordering};
 use std::test::Fail;
 use std::thread;
 use sub_number::{Bytes, Text};
+use trial_calls::{FOO, FOO_KEPT, NOTHING, SHELF_FAULT, call_with, has_file, put, repository};
 
 const CONF: &[u8] = b"[DEFAULT]\ntest_command=run\n";
 

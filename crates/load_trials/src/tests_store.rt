@@ -1,18 +1,19 @@
 //! The folder of `init` and `load`: what it must have, what it gets, and what a fault or a stop leaves of it.
 
-use crate::tests::{
-    FOO, FOO_KEPT, NOTHING, PASSED_AS_0, PASSED_AS_1, SHELF_FAULT, Told, call, has_file, load,
-    loads, put, repository, source, tells_and_leaves,
-};
-use crate::tests_load::{FAIL, FAIL_KEPT};
-use crate::tests_run::{CONF, ENDED, has_started, project_of, shows};
-use edge_io::{Failed, MemShelf, Shelf};
+use edge_io::{Failed, Finish, MemShelf, Shelf};
 use itoa::Buffer;
 use std::alloc::Global;
 use std::process::Abort;
 use std::sync::Wait;
 use std::test::Fail;
 use std::thread::Threads;
+use trial_calls::{
+    FAIL, FAIL_KEPT, FOO, FOO_KEPT, NOTHING, PASSED_AS_0, PASSED_AS_1, SHELF_FAULT, Told, call,
+    has_file, has_started, load, loads, project_of, put, repository, shows, source,
+    tells_and_leaves,
+};
+
+const CONF: &[u8] = b"[DEFAULT]\ntest_command=run $LISTOPT\ntest_list_option=--list\n";
 
 const NO_STORE: &[u8] = b"testr: no repository here\n";
 
@@ -176,7 +177,7 @@ fn refuses_run<R: Threads + Wait + Sync + AllocGlobal>(
     line: &[u8],
 ) -> Result<bool, Fail> {
     // A pattern that is none is refused later, and a worker would pass.
-    let mut project = project_of(rt.alloc(), CONF, &[(FOO, ENDED)], &[], &[])?;
+    let mut project = project_of(rt.alloc(), CONF, &[(FOO, Finish::Exit(0))], &[], &[])?;
     let words = ["testr", "run", "(p"];
     Ok(shows(rt, &words, shelf, &mut project, (3, NOTHING, line))? && has_started(&project, &[]))
 }

@@ -1,12 +1,12 @@
 //! `testr last --subunit` of a run of several pieces.
 
-use crate::tests::{NOTHING, SHELF_FAULT, Told, call_over, put, repository, source};
 use edge_io::MemShelf;
 use std::alloc::Global;
 use std::process::Abort;
 use std::sync::Wait;
 use std::test::Fail;
 use std::thread::Threads;
+use trial_calls::{NOTHING, SHELF_FAULT, Told, call_over, put, repository, source};
 
 const SINK_FAULT: &[u8] = b"testr: fault writing output\n";
 

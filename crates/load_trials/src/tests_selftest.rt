@@ -1,10 +1,10 @@
 //! `testr selftest`: its summaries and its words.
 
-use crate::tests::{NOTHING, Told, WRONG_USAGE, call_over, source};
 use edge_io::MemShelf;
 use std::sync::Wait;
 use std::test::Fail;
 use std::thread::Threads;
+use trial_calls::{NOTHING, Told, WRONG_USAGE, call_over, source};
 
 // Calls the program over a folder of which no call succeeds, and an output that fails at these writes.
 fn tested<R: Threads + Wait + Sync + AllocGlobal>(

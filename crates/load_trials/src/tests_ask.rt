@@ -1,16 +1,13 @@
 //! The commands that tell of a repository.
 
-use crate::tests::{FOO, NOTHING, SHELF_FAULT, Told, call, load, repository, source};
 use edge_io::{MemShelf, Shelf};
 use std::process::Abort;
 use std::sync::Wait;
 use std::test::Fail;
 use std::thread::Threads;
-
-// `foo` failed: as it comes, and as it is kept.
-const FAIL: &[u8] = b"\xb3\x29\x06\x0c\x03foo\x15\x50\x6f\xa3";
-
-const FAIL_KEPT: &[u8] = b"\xb3\x2d\x06\x0e\x03foo\x01\x30\xec\x4f\xd5\x84";
+use trial_calls::{
+    FAIL, FAIL_KEPT, FOO, NOTHING, SHELF_FAULT, Told, call, load, repository, source,
+};
 
 const FAIL_REPORT: &[u8] =
     b"======================================================================\nFAIL: foo\n----------------------------------------------------------------------\nRan 1 tests\nFAILED (id=0, failures=1)\n";

@@ -1,0 +1,23 @@
+//! Tests of `testr` over the forms in memory: the words of each command, and `init`, `load`, the questions and `selftest`. No
+//! program uses it.
+//!
+//! They use the public names of the program alone, and stand above it, so that the proofs of its crate are not made once
+//! more for them.
+#![tactic(auto)]
+
+#[cfg(test)]
+mod tests_ask;
+#[cfg(test)]
+mod tests_copying;
+#[cfg(test)]
+mod tests_files;
+#[cfg(test)]
+mod tests_load;
+#[cfg(test)]
+mod tests_program;
+#[cfg(test)]
+mod tests_selftest;
+#[cfg(test)]
+mod tests_store;
+#[cfg(test)]
+mod tests_words;

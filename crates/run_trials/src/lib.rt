@@ -1,0 +1,28 @@
+//! Tests of `testr run` and `testr list-tests` over the forms in memory: the order of the steps, the jobs, the workers, the
+//! run that is kept, and files that are too long. No program uses it.
+//!
+//! They use the public names of the program alone, and stand above it, so that the proofs of its crate are not made once
+//! more for them.
+//!
+//! - `configured`: the project that most of them are made with
+//! - `tests_*`: the tests
+#![tactic(auto)]
+
+#[cfg(test)]
+mod configured;
+#[cfg(test)]
+mod tests_caches;
+#[cfg(test)]
+mod tests_children;
+#[cfg(test)]
+mod tests_limits;
+#[cfg(test)]
+mod tests_listing;
+#[cfg(test)]
+mod tests_recording;
+#[cfg(test)]
+mod tests_runs;
+#[cfg(test)]
+mod tests_steps;
+#[cfg(test)]
+mod tests_workers;
