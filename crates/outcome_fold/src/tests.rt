@@ -122,11 +122,14 @@ fn twice(alloc: Global, first: &[u8], second: &[u8]) -> Option<bool> {
     )
 }
 
+// The routes of the first run and of the second.
+const ROUTES: [(&[u8], &[u8]); 3] = [(b"", b""), (b"0", b"0"), (b"0", b"1")];
+
 #[test]
 fn a_test_that_runs_twice_has_two_rows(rt: HostRuntime) -> Result<(), Fail> {
-    assert_eq!(rt; twice(rt.alloc(), b"", b""), Some(true));
-    assert_eq!(rt; twice(rt.alloc(), b"0", b"0"), Some(true));
-    assert_eq!(rt; twice(rt.alloc(), b"0", b"1"), Some(true));
+    for (first, second) in &ROUTES {
+        assert_eq!(rt; twice(rt.alloc(), first, second), Some(true));
+    }
     Ok(())
 }
 
@@ -158,15 +161,24 @@ fn time(alloc: Global, start: u32, end: u32) -> Option<Option<u64>> {
     time_of_one(alloc, &events)
 }
 
+// The time of a test of one event with a time, and of one without.
+fn time_at_once(alloc: Global) -> Option<Option<u64>> {
+    let one = [at(says(alloc, b"", b"a", Status::Success), 7, 7)];
+    time_of_one(alloc, &one)
+}
+
+fn time_of_none(alloc: Global) -> Option<Option<u64>> {
+    let none = [says(alloc, b"", b"a", Status::Success)];
+    time_of_one(alloc, &none)
+}
+
 #[test]
 fn a_time_is_what_lies_between_the_first_event_and_the_last(rt: HostRuntime) -> Result<(), Fail> {
     let alloc = rt.alloc();
     assert_eq!(rt; time(alloc, 100, 101), Some(Some(1_000_500_000)));
     assert_eq!(rt; time(alloc, 102, 101), Some(None));
-    let one = [at(says(alloc, b"", b"a", Status::Success), 7, 7)];
-    assert_eq!(rt; time_of_one(alloc, &one), Some(Some(0)));
-    let none = [says(alloc, b"", b"a", Status::Success)];
-    assert_eq!(rt; time_of_one(alloc, &none), Some(None));
+    assert_eq!(rt; time_at_once(alloc), Some(Some(0)));
+    assert_eq!(rt; time_of_none(alloc), Some(None));
     Ok(())
 }
 
@@ -207,17 +219,19 @@ fn last_tags(alloc: Global, last: &[u8], names: &[u8]) -> Option<bool> {
     }
 }
 
+// The last tags, and those of the row.
+const LAST: [(&[u8], &[u8]); 6] = [
+    (b"", b""),
+    (b"b", b"b"),
+    (b"abc", b"abc"),
+    (b"aab", b"ab"),
+    (b"acb", b"abc"),
+    (b"cacb", b"abc"),
+];
+
 #[test]
 fn the_last_tags_stand_in_order_and_once(rt: HostRuntime) -> Result<(), Fail> {
-    let table: [(&[u8], &[u8]); 6] = [
-        (b"", b""),
-        (b"b", b"b"),
-        (b"abc", b"abc"),
-        (b"aab", b"ab"),
-        (b"acb", b"abc"),
-        (b"cacb", b"abc"),
-    ];
-    for (last, names) in table {
+    for (last, names) in &LAST {
         assert_eq!(rt; last_tags(rt.alloc(), last, names), Some(true));
     }
     Ok(())
@@ -347,26 +361,40 @@ fn is_only(rows: &[Row], route: &[u8], ended: Ended) -> bool {
     }
 }
 
+// The row that the event completes, where there is memory.
+fn row_behind(fold: &mut Fold, event: &Event) -> Option<Option<Row>> {
+    fold.add(event).ok()
+}
+
 // Whether a test begins under route 0, and ends none.
 fn begins(alloc: Global, fold: &mut Fold) -> bool {
     let begun = says(alloc, b"0", b"a", Status::InProgress);
-    matches!(fold.add(&begun), Ok(None))
+    matches!(row_behind(fold, &begun), Some(None))
+}
+
+fn is_expected_failure(row: &Option<Option<Row>>) -> bool {
+    match row {
+        Some(Some(row)) => has(row, b"1", b"a", Ended::XFail),
+        _ => false,
+    }
 }
 
 // Whether a failure that was expected ends its test under route 1.
 fn ends(alloc: Global, fold: &mut Fold) -> bool {
     let failed = says(alloc, b"1", b"a", Status::XFail);
-    match fold.add(&failed) {
-        Ok(Some(row)) => has(&row, b"1", b"a", Ended::XFail),
-        _ => false,
-    }
+    is_expected_failure(&row_behind(fold, &failed))
+}
+
+// Whether the test under route 0 alone is open at the end.
+fn leaves_open(fold: Fold) -> Option<bool> {
+    let open = fold.close().ok()?;
+    Some(is_only(open.as_slice(), b"0", Ended::Open))
 }
 
 fn one_by_one(alloc: Global) -> Option<bool> {
     let mut fold = Fold::new(alloc);
     let right = begins(alloc, &mut fold) && ends(alloc, &mut fold);
-    let open = fold.close().ok()?;
-    Some(right && is_only(open.as_slice(), b"0", Ended::Open))
+    Some(leaves_open(fold)? && right)
 }
 
 #[test]

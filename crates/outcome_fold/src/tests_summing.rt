@@ -60,8 +60,13 @@ const RUN: [Timely; 13] = [
     (b"0", b'c', 7, b"", Status::Success),
 ];
 
+fn summing_of(alloc: Global, filter_tags: &[u8]) -> Option<Summing> {
+    let filter = tags_of(alloc, filter_tags)?;
+    Some(Summing::new(alloc, filter))
+}
+
 fn summary_of(alloc: Global, filter_tags: &[u8]) -> Option<Summary> {
-    let mut summing = Summing::new(alloc, tags_of(alloc, filter_tags)?);
+    let mut summing = summing_of(alloc, filter_tags)?;
     hear_all(alloc, &mut summing, &RUN)?;
     summing.close().ok()
 }
