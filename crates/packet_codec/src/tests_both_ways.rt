@@ -2,10 +2,10 @@
 
 ghost use Rattle.std.specs.Prelude.{IfSome};
 ghost use Rattle.packet_codec.specs.Canonical.{Fits};
+ghost use Rattle.packet_codec.specs.Packet.{IsPacket};
 
 use crate::{Event, FilePart, Front, Stamp, Status, decode, encode, fits, look, size};
 use std::alloc::Global;
-use std::test::Fail;
 use sub_number::{Bytes, Text};
 
 // Success foo in its shortest form, and with longer numbers.
@@ -17,39 +17,57 @@ const LONG_FOO: &[u8] = b"\xb3\x29\x03\x80\x00\x0e\x03foo\x70\x37\x2c\x19";
 
 const LARGEST: usize = 4_194_303;
 
+fn decoded(alloc: Global, packet: &[u8]) -> Option<Event>
+    requires { IsPacket packet.now }
+    ensures { IfSome result Fits }
+{
+    decode(alloc, packet).ok()
+}
+
 fn read(alloc: Global, bytes: &[u8]) -> Option<Event>
     ensures { IfSome result Fits }
 {
     match look(bytes) {
-        Front::Packet(size) => decode(alloc, &bytes[..size]).ok(),
+        Front::Packet(size) => decoded(alloc, &bytes[..size]),
         _ => None,
     }
 }
 
+fn written(alloc: Global, event: &Event) -> Option<Vec<u8>>
+    requires { Fits event.now }
+{
+    let mut out = Vec::new(alloc);
+    encode(event, &mut out).ok()?;
+    Some(out)
+}
+
 fn written_again(alloc: Global, bytes: &[u8]) -> Option<Vec<u8>> {
     let event = read(alloc, bytes)?;
-    let mut out = Vec::new(alloc);
-    encode(&event, &mut out).ok()?;
-    Some(out)
+    written(alloc, &event)
+}
+
+// Whether the event of these bytes is written as the others.
+fn is_written_as(alloc: Global, bytes: &[u8], wanted: &[u8]) -> Option<bool> {
+    let again = written_again(alloc, bytes)?;
+    Some(again.as_slice() == wanted)
 }
 
 #[test]
 fn longer_numbers_are_written_short(rt: HostRuntime) {
     for bytes in [SHORT_FOO, WIDE_FOO, LONG_FOO] {
-        let again = written_again(rt.alloc(), bytes);
-        assert!(rt; again.is_some_and(|out| out.as_slice() == SHORT_FOO));
+        assert_eq!(rt; is_written_as(rt.alloc(), bytes, SHORT_FOO), Some(true));
     }
 }
 
-// An event of one file of so many zeros.
-fn file_event(alloc: Global, count: usize) -> Option<Event> {
-    let mut zeros = Vec::new(alloc);
-    zeros.resize(count, 0u8).ok()?;
-    let file = FilePart {
-        name: Text::new(alloc, b"").ok()?,
-        bytes: Bytes::new(alloc, &zeros).ok()?,
-    };
-    Some(Event {
+// A file of so many zeros.
+fn file_of(alloc: Global, count: usize) -> Option<FilePart> {
+    let bytes = Bytes::from_vec(vec![in alloc; 0u8; count].ok()?);
+    let name = Text::new(alloc, b"").ok()?;
+    Some(FilePart { name, bytes })
+}
+
+fn event_of(file: FilePart) -> Event {
+    Event {
         stamp: None,
         id: None,
         tags: None,
@@ -59,39 +77,71 @@ fn file_event(alloc: Global, count: usize) -> Option<Event> {
         file: Some(file),
         eof: false,
         route: None,
-    })
+    }
 }
 
+// An event of one file of so many zeros.
+fn file_event(alloc: Global, count: usize) -> Option<Event> {
+    let file = file_of(alloc, count)?;
+    Some(event_of(file))
+}
+
+fn file_size(alloc: Global, count: usize) -> Option<u128> {
+    let event = file_event(alloc, count)?;
+    Some(size(&event))
+}
+
+// None where the event does not fit into a packet, too.
 fn spelling(alloc: Global, event: &Event) -> Option<Vec<u8>> {
-    if !fits(event) {
-        return None;
+    if fits(event) {
+        written(alloc, event)
+    } else {
+        None
     }
-    let mut out = Vec::new(alloc);
-    encode(event, &mut out).ok()?;
-    Some(out)
+}
+
+fn file_packet(alloc: Global, count: usize) -> Option<Vec<u8>> {
+    let event = file_event(alloc, count)?;
+    spelling(alloc, &event)
+}
+
+fn is_more_without_its_last(packet: &[u8]) -> bool {
+    match packet.split_last() {
+        Some((_, front)) => look(front) == Front::More,
+        None => false,
+    }
+}
+
+// Whether a packet of this size is one, is none without its last byte, and is written again as it is.
+fn is_packet_of(alloc: Global, packet: &[u8], size: usize) -> bool {
+    packet.len() == size
+        && look(packet) == Front::Packet(size)
+        && is_more_without_its_last(packet)
+        && is_written_as(alloc, packet, packet) == Some(true)
+}
+
+fn largest_is_read_again(alloc: Global) -> Option<bool> {
+    let packet = file_packet(alloc, LARGEST - 14)?;
+    Some(is_packet_of(alloc, &packet, LARGEST))
 }
 
 // 14 bytes stand around the file's own: 6 of header, an empty name, a count in three bytes, and the checksum.
 #[test]
-fn the_largest_packet_is_read_again(rt: HostRuntime) -> Result<(), Fail> {
-    let event = file_event(rt.alloc(), LARGEST - 14).ok_or("no memory")?;
-    assert_eq!(rt; size(&event), 4_194_303);
-    let packet = spelling(rt.alloc(), &event).ok_or("no packet")?;
-    assert_eq!(rt; packet.len(), LARGEST);
-    assert_eq!(rt; look(&packet), Front::Packet(LARGEST));
-    let (_, front) = packet.split_last().ok_or("no bytes")?;
-    assert_eq!(rt; look(front), Front::More);
-    let again = written_again(rt.alloc(), &packet).ok_or("no packet again")?;
-    assert!(rt; again.as_slice() == packet.as_slice());
-    Ok(())
+fn the_largest_packet_is_read_again(rt: HostRuntime) {
+    assert_eq!(rt; file_size(rt.alloc(), LARGEST - 14), Some(4_194_303));
+    assert_eq!(rt; largest_is_read_again(rt.alloc()), Some(true));
+}
+
+// Whether an event of one file of so many zeros has a packet.
+fn has_packet(alloc: Global, count: usize) -> Option<bool> {
+    let event = file_event(alloc, count)?;
+    Some(spelling(alloc, &event).is_some())
 }
 
 #[test]
-fn one_byte_more_is_no_packet(rt: HostRuntime) -> Result<(), Fail> {
-    let event = file_event(rt.alloc(), LARGEST - 13).ok_or("no memory")?;
-    assert_eq!(rt; size(&event), 4_194_304);
-    assert!(rt; spelling(rt.alloc(), &event).is_none());
-    Ok(())
+fn one_byte_more_is_no_packet(rt: HostRuntime) {
+    assert_eq!(rt; file_size(rt.alloc(), LARGEST - 13), Some(4_194_304));
+    assert_eq!(rt; has_packet(rt.alloc(), LARGEST - 13), Some(false));
 }
 
 #[test]

@@ -1,6 +1,6 @@
-use crate::{Event, Front, Status, Tags, decode, front_packet, look};
+use crate::{Event, FilePart, Front, Packet, Status, Tags, decode, front_packet, look};
 use std::alloc::Global;
-use std::test::Fail;
+use std::process::Abort;
 use sub_number::Text;
 
 // Packets of the Subunit README's format, with zlib's checksums.
@@ -23,10 +23,10 @@ const EVERY_FIELD: &[u8] =
 // An empty id, no tag in a list, an empty MIME type, an empty file without a name, and an empty route.
 const EMPTY_PARTS: &[u8] = b"\xb3\x2c\xe0\x0e\x00\x00\x00\x00\x00\x00\x31\x61\x77\xc7";
 
-fn read(alloc: Global, bytes: &[u8]) -> Result<Event, Fail> {
+fn read(alloc: Global, bytes: &[u8]) -> Option<Event> {
     match look(bytes) {
-        Front::Packet(size) => Ok(decode(alloc, &bytes[..size]).ok().ok_or("no memory")?),
-        _ => Err(Fail::from("no packet")),
+        Front::Packet(size) => decode(alloc, &bytes[..size]).ok(),
+        _ => None,
     }
 }
 
@@ -45,52 +45,81 @@ fn is_bare(event: &Event) -> bool {
         && event.runnable
 }
 
-#[test]
-fn packets_of_the_format_are_read(rt: HostRuntime) -> Result<(), Fail> {
-    let table = [
-        (EXISTS_FOO, Status::Exists, false),
-        (SUCCESS_FOO, Status::Success, false),
-        (FAIL_FOO, Status::Fail, false),
-        (ROUTED_FOO, Status::Success, true),
-        (WIDE_FOO, Status::Success, false),
-        (LONG_FOO, Status::Success, false),
-    ];
-    for (bytes, status, routed) in table {
-        let event = read(rt.alloc(), bytes)?;
-        assert_eq!(rt; bytes_of(&event.id), Some(b"foo".as_slice()));
-        assert_eq!(rt; event.status, status);
-        let route = if routed { Some(b"0".as_slice()) } else { None };
-        assert_eq!(rt; bytes_of(&event.route), route);
-        assert!(rt; !event.eof);
-        assert!(rt; is_bare(&event));
-    }
-    let event = read(rt.alloc(), END_ALONE)?;
-    assert!(rt; event.eof && event.id.is_none() && event.route.is_none());
-    assert_eq!(rt; event.status, Status::Unset);
-    assert!(rt; is_bare(&event));
-    Ok(())
+// Whether the event is of the test foo with this status and this route, and has no more.
+fn is_of_foo(event: &Event, status: Status, route: Option<&[u8]>) -> bool {
+    bytes_of(&event.id) == Some(b"foo".as_slice())
+        && event.status == status
+        && bytes_of(&event.route) == route
+        && !event.eof
+        && is_bare(event)
 }
 
-// The event at the front, where a packet stands there, and its size.
-fn read_front(alloc: Global, bytes: &[u8]) -> Option<(Event, usize)> {
+fn reads_foo(alloc: Global, bytes: &[u8], status: Status, routed: bool) -> Option<bool> {
+    let route = if routed { Some(b"0".as_slice()) } else { None };
+    let event = read(alloc, bytes)?;
+    Some(is_of_foo(&event, status, route))
+}
+
+// Packets of the test foo, the status of each, and whether it has the route 0.
+const OF_FOO: [(&[u8], Status, bool); 6] = [
+    (EXISTS_FOO, Status::Exists, false),
+    (SUCCESS_FOO, Status::Success, false),
+    (FAIL_FOO, Status::Fail, false),
+    (ROUTED_FOO, Status::Success, true),
+    (WIDE_FOO, Status::Success, false),
+    (LONG_FOO, Status::Success, false),
+];
+
+#[test]
+fn packets_of_the_format_are_read(rt: HostRuntime) {
+    for &(bytes, status, routed) in &OF_FOO {
+        assert_eq!(rt; reads_foo(rt.alloc(), bytes, status, routed), Some(true));
+    }
+}
+
+// Whether the event tells the end of a file, and no more.
+fn is_end_alone(event: &Event) -> bool {
+    event.eof
+        && event.id.is_none()
+        && event.route.is_none()
+        && event.status == Status::Unset
+        && is_bare(event)
+}
+
+fn reads_end_alone(alloc: Global) -> Option<bool> {
+    let event = read(alloc, END_ALONE)?;
+    Some(is_end_alone(&event))
+}
+
+#[test]
+fn an_end_alone_is_read(rt: HostRuntime) {
+    assert_eq!(rt; reads_end_alone(rt.alloc()), Some(true));
+}
+
+fn status_of(alloc: Global, packet: &Packet<'_>) -> Option<Status> {
+    let event = packet.event(alloc).ok()?;
+    Some(event.status)
+}
+
+// The size and the status of the packet at the front, where one stands there.
+fn read_front(alloc: Global, bytes: &[u8]) -> Option<(usize, Status)> {
     let Front::Packet(_) = look(bytes) else {
         return None;
     };
     let packet = front_packet(bytes);
-    let event = packet.event(alloc).ok()?;
-    Some((event, packet.size()))
+    let status = status_of(alloc, &packet)?;
+    Some((packet.size(), status))
 }
 
 #[test]
-fn the_packet_at_the_front_is_read_with_its_size(rt: HostRuntime) -> Result<(), Fail> {
+fn the_packet_at_the_front_is_read_with_its_size(rt: HostRuntime) {
     let both =
         b"\xb3\x29\x03\x80\x00\x0e\x03foo\x70\x37\x2c\x19\xb3\x29\x06\x0c\x03foo\x15\x50\x6f\xa3";
-    let (event, size) = read_front(rt.alloc(), both).ok_or("no packet")?;
-    assert_eq!(rt; (size, event.status), (14, Status::Success));
-    let behind = both.get(size..).ok_or("size")?;
-    let (event, size) = read_front(rt.alloc(), behind).ok_or("no packet behind")?;
-    assert_eq!(rt; (size, event.status), (12, Status::Fail));
-    Ok(())
+    assert_eq!(rt; read_front(rt.alloc(), both), Some((14, Status::Success)));
+    assert_eq!(rt;
+        read_front(rt.alloc(), &both[14..]),
+        Some((12, Status::Fail))
+    );
 }
 
 fn has_tags(tags: &Option<Tags>, wanted: &[&[u8]]) -> bool {
@@ -104,51 +133,81 @@ fn has_tags(tags: &Option<Tags>, wanted: &[&[u8]]) -> bool {
     same
 }
 
-#[test]
-fn every_field_is_read(rt: HostRuntime) -> Result<(), Fail> {
-    let event = read(rt.alloc(), EVERY_FIELD)?;
-    let stamp = event.stamp.ok_or("no time")?;
-    assert_eq!(rt; (stamp.seconds, stamp.nanos), (5, 1_000_000_001));
-    assert_eq!(rt; bytes_of(&event.id), Some(b"t".as_slice()));
-    assert!(rt; has_tags(&event.tags, &[b"a".as_slice(), b"\xc3\xa9".as_slice()]));
-    assert_eq!(rt; bytes_of(&event.mime), Some(b"text/plain".as_slice()));
-    let file = event.file.as_ref().ok_or("no file")?;
-    assert_eq!(rt; file.name.bytes(), b"f".as_slice());
-    assert_eq!(rt; file.bytes.bytes(), b"\x00\xff\x0a".as_slice());
-    assert_eq!(rt; bytes_of(&event.route), Some(b"0/1".as_slice()));
-    assert_eq!(rt; event.status, Status::Fail);
-    assert!(rt; event.eof && event.runnable);
-    Ok(())
+fn has_file(file: &Option<FilePart>, name: &[u8], bytes: &[u8]) -> bool {
+    match file {
+        None => false,
+        Some(file) => file.name.bytes() == name && file.bytes.bytes() == bytes,
+    }
+}
+
+// The seconds and the nanoseconds.
+fn time_of(event: &Event) -> Option<(u32, u32)> {
+    let stamp = event.stamp?;
+    Some((stamp.seconds, stamp.nanos))
+}
+
+fn has_texts(event: &Event, id: &[u8], mime: &[u8], route: &[u8]) -> bool {
+    bytes_of(&event.id) == Some(id)
+        && bytes_of(&event.mime) == Some(mime)
+        && bytes_of(&event.route) == Some(route)
+}
+
+fn has_every_field(event: &Event) -> bool {
+    time_of(event) == Some((5, 1_000_000_001))
+        && has_texts(event, b"t", b"text/plain", b"0/1")
+        && has_tags(&event.tags, &[b"a".as_slice(), b"\xc3\xa9".as_slice()])
+        && has_file(&event.file, b"f", b"\x00\xff\x0a")
+        && event.status == Status::Fail
+        && event.eof
+        && event.runnable
+}
+
+fn reads_every_field(alloc: Global) -> Option<bool> {
+    let event = read(alloc, EVERY_FIELD)?;
+    Some(has_every_field(&event))
 }
 
 #[test]
-fn empty_parts_are_read(rt: HostRuntime) -> Result<(), Fail> {
-    let event = read(rt.alloc(), EMPTY_PARTS)?;
-    assert_eq!(rt; bytes_of(&event.id), Some(b"".as_slice()));
-    assert!(rt; has_tags(&event.tags, &[]));
-    assert_eq!(rt; bytes_of(&event.mime), Some(b"".as_slice()));
-    let file = event.file.as_ref().ok_or("no file")?;
-    assert_eq!(rt; file.name.bytes(), b"".as_slice());
-    assert_eq!(rt; file.bytes.bytes(), b"".as_slice());
-    assert_eq!(rt; bytes_of(&event.route), Some(b"".as_slice()));
-    assert_eq!(rt; event.status, Status::Unset);
-    assert!(rt; event.stamp.is_none() && !event.runnable && !event.eof);
-    Ok(())
+fn every_field_is_read(rt: HostRuntime) {
+    assert_eq!(rt; reads_every_field(rt.alloc()), Some(true));
+}
+
+fn has_empty_parts(event: &Event) -> bool {
+    has_texts(event, b"", b"", b"")
+        && has_tags(&event.tags, &[])
+        && has_file(&event.file, b"", b"")
+        && event.status == Status::Unset
+        && event.stamp.is_none()
+        && !event.runnable
+        && !event.eof
+}
+
+fn reads_empty_parts(alloc: Global) -> Option<bool> {
+    let event = read(alloc, EMPTY_PARTS)?;
+    Some(has_empty_parts(&event))
+}
+
+#[test]
+fn empty_parts_are_read(rt: HostRuntime) {
+    assert_eq!(rt; reads_empty_parts(rt.alloc()), Some(true));
+}
+
+// Each front of the packet that has so many bytes or more may become one.
+fn fronts_may_become_one<R: Abort>(rt: &R, packet: &[u8], shortest: usize) {
+    for size in shortest..packet.len() {
+        assert_eq!(rt; look(&packet[..size]), Front::More, "{size}");
+    }
 }
 
 #[test]
 fn each_front_of_a_packet_may_become_one(rt: HostRuntime) {
-    for size in 0..EVERY_FIELD.len() {
-        assert_eq!(rt; look(&EVERY_FIELD[..size]), Front::More, "{size}");
-    }
+    fronts_may_become_one(&rt, EVERY_FIELD, 0);
     assert_eq!(rt; look(EVERY_FIELD), Front::Packet(45));
     assert_eq!(rt;
         look(b"\xb3\x21\x10\x08\x53\x15\x88\xdca"),
         Front::Packet(8)
     );
-    for size in 4..14usize {
-        assert_eq!(rt; look(&LONG_FOO[..size]), Front::More, "{size}");
-    }
+    fronts_may_become_one(&rt, LONG_FOO, 4);
     assert_eq!(rt; look(b"\xb3\x29\x03\x08"), Front::More);
     assert_eq!(rt; look(b"\xb3\x29\x03\x40"), Front::More);
 }
@@ -220,7 +279,7 @@ const REFUSED: [(&str, &[u8]); 22] = [
 
 #[test]
 fn what_cannot_be_a_packet_is_refused(rt: HostRuntime) {
-    for (what, bytes) in REFUSED {
+    for &(what, bytes) in &REFUSED {
         assert_eq!(rt; look(bytes), Front::No, "{what}");
     }
 }
