@@ -21,6 +21,3 @@ pub use item::Item;
 pub use reading::read_items;
 pub use table::{Kind, OptionTable};
 pub use text::text_of;
-
-#[cfg(test)]
-mod tests;

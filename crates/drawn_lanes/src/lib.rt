@@ -20,6 +20,3 @@ mod packets;
 pub use draws::Draws;
 pub use lanes::plans;
 pub use laws::drawn_events_have_packets;
-
-#[cfg(test)]
-mod tests;

@@ -59,6 +59,3 @@ pub use site::{Found, Site};
 pub use source::Source;
 pub use spawner::Spawner;
 pub use whole_file::{ReadFault, read_file};
-
-#[cfg(test)]
-mod tests;

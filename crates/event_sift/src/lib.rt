@@ -35,10 +35,3 @@ pub use rules::{ByRules, Rules, keep};
 pub use sift::Sift;
 pub use tagger::Tagger;
 pub use whole::filtered_events;
-
-#[cfg(test)]
-mod tests;
-#[cfg(test)]
-mod tests_events;
-#[cfg(test)]
-mod tests_packets;

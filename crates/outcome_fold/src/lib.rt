@@ -35,10 +35,3 @@ pub use summary::{Summary, Timed};
 pub use summing::Summing;
 pub use test_key::{TestKey, key_in, key_of};
 pub use text_set::{TextSet, copies_of, in_order, sorted_tags};
-
-#[cfg(test)]
-mod tests;
-#[cfg(test)]
-mod tests_hearing;
-#[cfg(test)]
-mod tests_summing;

@@ -62,12 +62,3 @@ pub use sizes::{fits, routed_size, size};
 pub use stamp::Stamp;
 pub use status::Status;
 pub use tags::Tags;
-
-#[cfg(test)]
-mod tests_both_ways;
-#[cfg(test)]
-mod tests_reading;
-#[cfg(test)]
-mod tests_respelling;
-#[cfg(test)]
-mod tests_writing;

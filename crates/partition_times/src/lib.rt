@@ -23,6 +23,3 @@ pub use filters::{Filters, Finder, pick};
 pub use groups::Groups;
 pub use pattern::PatternFault;
 pub use shares::partition;
-
-#[cfg(test)]
-mod tests;

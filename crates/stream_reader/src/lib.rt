@@ -28,6 +28,3 @@ pub use laws::{notes_in_turn, notes_of_streams};
 pub use note::{Note, stdout_event};
 pub use reader::Reader;
 pub use whole::notes_of_pieces;
-
-#[cfg(test)]
-mod tests;

@@ -30,6 +30,3 @@ pub use seconds::seconds_text;
 pub use slowest::slowest_text;
 pub use stats::{counts_text, stats_text};
 pub use summary::{summary_from, summary_text};
-
-#[cfg(test)]
-mod tests;

@@ -44,10 +44,3 @@ pub use load_list::{ListRefusal, read_load_list};
 pub use patterns::{Compiled, PatternRefusal, compile};
 pub use processors::{TableRefusal, count_processors};
 pub use sharing::{MOST_WORKERS, share_out};
-
-#[cfg(test)]
-mod tests_children;
-#[cfg(test)]
-mod tests_choice;
-#[cfg(test)]
-mod tests_files;

@@ -14,10 +14,6 @@
 mod laws;
 mod recording;
 mod starting;
-#[cfg(test)]
-mod tests;
-#[cfg(test)]
-mod tests_starting;
 
 pub use laws::outputs_are_recorded;
 pub use recording::{LanesRefusal, record_lanes};

@@ -32,6 +32,3 @@ pub use fault::{ConfFault, JobFault, Key};
 pub use ids::{IdsFault, read_ids};
 pub use job::id_lines;
 pub use white::trim;
-
-#[cfg(test)]
-mod tests;

@@ -36,6 +36,3 @@ pub use laws::{lots_in_turn, recorded_streams, recording_in_turn};
 pub use lot::{Ending, Lot};
 pub use scribe::Scribe;
 pub use whole::{recorded_of_pieces, take_packets};
-
-#[cfg(test)]
-mod tests;

@@ -1,0 +1,113 @@
+//! Packets that are held until their test completes.
+
+ghost use Rattle.std.specs.Prelude.{◌≡◌};
+ghost use Rattle.event_sift.specs.Sifted.{asked_by};
+ghost use Rattle.event_sift.specs.PacketSifted.{predicate_of, rules_of};
+
+use crate::tests_event_sift_events::{Told, default_rules, says};
+use event_sift::{ByRules, PacketSift};
+use packet_codec::{Sight, Status, see};
+use std::alloc::Global;
+use std::test::Fail;
+use trial_events::spelled;
+
+// The packet of an event of the test under the route. An id of no bytes is none.
+fn packet_of(alloc: Global, told: &Told) -> Option<Vec<u8>> {
+    let event = says(alloc, told.0, told.1, told.2);
+    spelled(alloc, &event)
+}
+
+// Whether the packet was taken.
+fn hears_packet(sift: &mut PacketSift<'_, ByRules<'_>>, bytes: &[u8], out: &mut Vec<u8>) -> bool
+    requires { asked_by (predicate_of sift.old) ≡ rules_of sift.old }
+    ensures { asked_by (predicate_of sift.new) ≡ rules_of sift.new }
+{
+    match see(bytes) {
+        Sight::Packet(packet) => sift.hear(&packet, out).is_ok(),
+        _ => false,
+    }
+}
+
+fn hears(
+    alloc: Global,
+    sift: &mut PacketSift<'_, ByRules<'_>>,
+    told: &Told,
+    out: &mut Vec<u8>,
+) -> bool
+    requires { asked_by (predicate_of sift.old) ≡ rules_of sift.old }
+    ensures { asked_by (predicate_of sift.new) ≡ rules_of sift.new }
+{
+    match packet_of(alloc, told) {
+        Some(bytes) => hears_packet(sift, &bytes, out),
+        None => false,
+    }
+}
+
+// Two tests of one id interleave, of which one passes. A third test is left open.
+const BEGUN: Told = (b'0', b"f", Status::InProgress);
+
+const OTHER: Told = (b'1', b"f", Status::InProgress);
+
+const BARE: Told = (b'1', b"", Status::Unset);
+
+const GOES_ON: Told = (b'0', b"f", Status::Unset);
+
+const PASSED: Told = (b'1', b"f", Status::Success);
+
+const OPEN: Told = (b'-', b"z", Status::InProgress);
+
+const FAILED: Told = (b'0', b"f", Status::Fail);
+
+// Whether all of them were taken.
+fn hears_all(alloc: Global, sift: &mut PacketSift<'_, ByRules<'_>>, out: &mut Vec<u8>) -> bool
+    requires { asked_by (predicate_of sift.old) ≡ rules_of sift.old }
+    ensures { asked_by (predicate_of sift.new) ≡ rules_of sift.new }
+{
+    let heard = [
+        hears(alloc, sift, &BEGUN, out),
+        hears(alloc, sift, &OTHER, out),
+        hears(alloc, sift, &BARE, out),
+        hears(alloc, sift, &GOES_ON, out),
+        hears(alloc, sift, &PASSED, out),
+        hears(alloc, sift, &OPEN, out),
+        hears(alloc, sift, &FAILED, out),
+    ];
+    heard == [true; 7]
+}
+
+// What is released of them.
+fn released(alloc: Global) -> Option<Vec<u8>> {
+    let rules = default_rules(alloc)?;
+    let predicate = ByRules::new(alloc, &rules).ok()?;
+    let mut out = Vec::new(alloc);
+    let mut sift = PacketSift::new(alloc, &rules, predicate);
+    let heard = hears_all(alloc, &mut sift, &mut out);
+    let closed = sift.close(&mut out).is_ok();
+    if heard && closed { Some(out) } else { None }
+}
+
+fn append(alloc: Global, all: &mut Vec<u8>, told: &Told) -> Option<()> {
+    let packet = packet_of(alloc, told)?;
+    all.extend_from_slice(&packet).ok()
+}
+
+fn joined(alloc: Global, told: &[Told]) -> Option<Vec<u8>> {
+    let mut all = Vec::new(alloc);
+    for one in told {
+        append(alloc, &mut all, one)?;
+    }
+    Some(all)
+}
+
+fn interleaved(alloc: Global) -> Option<bool> {
+    let out = released(alloc)?;
+    let wanted = joined(alloc, &[BARE, BEGUN, GOES_ON, FAILED, OPEN])?;
+    Some(out.as_slice() == wanted.as_slice())
+}
+
+#[test]
+fn packets_are_released_whole_where_their_test_ends(rt: HostRuntime) -> Result<(), Fail> {
+    let alloc = rt.alloc();
+    assert_eq!(rt; interleaved(alloc), Some(true));
+    Ok(())
+}

@@ -1,0 +1,17 @@
+//! Tests of the leaves: numbers, texts and checksums; words; the outside in memory; the shares of tests; and configurations.
+//! No program uses it.
+//!
+//! They use the public names of the rooms alone, and stand above them, so that the proofs of a room are not made once more for
+//! its tests. Each file has the room in its name.
+#![tactic(auto)]
+
+#[cfg(test)]
+mod tests_command_words;
+#[cfg(test)]
+mod tests_edge_io;
+#[cfg(test)]
+mod tests_partition_times;
+#[cfg(test)]
+mod tests_sub_number;
+#[cfg(test)]
+mod tests_testr_conf;

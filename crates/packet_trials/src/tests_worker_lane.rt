@@ -1,0 +1,381 @@
+ghost use Rattle.std.specs.Prelude.{◌≡◌, false};
+
+use edge_io::{Child, Failed, Finish, PlanChild};
+use std::alloc::Global;
+use std::sync::Arc;
+use std::sync::atomic::{AtomicBool, Ordering};
+use std::test::Fail;
+use stream_reader::{Note, ROOM, notes_of_pieces};
+use sub_number::Bytes;
+use trial_events::{file_event, repeated, spelled};
+use worker_lane::{Ending, Lane, Lot, Scribe, recorded_of_pieces, take_packets};
+
+// `foo` passed: as it comes, and as it is recorded under lane 0.
+const FOO: &[u8] = b"\xb3\x29\x03\x0c\x03foo\x45\x9d\xfe\x10";
+
+const FOO_UNDER_0: &[u8] = b"\xb3\x2d\x03\x0e\x03foo\x01\x30\xa4\xaf\xdb\xe0";
+
+// The bytes `ab` as a piece of the file `stdout`, under lane 0.
+const AB_UNDER_0: &[u8] = b"\xb3\x25\x40\x14\x06stdout\x02ab\x01\x30\x3a\xe0\x57\xa9";
+
+fn pieces(alloc: Global, stream: &[u8], size: usize) -> Option<Vec<Bytes>> {
+    let mut pieces = Vec::new(alloc);
+    for piece in stream.chunks(size.max(1)) {
+        pieces.push(Bytes::new(alloc, piece).ok()?).ok()?;
+    }
+    Some(pieces)
+}
+
+// What is recorded of a stream that is fed in pieces of this size.
+fn recorded(alloc: Global, lane: u32, stream: &[u8], size: usize) -> Option<Vec<u8>> {
+    if lane > 63 {
+        return None;
+    }
+    recorded_of_pieces(alloc, lane, &pieces(alloc, stream, size)?).ok()
+}
+
+fn is_recorded(alloc: Global, lane: u32, stream: &[u8], size: usize, wanted: &[u8]) -> bool {
+    match recorded(alloc, lane, stream, size) {
+        Some(bytes) => bytes.as_slice() == wanted,
+        None => false,
+    }
+}
+
+#[test]
+fn streams_under_lane_0_in_pieces_of_every_size(rt: HostRuntime) {
+    let table = [
+        (FOO, FOO_UNDER_0),
+        (b"".as_slice(), b"".as_slice()),
+        // `foo` failed.
+        (
+            b"\xb3\x29\x06\x0c\x03foo\x15\x50\x6f\xa3",
+            b"\xb3\x2d\x06\x0e\x03foo\x01\x30\xec\x4f\xd5\x84",
+        ),
+        // The end alone.
+        (
+            b"\xb3\x21\x10\x08\x53\x15\x88\xdc",
+            b"\xb3\x25\x10\x0a\x01\x30\x46\xf1\xb3\xa8",
+        ),
+        // The checksum is wrong.
+        (
+            b"\xb3\x29\x03\x0c\x03foo\x45\x9d\xfe\x11",
+            b"\xb3\x25\x40\x1e\x06stdout\x0c\xb3\x29\x03\x0c\x03foo\x45\x9d\xfe\x11\x01\x30\x7c\x95\xa7\xfd",
+        ),
+        // Foreign bytes, and a packet.
+        (
+            b"ab\xb3\x29\x03\x0c\x03foo\x45\x9d\xfe\x10",
+            b"\xb3\x25\x40\x14\x06stdout\x02ab\x01\x30\x3a\xe0\x57\xa9\xb3\x2d\x03\x0e\x03foo\x01\x30\xa4\xaf\xdb\xe0",
+        ),
+        // A header of 60 bytes, and a packet among them.
+        (
+            b"\xb3\x29\x03\x3c\xb3\x29\x03\x0c\x03foo\x45\x9d\xfe\x10",
+            b"\xb3\x25\x40\x16\x06stdout\x04\xb3\x29\x03\x3c\x01\x30\xec\x41\x8b\x3d\xb3\x2d\x03\x0e\x03foo\x01\x30\xa4\xaf\xdb\xe0",
+        ),
+    ];
+    for (stream, wanted) in table {
+        for size in [1, 5, 100] {
+            assert!(rt;
+                is_recorded(rt.alloc(), 0, stream, size, wanted),
+                "pieces of {size}"
+            );
+        }
+    }
+}
+
+#[test]
+fn other_lanes_and_routes(rt: HostRuntime) {
+    let table = [
+        (
+            12,
+            FOO,
+            b"\xb3\x2d\x03\x0f\x03foo\x02\x31\x32\x6d\x8c\x7c\x28".as_slice(),
+        ),
+        // `foo` passed, with the route `r`.
+        (
+            12,
+            b"\xb3\x2d\x03\x0e\x03foo\x01r\x3c\x7d\xfb\x5c",
+            b"\xb3\x2d\x03\x11\x03foo\x0412/r\x5f\x07\x80\x48",
+        ),
+        (
+            63,
+            b"ab",
+            b"\xb3\x25\x40\x15\x06stdout\x02ab\x0263\x0b\xf1\x8d\x29",
+        ),
+    ];
+    for (lane, stream, wanted) in table {
+        assert!(rt;
+            is_recorded(rt.alloc(), lane, stream, 100, wanted),
+            "lane {lane}"
+        );
+    }
+}
+
+// Feeds a piece that there is room for.
+fn fed(scribe: &mut Scribe, piece: &[u8]) -> Option<()>
+    requires { scribe.old.held.ended ≡ false }
+    ensures { scribe.new.held.ended ≡ false }
+{
+    if piece.len() > ROOM || scribe.held() > ROOM - piece.len() {
+        return None;
+    }
+    scribe.feed(piece);
+    Some(())
+}
+
+#[test]
+fn a_packet_is_held_back_until_it_is_whole(rt: HostRuntime) -> Result<(), Fail> {
+    let mut scribe = Scribe::new(rt.alloc(), 0).ok().ok_or("no memory")?;
+    let mut out = Vec::new(rt.alloc());
+    fed(&mut scribe, b"ab\xb3\x29\x03\x0c\x03foo\x45\x9d\xfe").ok_or("no room")?;
+    assert!(rt; !scribe.next_into(&mut out).ok().ok_or("no memory")?);
+    assert!(rt; out.is_empty());
+    assert_eq!(rt; scribe.held(), 13);
+    Ok(())
+}
+
+#[test]
+fn the_next_packet_is_owned(rt: HostRuntime) -> Result<(), Fail> {
+    let mut scribe = Scribe::new(rt.alloc(), 0).ok().ok_or("no memory")?;
+    fed(&mut scribe, b"ab\xb3\x29\x03\x0c\x03foo\x45\x9d\xfe\x10ab").ok_or("no room")?;
+    let first = scribe.next().ok().ok_or("no memory")?.ok_or("no packet")?;
+    assert!(rt; first.bytes() == AB_UNDER_0);
+    assert_eq!(rt; scribe.held(), 14);
+    Ok(())
+}
+
+#[test]
+fn packets_are_appended_one_by_one(rt: HostRuntime) -> Result<(), Fail> {
+    let mut scribe = Scribe::new(rt.alloc(), 0).ok().ok_or("no memory")?;
+    let mut out = Vec::new(rt.alloc());
+    fed(&mut scribe, b"ab\xb3\x29\x03\x0c\x03foo\x45\x9d\xfe\x10").ok_or("no room")?;
+    assert!(rt; scribe.next_into(&mut out).ok().ok_or("no memory")?);
+    assert!(rt; out.as_slice() == AB_UNDER_0);
+    assert!(rt; scribe.next_into(&mut out).ok().ok_or("no memory")?);
+    assert!(rt; out.starts_with(AB_UNDER_0) && out.ends_with(FOO_UNDER_0));
+    assert_eq!(rt; out.len(), AB_UNDER_0.len() + FOO_UNDER_0.len());
+    assert!(rt; !scribe.next_into(&mut out).ok().ok_or("no memory")?);
+    Ok(())
+}
+
+// The packet of an event without route whose file has so many zeros.
+fn long_packet(alloc: Global, count: usize) -> Option<Vec<u8>> {
+    let zeros = repeated(alloc, b"\0", count)?;
+    spelled(alloc, &file_event(alloc, b"", &zeros)?)
+}
+
+// Appends the bytes of a piece of the file `stdout` under lane 0, and answers how many they are.
+fn take_piece(note: &Note, joined: &mut Vec<u8>) -> Option<usize> {
+    let Note::Event(event) = note else {
+        return None;
+    };
+    let file = event.file.as_ref()?;
+    if file.name.bytes() != b"stdout".as_slice()
+        || event.route.as_ref()?.bytes() != b"0".as_slice()
+    {
+        return None;
+    }
+    joined.extend_from_slice(file.bytes.bytes()).ok()?;
+    Some(file.bytes.bytes().len())
+}
+
+#[test]
+fn the_largest_packet_is_recorded_in_64_pieces(rt: HostRuntime) -> Result<(), Fail> {
+    let packet = long_packet(rt.alloc(), 4_194_289).ok_or("no packet")?;
+    assert_eq!(rt; packet.len(), 4_194_303);
+    let run = recorded(rt.alloc(), 0, &packet, 65_536).ok_or("no memory")?;
+    let stored = pieces(rt.alloc(), &run, 65_536).ok_or("no memory")?;
+    let notes = notes_of_pieces(rt.alloc(), &stored)
+        .ok()
+        .ok_or("no memory")?;
+    assert_eq!(rt; notes.len(), 64);
+    let mut joined = Vec::new(rt.alloc());
+    for (place, note) in notes.iter().enumerate() {
+        let size = if place < 63 { 65_536 } else { 65_535 };
+        assert_eq!(rt; take_piece(note, &mut joined), Some(size));
+    }
+    assert!(rt; joined.as_slice() == packet.as_slice());
+    Ok(())
+}
+
+// The route takes two bytes under lane 9, and three under lane 10.
+#[test]
+fn an_event_that_just_fits_is_one_packet(rt: HostRuntime) -> Result<(), Fail> {
+    let packet = long_packet(rt.alloc(), 4_194_287).ok_or("no packet")?;
+    let one = recorded(rt.alloc(), 9, &packet, 65_536).ok_or("no memory")?;
+    assert_eq!(rt; one.len(), 4_194_303);
+    let many = recorded(rt.alloc(), 10, &packet, 65_536).ok_or("no memory")?;
+    // Around each piece stand 23 bytes: 6 of header, the name in 7, the count in 3, the route in 3, and 4 of checksum.
+    assert!(rt;
+        many.starts_with(b"\xb3\x25\x40\x81\x00\x17\x06stdout\x81\x00\x00\xb3\x20\x40\xbf\xff\xfd")
+    );
+    assert_eq!(rt; many.len(), 63 * (65_536 + 23) + 65_533 + 23);
+    Ok(())
+}
+
+// The packets that tell of an end.
+const RETURNED_2_UNDER_0: &[u8] =
+    b"\xb3\x2df\x40\x4d\x12process\x2dreturncode\x17text/plain;charset=utf\x38\x09traceback\x0creturncode\x20\x32\x01\x30\xf4\xd0\xd6\x38";
+
+const FAULT_UNDER_0: &[u8] =
+    b"\xb3\x2df\x40\x4b\x12process\x2dreturncode\x17text/plain;charset=utf\x38\x09traceback\x0aread\x20fault\x01\x30g\xa6\xc6j";
+
+const SIGNAL_9_UNDER_12: &[u8] =
+    b"\xb3\x2df\x40\x4f\x12process\x2dreturncode\x17text/plain;charset=utf\x38\x09traceback\x0dreturncode\x20\x2d\x39\x02\x31\x32/\x18\xea\x36";
+
+// A lane goes to another thread.
+fn may_be_sent<T: Send>(_: &T) {}
+
+// The packets that a lane over this output gives, and its end.
+fn lane_gives(
+    alloc: Global,
+    number: u32,
+    output: &[u8],
+    piece: usize,
+    finish: Finish,
+) -> Option<(Vec<u8>, Ending)> {
+    if number > 63 || piece == 0 {
+        return None;
+    }
+    let child = PlanChild::new(Bytes::new(alloc, output).ok()?, piece, finish);
+    let mut lane = Lane::new(alloc, number, child).ok()?;
+    may_be_sent(&lane);
+    let mut packets = Vec::new(alloc);
+    for _ in 0..1000 {
+        match lane.step()? {
+            Lot::Packet(packet) => packets.extend_from_slice(packet.bytes()).ok()?,
+            Lot::End(ending) => return lane.step().is_none().then_some((packets, ending)),
+        }
+    }
+    None
+}
+
+fn is_given(given: Option<(Vec<u8>, Ending)>, wanted: &[&[u8]], end: Ending) -> bool {
+    let Some((packets, ending)) = given else {
+        return false;
+    };
+    let mut rest = packets.as_slice();
+    for part in wanted {
+        let Some(behind) = rest.strip_prefix(*part) else {
+            return false;
+        };
+        rest = behind;
+    }
+    rest.is_empty() && ending == end
+}
+
+#[test]
+fn a_lane_gives_its_packets_and_its_end(rt: HostRuntime) {
+    let alloc = rt.alloc();
+    for piece in [1, 100] {
+        let given = lane_gives(alloc, 0, FOO, piece, Finish::Exit(0));
+        assert!(rt; is_given(given, &[FOO_UNDER_0], Ending::Exit(0)));
+        let given = lane_gives(alloc, 0, FOO, piece, Finish::Exit(2));
+        assert!(rt; is_given(given, &[FOO_UNDER_0, RETURNED_2_UNDER_0], Ending::Exit(2)));
+        let given = lane_gives(alloc, 12, b"", piece, Finish::Exit(-9));
+        assert!(rt; is_given(given, &[SIGNAL_9_UNDER_12], Ending::Exit(-9)));
+    }
+}
+
+// Of a lane whose child gives `foo` twice in one read: its first packet with what is appended to it, and how often that was.
+fn first_and_more(alloc: Global) -> Option<(Vec<u8>, [bool; 2])> {
+    let mut stream = Vec::new(alloc);
+    stream.extend_from_slice(FOO).ok()?;
+    stream.extend_from_slice(FOO).ok()?;
+    let child = PlanChild::new(Bytes::from_vec(stream), 100, Finish::Exit(0));
+    let mut lane = Lane::new(alloc, 0, child).ok()?;
+    let Some(Lot::Packet(first)) = lane.step() else {
+        return None;
+    };
+    let mut packets = first.into_vec();
+    let more = [lane.more_into(&mut packets), lane.more_into(&mut packets)];
+    Some((packets, more))
+}
+
+#[test]
+fn packets_of_one_read_are_appended_without_another(rt: HostRuntime) -> Result<(), Fail> {
+    let (packets, more) = first_and_more(rt.alloc()).ok_or("no packet")?;
+    assert_eq!(rt; more, [true, false]);
+    assert!(rt; packets.starts_with(FOO_UNDER_0) && packets.ends_with(FOO_UNDER_0));
+    assert_eq!(rt; packets.len(), 2 * FOO_UNDER_0.len());
+    Ok(())
+}
+
+#[test]
+fn a_fault_comes_behind_the_bytes(rt: HostRuntime) {
+    let alloc = rt.alloc();
+    for finish in [Finish::ReadFault, Finish::WaitFault] {
+        let given = lane_gives(alloc, 0, b"ab", 1, finish);
+        assert!(rt; is_given(given, &[AB_UNDER_0, FAULT_UNDER_0], Ending::Fault));
+    }
+}
+
+// A child of which nothing is told, and whose reads fail. It notes whether it was stopped before it was waited for.
+#[derive(Drop)]
+struct Broken {
+    faults: u64,
+    stopped: bool,
+    waited_then: Arc<AtomicBool>,
+}
+
+impl Child for Broken {
+    ghost use Rattle.std.specs.Prelude.{None};
+
+    ghost seen = { λ s. record { told = None; faults = s.faults } };
+
+    fn read(&mut self, _buf: &mut [u8]) -> Result<usize, Failed> {
+        self.faults = self.faults.saturating_add(1);
+        Err(Failed)
+    }
+
+    fn wait(&mut self) -> Result<i32, Failed> {
+        self.waited_then.store(self.stopped, Ordering::SeqCst);
+        Ok(-15)
+    }
+
+    fn stop(&mut self) {
+        self.stopped = true;
+    }
+
+    ghost are_bytes = { λ s. tt };
+}
+
+#[test]
+fn a_child_whose_reads_fail_is_stopped_and_waited_for(rt: HostRuntime) -> Result<(), Fail> {
+    let waited_then = Arc::new(rt.alloc(), AtomicBool::new(false))?;
+    let child = Broken {
+        faults: 0,
+        stopped: false,
+        waited_then: Arc::try_clone(&waited_then)?,
+    };
+    let Ok(mut lane) = Lane::new(rt.alloc(), 0, child) else {
+        return Ok(());
+    };
+    assert!(rt; matches!(lane.step(), Some(Lot::Packet(_))));
+    assert!(rt; matches!(lane.step(), Some(Lot::End(Ending::Fault))));
+    assert!(rt; waited_then.load(Ordering::SeqCst));
+    Ok(())
+}
+
+// The packet that tells of an end, under lane 0.
+fn told_of(alloc: Global, ending: Ending) -> Option<Vec<u8>> {
+    if ending == Ending::NoMemory {
+        return None;
+    }
+    let scribe = Scribe::new(alloc, 0).ok()?;
+    Some(scribe.ending(&ending).ok()??.into_vec())
+}
+
+fn is_told(told: Option<Vec<u8>>, wanted: &[u8]) -> bool {
+    match told {
+        Some(told) => told.as_slice() == wanted,
+        None => false,
+    }
+}
+
+#[test]
+fn an_end_is_told_by_its_packet(rt: HostRuntime) {
+    let alloc = rt.alloc();
+    assert!(rt; told_of(alloc, Ending::Exit(0)).is_none());
+    assert!(rt; is_told(told_of(alloc, Ending::Exit(2)), RETURNED_2_UNDER_0));
+    assert!(rt; is_told(told_of(alloc, Ending::Fault), FAULT_UNDER_0));
+}

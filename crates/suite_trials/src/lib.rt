@@ -1,0 +1,16 @@
+//! Tests of what a run is made of, and of its workers. No program uses it.
+//!
+//! They use the public names of the rooms alone, and stand above them, so that the proofs of a room are not made once more for
+//! its tests. Each file has the room in its name.
+#![tactic(auto)]
+
+#[cfg(test)]
+mod tests_suite_plan_children;
+#[cfg(test)]
+mod tests_suite_plan_choice;
+#[cfg(test)]
+mod tests_suite_plan_files;
+#[cfg(test)]
+mod tests_suite_run;
+#[cfg(test)]
+mod tests_suite_run_starting;

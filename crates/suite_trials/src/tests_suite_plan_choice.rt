@@ -1,0 +1,294 @@
+//! Which tests run, in which shares, and what their workers are started with.
+
+ghost use Rattle.std.specs.Prelude.{◌≤◌, IfSome};
+ghost use Rattle.std.specs.List.{IsDistinct};
+ghost use Rattle.std.specs.Str.{bytes_eq};
+ghost use Rattle.suite_plan.specs.declared.sharing.TheConstants.{MOST_WORKERS};
+
+use edge_io::Job;
+use partition_times::{Filters, Groups};
+use std::alloc::Global;
+use std::test::Fail;
+use sub_number::{IdList, Text, TimeMap};
+use suite_plan::{PatternRefusal, chosen, compile, firsts, jobs_of_lanes, share_out};
+use testr_conf::{Conf, JobFault, Key};
+
+const WHOLE: &[u8] =
+    b"[DEFAULT]\ntest_command=OS_STDOUT_CAPTURE=${OS_STDOUT_CAPTURE:-1} \\\n             ${PYTHON:-python} -m subunit.run discover -t ./ . $LISTOPT $IDOPTION\ntest_id_option=--load-list $IDFILE\ntest_list_option=--list\n";
+
+const FIRST: &[u8] =
+    b"OS_STDOUT_CAPTURE=${OS_STDOUT_CAPTURE:-1} \\\n${PYTHON:-python} -m subunit.run discover -t ./ .  --load-list .testr-ids.0";
+
+const SECOND: &[u8] =
+    b"OS_STDOUT_CAPTURE=${OS_STDOUT_CAPTURE:-1} \\\n${PYTHON:-python} -m subunit.run discover -t ./ .  --load-list .testr-ids.1";
+
+const NO_OPTION: &[u8] = b"[DEFAULT]\ntest_command=run $IDOPTION\n";
+
+// Ids with white space between them.
+fn ids_of(alloc: Global, texts: &str) -> Option<IdList> {
+    let mut ids = IdList::new(alloc);
+    for text in texts.split_whitespace() {
+        ids.push(Text::new(alloc, text.as_bytes()).ok()?).ok()?;
+    }
+    Some(ids)
+}
+
+fn are_ids(ids: &IdList, wanted: &str) -> bool {
+    let mut same = true;
+    let mut left = wanted.split_whitespace();
+    for id in ids.list() {
+        same = same
+            && left
+                .next()
+                .is_some_and(|text| text.as_bytes() == id.bytes());
+    }
+    same && left.next().is_none()
+}
+
+// Times in seconds.
+fn times_of(alloc: Global, rows: &[(&str, u64)]) -> Option<TimeMap> {
+    let mut times = TimeMap::new(alloc);
+    for (text, seconds) in rows {
+        let id = Text::new(alloc, text.as_bytes()).ok()?;
+        times.put(&id, seconds.wrapping_mul(1_000_000_000)).ok()?;
+    }
+    Some(times)
+}
+
+// The groups by a regex, where the empty one stands for none.
+fn groups_of(alloc: Global, regex: &str) -> Option<Groups> {
+    if regex.is_empty() {
+        return Groups::new(alloc, None).ok();
+    }
+    let text = Text::new(alloc, regex.as_bytes()).ok()?;
+    Groups::new(alloc, Some(&text)).ok()
+}
+
+fn shares_of(
+    alloc: Global,
+    ids: &str,
+    times: &[(&str, u64)],
+    regex: &str,
+    workers: u32,
+) -> Option<Vec<IdList>>
+    requires some { 1 ≤ workers }
+    requires most { workers ≤ MOST_WORKERS }
+{
+    let ids = ids_of(alloc, ids)?;
+    let times = times_of(alloc, times)?;
+    let groups = groups_of(alloc, regex)?;
+    share_out(alloc, ids, &times, &groups, workers).ok()
+}
+
+fn are_shares(shares: &Option<Vec<IdList>>, wanted: &[&str]) -> bool {
+    let Some(shares) = shares else {
+        return false;
+    };
+    let mut same = shares.len() == wanted.len();
+    for (share, wanted) in shares.iter().zip(wanted.iter()) {
+        same = same && are_ids(share, wanted);
+    }
+    same
+}
+
+fn shares_are(
+    alloc: Global,
+    ids: &str,
+    times: &[(&str, u64)],
+    regex: &str,
+    workers: u32,
+    wanted: &[&str],
+) -> bool
+    requires some { 1 ≤ workers }
+    requires most { workers ≤ MOST_WORKERS }
+{
+    let shares = shares_of(alloc, ids, times, regex, workers);
+    are_shares(&shares, wanted)
+}
+
+fn conf_of(alloc: Global, text: &[u8]) -> Option<Conf> {
+    if text.len() > 16_777_216 {
+        return None;
+    }
+    Conf::read(alloc, text).ok()
+}
+
+fn jobs_of(alloc: Global, conf: &[u8], shares: &Option<Vec<IdList>>) -> Option<Vec<Job>> {
+    let conf = conf_of(alloc, conf)?;
+    match shares {
+        Some(shares) if shares.len() <= 64 => jobs_of_lanes(
+            alloc,
+            &conf,
+            Some(shares.as_slice()),
+        ).ok(),
+        Some(_) => None,
+        None => jobs_of_lanes(alloc, &conf, None).ok(),
+    }
+}
+
+// The command, and the name and the bytes of the id file.
+type Wanted = (&'static [u8], &'static [u8], &'static [u8]);
+
+fn is_job(job: &Job, wanted: &Wanted) -> bool {
+    let file = match &job.id_file {
+        Some(file) => file.name.bytes() == wanted.1 && file.bytes.bytes() == wanted.2,
+        None => wanted.1.is_empty() && wanted.2.is_empty(),
+    };
+    job.command.bytes() == wanted.0 && file
+}
+
+fn are_jobs(jobs: &Option<Vec<Job>>, wanted: &[Wanted]) -> bool {
+    let Some(jobs) = jobs else {
+        return false;
+    };
+    let mut same = jobs.len() == wanted.len();
+    for (job, wanted) in jobs.iter().zip(wanted.iter()) {
+        same = same && is_job(job, wanted);
+    }
+    same
+}
+
+#[test]
+fn the_jobs_of_two_workers_to_the_byte(rt: HostRuntime) -> Result<(), Fail> {
+    let alloc = rt.alloc();
+    let shares = shares_of(alloc, "a b", &[], "", 2);
+    assert!(rt; are_shares(&shares, &["a", "b"]));
+    let first = (FIRST, b".testr-ids.0".as_slice(), b"a\n".as_slice());
+    let second = (SECOND, b".testr-ids.1".as_slice(), b"b\n".as_slice());
+    assert!(rt; are_jobs(&jobs_of(alloc, WHOLE, &shares), &[first, second]));
+    Ok(())
+}
+
+#[test]
+fn no_ids_are_one_job_and_no_share_is_none(rt: HostRuntime) -> Result<(), Fail> {
+    let alloc = rt.alloc();
+    let all: Wanted = (b"run ", b"", b"");
+    assert!(rt; are_jobs(&jobs_of(alloc, NO_OPTION, &None), &[all]));
+    let none = shares_of(alloc, "", &[], "", 2);
+    assert!(rt; are_shares(&none, &[]));
+    assert!(rt; are_jobs(&jobs_of(alloc, NO_OPTION, &none), &[]));
+    assert!(rt; are_shares(&shares_of(alloc, "", &[], "", 1), &[]));
+    Ok(())
+}
+
+fn refusal_of(alloc: Global, conf: &[u8], shares: &Option<Vec<IdList>>) -> Option<JobFault> {
+    let conf = conf_of(alloc, conf)?;
+    match shares {
+        Some(shares) if shares.len() <= 64 => jobs_of_lanes(
+            alloc,
+            &conf,
+            Some(shares.as_slice()),
+        ).err(),
+        _ => None,
+    }
+}
+
+#[test]
+fn a_share_needs_the_option_for_ids(rt: HostRuntime) -> Result<(), Fail> {
+    let alloc = rt.alloc();
+    let shares = shares_of(alloc, "a", &[], "", 1);
+    let refusal = Some(JobFault::NoOption(Key::IdOption));
+    assert_eq!(rt; refusal_of(alloc, NO_OPTION, &shares), refusal);
+    Ok(())
+}
+
+const TIMES: [(&str, u64); 4] = [("a", 5), ("b", 4), ("c", 3), ("d", 3)];
+
+#[test]
+fn shares_by_times_by_groups_and_none_that_is_empty(rt: HostRuntime) -> Result<(), Fail> {
+    let alloc = rt.alloc();
+    assert!(rt; shares_are(alloc, "a b c d e", &TIMES, "", 2, &["a d e", "b c"]));
+    assert!(rt; shares_are(alloc, "a.x a.y b.x", &[], "^[^.]+", 2, &["a.x a.y", "b.x"]));
+    assert!(rt; shares_are(alloc, "c a b", &[], "", 64, &["a", "b", "c"]));
+    assert!(rt; shares_are(alloc, "c a b", &TIMES, "", 1, &["c a b"]));
+    Ok(())
+}
+
+// Where ids are given: those of the failing set, of a load list and of a listing.
+type Given = (
+    Option<&'static str>,
+    Option<&'static str>,
+    Option<&'static str>,
+);
+
+fn maybe_ids(alloc: Global, texts: Option<&str>) -> Option<Option<IdList>> {
+    match texts {
+        Some(texts) => Some(Some(ids_of(alloc, texts)?)),
+        None => Some(None),
+    }
+}
+
+fn filters_of(alloc: Global, patterns: &str) -> Option<Filters> {
+    Filters::new(alloc, ids_of(alloc, patterns)?.list()).ok()
+}
+
+// The ids of a listing, each once, where there is one.
+fn listing_of(alloc: Global, texts: Option<&str>) -> Option<Option<IdList>>
+    ensures { IfSome result (λ ids. IfSome ids (IsDistinct bytes_eq)) }
+{
+    match texts {
+        Some(texts) => Some(Some(firsts(alloc, ids_of(alloc, texts)?).ok()?)),
+        None => Some(None),
+    }
+}
+
+fn chosen_of(alloc: Global, given: &Given, patterns: &str) -> Option<Option<IdList>> {
+    let failing = maybe_ids(alloc, given.0)?;
+    let listed = maybe_ids(alloc, given.1)?;
+    let listing = listing_of(alloc, given.2)?;
+    let filters = filters_of(alloc, patterns)?;
+    chosen(alloc, failing, listed, listing, &filters).ok()
+}
+
+// Whether these ids are chosen, and are given at all.
+fn are_chosen(alloc: Global, given: &Given, patterns: &str, wanted: &str) -> bool {
+    match chosen_of(alloc, given, patterns) {
+        Some(Some(ids)) => are_ids(&ids, wanted),
+        _ => false,
+    }
+}
+
+fn is_nothing_given(alloc: Global, patterns: &str) -> bool {
+    matches!(chosen_of(alloc, &(None, None, None), patterns), Some(None))
+}
+
+#[test]
+fn which_ids_a_run_has(rt: HostRuntime) -> Result<(), Fail> {
+    let alloc = rt.alloc();
+    let both = (Some("a b c"), Some("c d a c"), None);
+    assert!(rt; are_chosen(alloc, &both, "", "a c"));
+    assert!(rt; are_chosen(alloc, &(Some("a b"), None, None), "", "a b"));
+    let repeated = (None, Some("c a c b a"), None);
+    assert!(rt; are_chosen(alloc, &repeated, "", "c a b"));
+    assert!(rt; are_chosen(alloc, &repeated, "z", ""));
+    let listing = (None, None, Some("b.x a.y b.z"));
+    assert!(rt; are_chosen(alloc, &listing, "^b x$", "b.x b.z"));
+    assert!(rt; is_nothing_given(alloc, "a"));
+    Ok(())
+}
+
+fn are_same(one: &str, other: &str) -> bool {
+    one == other
+}
+
+// Whether this is the bad pattern that is named, where the empty text stands for none.
+fn is_bad(alloc: Global, patterns: &str, regex: Option<&Text>, wanted: &str) -> Option<bool> {
+    let patterns = ids_of(alloc, patterns)?;
+    match compile(alloc, &patterns, regex) {
+        Ok(_) => Some(wanted.is_empty()),
+        Err(PatternRefusal::Bad(text)) => Some(are_same(text, wanted)),
+        Err(PatternRefusal::NoMemory) => None,
+    }
+}
+
+#[test]
+fn the_first_bad_pattern_is_named(rt: HostRuntime) -> Result<(), Fail> {
+    let alloc = rt.alloc();
+    let bad = Text::new(alloc, b"[x")?;
+    let good = Text::new(alloc, b"^x")?;
+    assert_eq!(rt; is_bad(alloc, "a ( )", Some(&bad), "("), Some(true));
+    assert_eq!(rt; is_bad(alloc, "a b", Some(&bad), "[x"), Some(true));
+    assert_eq!(rt; is_bad(alloc, "a b", Some(&good), ""), Some(true));
+    assert_eq!(rt; is_bad(alloc, "", None, ""), Some(true));
+    Ok(())
+}
