@@ -2,12 +2,14 @@
 
 ghost use Rattle.std.specs.Prelude.{◌≡◌, ◌≤◌, ◌<◌, ◌+◌, [], map, length, IfSome};
 ghost use Rattle.std.specs.List.{range_with_len};
+ghost use Rattle.run_shelf.specs.Stores.{recorder_kinds, recorder_fault, store_kinds, store_fault, FitsUnlessBroken, RecordsUnlessBroken};
 ghost use Rattle.worker_lane.specs.Lanes.{lane_number};
 
 use crate::{Listener, run_lanes, run_lanes_heard};
 use edge_io::{Child, Failed, Finish, MemShelf, NamesFault, PlanChild, Shelf};
-use run_shelf::Store;
+use run_shelf::{Recorder, Store};
 use std::alloc::Global;
+use std::process::Abort;
 use std::sync::atomic::{AtomicBool, AtomicU32, Ordering};
 use std::sync::{Arc, Wait};
 use std::test::Fail;
@@ -56,6 +58,61 @@ fn add_lane<C: Child + Drop>(alloc: Global, lanes: &mut Vec<Lane<C>>, child: C) 
     Some(())
 }
 
+// Just this lane.
+fn one_lane<C: Child + Drop>(alloc: Global, child: C) -> Option<Vec<Lane<C>>>
+    ensures numbers { IfSome result (λ lanes. map lane_number lanes.items ≡ range_with_len 0 (length lanes.items)) }
+    ensures one { IfSome result (λ lanes. length lanes.items ≡ 1) }
+{
+    let mut lanes = Vec::new(alloc);
+    add_lane(alloc, &mut lanes, child)?;
+    Some(lanes)
+}
+
+// A folder that becomes a repository, opened.
+fn open_new<H: Shelf>(alloc: Global, shelf: &mut H) -> Option<Store<'_, H>>
+    ensures { IfSome result (λ store. FitsUnlessBroken (store_kinds store) (store_fault store) (H.seen store.shelf.now).told) }
+{
+    let Ok(()) = Store::init(shelf) else {
+        return None;
+    };
+    let Ok(store) = Store::open(alloc, shelf) else {
+        return None;
+    };
+    Some(store)
+}
+
+// A run that is begun in it.
+fn begin<H: Shelf>(alloc: Global, shelf: &mut H) -> Option<Recorder<'_, H>>
+    ensures { IfSome result (λ recorder. RecordsUnlessBroken (recorder_kinds recorder) (recorder_fault recorder) (H.seen recorder.shelf.now).told) }
+{
+    let store = open_new(alloc, shelf)?;
+    let Ok(recorder) = store.start_run(alloc, false) else {
+        return None;
+    };
+    Some(recorder)
+}
+
+// How many bytes of the run fit into the buffer.
+fn read_back<H: Shelf>(store: &mut Store<'_, H>, number: u32, buf: &mut [u8]) -> Option<usize>
+    requires { FitsUnlessBroken (store_kinds store.old) (store_fault store.old) (H.seen store.old.shelf.now).told }
+{
+    if number >= store.runs() {
+        return None;
+    }
+    store.read_run(number, 0, buf).ok()
+}
+
+// Keeps the run, and answers how many of its bytes fit into the buffer.
+fn keep<H: Shelf>(recorder: Recorder<'_, H>, buf: &mut [u8]) -> Option<usize>
+    requires { RecordsUnlessBroken (recorder_kinds recorder) (recorder_fault recorder) (H.seen recorder.shelf.now).told }
+{
+    let (mut store, answer) = recorder.commit();
+    let Ok(number) = answer else {
+        return None;
+    };
+    read_back(&mut store, number, buf)
+}
+
 // Records a run of the lanes, and answers how many of its bytes fit into the buffer.
 fn record<R: Threads + Wait + Sync, C: Child + Send + Drop, H: Shelf>(
     rt: &R,
@@ -67,27 +124,9 @@ fn record<R: Threads + Wait + Sync, C: Child + Send + Drop, H: Shelf>(
     requires numbers { map lane_number lanes.items ≡ range_with_len 0 (length lanes.items) }
     requires few { length lanes.items ≤ 64 }
 {
-    let Ok(()) = Store::init(shelf) else {
-        return None;
-    };
-    let Ok(store) = Store::open(alloc, shelf) else {
-        return None;
-    };
-    let Ok(recorder) = store.start_run(alloc, false) else {
-        return None;
-    };
-    let mut recorder = recorder;
-    let Ok(()) = run_lanes(rt, alloc, lanes, &mut recorder) else {
-        return None;
-    };
-    let (mut store, answer) = recorder.commit();
-    let Ok(number) = answer else {
-        return None;
-    };
-    if number >= store.runs() {
-        return None;
-    }
-    store.read_run(number, 0, buf).ok()
+    let mut recorder = begin(alloc, shelf)?;
+    run_lanes(rt, alloc, lanes, &mut recorder).ok()?;
+    keep(recorder, buf)
 }
 
 // The next packet of one of the lanes stands first: how many bytes it has.
@@ -137,17 +176,66 @@ fn plain_lanes(alloc: Global, count: usize) -> Option<Vec<Lane<PlanChild>>>
     Some(lanes)
 }
 
+// Whether a run of the lanes is both packets of each of so many, in order.
+fn is_recorded<R: Threads + Wait + Sync + AllocGlobal, C: Child + Send + Drop, H: Shelf>(
+    rt: &R,
+    shelf: &mut H,
+    lanes: Vec<Lane<C>>,
+    count: usize,
+) -> Result<bool, Fail>
+    requires numbers { map lane_number lanes.items ≡ range_with_len 0 (length lanes.items) }
+    requires few { length lanes.items ≤ 64 }
+{
+    let mut buf = [0u8; 200];
+    let size = record(rt, rt.alloc(), shelf, lanes, &mut buf).ok_or("no run")?;
+    Ok(is_merge(buf.get(..size).ok_or("size")?, count))
+}
+
+// Whether that holds of so many lanes.
+fn are_recorded<R: Threads + Wait + Sync + AllocGlobal>(rt: &R, count: usize) -> Result<bool, Fail>
+    requires { count ≤ 4 }
+{
+    let alloc = rt.alloc();
+    let lanes = plain_lanes(alloc, count).ok_or("no memory")?;
+    let mut shelf = MemShelf::new(alloc, Vec::new(alloc));
+    is_recorded(rt, &mut shelf, lanes, count)
+}
+
 #[test]
 fn each_lane_is_recorded_whole_and_in_order(rt: HostRuntime) -> Result<(), Fail> {
-    let alloc = rt.alloc();
     for count in [0usize, 2, 4] {
-        let lanes = plain_lanes(alloc, count).ok_or("no memory")?;
-        let mut shelf = MemShelf::new(alloc, Vec::new(alloc));
-        let mut buf = [0u8; 200];
-        let size = record(&rt, alloc, &mut shelf, lanes, &mut buf).ok_or("no run")?;
-        assert!(rt; is_merge(buf.get(..size).ok_or("size")?, count));
+        assert!(rt; are_recorded(&rt, count)?);
     }
     Ok(())
+}
+
+// A lane whose child gives both packets, and then a fault.
+fn faulty_lane(alloc: Global) -> Option<Vec<Lane<PlanChild>>>
+    ensures numbers { IfSome result (λ lanes. map lane_number lanes.items ≡ range_with_len 0 (length lanes.items)) }
+    ensures one { IfSome result (λ lanes. length lanes.items ≡ 1) }
+{
+    let output = Bytes::new(alloc, FOO_BAR).ok()?;
+    one_lane(alloc, PlanChild::new(output, 5, Finish::ReadFault))
+}
+
+// Whether the run is both packets of lane 0, and one that tells of the fault.
+fn tells_of_fault<R: Abort>(rt: &R, run: &[u8]) -> Result<(), Fail> {
+    assert!(rt; run.ends_with(FAULT_UNDER_0));
+    assert!(rt; is_merge(run.get(..28).ok_or("size")?, 1));
+    Ok(())
+}
+
+fn is_recorded_with_fault<R: Threads + Wait + Sync + AllocGlobal + Abort>(
+    rt: &R,
+    shelf: &mut MemShelf,
+    lanes: Vec<Lane<PlanChild>>,
+) -> Result<(), Fail>
+    requires numbers { map lane_number lanes.items ≡ range_with_len 0 (length lanes.items) }
+    requires few { length lanes.items ≤ 64 }
+{
+    let mut buf = [0u8; 200];
+    let size = record(rt, rt.alloc(), shelf, lanes, &mut buf).ok_or("no run")?;
+    tells_of_fault(rt, buf.get(..size).ok_or("size")?)
 }
 
 #[test]
@@ -155,16 +243,9 @@ fn a_lane_whose_reads_fail_ends_with_a_packet_that_tells_of_it(
     rt: HostRuntime,
 ) -> Result<(), Fail> {
     let alloc = rt.alloc();
-    let child = PlanChild::new(Bytes::new(alloc, FOO_BAR)?, 5, Finish::ReadFault);
-    let mut lanes = Vec::new(alloc);
-    add_lane(alloc, &mut lanes, child).ok_or("no memory")?;
+    let lanes = faulty_lane(alloc).ok_or("no memory")?;
     let mut shelf = MemShelf::new(alloc, Vec::new(alloc));
-    let mut buf = [0u8; 200];
-    let size = record(&rt, alloc, &mut shelf, lanes, &mut buf).ok_or("no run")?;
-    let run = buf.get(..size).ok_or("size")?;
-    assert!(rt; run.ends_with(FAULT_UNDER_0));
-    assert!(rt; is_merge(run.get(..28).ok_or("size")?, 1));
-    Ok(())
+    is_recorded_with_fault(&rt, &mut shelf, lanes)
 }
 
 // A child that gives some packets, and counts itself when it is read to its end. Of two that are to meet, each one waits
@@ -248,15 +329,51 @@ fn counted_lanes(
     Some(lanes)
 }
 
+// Whether two children that meet are recorded.
+fn both_are_recorded<R: Threads + Wait + Sync + AllocGlobal>(
+    rt: &R,
+    ended: &Arc<AtomicU32>,
+) -> Result<bool, Fail> {
+    let alloc = rt.alloc();
+    let lanes = counted_lanes(alloc, 1, true, ended).ok_or("no memory")?;
+    let mut shelf = MemShelf::new(alloc, Vec::new(alloc));
+    is_recorded(rt, &mut shelf, lanes, 2)
+}
+
+fn are_read_at_once<R: Threads + Wait + Sync + AllocGlobal + Abort>(
+    rt: &R,
+    ended: &Arc<AtomicU32>,
+) -> Result<(), Fail> {
+    assert!(rt; both_are_recorded(rt, ended)?);
+    assert_eq!(rt; ended.load(Ordering::SeqCst), 2);
+    Ok(())
+}
+
 #[test]
 fn all_children_are_read_at_once(rt: HostRuntime) -> Result<(), Fail> {
+    let ended = Arc::new(rt.alloc(), AtomicU32::new(0))?;
+    are_read_at_once(&rt, &ended)
+}
+
+// Whether two children are not recorded.
+fn both_are_refused<R: Threads + Wait + Sync + AllocGlobal>(
+    rt: &R,
+    shelf: &mut MemShelf,
+    ended: &Arc<AtomicU32>,
+) -> Result<bool, Fail> {
     let alloc = rt.alloc();
-    let ended = Arc::new(alloc, AtomicU32::new(0))?;
-    let lanes = counted_lanes(alloc, 1, true, &ended).ok_or("no memory")?;
-    let mut shelf = MemShelf::new(alloc, Vec::new(alloc));
+    let lanes = counted_lanes(alloc, 50, false, ended).ok_or("no memory")?;
     let mut buf = [0u8; 200];
-    let size = record(&rt, alloc, &mut shelf, lanes, &mut buf).ok_or("no run")?;
-    assert!(rt; is_merge(buf.get(..size).ok_or("size")?, 2));
+    Ok(record(rt, alloc, shelf, lanes, &mut buf).is_none())
+}
+
+// Whether two children are not recorded in the folder, and read to their ends.
+fn are_read_to_their_ends<R: Threads + Wait + Sync + AllocGlobal + Abort>(
+    rt: &R,
+    shelf: &mut MemShelf,
+) -> Result<(), Fail> {
+    let ended = Arc::new(rt.alloc(), AtomicU32::new(0))?;
+    assert!(rt; both_are_refused(rt, shelf, &ended)?);
     assert_eq!(rt; ended.load(Ordering::SeqCst), 2);
     Ok(())
 }
@@ -266,13 +383,8 @@ fn all_children_are_read_at_once(rt: HostRuntime) -> Result<(), Fail> {
 #[test]
 fn children_are_read_to_their_ends_where_the_folder_fails(rt: HostRuntime) -> Result<(), Fail> {
     let alloc = rt.alloc();
-    let ended = Arc::new(alloc, AtomicU32::new(0))?;
-    let lanes = counted_lanes(alloc, 50, false, &ended).ok_or("no memory")?;
     let mut shelf = MemShelf::new(alloc, vec![in alloc; 13u64]?);
-    let mut buf = [0u8; 200];
-    assert!(rt; record(&rt, alloc, &mut shelf, lanes, &mut buf).is_none());
-    assert_eq!(rt; ended.load(Ordering::SeqCst), 2);
-    Ok(())
+    are_read_to_their_ends(&rt, &mut shelf)
 }
 
 // A folder that notes when a packet is added to it.
@@ -373,23 +485,39 @@ impl Child for Patient {
     ghost are_bytes = { λ s. tt };
 }
 
+// A lane over such a child.
+fn patient_lane(alloc: Global, recorded: &Arc<AtomicBool>) -> Option<Vec<Lane<Patient>>>
+    ensures numbers { IfSome result (λ lanes. map lane_number lanes.items ≡ range_with_len 0 (length lanes.items)) }
+    ensures one { IfSome result (λ lanes. length lanes.items ≡ 1) }
+{
+    let child = Patient {
+        given: false,
+        recorded: Arc::try_clone(recorded).ok()?,
+        faults: 0,
+    };
+    one_lane(alloc, child)
+}
+
+fn is_recorded_before_its_end<R: Threads + Wait + Sync + AllocGlobal + Abort>(
+    rt: &R,
+    shelf: &mut Noting<MemShelf>,
+    lanes: Vec<Lane<Patient>>,
+) -> Result<(), Fail>
+    requires numbers { map lane_number lanes.items ≡ range_with_len 0 (length lanes.items) }
+    requires few { length lanes.items ≤ 64 }
+{
+    assert!(rt; is_recorded(rt, shelf, lanes, 1)?);
+    Ok(())
+}
+
 #[test]
 fn packets_are_recorded_before_their_child_ends(rt: HostRuntime) -> Result<(), Fail> {
     let alloc = rt.alloc();
     let recorded = Arc::new(alloc, AtomicBool::new(false))?;
-    let child = Patient {
-        given: false,
-        recorded: Arc::try_clone(&recorded)?,
-        faults: 0,
-    };
-    let mut lanes = Vec::new(alloc);
-    add_lane(alloc, &mut lanes, child).ok_or("no memory")?;
+    let lanes = patient_lane(alloc, &recorded).ok_or("no memory")?;
     let inner = MemShelf::new(alloc, Vec::new(alloc));
     let mut shelf = Noting { inner, recorded };
-    let mut buf = [0u8; 200];
-    let size = record(&rt, alloc, &mut shelf, lanes, &mut buf).ok_or("no run")?;
-    assert!(rt; is_merge(buf.get(..size).ok_or("size")?, 1));
-    Ok(())
+    is_recorded_before_its_end(&rt, &mut shelf, lanes)
 }
 
 // Keeps what it hears.
@@ -423,17 +551,36 @@ fn record_heard<R: Threads + Wait + Sync, C: Child + Send + Drop, H: Shelf, L: L
     requires few { length lanes.items ≤ 64 }
     requires nothing { L.heard listener listener [] }
 {
-    let Ok(()) = Store::init(shelf) else {
-        return None;
-    };
-    let Ok(store) = Store::open(alloc, shelf) else {
-        return None;
-    };
-    let Ok(recorder) = store.start_run(alloc, false) else {
-        return None;
-    };
-    let mut recorder = recorder;
+    let mut recorder = begin(alloc, shelf)?;
     Some(run_lanes_heard(rt, alloc, lanes, &mut recorder, listener))
+}
+
+// What is heard of the lanes.
+fn heard<R: Threads + Wait + Sync + AllocGlobal>(
+    rt: &R,
+    shelf: &mut MemShelf,
+    lanes: Vec<Lane<PlanChild>>,
+) -> Result<Keeping, Fail>
+    requires numbers { map lane_number lanes.items ≡ range_with_len 0 (length lanes.items) }
+    requires few { length lanes.items ≤ 64 }
+{
+    let alloc = rt.alloc();
+    let bytes = Vec::new(alloc);
+    let answer = record_heard(rt, alloc, shelf, lanes, Keeping { bytes }).ok_or("no run")?;
+    Ok(answer.ok().ok_or("no memory")?)
+}
+
+fn both_are_heard<R: Threads + Wait + Sync + AllocGlobal + Abort>(
+    rt: &R,
+    shelf: &mut MemShelf,
+    lanes: Vec<Lane<PlanChild>>,
+) -> Result<(), Fail>
+    requires numbers { map lane_number lanes.items ≡ range_with_len 0 (length lanes.items) }
+    requires few { length lanes.items ≤ 64 }
+{
+    let heard = heard(rt, shelf, lanes)?;
+    assert!(rt; is_merge(heard.bytes.as_slice(), 2));
+    Ok(())
 }
 
 #[test]
@@ -441,11 +588,7 @@ fn what_is_added_of_two_lanes_is_heard(rt: HostRuntime) -> Result<(), Fail> {
     let alloc = rt.alloc();
     let lanes = plain_lanes(alloc, 2).ok_or("no memory")?;
     let mut shelf = MemShelf::new(alloc, Vec::new(alloc));
-    let bytes = Vec::new(alloc);
-    let answer = record_heard(&rt, alloc, &mut shelf, lanes, Keeping { bytes }).ok_or("no run")?;
-    let heard = answer.ok().ok_or("no memory")?;
-    assert!(rt; is_merge(heard.bytes.as_slice(), 2));
-    Ok(())
+    both_are_heard(&rt, &mut shelf, lanes)
 }
 
 // Wants memory at the second piece.
@@ -518,17 +661,55 @@ fn add_endless(alloc: Global, lanes: &mut Vec<Lane<Endless>>, waits: &Arc<Atomic
     add_lane(alloc, lanes, child)
 }
 
+fn add_two_endless(
+    alloc: Global,
+    lanes: &mut Vec<Lane<Endless>>,
+    waits: &Arc<AtomicU32>,
+) -> Option<()>
+    requires none { lanes.old.items ≡ [] }
+    ensures numbers { IfSome result (λ done. map lane_number lanes.new.items ≡ range_with_len 0 (length lanes.new.items)) }
+    ensures two { IfSome result (λ done. length lanes.new.items ≡ 2) }
+{
+    add_endless(alloc, lanes, waits)?;
+    add_endless(alloc, lanes, waits)
+}
+
+// Two such lanes.
+fn endless_lanes(alloc: Global, waits: &Arc<AtomicU32>) -> Option<Vec<Lane<Endless>>>
+    ensures numbers { IfSome result (λ lanes. map lane_number lanes.items ≡ range_with_len 0 (length lanes.items)) }
+    ensures two { IfSome result (λ lanes. length lanes.items ≡ 2) }
+{
+    let mut lanes = Vec::new(alloc);
+    add_two_endless(alloc, &mut lanes, waits)?;
+    Some(lanes)
+}
+
+// Whether the lanes are not recorded, where the listener wants memory.
+fn is_given_up<R: Threads + Wait + Sync + AllocGlobal>(
+    rt: &R,
+    shelf: &mut MemShelf,
+    waits: &Arc<AtomicU32>,
+) -> Result<bool, Fail> {
+    let alloc = rt.alloc();
+    let lanes = endless_lanes(alloc, waits).ok_or("no memory")?;
+    let listener = Forgetful { pieces: 0 };
+    let answer = record_heard(rt, alloc, shelf, lanes, listener).ok_or("no run")?;
+    Ok(answer.is_err())
+}
+
+fn are_stopped<R: Threads + Wait + Sync + AllocGlobal + Abort>(
+    rt: &R,
+    shelf: &mut MemShelf,
+) -> Result<(), Fail> {
+    let waits = Arc::new(rt.alloc(), AtomicU32::new(0))?;
+    assert!(rt; is_given_up(rt, shelf, &waits)?);
+    assert_eq!(rt; waits.load(Ordering::SeqCst), 2);
+    Ok(())
+}
+
 #[test]
 fn all_children_are_stopped_where_the_listener_wants_memory(rt: HostRuntime) -> Result<(), Fail> {
     let alloc = rt.alloc();
-    let waits = Arc::new(alloc, AtomicU32::new(0))?;
-    let mut lanes = Vec::new(alloc);
-    add_endless(alloc, &mut lanes, &waits).ok_or("no memory")?;
-    add_endless(alloc, &mut lanes, &waits).ok_or("no memory")?;
     let mut shelf = MemShelf::new(alloc, Vec::new(alloc));
-    let listener = Forgetful { pieces: 0 };
-    let answer = record_heard(&rt, alloc, &mut shelf, lanes, listener).ok_or("no run")?;
-    assert!(rt; answer.is_err());
-    assert_eq!(rt; waits.load(Ordering::SeqCst), 2);
-    Ok(())
+    are_stopped(&rt, &mut shelf)
 }

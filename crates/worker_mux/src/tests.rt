@@ -5,6 +5,7 @@ ghost use Rattle.worker_mux.specs.Passes.{IsPassFor, IsTakerFor, IsFresh};
 
 use crate::{Belt, LanePass, Taker};
 use std::alloc::Global;
+use std::process::Abort;
 use std::sync::Wait;
 use std::test::Fail;
 use std::thread;
@@ -91,33 +92,44 @@ fn is_empty<R: Wait>(rt: &R, belt: &Belt, taker: &mut Taker) -> bool
 }
 
 // One lot is put, the next one finds no room; it is taken, and then there is none; the lane is settled.
-fn goes_over<R: Wait>(
+fn goes_over<R: Wait + AllocGlobal>(
     rt: &R,
     belt: &Belt,
-    mut taker: Taker,
+    taker: &mut Taker,
     two: (LanePass, LanePass),
-    lot: Lot,
 ) -> [bool; 5]
-    requires taker { IsTakerFor belt.now taker }
+    requires taker { IsTakerFor belt.now taker.old }
     requires two { IsPassFor belt.now two.0 × IsPassFor belt.now two.1 }
-    requires packets { IsWhole lot }
 {
     let (mut first, mut second) = two;
+    let lot = packet_or_end(rt.alloc(), b"p");
     let put = puts(rt, belt, &mut first, lot);
     let refused = is_refused(rt, belt, &mut second, 3);
-    let taken = takes_packet(rt, belt, &mut taker, 0, b"p");
-    let empty = is_empty(rt, belt, &mut taker);
-    belt.settle(rt, &mut taker, first);
-    [put, refused, taken, empty, is_empty(rt, belt, &mut taker)]
+    let taken = takes_packet(rt, belt, taker, 0, b"p");
+    let empty = is_empty(rt, belt, taker);
+    belt.settle(rt, taker, first);
+    [put, refused, taken, empty, is_empty(rt, belt, taker)]
+}
+
+// Whether all that holds of the two first lanes.
+fn all_goes_over<R: Wait + AllocGlobal + Abort>(
+    rt: &R,
+    belt: &Belt,
+    taker: &mut Taker,
+    passes: Vec<LanePass>,
+) -> Result<(), Fail>
+    requires taker { IsTakerFor belt.now taker.old }
+    requires passes { AllByRecursion (IsFresh belt.now) passes.items }
+{
+    let two = first_two(belt, passes).ok_or("no pass")?;
+    assert_eq!(rt; goes_over(rt, belt, taker, two), [true; 5]);
+    Ok(())
 }
 
 #[test]
 fn a_full_belt_hands_the_lot_back_and_an_empty_one_gives_none(rt: HostRuntime) -> Result<(), Fail> {
-    let (belt, taker, passes) = Belt::new(rt.alloc(), 2, 1).ok().ok_or("no memory")?;
-    let two = first_two(&belt, passes).ok_or("no pass")?;
-    let lot = packet(rt.alloc(), b"p").ok_or("no memory")?;
-    assert_eq!(rt; goes_over(&rt, &belt, taker, two, lot), [true; 5]);
-    Ok(())
+    let (belt, mut taker, passes) = Belt::new(rt.alloc(), 2, 1).ok().ok_or("no memory")?;
+    all_goes_over(&rt, &belt, &mut taker, passes)
 }
 
 // Puts a lot. Where the belt is full, another thread gets its turn first.
@@ -193,14 +205,35 @@ fn put_each<R: Wait>(rt: &R, alloc: Global, belt: &Belt, passes: Vec<LanePass>, 
     }
 }
 
+// Puts 16 lots of each of 64 lanes.
+fn fill<R: Wait + AllocGlobal + Abort>(rt: &R, belt: &Belt, passes: Vec<LanePass>)
+    requires { AllByRecursion (IsFresh belt.now) passes.items }
+{
+    assert_eq!(rt; passes.len(), 64);
+    put_each(rt, rt.alloc(), belt, passes, 16);
+}
+
+// Whether what was taken came in order, and nothing is left.
+fn is_all_in_order<R: Wait + Abort>(rt: &R, belt: &Belt, taker: &mut Taker, in_order: bool)
+    requires { IsTakerFor belt.now taker.old }
+{
+    assert!(rt; in_order);
+    assert!(rt; is_empty(rt, belt, taker));
+}
+
+// Whether 1024 lots come in order, and then none.
+fn come_in_order<R: Wait + Abort>(rt: &R, belt: &Belt, taker: Taker)
+    requires { IsTakerFor belt.now taker }
+{
+    let (mut taker, in_order) = take_all(rt, belt, taker, 1024);
+    is_all_in_order(rt, belt, &mut taker, in_order);
+}
+
 #[test]
 fn sixty_four_lanes_fill_a_room_of_1024(rt: HostRuntime) -> Result<(), Fail> {
     let (belt, taker, passes) = Belt::new(rt.alloc(), 64, 1024).ok().ok_or("no memory")?;
-    assert_eq!(rt; passes.len(), 64);
-    put_each(&rt, rt.alloc(), &belt, passes, 16);
-    let (mut taker, in_order) = take_all(&rt, &belt, taker, 1024);
-    assert!(rt; in_order);
-    assert!(rt; is_empty(&rt, &belt, &mut taker));
+    fill(&rt, &belt, passes);
+    come_in_order(&rt, &belt, taker);
     Ok(())
 }
 
@@ -224,6 +257,32 @@ fn put_by_threads<R: Threads + Wait + Sync>(
     .is_ok()
 }
 
+// The same, while this thread takes so many.
+fn both_go_on<R: Threads + Wait + Sync>(
+    rt: &R,
+    alloc: Global,
+    belt: &Belt,
+    taker: Taker,
+    passes: Vec<LanePass>,
+    each: u32,
+    count: u32,
+) -> bool
+    requires taker { IsTakerFor belt.now taker }
+    requires passes { All (IsPassFor belt.now) passes.items }
+{
+    let (put, (mut taker, in_order)) = thread::join(
+        rt,
+        move || -> bool
+            requires { All (IsPassFor belt.now) passes.items }
+        { put_by_threads(rt, alloc, belt, passes, each) },
+        move ||
+            requires { IsTakerFor belt.now taker }
+            ensures { IsTakerFor belt.entry.now result.0 }
+        { take_all(rt, belt, taker, count) },
+    );
+    put && in_order && is_empty(rt, belt, &mut taker)
+}
+
 // A thread for each lane puts, and this one takes: nothing is lost, and the lots of each lane come in order.
 fn goes_over_threads<R: Threads + Wait + Sync>(
     rt: &R,
@@ -236,18 +295,8 @@ fn goes_over_threads<R: Threads + Wait + Sync>(
     requires room { (1 ≤ room) × (room ≤ 1024) }
 {
     let (belt, taker, passes) = Belt::new(alloc, lanes, room).ok()?;
-    let shared = &belt;
-    let (put, (mut taker, in_order)) = thread::join(
-        rt,
-        move || -> bool
-            requires { All (IsPassFor shared.now) passes.items }
-        { put_by_threads(rt, alloc, shared, passes, each) },
-        move ||
-            requires { IsTakerFor shared.now taker }
-            ensures { IsTakerFor shared.entry.now result.0 }
-        { take_all(rt, shared, taker, each.wrapping_mul(lanes)) },
-    );
-    Some(put && in_order && is_empty(rt, &belt, &mut taker))
+    let count = each.wrapping_mul(lanes);
+    Some(both_go_on(rt, alloc, &belt, taker, passes, each, count))
 }
 
 #[test]
