@@ -1,9 +1,12 @@
 //! Files of caches beside the runs of folders in memory: what they hold, what each moment of a put leaves, and each call of
 //! the folder failing in turn.
 
+ghost use Rattle.run_shelf.specs.Stores.{store_kinds, store_fault, FitsUnlessBroken};
+
 use super::*;
 use edge_io::{MemShelf, Shelf};
 use std::alloc::Global;
+use std::process::Abort;
 use std::test::Fail;
 use sub_number::Bytes;
 
@@ -12,9 +15,13 @@ const NOTHING: &[u64] = &[];
 // A repository of one run of three bytes, made in sixteen calls.
 fn one_run(alloc: Global, fails: &[u64]) -> Result<MemShelf, Fail> {
     let mut shelf = MemShelf::new(alloc, fails.to_vec(alloc)?);
-    make_repository(&mut shelf)?;
-    record(alloc, &mut shelf)?;
+    make_and_record(alloc, &mut shelf)?;
     Ok(shelf)
+}
+
+fn make_and_record<H: Shelf>(alloc: Global, shelf: &mut H) -> Result<(), Fail> {
+    make_repository(shelf)?;
+    record(alloc, shelf)
 }
 
 // Records the full run `abc`, in nine calls.
@@ -57,21 +64,47 @@ fn left<H: Shelf>(alloc: Global, shelf: &mut H, side: Side) -> Result<(Option<u6
     Ok((size, found.runs()))
 }
 
-#[test]
-fn a_file_is_read_as_it_was_put(rt: HostRuntime) -> Result<(), Fail> {
-    let alloc = rt.alloc();
-    let mut shelf = one_run(alloc, NOTHING)?;
-    for side in [Side::Failing, Side::Times] {
-        assert!(rt; side_of(alloc, &mut shelf, side)?.is_none());
-    }
-    put(alloc, &mut shelf, Side::Failing, b"a")?;
-    put(alloc, &mut shelf, Side::Times, b"")?;
-    assert!(rt; holds(alloc, &mut shelf, Side::Failing, b"a")?);
-    assert!(rt; holds(alloc, &mut shelf, Side::Times, b"")?);
+fn has_no<H: Shelf>(alloc: Global, shelf: &mut H, side: Side) -> Result<bool, Fail> {
+    Ok(side_of(alloc, shelf, side)?.is_none())
+}
+
+// Whether no file of a cache is there.
+fn has_none<H: Shelf>(alloc: Global, shelf: &mut H) -> Result<bool, Fail> {
+    Ok(has_no(alloc, shelf, Side::Failing)? && has_no(alloc, shelf, Side::Times)?)
+}
+
+// Whether the files have these bytes once they are put.
+fn holds_both<H: Shelf>(
+    alloc: Global,
+    shelf: &mut H,
+    failing: &[u8],
+    times: &[u8],
+) -> Result<bool, Fail> {
+    put(alloc, shelf, Side::Failing, failing)?;
+    put(alloc, shelf, Side::Times, times)?;
+    Ok(holds(alloc, shelf, Side::Failing, failing)? && holds(alloc, shelf, Side::Times, times)?)
+}
+
+// Whether the second file has these bytes once they are put in place of others, and the first is as it was.
+fn holds_anew<H: Shelf>(
+    alloc: Global,
+    shelf: &mut H,
+    failing: &[u8],
+    times: &[u8],
+) -> Result<bool, Fail> {
+    put(alloc, shelf, Side::Times, times)?;
+    Ok(holds(alloc, shelf, Side::Failing, failing)? && holds(alloc, shelf, Side::Times, times)?)
+}
+
+fn holds_a_large_one<H: Shelf>(alloc: Global, shelf: &mut H) -> Result<bool, Fail> {
     let large = vec![in alloc; 7u8; 200_000]?;
-    put(alloc, &mut shelf, Side::Times, &large)?;
-    assert!(rt; holds(alloc, &mut shelf, Side::Failing, b"a")?);
-    assert!(rt; holds(alloc, &mut shelf, Side::Times, &large)?);
+    holds_anew(alloc, shelf, b"a", &large)
+}
+
+fn files_are_read<R: AllocGlobal + Abort>(rt: &R, shelf: &mut MemShelf) -> Result<(), Fail> {
+    assert!(rt; has_none(rt.alloc(), shelf)?);
+    assert!(rt; holds_both(rt.alloc(), shelf, b"a", b"")?);
+    assert!(rt; holds_a_large_one(rt.alloc(), shelf)?);
     assert_eq!(rt; shelf.length("failing.set")?, Some(1));
     assert_eq!(rt; shelf.length("times.set")?, Some(200_000));
     assert_eq!(rt; shelf.length("0")?, Some(3));
@@ -79,81 +112,138 @@ fn a_file_is_read_as_it_was_put(rt: HostRuntime) -> Result<(), Fail> {
 }
 
 #[test]
-fn a_stop_leaves_the_old_file_or_the_new_one(rt: HostRuntime) -> Result<(), Fail> {
-    let alloc = rt.alloc();
-    let mut shelf = one_run(alloc, NOTHING)?;
-    put(alloc, &mut shelf, Side::Failing, b"old")?;
+fn a_file_is_read_as_it_was_put(rt: HostRuntime) -> Result<(), Fail> {
+    let mut shelf = one_run(rt.alloc(), NOTHING)?;
+    files_are_read(&rt, &mut shelf)
+}
+
+// A moment at which the machine stops, whether what was pending is kept, and how many bytes the file has then.
+const STOPS: [(u64, bool, u64); 7] = [
+    (25, true, 3),
+    (29, true, 3),
+    (32, true, 3),
+    (33, false, 3),
+    (33, true, 5),
+    (34, false, 5),
+    (99, true, 5),
+];
+
+// How many bytes the file has that this stop leaves, and how many runs there are.
+fn left_after(
+    alloc: Global,
+    shelf: &MemShelf,
+    moment: u64,
+    choice: bool,
+) -> Result<(Option<u64>, u32), Fail> {
+    let mut image = shelf.image(moment, choice)?;
+    left(alloc, &mut image, Side::Failing)
+}
+
+fn the_old_or_the_new_is_left<R: AllocGlobal + Abort>(
+    rt: &R,
+    shelf: &mut MemShelf,
+) -> Result<(), Fail> {
+    put(rt.alloc(), shelf, Side::Failing, b"old")?;
     // Calls 25 to 28 look, 29 starts, 30 appends, 31 syncs, 32 publishes and 33 settles.
-    put(alloc, &mut shelf, Side::Failing, b"newer")?;
-    for (moment, choice, size) in [
-        (25, true, 3),
-        (29, true, 3),
-        (32, true, 3),
-        (33, false, 3),
-        (33, true, 5),
-        (34, false, 5),
-        (99, true, 5),
-    ] {
-        let mut image = shelf.image(moment, choice)?;
-        assert_eq!(rt; left(alloc, &mut image, Side::Failing)?, (Some(size), 1));
+    put(rt.alloc(), shelf, Side::Failing, b"newer")?;
+    for &(moment, choice, size) in &STOPS {
+        assert_eq!(rt;
+            left_after(rt.alloc(), shelf, moment, choice)?,
+            (Some(size), 1)
+        );
     }
     Ok(())
+}
+
+#[test]
+fn a_stop_leaves_the_old_file_or_the_new_one(rt: HostRuntime) -> Result<(), Fail> {
+    let mut shelf = one_run(rt.alloc(), NOTHING)?;
+    the_old_or_the_new_is_left(&rt, &mut shelf)
+}
+
+// The number of a call, the call, and how many bytes the file has where it failed.
+const CALLS: [(u64, ShelfCall, Option<u64>); 5] = [
+    (20, ShelfCall::StartDraft, None),
+    (21, ShelfCall::Append, None),
+    (22, ShelfCall::SyncDraft, None),
+    (23, ShelfCall::Publish, None),
+    (24, ShelfCall::SyncFolder, Some(2)),
+];
+
+// Whether a put fails at this call, and one behind it is refused, and the file has so many bytes then.
+fn puts_fail(
+    alloc: Global,
+    shelf: &mut MemShelf,
+    call: ShelfCall,
+    size: Option<u64>,
+) -> Result<bool, Fail> {
+    Ok(put_twice(alloc, shelf, call)? && left(alloc, shelf, Side::Times)? == (size, 1))
+}
+
+// The same of a new repository, where it is the call of this number.
+fn puts_fail_at(
+    alloc: Global,
+    number: u64,
+    call: ShelfCall,
+    size: Option<u64>,
+) -> Result<bool, Fail> {
+    let mut shelf = one_run(alloc, &[number])?;
+    puts_fail(alloc, &mut shelf, call, size)
 }
 
 #[test]
 fn each_call_of_a_put_fails_in_turn(rt: HostRuntime) -> Result<(), Fail> {
-    let alloc = rt.alloc();
-    let calls = [
-        (20, ShelfCall::StartDraft, None),
-        (21, ShelfCall::Append, None),
-        (22, ShelfCall::SyncDraft, None),
-        (23, ShelfCall::Publish, None),
-        (24, ShelfCall::SyncFolder, Some(2)),
-    ];
-    for (number, call, size) in calls {
-        let mut shelf = one_run(alloc, &[number])?;
-        assert_eq!(rt;
-            put_twice(alloc, &mut shelf)?,
-            (StoreFault::Shelf(call), StoreFault::Closed(call))
-        );
-        assert_eq!(rt; left(alloc, &mut shelf, Side::Times)?, (size, 1));
+    for &(number, call, size) in &CALLS {
+        assert!(rt; puts_fail_at(rt.alloc(), number, call, size)?, "{number}");
     }
     Ok(())
 }
 
-// What a store answers to a put that fails, and to one behind it.
-fn put_twice<H: Shelf>(alloc: Global, shelf: &mut H) -> Result<(StoreFault, StoreFault), Fail> {
+// Whether a store fails at this call of a put, and is closed for one behind it.
+fn put_twice<H: Shelf>(alloc: Global, shelf: &mut H, call: ShelfCall) -> Result<bool, Fail> {
     let mut store = Store::open(alloc, shelf)?;
+    Ok(puts_are_refused(&mut store, call))
+}
+
+fn puts_are_refused<H: Shelf>(store: &mut Store<'_, H>, call: ShelfCall) -> bool
+    requires { FitsUnlessBroken (store_kinds store.old) (store_fault store.old) (H.seen store.old.shelf.now).told }
+{
     let first = store.put_side(Side::Times, b"ab");
     let second = store.put_side(Side::Failing, b"cde");
-    match (first, second) {
-        (Err(first), Err(second)) => Ok((first, second)),
-        _ => Err(StartFault::NoMemory.into()),
-    }
+    first == Err(StoreFault::Shelf(call)) && second == Err(StoreFault::Closed(call))
+}
+
+// Whether a read fails at this call, and one behind it is refused, and the file is there as it was put.
+fn reads_fail(alloc: Global, shelf: &mut MemShelf, call: ShelfCall) -> Result<bool, Fail> {
+    put(alloc, shelf, Side::Failing, b"ab")?;
+    Ok(read_twice(alloc, shelf, call)? && holds(alloc, shelf, Side::Failing, b"ab")?)
+}
+
+// The same of a new repository, where it is the call of this number.
+fn reads_fail_at(alloc: Global, number: u64, call: ShelfCall) -> Result<bool, Fail> {
+    let mut shelf = one_run(alloc, &[number])?;
+    reads_fail(alloc, &mut shelf, call)
 }
 
 #[test]
 fn each_call_of_a_read_fails_in_turn(rt: HostRuntime) -> Result<(), Fail> {
-    let alloc = rt.alloc();
     for (number, call) in [(29, ShelfCall::Length), (30, ShelfCall::ReadAt)] {
-        let mut shelf = one_run(alloc, &[number])?;
-        put(alloc, &mut shelf, Side::Failing, b"ab")?;
-        assert_eq!(rt;
-            read_twice(alloc, &mut shelf)?,
-            (StoreFault::Shelf(call), StoreFault::Closed(call))
-        );
-        assert!(rt; holds(alloc, &mut shelf, Side::Failing, b"ab")?);
+        assert!(rt; reads_fail_at(rt.alloc(), number, call)?, "{number}");
     }
     Ok(())
 }
 
-// What a store answers to a read that fails, and to one behind it.
-fn read_twice<H: Shelf>(alloc: Global, shelf: &mut H) -> Result<(StoreFault, StoreFault), Fail> {
+// Whether a store fails at this call of a read, and is closed for one behind it.
+fn read_twice<H: Shelf>(alloc: Global, shelf: &mut H, call: ShelfCall) -> Result<bool, Fail> {
     let mut store = Store::open(alloc, shelf)?;
-    let first = store.side(alloc, Side::Failing);
-    let second = store.side(alloc, Side::Times);
-    match (first, second) {
-        (Err(SideFault::Store(first)), Err(SideFault::Store(second))) => Ok((first, second)),
-        _ => Err(StartFault::NoMemory.into()),
-    }
+    Ok(reads_are_refused(alloc, &mut store, call))
+}
+
+fn reads_are_refused<H: Shelf>(alloc: Global, store: &mut Store<'_, H>, call: ShelfCall) -> bool
+    requires { FitsUnlessBroken (store_kinds store.old) (store_fault store.old) (H.seen store.old.shelf.now).told }
+{
+    let first = store.side(alloc, Side::Failing).err();
+    let second = store.side(alloc, Side::Times).err();
+    first == Some(SideFault::Store(StoreFault::Shelf(call)))
+        && second == Some(SideFault::Store(StoreFault::Closed(call)))
 }
