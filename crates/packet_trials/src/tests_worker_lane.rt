@@ -1,7 +1,9 @@
 ghost use Rattle.std.specs.Prelude.{◌≡◌, false};
 
 use edge_io::{Child, Failed, Finish, PlanChild};
+use packet_codec::Event;
 use std::alloc::Global;
+use std::process::Abort;
 use std::sync::Arc;
 use std::sync::atomic::{AtomicBool, Ordering};
 use std::test::Fail;
@@ -18,11 +20,18 @@ const FOO_UNDER_0: &[u8] = b"\xb3\x2d\x03\x0e\x03foo\x01\x30\xa4\xaf\xdb\xe0";
 // The bytes `ab` as a piece of the file `stdout`, under lane 0.
 const AB_UNDER_0: &[u8] = b"\xb3\x25\x40\x14\x06stdout\x02ab\x01\x30\x3a\xe0\x57\xa9";
 
+// A loop that owns nothing, so that an early end drops nothing.
+fn push_pieces(alloc: Global, pieces: &mut Vec<Bytes>, stream: &[u8], size: usize) -> Option<()> {
+    for piece in stream.chunks(size.max(1)) {
+        let piece = Bytes::new(alloc, piece).ok()?;
+        pieces.push(piece).ok()?;
+    }
+    Some(())
+}
+
 fn pieces(alloc: Global, stream: &[u8], size: usize) -> Option<Vec<Bytes>> {
     let mut pieces = Vec::new(alloc);
-    for piece in stream.chunks(size.max(1)) {
-        pieces.push(Bytes::new(alloc, piece).ok()?).ok()?;
-    }
+    push_pieces(alloc, &mut pieces, stream, size)?;
     Some(pieces)
 }
 
@@ -31,7 +40,8 @@ fn recorded(alloc: Global, lane: u32, stream: &[u8], size: usize) -> Option<Vec<
     if lane > 63 {
         return None;
     }
-    recorded_of_pieces(alloc, lane, &pieces(alloc, stream, size)?).ok()
+    let pieces = pieces(alloc, stream, size)?;
+    recorded_of_pieces(alloc, lane, &pieces).ok()
 }
 
 fn is_recorded(alloc: Global, lane: u32, stream: &[u8], size: usize, wanted: &[u8]) -> bool {
@@ -41,68 +51,77 @@ fn is_recorded(alloc: Global, lane: u32, stream: &[u8], size: usize, wanted: &[u
     }
 }
 
-#[test]
-fn streams_under_lane_0_in_pieces_of_every_size(rt: HostRuntime) {
-    let table = [
-        (FOO, FOO_UNDER_0),
-        (b"".as_slice(), b"".as_slice()),
-        // `foo` failed.
-        (
-            b"\xb3\x29\x06\x0c\x03foo\x15\x50\x6f\xa3",
-            b"\xb3\x2d\x06\x0e\x03foo\x01\x30\xec\x4f\xd5\x84",
-        ),
-        // The end alone.
-        (
-            b"\xb3\x21\x10\x08\x53\x15\x88\xdc",
-            b"\xb3\x25\x10\x0a\x01\x30\x46\xf1\xb3\xa8",
-        ),
-        // The checksum is wrong.
-        (
-            b"\xb3\x29\x03\x0c\x03foo\x45\x9d\xfe\x11",
-            b"\xb3\x25\x40\x1e\x06stdout\x0c\xb3\x29\x03\x0c\x03foo\x45\x9d\xfe\x11\x01\x30\x7c\x95\xa7\xfd",
-        ),
-        // Foreign bytes, and a packet.
-        (
-            b"ab\xb3\x29\x03\x0c\x03foo\x45\x9d\xfe\x10",
-            b"\xb3\x25\x40\x14\x06stdout\x02ab\x01\x30\x3a\xe0\x57\xa9\xb3\x2d\x03\x0e\x03foo\x01\x30\xa4\xaf\xdb\xe0",
-        ),
-        // A header of 60 bytes, and a packet among them.
-        (
-            b"\xb3\x29\x03\x3c\xb3\x29\x03\x0c\x03foo\x45\x9d\xfe\x10",
-            b"\xb3\x25\x40\x16\x06stdout\x04\xb3\x29\x03\x3c\x01\x30\xec\x41\x8b\x3d\xb3\x2d\x03\x0e\x03foo\x01\x30\xa4\xaf\xdb\xe0",
-        ),
-    ];
-    for (stream, wanted) in table {
-        for size in [1, 5, 100] {
-            assert!(rt;
-                is_recorded(rt.alloc(), 0, stream, size, wanted),
-                "pieces of {size}"
-            );
-        }
+// Streams, and what is recorded of each under lane 0.
+const STREAMS: [(&[u8], &[u8]); 7] = [
+    (FOO, FOO_UNDER_0),
+    (b"", b""),
+    // `foo` failed.
+    (
+        b"\xb3\x29\x06\x0c\x03foo\x15\x50\x6f\xa3",
+        b"\xb3\x2d\x06\x0e\x03foo\x01\x30\xec\x4f\xd5\x84",
+    ),
+    // The end alone.
+    (
+        b"\xb3\x21\x10\x08\x53\x15\x88\xdc",
+        b"\xb3\x25\x10\x0a\x01\x30\x46\xf1\xb3\xa8",
+    ),
+    // The checksum is wrong.
+    (
+        b"\xb3\x29\x03\x0c\x03foo\x45\x9d\xfe\x11",
+        b"\xb3\x25\x40\x1e\x06stdout\x0c\xb3\x29\x03\x0c\x03foo\x45\x9d\xfe\x11\x01\x30\x7c\x95\xa7\xfd",
+    ),
+    // Foreign bytes, and a packet.
+    (
+        b"ab\xb3\x29\x03\x0c\x03foo\x45\x9d\xfe\x10",
+        b"\xb3\x25\x40\x14\x06stdout\x02ab\x01\x30\x3a\xe0\x57\xa9\xb3\x2d\x03\x0e\x03foo\x01\x30\xa4\xaf\xdb\xe0",
+    ),
+    // A header of 60 bytes, and a packet among them.
+    (
+        b"\xb3\x29\x03\x3c\xb3\x29\x03\x0c\x03foo\x45\x9d\xfe\x10",
+        b"\xb3\x25\x40\x16\x06stdout\x04\xb3\x29\x03\x3c\x01\x30\xec\x41\x8b\x3d\xb3\x2d\x03\x0e\x03foo\x01\x30\xa4\xaf\xdb\xe0",
+    ),
+];
+
+// Whether this is recorded of the stream in pieces of every size.
+fn in_pieces_of_every_size<R: AllocGlobal + Abort>(rt: &R, stream: &[u8], wanted: &[u8]) {
+    for size in [1, 5, 100] {
+        assert!(rt;
+            is_recorded(rt.alloc(), 0, stream, size, wanted),
+            "pieces of {size}"
+        );
     }
 }
 
 #[test]
+fn streams_under_lane_0_in_pieces_of_every_size(rt: HostRuntime) {
+    for (stream, wanted) in STREAMS {
+        in_pieces_of_every_size(&rt, stream, wanted);
+    }
+}
+
+// Lanes, streams, and what is recorded of each.
+const OTHERS: [(u32, &[u8], &[u8]); 3] = [
+    (
+        12,
+        FOO,
+        b"\xb3\x2d\x03\x0f\x03foo\x02\x31\x32\x6d\x8c\x7c\x28",
+    ),
+    // `foo` passed, with the route `r`.
+    (
+        12,
+        b"\xb3\x2d\x03\x0e\x03foo\x01r\x3c\x7d\xfb\x5c",
+        b"\xb3\x2d\x03\x11\x03foo\x0412/r\x5f\x07\x80\x48",
+    ),
+    (
+        63,
+        b"ab",
+        b"\xb3\x25\x40\x15\x06stdout\x02ab\x0263\x0b\xf1\x8d\x29",
+    ),
+];
+
+#[test]
 fn other_lanes_and_routes(rt: HostRuntime) {
-    let table = [
-        (
-            12,
-            FOO,
-            b"\xb3\x2d\x03\x0f\x03foo\x02\x31\x32\x6d\x8c\x7c\x28".as_slice(),
-        ),
-        // `foo` passed, with the route `r`.
-        (
-            12,
-            b"\xb3\x2d\x03\x0e\x03foo\x01r\x3c\x7d\xfb\x5c",
-            b"\xb3\x2d\x03\x11\x03foo\x0412/r\x5f\x07\x80\x48",
-        ),
-        (
-            63,
-            b"ab",
-            b"\xb3\x25\x40\x15\x06stdout\x02ab\x0263\x0b\xf1\x8d\x29",
-        ),
-    ];
-    for (lane, stream, wanted) in table {
+    for (lane, stream, wanted) in OTHERS {
         assert!(rt;
             is_recorded(rt.alloc(), lane, stream, 100, wanted),
             "lane {lane}"
@@ -122,78 +141,158 @@ fn fed(scribe: &mut Scribe, piece: &[u8]) -> Option<()>
     Some(())
 }
 
-#[test]
-fn a_packet_is_held_back_until_it_is_whole(rt: HostRuntime) -> Result<(), Fail> {
-    let mut scribe = Scribe::new(rt.alloc(), 0).ok().ok_or("no memory")?;
-    let mut out = Vec::new(rt.alloc());
-    fed(&mut scribe, b"ab\xb3\x29\x03\x0c\x03foo\x45\x9d\xfe").ok_or("no room")?;
-    assert!(rt; !scribe.next_into(&mut out).ok().ok_or("no memory")?);
+// Whether a scribe to which nothing was fed holds back a packet of which a byte is missing.
+fn holds_back<R: Abort>(rt: &R, scribe: &mut Scribe, out: &mut Vec<u8>) -> Result<(), Fail>
+    requires { scribe.old.held.ended ≡ false }
+{
+    fed(scribe, b"ab\xb3\x29\x03\x0c\x03foo\x45\x9d\xfe").ok_or("no room")?;
+    assert!(rt; !scribe.next_into(out)?);
     assert!(rt; out.is_empty());
     assert_eq!(rt; scribe.held(), 13);
     Ok(())
 }
 
 #[test]
-fn the_next_packet_is_owned(rt: HostRuntime) -> Result<(), Fail> {
-    let mut scribe = Scribe::new(rt.alloc(), 0).ok().ok_or("no memory")?;
-    fed(&mut scribe, b"ab\xb3\x29\x03\x0c\x03foo\x45\x9d\xfe\x10ab").ok_or("no room")?;
-    let first = scribe.next().ok().ok_or("no memory")?.ok_or("no packet")?;
-    assert!(rt; first.bytes() == AB_UNDER_0);
+fn a_packet_is_held_back_until_it_is_whole(rt: HostRuntime) -> Result<(), Fail> {
+    let mut scribe = Scribe::new(rt.alloc(), 0)?;
+    let mut out = Vec::new(rt.alloc());
+    holds_back(&rt, &mut scribe, &mut out)
+}
+
+// Whether the next packet is this one.
+fn gives_packet(scribe: &mut Scribe, wanted: &[u8]) -> Result<bool, Fail> {
+    let packet = scribe.next()?.ok_or("no packet")?;
+    Ok(packet.bytes() == wanted)
+}
+
+// Whether a scribe to which nothing was fed gives the first packet, and holds what stands behind it.
+fn gives_first<R: Abort>(rt: &R, scribe: &mut Scribe) -> Result<(), Fail>
+    requires { scribe.old.held.ended ≡ false }
+{
+    fed(scribe, b"ab\xb3\x29\x03\x0c\x03foo\x45\x9d\xfe\x10ab").ok_or("no room")?;
+    assert!(rt; gives_packet(scribe, AB_UNDER_0)?);
     assert_eq!(rt; scribe.held(), 14);
     Ok(())
 }
 
 #[test]
-fn packets_are_appended_one_by_one(rt: HostRuntime) -> Result<(), Fail> {
-    let mut scribe = Scribe::new(rt.alloc(), 0).ok().ok_or("no memory")?;
-    let mut out = Vec::new(rt.alloc());
-    fed(&mut scribe, b"ab\xb3\x29\x03\x0c\x03foo\x45\x9d\xfe\x10").ok_or("no room")?;
-    assert!(rt; scribe.next_into(&mut out).ok().ok_or("no memory")?);
-    assert!(rt; out.as_slice() == AB_UNDER_0);
-    assert!(rt; scribe.next_into(&mut out).ok().ok_or("no memory")?);
+fn the_next_packet_is_owned(rt: HostRuntime) -> Result<(), Fail> {
+    let mut scribe = Scribe::new(rt.alloc(), 0)?;
+    gives_first(&rt, &mut scribe)
+}
+
+// Whether the bytes are both packets.
+fn are_both<R: Abort>(rt: &R, out: &[u8]) {
     assert!(rt; out.starts_with(AB_UNDER_0) && out.ends_with(FOO_UNDER_0));
     assert_eq!(rt; out.len(), AB_UNDER_0.len() + FOO_UNDER_0.len());
-    assert!(rt; !scribe.next_into(&mut out).ok().ok_or("no memory")?);
+}
+
+// Whether a scribe to which nothing was fed appends two packets, one by one.
+fn appends_both<R: Abort>(rt: &R, scribe: &mut Scribe, out: &mut Vec<u8>) -> Result<(), Fail>
+    requires { scribe.old.held.ended ≡ false }
+{
+    fed(scribe, b"ab\xb3\x29\x03\x0c\x03foo\x45\x9d\xfe\x10").ok_or("no room")?;
+    assert!(rt; scribe.next_into(out)?);
+    assert!(rt; out.as_slice() == AB_UNDER_0);
+    assert!(rt; scribe.next_into(out)?);
+    are_both(rt, out);
+    assert!(rt; !scribe.next_into(out)?);
     Ok(())
 }
 
-// The packet of an event without route whose file has so many zeros.
-fn long_packet(alloc: Global, count: usize) -> Option<Vec<u8>> {
-    let zeros = repeated(alloc, b"\0", count)?;
-    spelled(alloc, &file_event(alloc, b"", &zeros)?)
+#[test]
+fn packets_are_appended_one_by_one(rt: HostRuntime) -> Result<(), Fail> {
+    let mut scribe = Scribe::new(rt.alloc(), 0)?;
+    let mut out = Vec::new(rt.alloc());
+    appends_both(&rt, &mut scribe, &mut out)
 }
 
-// Appends the bytes of a piece of the file `stdout` under lane 0, and answers how many they are.
-fn take_piece(note: &Note, joined: &mut Vec<u8>) -> Option<usize> {
+// An event without route whose file has so many zeros.
+fn long_event(alloc: Global, count: usize) -> Option<Event> {
+    let zeros = repeated(alloc, b"\0", count)?;
+    file_event(alloc, b"", &zeros)
+}
+
+// Its packet.
+fn long_packet(alloc: Global, count: usize) -> Option<Vec<u8>> {
+    let event = long_event(alloc, count)?;
+    spelled(alloc, &event)
+}
+
+// The bytes of a piece of the file `stdout` under lane 0.
+fn piece_in(note: &Note) -> Option<&[u8]> {
     let Note::Event(event) = note else {
         return None;
     };
     let file = event.file.as_ref()?;
-    if file.name.bytes() != b"stdout".as_slice()
-        || event.route.as_ref()?.bytes() != b"0".as_slice()
-    {
+    let route = event.route.as_ref()?;
+    if file.name.bytes() != b"stdout".as_slice() || route.bytes() != b"0".as_slice() {
         return None;
     }
-    joined.extend_from_slice(file.bytes.bytes()).ok()?;
-    Some(file.bytes.bytes().len())
+    Some(file.bytes.bytes())
+}
+
+// Appends them, and answers how many they are.
+fn take_piece(note: &Note, joined: &mut Vec<u8>) -> Option<usize> {
+    let piece = piece_in(note)?;
+    joined.extend_from_slice(piece).ok()?;
+    Some(piece.len())
+}
+
+// What is recorded of the packet under lane 0, in pieces.
+fn stored(alloc: Global, packet: &[u8]) -> Option<Vec<Bytes>> {
+    let run = recorded(alloc, 0, packet, 65_536)?;
+    pieces(alloc, &run, 65_536)
+}
+
+// The notes of that.
+fn notes_stored(alloc: Global, packet: &[u8]) -> Option<Vec<Note>> {
+    let stored = stored(alloc, packet)?;
+    notes_of_pieces(alloc, &stored).ok()
+}
+
+// Whether the notes are 64 pieces of the packet, which are joined.
+fn are_pieces<R: Abort>(rt: &R, notes: &[Note], joined: &mut Vec<u8>, packet: &[u8]) {
+    assert_eq!(rt; notes.len(), 64);
+    for (place, note) in notes.iter().enumerate() {
+        let size = if place < 63 { 65_536 } else { 65_535 };
+        assert_eq!(rt; take_piece(note, joined), Some(size));
+    }
+    assert!(rt; joined.as_slice() == packet);
+}
+
+fn is_recorded_in_64_pieces<R: AllocGlobal + Abort>(rt: &R, packet: &[u8]) -> Result<(), Fail> {
+    assert_eq!(rt; packet.len(), 4_194_303);
+    let notes = notes_stored(rt.alloc(), packet).ok_or("no memory")?;
+    let mut joined = Vec::new(rt.alloc());
+    are_pieces(rt, &notes, &mut joined, packet);
+    Ok(())
 }
 
 #[test]
 fn the_largest_packet_is_recorded_in_64_pieces(rt: HostRuntime) -> Result<(), Fail> {
     let packet = long_packet(rt.alloc(), 4_194_289).ok_or("no packet")?;
-    assert_eq!(rt; packet.len(), 4_194_303);
-    let run = recorded(rt.alloc(), 0, &packet, 65_536).ok_or("no memory")?;
-    let stored = pieces(rt.alloc(), &run, 65_536).ok_or("no memory")?;
-    let notes = notes_of_pieces(rt.alloc(), &stored)
-        .ok()
-        .ok_or("no memory")?;
-    assert_eq!(rt; notes.len(), 64);
-    let mut joined = Vec::new(rt.alloc());
-    for (place, note) in notes.iter().enumerate() {
-        let size = if place < 63 { 65_536 } else { 65_535 };
-        assert_eq!(rt; take_piece(note, &mut joined), Some(size));
-    }
-    assert!(rt; joined.as_slice() == packet.as_slice());
+    is_recorded_in_64_pieces(&rt, &packet)
+}
+
+// Whether what is recorded under lane 10 is several packets.
+fn are_several<R: Abort>(rt: &R, many: &[u8]) {
+    // Around each piece stand 23 bytes: 6 of header, the name in 7, the count in 3, the route in 3, and 4 of checksum.
+    assert!(rt;
+        many.starts_with(b"\xb3\x25\x40\x81\x00\x17\x06stdout\x81\x00\x00\xb3\x20\x40\xbf\xff\xfd")
+    );
+    assert_eq!(rt; many.len(), 63 * (65_536 + 23) + 65_533 + 23);
+}
+
+fn just_fits<R: AllocGlobal + Abort>(rt: &R, packet: &[u8]) -> Result<(), Fail> {
+    let one = recorded(rt.alloc(), 9, packet, 65_536).ok_or("no memory")?;
+    assert_eq!(rt; one.len(), 4_194_303);
+    Ok(())
+}
+
+fn does_not_fit<R: AllocGlobal + Abort>(rt: &R, packet: &[u8]) -> Result<(), Fail> {
+    let many = recorded(rt.alloc(), 10, packet, 65_536).ok_or("no memory")?;
+    are_several(rt, &many);
     Ok(())
 }
 
@@ -201,15 +300,8 @@ fn the_largest_packet_is_recorded_in_64_pieces(rt: HostRuntime) -> Result<(), Fa
 #[test]
 fn an_event_that_just_fits_is_one_packet(rt: HostRuntime) -> Result<(), Fail> {
     let packet = long_packet(rt.alloc(), 4_194_287).ok_or("no packet")?;
-    let one = recorded(rt.alloc(), 9, &packet, 65_536).ok_or("no memory")?;
-    assert_eq!(rt; one.len(), 4_194_303);
-    let many = recorded(rt.alloc(), 10, &packet, 65_536).ok_or("no memory")?;
-    // Around each piece stand 23 bytes: 6 of header, the name in 7, the count in 3, the route in 3, and 4 of checksum.
-    assert!(rt;
-        many.starts_with(b"\xb3\x25\x40\x81\x00\x17\x06stdout\x81\x00\x00\xb3\x20\x40\xbf\xff\xfd")
-    );
-    assert_eq!(rt; many.len(), 63 * (65_536 + 23) + 65_533 + 23);
-    Ok(())
+    just_fits(&rt, &packet)?;
+    does_not_fit(&rt, &packet)
 }
 
 // The packets that tell of an end.
@@ -225,87 +317,145 @@ const SIGNAL_9_UNDER_12: &[u8] =
 // A lane goes to another thread.
 fn may_be_sent<T: Send>(_: &T) {}
 
-// The packets that a lane over this output gives, and its end.
-fn lane_gives(
+// A lane over this output.
+fn lane_over(
     alloc: Global,
     number: u32,
     output: &[u8],
     piece: usize,
     finish: Finish,
-) -> Option<(Vec<u8>, Ending)> {
+) -> Option<Lane<PlanChild>> {
     if number > 63 || piece == 0 {
         return None;
     }
-    let child = PlanChild::new(Bytes::new(alloc, output).ok()?, piece, finish);
-    let mut lane = Lane::new(alloc, number, child).ok()?;
-    may_be_sent(&lane);
-    let mut packets = Vec::new(alloc);
+    let output = Bytes::new(alloc, output).ok()?;
+    Lane::new(alloc, number, PlanChild::new(output, piece, finish)).ok()
+}
+
+// Appends the packets that the lane gives, and answers its end.
+fn take_lots<C: Child>(lane: &mut Lane<C>, packets: &mut Vec<u8>) -> Option<Ending> {
     for _ in 0..1000 {
         match lane.step()? {
             Lot::Packet(packet) => packets.extend_from_slice(packet.bytes()).ok()?,
-            Lot::End(ending) => return lane.step().is_none().then_some((packets, ending)),
+            Lot::End(ending) => return lane.step().is_none().then_some(ending),
         }
     }
     None
 }
 
-fn is_given(given: Option<(Vec<u8>, Ending)>, wanted: &[&[u8]], end: Ending) -> bool {
-    let Some((packets, ending)) = given else {
-        return false;
-    };
-    let mut rest = packets.as_slice();
+// Whether the bytes are these parts.
+fn are_parts(bytes: &[u8], wanted: &[&[u8]]) -> bool {
+    let mut rest = bytes;
     for part in wanted {
         let Some(behind) = rest.strip_prefix(*part) else {
             return false;
         };
         rest = behind;
     }
-    rest.is_empty() && ending == end
+    rest.is_empty()
 }
 
-#[test]
-fn a_lane_gives_its_packets_and_its_end(rt: HostRuntime) {
-    let alloc = rt.alloc();
-    for piece in [1, 100] {
-        let given = lane_gives(alloc, 0, FOO, piece, Finish::Exit(0));
-        assert!(rt; is_given(given, &[FOO_UNDER_0], Ending::Exit(0)));
-        let given = lane_gives(alloc, 0, FOO, piece, Finish::Exit(2));
-        assert!(rt; is_given(given, &[FOO_UNDER_0, RETURNED_2_UNDER_0], Ending::Exit(2)));
-        let given = lane_gives(alloc, 12, b"", piece, Finish::Exit(-9));
-        assert!(rt; is_given(given, &[SIGNAL_9_UNDER_12], Ending::Exit(-9)));
+// Whether the lane gives these packets and then this end. It goes to another thread.
+fn lane_gives(alloc: Global, lane: &mut Lane<PlanChild>, wanted: &[&[u8]], end: Ending) -> bool {
+    may_be_sent(lane);
+    let mut packets = Vec::new(alloc);
+    take_lots(lane, &mut packets) == Some(end) && are_parts(&packets, wanted)
+}
+
+// Of a lane: its number, the output and the end of its child, its packets and its end.
+type Given = (u32, &'static [u8], Finish, &'static [&'static [u8]], Ending);
+
+// Whether the lane over the output in pieces of this size gives that.
+fn gives(alloc: Global, piece: usize, given: &Given) -> bool {
+    let (number, output, finish, wanted, end) = *given;
+    match lane_over(alloc, number, output, piece, finish) {
+        Some(lane) => {
+            let mut lane = lane;
+            lane_gives(alloc, &mut lane, wanted, end)
+        }
+        None => false,
     }
 }
 
-// Of a lane whose child gives `foo` twice in one read: its first packet with what is appended to it, and how often that was.
-fn first_and_more(alloc: Global) -> Option<(Vec<u8>, [bool; 2])> {
-    let mut stream = Vec::new(alloc);
-    stream.extend_from_slice(FOO).ok()?;
-    stream.extend_from_slice(FOO).ok()?;
+const GIVEN: [Given; 3] = [
+    (0, FOO, Finish::Exit(0), &[FOO_UNDER_0], Ending::Exit(0)),
+    (
+        0,
+        FOO,
+        Finish::Exit(2),
+        &[FOO_UNDER_0, RETURNED_2_UNDER_0],
+        Ending::Exit(2),
+    ),
+    (
+        12,
+        b"",
+        Finish::Exit(-9),
+        &[SIGNAL_9_UNDER_12],
+        Ending::Exit(-9),
+    ),
+];
+
+#[test]
+fn a_lane_gives_its_packets_and_its_end(rt: HostRuntime) {
+    for piece in [1, 100] {
+        for given in &GIVEN {
+            assert!(rt; gives(rt.alloc(), piece, given));
+        }
+    }
+}
+
+// A lane whose child gives `foo` twice in one read.
+fn lane_of_two(alloc: Global) -> Option<Lane<PlanChild>> {
+    let stream = repeated(alloc, FOO, 2)?;
     let child = PlanChild::new(Bytes::from_vec(stream), 100, Finish::Exit(0));
-    let mut lane = Lane::new(alloc, 0, child).ok()?;
-    let Some(Lot::Packet(first)) = lane.step() else {
-        return None;
-    };
-    let mut packets = first.into_vec();
-    let more = [lane.more_into(&mut packets), lane.more_into(&mut packets)];
-    Some((packets, more))
+    Lane::new(alloc, 0, child).ok()
+}
+
+// Its first packet.
+fn first_packet(lane: &mut Lane<PlanChild>) -> Option<Vec<u8>> {
+    match lane.step() {
+        Some(Lot::Packet(first)) => Some(first.into_vec()),
+        _ => None,
+    }
+}
+
+// Whether one more packet is appended to the first one, and then none.
+fn appends_one<R: Abort>(rt: &R, lane: &mut Lane<PlanChild>, packets: &mut Vec<u8>) {
+    let more = [lane.more_into(packets), lane.more_into(packets)];
+    assert_eq!(rt; more, [true, false]);
+    assert!(rt; packets.starts_with(FOO_UNDER_0) && packets.ends_with(FOO_UNDER_0));
+    assert_eq!(rt; packets.len(), 2 * FOO_UNDER_0.len());
 }
 
 #[test]
 fn packets_of_one_read_are_appended_without_another(rt: HostRuntime) -> Result<(), Fail> {
-    let (packets, more) = first_and_more(rt.alloc()).ok_or("no packet")?;
-    assert_eq!(rt; more, [true, false]);
-    assert!(rt; packets.starts_with(FOO_UNDER_0) && packets.ends_with(FOO_UNDER_0));
-    assert_eq!(rt; packets.len(), 2 * FOO_UNDER_0.len());
+    let mut lane = lane_of_two(rt.alloc()).ok_or("no memory")?;
+    let mut packets = first_packet(&mut lane).ok_or("no packet")?;
+    appends_one(&rt, &mut lane, &mut packets);
     Ok(())
 }
 
+const FAULTS: [Given; 2] = [
+    (
+        0,
+        b"ab",
+        Finish::ReadFault,
+        &[AB_UNDER_0, FAULT_UNDER_0],
+        Ending::Fault,
+    ),
+    (
+        0,
+        b"ab",
+        Finish::WaitFault,
+        &[AB_UNDER_0, FAULT_UNDER_0],
+        Ending::Fault,
+    ),
+];
+
 #[test]
 fn a_fault_comes_behind_the_bytes(rt: HostRuntime) {
-    let alloc = rt.alloc();
-    for finish in [Finish::ReadFault, Finish::WaitFault] {
-        let given = lane_gives(alloc, 0, b"ab", 1, finish);
-        assert!(rt; is_given(given, &[AB_UNDER_0, FAULT_UNDER_0], Ending::Fault));
+    for given in &FAULTS {
+        assert!(rt; gives(rt.alloc(), 1, given));
     }
 }
 
@@ -339,6 +489,11 @@ impl Child for Broken {
     ghost are_bytes = { λ s. tt };
 }
 
+fn ends_with_a_fault<R: Abort>(rt: &R, lane: &mut Lane<Broken>) {
+    assert!(rt; matches!(lane.step(), Some(Lot::Packet(_))));
+    assert!(rt; matches!(lane.step(), Some(Lot::End(Ending::Fault))));
+}
+
 #[test]
 fn a_child_whose_reads_fail_is_stopped_and_waited_for(rt: HostRuntime) -> Result<(), Fail> {
     let waited_then = Arc::new(rt.alloc(), AtomicBool::new(false))?;
@@ -350,8 +505,7 @@ fn a_child_whose_reads_fail_is_stopped_and_waited_for(rt: HostRuntime) -> Result
     let Ok(mut lane) = Lane::new(rt.alloc(), 0, child) else {
         return Ok(());
     };
-    assert!(rt; matches!(lane.step(), Some(Lot::Packet(_))));
-    assert!(rt; matches!(lane.step(), Some(Lot::End(Ending::Fault))));
+    ends_with_a_fault(&rt, &mut lane);
     assert!(rt; waited_then.load(Ordering::SeqCst));
     Ok(())
 }
