@@ -33,8 +33,3 @@ pub use names::survey;
 pub use run::{Recorder, Recording, add_packet, begin_run, finish_run, read_run, run_length};
 pub use side::{Side, read_side, write_side};
 pub use store::Store;
-
-#[cfg(test)]
-mod tests;
-#[cfg(test)]
-mod tests_sides;

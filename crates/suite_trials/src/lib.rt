@@ -1,4 +1,4 @@
-//! Tests of what a run is made of, and of its workers. No program uses it.
+//! Tests of what a run is made of, of its workers, and of all of them at once. No program uses it.
 //!
 //! They use the public names of the rooms alone, and stand above them, so that the proofs of a room are not made once more for
 //! its tests. Each file has the room in its name.
@@ -14,3 +14,5 @@ mod tests_suite_plan_files;
 mod tests_suite_run;
 #[cfg(test)]
 mod tests_suite_run_starting;
+#[cfg(test)]
+mod tests_worker_mux;

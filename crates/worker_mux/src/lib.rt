@@ -32,8 +32,6 @@ mod rule;
 mod run;
 #[cfg(test)]
 mod run_tests;
-#[cfg(test)]
-mod tests;
 mod work;
 
 pub use belt::Belt;

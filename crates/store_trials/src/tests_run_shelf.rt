@@ -1,12 +1,16 @@
 //! Runs through folders in memory: what each moment of a commit leaves, which folders are repositories, and each call of
 //! the folder failing in turn.
 
-ghost use Rattle.std.specs.Prelude.{◌≤◌};
 ghost use Rattle.run_shelf.specs.Stores.{store_kinds, store_fault, FitsUnlessBroken, recorder_kinds, recorder_fault, RecordsUnlessBroken};
 
-use super::*;
 use edge_io::{Failed, MemShelf, Shelf};
+use itoa::Buffer;
+use run_shelf::{
+    InitFault, MOST_RUNS, OpenFault, Recorder, ShelfCall, StartFault, Store, StoreFault,
+    add_packet, begin_run, finish_run, make_repository, read_run, run_length, survey,
+};
 use std::alloc::Global;
+use std::ops::Range;
 use std::process::Abort;
 use std::test::Fail;
 
@@ -544,26 +548,33 @@ fn a_dropped_run_leaves_nothing(rt: HostRuntime) -> Result<(), Fail> {
     nothing_is_left(&rt, &mut shelf)
 }
 
-// Whether a store of so many full runs refuses one more, since it is full.
-fn is_full<H: Shelf>(alloc: Global, shelf: &mut H, runs: usize) -> Result<bool, Fail>
-    requires { runs ≤ 1000000 }
-{
-    let kinds = vec![in alloc; false; runs]?;
-    let store = Store::attach(shelf, Found::of(kinds)?);
+// Publishes an empty run of each of these numbers, in whatever folder.
+fn publish_runs<H: Shelf>(shelf: &mut H, numbers: Range<u32>) -> Result<(), Failed> {
+    let mut digits = Buffer::new();
+    for number in numbers {
+        shelf.sync_folder()?;
+        shelf.start_draft()?;
+        shelf.publish(digits.format(number))?;
+    }
+    Ok(())
+}
+
+// Whether the store refuses one run more, since it is full.
+fn is_full<H: Shelf>(alloc: Global, shelf: &mut H) -> Result<bool, Fail> {
+    let store = Store::open(alloc, shelf)?;
     Ok(matches!(store.start_run(alloc, false), Err((_, StartFault::Full))))
 }
 
-fn one_run_more_has_no_room<R: AllocGlobal + Abort>(
-    rt: &R,
-    shelf: &mut MemShelf,
-) -> Result<(), Fail> {
-    assert!(rt; is_full(rt.alloc(), shelf, 1_000_000)?);
-    assert!(rt; !is_full(rt.alloc(), shelf, 999_999)?);
+fn the_last_run_has_room<R: AllocGlobal + Abort>(rt: &R, shelf: &mut MemShelf) -> Result<(), Fail> {
+    publish_runs(shelf, 0..999_999)?;
+    assert!(rt; !is_full(rt.alloc(), shelf)?);
+    publish_runs(shelf, 999_999..1_000_000)?;
+    assert!(rt; is_full(rt.alloc(), shelf)?);
     Ok(())
 }
 
 #[test]
 fn a_full_store_takes_no_run(rt: HostRuntime) -> Result<(), Fail> {
     let mut shelf = empty(rt.alloc(), NOTHING)?;
-    one_run_more_has_no_room(&rt, &mut shelf)
+    the_last_run_has_room(&rt, &mut shelf)
 }

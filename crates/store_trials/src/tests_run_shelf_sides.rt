@@ -3,8 +3,11 @@
 
 ghost use Rattle.run_shelf.specs.Stores.{store_kinds, store_fault, FitsUnlessBroken};
 
-use super::*;
 use edge_io::{MemShelf, Shelf};
+use run_shelf::{
+    MOST_RUNS, OpenFault, ShelfCall, Side, SideFault, StartFault, Store, StoreFault, add_packet,
+    begin_run, finish_run, make_repository, survey,
+};
 use std::alloc::Global;
 use std::process::Abort;
 use std::test::Fail;

@@ -1,5 +1,5 @@
 use Rattle.worker_mux.specs.Passes.{IsTakerFor}
-use Rattle.worker_mux.proofs.tests.take_at_last.Given as goal
+use Rattle.suite_trials.proofs.tests_worker_mux.take_at_last.Given as goal
 
 abbrev pub invariant-loop : goal.invariant-loop
 invariant-loop g l = IsTakerFor l.belt l.taker

@@ -1,6 +1,6 @@
 use Rattle.worker_mux.specs.Packets.{IsWhole}
 use Rattle.worker_mux.specs.Passes.{IsPassFor}
-use Rattle.worker_mux.proofs.tests.put_at_last.Given as goal
+use Rattle.suite_trials.proofs.tests_worker_mux.put_at_last.Given as goal
 
 abbrev pub invariant-loop : goal.invariant-loop
 invariant-loop g l = record {

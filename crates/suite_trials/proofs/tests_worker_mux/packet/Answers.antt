@@ -2,7 +2,7 @@ use Rattle.std.proofs.Common.{[], ◌∷◌, sym, ◌∙◌}
 use Rattle.std.proofs.lemmas.List.{append-nil}
 use Rattle.std.proofs.lemmas.List.Elements.{All-nil, All-cons}
 use Rattle.packet_codec.specs.Canonical.{canonical, IsEvent, Fits}
-use Rattle.worker_mux.proofs.tests.packet.Goals as goal
+use Rattle.suite_trials.proofs.tests_worker_mux.packet.Goals as goal
 
 pub returns : goal.returns
 returns c =

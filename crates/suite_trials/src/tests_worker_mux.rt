@@ -3,7 +3,6 @@ ghost use Rattle.std.specs.List.{AllByRecursion};
 ghost use Rattle.worker_mux.specs.Packets.{IsWhole};
 ghost use Rattle.worker_mux.specs.Passes.{IsPassFor, IsTakerFor, IsFresh};
 
-use crate::{Belt, LanePass, Taker};
 use std::alloc::Global;
 use std::process::Abort;
 use std::sync::Wait;
@@ -13,6 +12,7 @@ use std::thread::Threads;
 use sub_number::Bytes;
 use trial_events::{file_event, spelled};
 use worker_lane::{Ending, Lot};
+use worker_mux::{Belt, LanePass, Taker};
 
 // A packet with these bytes.
 fn packet(alloc: Global, bytes: &[u8]) -> Option<Lot>
