@@ -36,20 +36,35 @@ fn keeps_kind(alloc: Global, success: bool, ended: Ended) -> Option<bool> {
     keeps(alloc, &rules, b"foo", ended, b"")
 }
 
+// Whether successes are asked for, how a test ended, and whether it is kept.
+const KINDS: [(bool, Ended, bool); 5] = [
+    (false, Ended::Success, false),
+    (true, Ended::Success, true),
+    (false, Ended::UxSuccess, true),
+    (false, Ended::Exists, true),
+    (false, Ended::XFail, true),
+];
+
 #[test]
 fn kinds_go_by_their_own_rules(rt: HostRuntime) -> Result<(), Fail> {
-    let alloc = rt.alloc();
-    assert_eq!(rt; keeps_kind(alloc, false, Ended::Success), Some(false));
-    assert_eq!(rt; keeps_kind(alloc, true, Ended::Success), Some(true));
-    assert_eq!(rt; keeps_kind(alloc, false, Ended::UxSuccess), Some(true));
-    assert_eq!(rt; keeps_kind(alloc, false, Ended::Exists), Some(true));
-    assert_eq!(rt; keeps_kind(alloc, false, Ended::XFail), Some(true));
+    for (row, (success, ended, kept)) in KINDS.iter().enumerate() {
+        assert!(rt;
+            keeps_kind(rt.alloc(), *success, *ended) == Some(*kept),
+            "row {row}"
+        );
+    }
     Ok(())
 }
 
+fn give_tags(rules: &mut Rules, wanted: Tags, unwanted: Tags) {
+    rules.with_tags = wanted;
+    rules.without_tags = unwanted;
+}
+
 fn ask_for_tags(alloc: Global, rules: &mut Rules, wanted: &[u8], unwanted: &[u8]) -> Option<()> {
-    rules.with_tags = tags_of(alloc, wanted)?;
-    rules.without_tags = tags_of(alloc, unwanted)?;
+    let wanted = tags_of(alloc, wanted)?;
+    let unwanted = tags_of(alloc, unwanted)?;
+    give_tags(rules, wanted, unwanted);
     Some(())
 }
 
@@ -109,11 +124,16 @@ const LIST: [Told; 7] = [
     (b'0', b"y", Status::Unset),
 ];
 
-fn list_of_events(alloc: Global) -> Option<Vec<Event>> {
-    let mut events = Vec::new(alloc);
+fn push_events(alloc: Global, events: &mut Vec<Event>) -> Option<()> {
     for (route, id, status) in &LIST {
         events.push(says(alloc, *route, id, *status)).ok()?;
     }
+    Some(())
+}
+
+fn list_of_events(alloc: Global) -> Option<Vec<Event>> {
+    let mut events = Vec::new(alloc);
+    push_events(alloc, &mut events)?;
     Some(events)
 }
 
@@ -169,13 +189,22 @@ fn gets(alloc: Global, add: &[u8], remove: &[u8], own: &[u8], wanted: &[u8]) -> 
     Some(is_given(&tagger, &mut event, wanted))
 }
 
+// The tags that are added, those that are removed, those of the event, and those that it gets.
+const GIVEN: [(&[u8], &[u8], &[u8], &[u8]); 4] = [
+    (b"f", b"b", b"b", b"f"),
+    (b"", b"", b"bab", b"ab"),
+    (b"", b"", b"", b""),
+    (b"xa", b"x", b"c", b"ac"),
+];
+
 #[test]
 fn tags_are_sorted_added_and_removed(rt: HostRuntime) -> Result<(), Fail> {
-    let alloc = rt.alloc();
-    assert_eq!(rt; gets(alloc, b"f", b"b", b"b", b"f"), Some(true));
-    assert_eq!(rt; gets(alloc, b"", b"", b"bab", b"ab"), Some(true));
-    assert_eq!(rt; gets(alloc, b"", b"", b"", b""), Some(true));
-    assert_eq!(rt; gets(alloc, b"xa", b"x", b"c", b"ac"), Some(true));
+    for (row, (add, remove, own, wanted)) in GIVEN.iter().enumerate() {
+        assert!(rt;
+            gets(rt.alloc(), add, remove, own, wanted) == Some(true),
+            "row {row}"
+        );
+    }
     Ok(())
 }
 
@@ -202,9 +231,13 @@ fn lent_tags_are_sorted_added_and_removed(rt: HostRuntime) -> Result<(), Fail> {
     Ok(())
 }
 
+fn push_tag(alloc: Global, tags: &mut Tags, name: &[u8]) -> Option<()> {
+    tags.push(text(alloc, name)?).ok()
+}
+
 fn one_tag(alloc: Global, name: &[u8]) -> Option<Tags> {
     let mut tags = Tags::new(alloc);
-    tags.push(text(alloc, name)?).ok()?;
+    push_tag(alloc, &mut tags, name)?;
     Some(tags)
 }
 

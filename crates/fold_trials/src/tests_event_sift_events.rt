@@ -4,15 +4,26 @@ use event_sift::Rules;
 use packet_codec::{Event, Status, Tags};
 use partition_times::Filters;
 use std::alloc::Global;
+use sub_number::Text;
 use trial_events::text;
+
+fn push_text(alloc: Global, list: &mut Vec<Text>, bytes: &[u8]) -> Option<()> {
+    list.push(text(alloc, bytes)?).ok()
+}
+
+// The text of these bytes alone, where the empty one stands for none.
+fn list_of(alloc: Global, bytes: &[u8]) -> Option<Vec<Text>> {
+    let mut list = Vec::new(alloc);
+    if !bytes.is_empty() {
+        push_text(alloc, &mut list, bytes)?;
+    }
+    Some(list)
+}
 
 // The pattern, where the empty one stands for none.
 pub fn patterns(alloc: Global, pattern: &[u8]) -> Option<Filters> {
-    if pattern.is_empty() {
-        return Filters::new(alloc, &[]).ok();
-    }
-    let pattern = text(alloc, pattern)?;
-    Filters::new(alloc, &[pattern]).ok()
+    let list = list_of(alloc, pattern)?;
+    Filters::new(alloc, &list).ok()
 }
 
 // The rules by these patterns. Else they are as where nothing is asked for.

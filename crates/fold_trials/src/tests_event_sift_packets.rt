@@ -5,7 +5,7 @@ ghost use Rattle.event_sift.specs.Sifted.{asked_by};
 ghost use Rattle.event_sift.specs.PacketSifted.{predicate_of, rules_of};
 
 use crate::tests_event_sift_events::{Told, default_rules, says};
-use event_sift::{ByRules, PacketSift};
+use event_sift::{ByRules, PacketSift, Rules};
 use packet_codec::{Sight, Status, see};
 use std::alloc::Global;
 use std::test::Fail;
@@ -58,32 +58,50 @@ const OPEN: Told = (b'-', b"z", Status::InProgress);
 
 const FAILED: Told = (b'0', b"f", Status::Fail);
 
+// Whether the first four were taken.
+fn hears_first(alloc: Global, sift: &mut PacketSift<'_, ByRules<'_>>, out: &mut Vec<u8>) -> bool
+    requires { asked_by (predicate_of sift.old) ≡ rules_of sift.old }
+    ensures { asked_by (predicate_of sift.new) ≡ rules_of sift.new }
+{
+    hears(alloc, sift, &BEGUN, out)
+        && hears(alloc, sift, &OTHER, out)
+        && hears(alloc, sift, &BARE, out)
+        && hears(alloc, sift, &GOES_ON, out)
+}
+
 // Whether all of them were taken.
 fn hears_all(alloc: Global, sift: &mut PacketSift<'_, ByRules<'_>>, out: &mut Vec<u8>) -> bool
     requires { asked_by (predicate_of sift.old) ≡ rules_of sift.old }
     ensures { asked_by (predicate_of sift.new) ≡ rules_of sift.new }
 {
-    let heard = [
-        hears(alloc, sift, &BEGUN, out),
-        hears(alloc, sift, &OTHER, out),
-        hears(alloc, sift, &BARE, out),
-        hears(alloc, sift, &GOES_ON, out),
-        hears(alloc, sift, &PASSED, out),
-        hears(alloc, sift, &OPEN, out),
-        hears(alloc, sift, &FAILED, out),
-    ];
-    heard == [true; 7]
+    hears_first(alloc, sift, out)
+        && hears(alloc, sift, &PASSED, out)
+        && hears(alloc, sift, &OPEN, out)
+        && hears(alloc, sift, &FAILED, out)
+}
+
+// Whether all were taken, and the rest is released then.
+fn hears_and_closes(alloc: Global, mut sift: PacketSift<'_, ByRules<'_>>, out: &mut Vec<u8>) -> bool
+    requires { asked_by (predicate_of sift) ≡ rules_of sift }
+{
+    let heard = hears_all(alloc, &mut sift, out);
+    let closed = sift.close(out).is_ok();
+    heard && closed
+}
+
+// Appends what is released of them by these rules.
+fn release(alloc: Global, rules: &Rules, out: &mut Vec<u8>) -> Option<()> {
+    let predicate = ByRules::new(alloc, rules).ok()?;
+    let sift = PacketSift::new(alloc, rules, predicate);
+    hears_and_closes(alloc, sift, out).then_some(())
 }
 
 // What is released of them.
 fn released(alloc: Global) -> Option<Vec<u8>> {
     let rules = default_rules(alloc)?;
-    let predicate = ByRules::new(alloc, &rules).ok()?;
     let mut out = Vec::new(alloc);
-    let mut sift = PacketSift::new(alloc, &rules, predicate);
-    let heard = hears_all(alloc, &mut sift, &mut out);
-    let closed = sift.close(&mut out).is_ok();
-    if heard && closed { Some(out) } else { None }
+    release(alloc, &rules, &mut out)?;
+    Some(out)
 }
 
 fn append(alloc: Global, all: &mut Vec<u8>, told: &Told) -> Option<()> {
