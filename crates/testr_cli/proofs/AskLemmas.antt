@@ -6,7 +6,7 @@ use Rattle.testr_cli.specs.Ask.{CopiesLast, PrintsAnswer, AnswersOf}
 use Rattle.testr_cli.specs.Outside.{Shown}
 use Rattle.testr_cli.specs.Says.{OfBytes}
 use Rattle.testr_cli.specs.declared.command.Question.{Question}
-use Rattle.testr_cli.specs.declared.command.Question.TheVariants.{Last, Failing, Slowest, Stats}
+use Rattle.testr_cli.specs.declared.command.Question.TheVariants.{Last}
 use Rattle.testr_cli.specs.declared.answer.Verdict.{Verdict}
 use Rattle.testr_cli.specs.declared.answer.Refusal.{Refusal}
 
@@ -22,22 +22,13 @@ module _ (question : Question) (b : Bool) (is : IsTrue b ↔ OfBytes question) w
 module _ (found : Found) (a b : Shown) (result : Result Verdict Refusal) where
   pub by_copy : (question : Question) → OfBytes question → CopiesLast found a b result → AnswersOf found question a b result
   by_copy (Last true) is copies = copies
-  by_copy (Last false) is copies = absurd is
-  by_copy (Failing list) is copies = absurd is
-  by_copy (Slowest all) is copies = absurd is
-  by_copy Stats is copies = absurd is
+  by_copy question is copies = absurd is
 
   -- so it was one of the two
   pub either : (question : Question) → AnswersOf found question a b result → ((question ≡ Last true) × CopiesLast found a b result) ⊎ PrintsAnswer question a b result
   either (Last true) answers = inl (refl, answers)
-  either (Last false) answers = inr answers
-  either (Failing list) answers = inr answers
-  either (Slowest all) answers = inr answers
-  either Stats answers = inr answers
+  either question answers = inr answers
 
   pub by_text : (question : Question) → (OfBytes question → ⊥) → PrintsAnswer question a b result → AnswersOf found question a b result
   by_text (Last true) not prints = absurd (not tt)
-  by_text (Last false) not prints = prints
-  by_text (Failing list) not prints = prints
-  by_text (Slowest all) not prints = prints
-  by_text Stats not prints = prints
+  by_text question not prints = prints

@@ -119,14 +119,7 @@ none_some is = cc
 -- a command that asks for it asks for no tests of a project
 pub apart : (v : Verb) (c : Command) (drawing : Drawing) (asked : Suite) → drawing_with v c ≡ Some drawing → suite_with v c ≡ Some asked → ⊥
 apart verb.SelfTest c drawing asked drawn is = none_some is
-apart verb.Init c drawing asked drawn is = none_some is
-apart verb.Load c drawing asked drawn is = none_some is
-apart verb.Run c drawing asked drawn is = none_some drawn
-apart verb.Last c drawing asked drawn is = none_some is
-apart verb.Failing c drawing asked drawn is = none_some is
-apart verb.Slowest c drawing asked drawn is = none_some is
-apart verb.Stats c drawing asked drawn is = none_some is
-apart verb.ListTests c drawing asked drawn is = none_some drawn
+apart other c drawing asked drawn is = none_some drawn
 
 few_where : (few : Bool) (given drawing : Drawing) → are_few given.lanes given.tests ≡ few → cond few (Some given) None ≡ Some drawing → are_few drawing.lanes drawing.tests ≡ true
 few_where true given drawing is same =
@@ -137,14 +130,7 @@ few_where false given drawing is same = absurd (none_some same)
 -- and its lanes and tests are few
 pub few_drawn : (v : Verb) (c : Command) (drawing : Drawing) → drawing_with v c ≡ Some drawing → are_few drawing.lanes drawing.tests ≡ true
 few_drawn verb.SelfTest c drawing drawn = few_where (are_few c.lanes c.tests) (record { seed = c.seed; lanes = c.lanes; tests = c.tests }) drawing refl drawn
-few_drawn verb.Init c drawing drawn = absurd (none_some drawn)
-few_drawn verb.Load c drawing drawn = absurd (none_some drawn)
-few_drawn verb.Run c drawing drawn = absurd (none_some drawn)
-few_drawn verb.Last c drawing drawn = absurd (none_some drawn)
-few_drawn verb.Failing c drawing drawn = absurd (none_some drawn)
-few_drawn verb.Slowest c drawing drawn = absurd (none_some drawn)
-few_drawn verb.Stats c drawing drawn = absurd (none_some drawn)
-few_drawn verb.ListTests c drawing drawn = absurd (none_some drawn)
+few_drawn other c drawing drawn = absurd (none_some drawn)
 
 -- an option is one value, or none
 pub one_drawn : {drawn : Option Drawing} (drawing asked : Drawing) → drawn ≡ Some drawing → drawn ≡ Some asked → drawing ≡ asked

@@ -72,15 +72,9 @@ no_load true c list is = cc
 no_load false c list is = cc
 
 not_asked : (v : Verb) (c : Command) (list : Bool) → IsOther v → task_with v c ≡ Some (ask (AsksFailing list)) → ⊥
-not_asked verb.Init c list other is = cc
 not_asked verb.Load c list other is = no_load (nat_le (length c.names) 64) c list is
-not_asked verb.Run c list other is = cc
-not_asked verb.Last c list other is = cc
 not_asked verb.Failing c list other is = other
-not_asked verb.Slowest c list other is = cc
-not_asked verb.Stats c list other is = cc
-not_asked verb.ListTests c list other is = cc
-not_asked verb.SelfTest c list other is = cc
+not_asked v c list other is = cc
 
 -- a question, but not that of the failing set
 pub other_spare : (v : Verb) {w : Verb} (c : Command) (told : Option Folder) (before now : ℕ) → v ≡ w → IsOther w → LooksOnly told before now → SparesReads (task_with v c) told before now
@@ -91,11 +85,12 @@ other_spare v c told before now is other looks = record {
 
 -- a verb that asks nothing
 abbrev pub AsksNothing : Verb → Type 0
-AsksNothing verb.Last = ⊥
-AsksNothing verb.Failing = ⊥
-AsksNothing verb.Slowest = ⊥
-AsksNothing verb.Stats = ⊥
-AsksNothing other = ⊤
+AsksNothing verb.Init = ⊤
+AsksNothing verb.Load = ⊤
+AsksNothing verb.Run = ⊤
+AsksNothing verb.ListTests = ⊤
+AsksNothing verb.SelfTest = ⊤
+AsksNothing question = ⊥
 
 no_question : (few : Bool) (c : Command) (question : Question) → (if few then Some (load c.partial c.names) else None) ≡ Some (ask question) → ⊥
 no_question true c question is = cc
@@ -105,12 +100,9 @@ nothing_asked : (v : Verb) (c : Command) (question : Question) → AsksNothing v
 nothing_asked verb.Init c question silent is = cc
 nothing_asked verb.Load c question silent is = no_question (nat_le (length c.names) 64) c question is
 nothing_asked verb.Run c question silent is = cc
-nothing_asked verb.Last c question silent is = silent
-nothing_asked verb.Failing c question silent is = silent
-nothing_asked verb.Slowest c question silent is = silent
-nothing_asked verb.Stats c question silent is = silent
 nothing_asked verb.ListTests c question silent is = cc
 nothing_asked verb.SelfTest c question silent is = cc
+nothing_asked asks c question silent is = silent
 
 pub silent_spare : (v : Verb) {w : Verb} (c : Command) (told : Option Folder) (before now : ℕ) → v ≡ w → AsksNothing w → SparesReads (task_with v c) told before now
 silent_spare v c told before now is silent = record {

@@ -16,14 +16,7 @@ if_few drawing = if are_few drawing.lanes drawing.tests then Some drawing else N
 -- the drawing that a command of this verb asks for
 abbrev pub drawing_with : Verb → Command → Option Drawing
 drawing_with verb.SelfTest command = if_few (record { seed = command.seed; lanes = command.lanes; tests = command.tests })
-drawing_with verb.Init command = None
-drawing_with verb.Load command = None
-drawing_with verb.Run command = None
-drawing_with verb.Last command = None
-drawing_with verb.Failing command = None
-drawing_with verb.Slowest command = None
-drawing_with verb.Stats command = None
-drawing_with verb.ListTests command = None
+drawing_with other command = None
 
 -- the drawing that a command asks for; none where it asks for something else
 abbrev pub drawing_of : Command → Option Drawing

@@ -80,10 +80,8 @@ Says Stats = SaysStats
 -- What a folder must be so that the question is answered of its runs. The failing set is told with the help of its cache, so
 -- the folder must be sound; the other questions are answered from the runs alone.
 abbrev pub SoundFor : Question → Folder → Type 0
-SoundFor (Last subunit) s = ⊤
 SoundFor (Failing list) s = ReadsSound s
-SoundFor (Slowest all) s = ⊤
-SoundFor Stats s = ⊤
+SoundFor question s = ⊤
 
 -- so it is where the folder is sound for it, and the folder is a repository
 pub record SaysOfFolder (question : Question) (text : List ℕ) (v : Verdict) (s : Folder) : Type 0 where
@@ -98,6 +96,5 @@ OfBytes question = ⊥
 -- whether the question is of the last run
 abbrev pub OfLastRun : Question → Type 0
 OfLastRun (Last subunit) = Unit {0}
-OfLastRun (Failing list) = ⊥
 OfLastRun (Slowest all) = Unit {0}
-OfLastRun Stats = ⊥
+OfLastRun question = ⊥

@@ -47,13 +47,7 @@ run_options command = record {
 abbrev pub suite_with : Verb → Command → Option Suite
 suite_with verb.Run command = Some (run (run_options command))
 suite_with verb.ListTests command = Some (list command.names)
-suite_with verb.Init command = None
-suite_with verb.Load command = None
-suite_with verb.Last command = None
-suite_with verb.Failing command = None
-suite_with verb.Slowest command = None
-suite_with verb.Stats command = None
-suite_with verb.SelfTest command = None
+suite_with other command = None
 
 -- what is done for a command; none where it is none of the tests
 abbrev pub suite_of : Command → Option Suite

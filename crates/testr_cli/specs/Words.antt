@@ -76,22 +76,14 @@ kinds_of Run word = run_kind word
 kinds_of Last word = only_flag (codes "--subunit") word
 kinds_of Failing word = only_flag (codes "--list") word
 kinds_of Slowest word = only_flag (codes "--all") word
-kinds_of Init word = None
-kinds_of Stats word = None
-kinds_of ListTests word = None
-kinds_of SelfTest word = None
+kinds_of other word = None
 
 -- How many names there may be; none where there is no end to them. Those of `selftest` are numbers.
 abbrev pub most_names : Verb → Option ℕ
 most_names Load = Some 64
 most_names Run = None
 most_names ListTests = None
-most_names Init = Some 0
-most_names Last = Some 0
-most_names Failing = Some 0
-most_names Slowest = Some 0
-most_names Stats = Some 0
-most_names SelfTest = Some 0
+most_names other = Some 0
 
 abbrev pub may_have : Option ℕ → ℕ → Bool
 may_have None names = true
@@ -248,14 +240,7 @@ command_of_names verb items =
 
 abbrev pub command_of_items : Verb → List Item → Option Command
 command_of_items SelfTest items = option_map command_of_drawing (drawing_in items)
-command_of_items Init items = command_of_names Init items
-command_of_items Load items = command_of_names Load items
-command_of_items Run items = command_of_names Run items
-command_of_items Last items = command_of_names Last items
-command_of_items Failing items = command_of_names Failing items
-command_of_items Slowest items = command_of_names Slowest items
-command_of_items Stats items = command_of_names Stats items
-command_of_items ListTests items = command_of_names ListTests items
+command_of_items other items = command_of_names other items
 
 -- ---- which command words are
 
