@@ -1,6 +1,6 @@
 -- Where a named refusal of a step of `run` or `list-tests` has its cause, it comes, but for a call that failed or want of
 -- memory.
-use Rattle.std.specs.Prelude.{◌≡◌, ◌⊎◌, ℕ, IsSomeAnd, List, [], ◌∷◌, Result, Ok, Err}
+use Rattle.std.specs.Prelude.{◌≡◌, ◌⊎◌, ℕ, IsSomeAnd, List, ◌∷◌, Result, Ok, Err}
 use Rattle.edge_io.specs.Children.{Output}
 use Rattle.edge_io.specs.Seen.{Seen}
 use Rattle.edge_io.specs.Spawners.{Spawning}

@@ -1,10 +1,8 @@
 -- The step that records files, one after another (docs/FORMATS.md, "What is recorded of a stream"): the first under lane 0,
 -- the next under lane 1, and so on.
 use Rattle.std.specs.Prelude.{◌≡◌, ◌⊎◌, ℕ, ◌+◌, ◌<◌, ◌≤◌, Option, Some, None, IfSome, IsSomeAnd, IfOk, IfErr, List, [], ◌∷◌, ◌++◌, length, map, All, Result}
-use Rattle.std.specs.Io.KnownBytes.{Consumes, IsAtEnd}
 use Rattle.edge_io.specs.Causes.{Rose}
-use Rattle.edge_io.specs.Disk.{Files, Folder}
-use Rattle.edge_io.specs.Seen.{Seen}
+use Rattle.edge_io.specs.Disk.{Files}
 use Rattle.edge_io.specs.Steps.{Goes, Grown}
 use Rattle.outcome_fold.specs.declared.row.Row.{Row}
 use Rattle.packet_codec.specs.Grammar.{AreBytes}

@@ -1,5 +1,5 @@
 -- What a call of the program promises.
-use Rattle.std.specs.Prelude.{◌≡◌, ◌⊎◌, ◌↔◌, ℕ, ◌≤◌, ◌<◌, Bool, IsTrue, true, false, Option, Some, None, IsSomeAnd, IfSome, All, List, [], ◌∷◌, ◌++◌, length, Result, Ok, Err}
+use Rattle.std.specs.Prelude.{◌≡◌, ◌⊎◌, ℕ, ◌≤◌, ◌<◌, Bool, IsTrue, false, Option, Some, None, IsSomeAnd, IfSome, All, List, [], ◌∷◌, ◌++◌, length, Result, Ok, Err}
 use Rattle.std.specs.Io.KnownBytes.{Appends, IsAtEnd}
 use Rattle.edge_io.specs.Bytes.{AppendsPrefix}
 use Rattle.edge_io.specs.Causes.{Rose}
@@ -20,7 +20,6 @@ use Rattle.sub_text.specs.Texts.{report_of}
 use Rattle.testr_cli.specs.Steps.{Step, At}
 use Rattle.testr_cli.specs.Outside.{Outside, Work, work_of, work_folder, work_shown, SomeRose, RisesAt}
 use Rattle.testr_cli.specs.Tasks.{Task, init, load, ask}
-use Rattle.testr_cli.specs.Words.{testr_word, asked_by}
 use Rattle.testr_cli.specs.Runs.{run_bytes, HasRuns, KeepsFiles}
 use Rattle.testr_cli.specs.Verdicts.{verdict_code}
 use Rattle.testr_cli.specs.Says.{SaysOfFolder, OfLastRun}

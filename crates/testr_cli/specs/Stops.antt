@@ -1,5 +1,5 @@
 -- What a stop at each moment of a command leaves (docs/DISK.md, the shelf).
-use Rattle.std.specs.Prelude.{◌≡◌, ◌⊎◌, ℕ, Bool, Option, Some, None, All, List}
+use Rattle.std.specs.Prelude.{◌⊎◌, ℕ, Bool, Option, Some, None, All, List}
 use Rattle.edge_io.specs.Disk.{Files, Folder, IsImage}
 use Rattle.edge_io.specs.Steps.{Stays}
 use Rattle.edge_io.specs.Moments.{Passes}

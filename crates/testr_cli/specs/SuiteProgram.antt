@@ -1,9 +1,8 @@
 -- What `testr` promises for the commands that start programs: `run` and `list-tests`. The first is the run theorem.
-use Rattle.std.specs.Prelude.{◌≡◌, ◌⊎◌, ⊤, ℕ, zero, suc, ◌≤◌, ◌<◌, nat_lt, pos, Bool, true, false, not, ◌&&◌, ◌||◌, is_some, Option, Some, None, IsSome, IfSome, IsSomeAnd, All, List, [], ◌∷◌, ◌++◌, length, Result, Ok, Err, IsOk}
+use Rattle.std.specs.Prelude.{◌≡◌, ◌⊎◌, ⊤, ℕ, zero, suc, ◌≤◌, ◌<◌, nat_lt, pos, Bool, true, false, not, ◌&&◌, ◌||◌, is_some, Option, Some, None, IfSome, IsSomeAnd, All, List, ◌∷◌, ◌++◌, length, Result, Ok, Err, IsOk}
 use Rattle.std.specs.List.{AllByRecursion}
 use Rattle.std.specs.Io.KnownBytes.{Appends}
 use Rattle.edge_io.specs.Children.{Output}
-use Rattle.edge_io.specs.Seen.{Seen}
 use Rattle.edge_io.specs.Spawners.{Spawning}
 use Rattle.edge_io.specs.Steps.{Goes}
 use Rattle.edge_io.specs.declared.child.Finish.TheVariants.{Exit}

@@ -1,4 +1,4 @@
-use Rattle.std.proofs.Common.{◌≡◌, ◌∷◌, ◌++◌, ◌+◌, [], List, ℕ, inl, take, drop, get_or, sym, ap, subst, ◌∙◌, length, arith}
+use Rattle.std.proofs.Common.{◌≡◌, ◌∷◌, ◌++◌, ◌+◌, [], inl, take, drop, get_or, sym, ap, subst, ◌∙◌, length, arith}
 use Rattle.std.proofs.lemmas.List.{take_more, take-append-drop, at_drop_more, length-take-le}
 use Rattle.testr_cli.specs.Files.{RecordsInTurn}
 use Rattle.testr_cli.specs.Outside.{filed}
