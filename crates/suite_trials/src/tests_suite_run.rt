@@ -1,14 +1,24 @@
 //! Runs of children in memory, from their start to the run that is kept.
 
-use edge_io::{Finish, Job, MemShelf, Plan, PlanSpawner};
+ghost use Rattle.std.specs.Prelude.{◌≡◌, ◌≤◌, ◌<◌, length, map, None, IfSome};
+ghost use Rattle.std.specs.List.{range_with_len};
+ghost use Rattle.edge_io.specs.Steps.{HasDraft};
+ghost use Rattle.run_shelf.specs.Holds.{kinds_of, HasRoom, FitsWhereTold};
+ghost use Rattle.run_shelf.specs.Repository.{most_runs};
+ghost use Rattle.run_shelf.specs.Stores.{recorder_kinds, recorder_fault, store_kinds, store_fault, FitsUnlessBroken, RecordsUnlessBroken};
+ghost use Rattle.worker_lane.specs.Lanes.{lane_number};
+
+use edge_io::{Child, Finish, Job, MemShelf, Plan, PlanSpawner, Shelf};
 use packet_codec::Tags;
-use run_shelf::{Recorder, Recording, ShelfCall, Store, finish_run, read_run};
+use run_shelf::{Found, Recorder, Recording, ShelfCall, Store, finish_run, read_run};
 use std::alloc::Global;
+use std::process::Abort;
 use std::sync::Wait;
 use std::test::Fail;
 use std::thread::Threads;
 use sub_number::Bytes;
 use suite_run::{LanesRefusal, StartRefusal, record_lanes, start_lanes};
+use worker_lane::Lane;
 
 // `foo` is in progress, fails, and passes, each without a route.
 const BEGUN: &[u8] = b"\xb3\x29\x02\x0c\x03foo\x8e\xc1\x2d\xb5";
@@ -40,6 +50,22 @@ fn job(alloc: Global) -> Option<Job> {
     })
 }
 
+// A loop that owns nothing, so that an early end drops nothing.
+fn push_jobs(alloc: Global, jobs: &mut Vec<Job>, count: usize) -> Option<()> {
+    for _ in 0..count {
+        let job = job(alloc)?;
+        jobs.push(job).ok()?;
+    }
+    Some(())
+}
+
+// So many jobs.
+pub(crate) fn jobs(alloc: Global, count: usize) -> Option<Vec<Job>> {
+    let mut jobs = Vec::new(alloc);
+    push_jobs(alloc, &mut jobs, count)?;
+    Some(jobs)
+}
+
 fn plan(alloc: Global, output: &[u8], finish: Finish) -> Option<Plan> {
     let output = Bytes::new(alloc, output).ok()?;
     Some(Plan {
@@ -47,6 +73,29 @@ fn plan(alloc: Global, output: &[u8], finish: Finish) -> Option<Plan> {
         piece: 5,
         finish,
     })
+}
+
+// What children print, and how they end.
+type Planned = (&'static [u8], Finish);
+
+fn push_plans(alloc: Global, plans: &mut Vec<Plan>, all: &[Planned]) -> Option<()> {
+    for (output, finish) in all {
+        let plan = plan(alloc, output, *finish)?;
+        plans.push(plan).ok()?;
+    }
+    Some(())
+}
+
+fn plans(alloc: Global, all: &[Planned]) -> Option<Vec<Plan>> {
+    let mut plans = Vec::new(alloc);
+    push_plans(alloc, &mut plans, all)?;
+    Some(plans)
+}
+
+// It starts these children. These starts fail.
+fn spawner(alloc: Global, all: &[Planned], fails: &[u64]) -> Result<PlanSpawner, Fail> {
+    let plans = plans(alloc, all).ok_or("no memory")?;
+    Ok(PlanSpawner::new(alloc, plans, fails.to_vec(alloc)?))
 }
 
 // What became of a run of children.
@@ -58,31 +107,64 @@ enum Outcome {
     NotRecorded(LanesRefusal),
 }
 
-// Starts the jobs, of which there are three at most, and records a run of their children.
-fn record<R: Threads + Wait + Sync>(
-    rt: &R,
-    alloc: Global,
-    shelf: &mut MemShelf,
-    spawner: &mut PlanSpawner,
-    jobs: &[Job],
-    buf: &mut [u8],
-) -> Option<Outcome> {
-    if jobs.len() > 3 {
-        return None;
-    }
+// A folder that becomes a repository, opened.
+fn open_new<H: Shelf>(alloc: Global, shelf: &mut H) -> Option<Store<'_, H>>
+    ensures { IfSome result (λ store. FitsUnlessBroken (store_kinds store) (store_fault store) (H.seen store.shelf.now).told) }
+{
     let Ok(()) = Store::init(shelf) else {
         return None;
     };
     let Ok(store) = Store::open(alloc, shelf) else {
         return None;
     };
+    Some(store)
+}
+
+// A run that is begun in it.
+fn begin<H: Shelf>(alloc: Global, shelf: &mut H) -> Option<Recorder<'_, H>>
+    ensures fits { IfSome result (λ recorder. RecordsUnlessBroken (recorder_kinds recorder) (recorder_fault recorder) (H.seen recorder.shelf.now).told) }
+    ensures unbroken { IfSome result (λ recorder. recorder_fault recorder ≡ None) }
+{
+    let store = open_new(alloc, shelf)?;
     let Ok(recorder) = store.start_run(alloc, false) else {
         return None;
     };
-    let lanes = match start_lanes(alloc, spawner, jobs) {
-        Ok(lanes) => lanes,
-        Err(refusal) => return Some(Outcome::NotStarted(refusal)),
+    Some(recorder)
+}
+
+// Keeps the run of so many rows, and reads it back into the buffer.
+fn keep<H: Shelf>(
+    shelf: &mut H,
+    found: &mut Found,
+    partial: bool,
+    rows: u64,
+    buf: &mut [u8],
+) -> Option<Outcome>
+    requires free { length (kinds_of found.old) < most_runs }
+    requires room { HasRoom found.old }
+    requires fits { FitsWhereTold (kinds_of found.old) (H.seen shelf.old).told }
+    requires draft { HasDraft (H.seen shelf.old).told }
+{
+    let Ok(number) = finish_run(shelf, found, partial) else {
+        return None;
     };
+    let size = read_run(shelf, found, number, 0, buf).ok()?;
+    Some(Outcome::Kept(size, rows))
+}
+
+// Records a run of the lanes.
+fn record_started<R: Threads + Wait + Sync, C: Child + Send + Drop, H: Shelf>(
+    rt: &R,
+    alloc: Global,
+    recorder: Recorder<'_, H>,
+    lanes: Vec<Lane<C>>,
+    buf: &mut [u8],
+) -> Option<Outcome>
+    requires numbers { map lane_number lanes.items ≡ range_with_len 0 (length lanes.items) }
+    requires few { length lanes.items ≤ 64 }
+    requires fits { RecordsUnlessBroken (recorder_kinds recorder) (recorder_fault recorder) (H.seen recorder.shelf.now).told }
+    requires unbroken { recorder_fault recorder ≡ None }
+{
     let Recorder { shelf, recording } = recorder;
     let Recording {
         found,
@@ -98,27 +180,51 @@ fn record<R: Threads + Wait + Sync>(
         partial,
         Tags::new(alloc),
     );
-    let summary = match answer {
-        Ok(summary) => summary,
-        Err(refusal) => return Some(Outcome::NotRecorded(refusal)),
-    };
-    let Ok(number) = finish_run(shelf, &mut found, partial) else {
-        return None;
-    };
-    let size = read_run(shelf, &found, number, 0, buf).ok()?;
-    Some(Outcome::Kept(size, summary.counts().total))
+    match answer {
+        Ok(summary) => keep(shelf, &mut found, partial, summary.counts().total, buf),
+        Err(refusal) => Some(Outcome::NotRecorded(refusal)),
+    }
 }
 
-#[test]
-fn a_worker_that_ends_with_a_status_is_recorded_with_it(rt: HostRuntime) -> Result<(), Fail> {
+// Starts the jobs, of which there are three at most, and records a run of their children.
+fn record<R: Threads + Wait + Sync>(
+    rt: &R,
+    alloc: Global,
+    shelf: &mut MemShelf,
+    spawner: &mut PlanSpawner,
+    jobs: &[Job],
+    buf: &mut [u8],
+) -> Option<Outcome> {
+    if jobs.len() > 3 {
+        return None;
+    }
+    let recorder = begin(alloc, shelf)?;
+    match start_lanes(alloc, spawner, jobs) {
+        Ok(lanes) => record_started(rt, alloc, recorder, lanes, buf),
+        Err(refusal) => Some(Outcome::NotStarted(refusal)),
+    }
+}
+
+// What becomes of a run of so many jobs.
+fn outcome_of<R: Threads + Wait + Sync + AllocGlobal>(
+    rt: &R,
+    shelf: &mut MemShelf,
+    spawner: &mut PlanSpawner,
+    count: usize,
+    buf: &mut [u8],
+) -> Result<Outcome, Fail> {
     let alloc = rt.alloc();
-    let mut plans = Vec::new(alloc);
-    plans.push(plan(alloc, BEGUN, Finish::Exit(2)).ok_or("no memory")?)?;
-    let mut spawner = PlanSpawner::new(alloc, plans, Vec::new(alloc));
-    let mut shelf = MemShelf::new(alloc, Vec::new(alloc));
-    let jobs = [job(alloc).ok_or("no memory")?];
+    let jobs = jobs(alloc, count).ok_or("no memory")?;
+    Ok(record(rt, alloc, shelf, spawner, &jobs, buf).ok_or("no run")?)
+}
+
+fn is_recorded_with_its_status<R: Threads + Wait + Sync + AllocGlobal + Abort>(
+    rt: &R,
+    shelf: &mut MemShelf,
+    spawner: &mut PlanSpawner,
+) -> Result<(), Fail> {
     let mut buf = [0u8; 200];
-    let outcome = record(&rt, alloc, &mut shelf, &mut spawner, &jobs, &mut buf).ok_or("no run")?;
+    let outcome = outcome_of(rt, shelf, spawner, 1, &mut buf)?;
     assert_eq!(rt;
         outcome,
         Outcome::Kept(BEGUN_UNDER_0.len() + STATUS_2_UNDER_0.len(), 2)
@@ -126,6 +232,14 @@ fn a_worker_that_ends_with_a_status_is_recorded_with_it(rt: HostRuntime) -> Resu
     assert!(rt; buf.starts_with(BEGUN_UNDER_0));
     assert!(rt; buf.get(14..).ok_or("size")?.starts_with(STATUS_2_UNDER_0));
     Ok(())
+}
+
+#[test]
+fn a_worker_that_ends_with_a_status_is_recorded_with_it(rt: HostRuntime) -> Result<(), Fail> {
+    let alloc = rt.alloc();
+    let mut spawner = spawner(alloc, &[(BEGUN, Finish::Exit(2))], &[])?;
+    let mut shelf = MemShelf::new(alloc, Vec::new(alloc));
+    is_recorded_with_its_status(&rt, &mut shelf, &mut spawner)
 }
 
 // Whether the packet, which has 14 bytes, is one of the first three of the run.
@@ -140,23 +254,19 @@ fn is_among(run: &[u8], packet: &[u8]) -> bool {
     false
 }
 
-#[test]
-fn each_of_three_workers_is_recorded_under_the_lane_of_its_place(
-    rt: HostRuntime,
+const THREE: [Planned; 3] = [
+    (FAILED, Finish::Exit(0)),
+    (PASSED, Finish::Exit(0)),
+    (PASSED, Finish::Exit(0)),
+];
+
+fn are_recorded_by_place<R: Threads + Wait + Sync + AllocGlobal + Abort>(
+    rt: &R,
+    shelf: &mut MemShelf,
+    spawner: &mut PlanSpawner,
 ) -> Result<(), Fail> {
-    let alloc = rt.alloc();
-    let mut plans = Vec::new(alloc);
-    plans.push(plan(alloc, FAILED, Finish::Exit(0)).ok_or("no memory")?)?;
-    plans.push(plan(alloc, PASSED, Finish::Exit(0)).ok_or("no memory")?)?;
-    plans.push(plan(alloc, PASSED, Finish::Exit(0)).ok_or("no memory")?)?;
-    let mut spawner = PlanSpawner::new(alloc, plans, Vec::new(alloc));
-    let mut shelf = MemShelf::new(alloc, Vec::new(alloc));
-    let first = job(alloc).ok_or("no memory")?;
-    let second = job(alloc).ok_or("no memory")?;
-    let third = job(alloc).ok_or("no memory")?;
-    let jobs = [first, second, third];
     let mut buf = [0u8; 200];
-    let outcome = record(&rt, alloc, &mut shelf, &mut spawner, &jobs, &mut buf).ok_or("no run")?;
+    let outcome = outcome_of(rt, shelf, spawner, 3, &mut buf)?;
     assert_eq!(rt; outcome, Outcome::Kept(42, 3));
     assert!(rt; is_among(&buf, FAILED_UNDER_0));
     assert!(rt; is_among(&buf, PASSED_UNDER_1));
@@ -166,23 +276,50 @@ fn each_of_three_workers_is_recorded_under_the_lane_of_its_place(
 }
 
 #[test]
-fn no_job_is_started_behind_a_start_that_fails(rt: HostRuntime) -> Result<(), Fail> {
+fn each_of_three_workers_is_recorded_under_the_lane_of_its_place(
+    rt: HostRuntime,
+) -> Result<(), Fail> {
     let alloc = rt.alloc();
-    let mut plans = Vec::new(alloc);
-    plans.push(plan(alloc, FAILED, Finish::Exit(0)).ok_or("no memory")?)?;
-    plans.push(plan(alloc, PASSED, Finish::Exit(0)).ok_or("no memory")?)?;
-    plans.push(plan(alloc, PASSED, Finish::Exit(0)).ok_or("no memory")?)?;
-    let mut spawner = PlanSpawner::new(alloc, plans, vec![in alloc; 1u64]?);
+    let mut spawner = spawner(alloc, &THREE, &[])?;
     let mut shelf = MemShelf::new(alloc, Vec::new(alloc));
-    let first = job(alloc).ok_or("no memory")?;
-    let second = job(alloc).ok_or("no memory")?;
-    let third = job(alloc).ok_or("no memory")?;
-    let jobs = [first, second, third];
+    are_recorded_by_place(&rt, &mut shelf, &mut spawner)
+}
+
+fn are_not_all_started<R: Threads + Wait + Sync + AllocGlobal + Abort>(
+    rt: &R,
+    shelf: &mut MemShelf,
+    spawner: &mut PlanSpawner,
+) -> Result<(), Fail> {
     let mut buf = [0u8; 200];
-    let outcome = record(&rt, alloc, &mut shelf, &mut spawner, &jobs, &mut buf).ok_or("no run")?;
+    let outcome = outcome_of(rt, shelf, spawner, 3, &mut buf)?;
     assert_eq!(rt; outcome, Outcome::NotStarted(StartRefusal::Spawn));
     assert_eq!(rt; spawner.started().len(), 1);
     Ok(())
+}
+
+#[test]
+fn no_job_is_started_behind_a_start_that_fails(rt: HostRuntime) -> Result<(), Fail> {
+    let alloc = rt.alloc();
+    let mut spawner = spawner(alloc, &THREE, &[1])?;
+    let mut shelf = MemShelf::new(alloc, Vec::new(alloc));
+    are_not_all_started(&rt, &mut shelf, &mut spawner)
+}
+
+fn is_not_recorded<R: Threads + Wait + Sync + AllocGlobal + Abort>(
+    rt: &R,
+    shelf: &mut MemShelf,
+    spawner: &mut PlanSpawner,
+) -> Result<(), Fail> {
+    let mut buf = [0u8; 200];
+    let outcome = outcome_of(rt, shelf, spawner, 1, &mut buf)?;
+    let refusal = LanesRefusal::Shelf(ShelfCall::Append);
+    assert_eq!(rt; outcome, Outcome::NotRecorded(refusal));
+    Ok(())
+}
+
+// A folder whose call of this number fails.
+fn failing_shelf(alloc: Global, call: u64) -> Result<MemShelf, Fail> {
+    Ok(MemShelf::new(alloc, vec![in alloc; call]?))
 }
 
 // The call that fails is the third that adds to the run: seven make the repository, four look at it, and one begins the
@@ -190,14 +327,7 @@ fn no_job_is_started_behind_a_start_that_fails(rt: HostRuntime) -> Result<(), Fa
 #[test]
 fn an_append_that_fails_is_answered(rt: HostRuntime) -> Result<(), Fail> {
     let alloc = rt.alloc();
-    let mut plans = Vec::new(alloc);
-    plans.push(plan(alloc, FIVE, Finish::Exit(0)).ok_or("no memory")?)?;
-    let mut spawner = PlanSpawner::new(alloc, plans, Vec::new(alloc));
-    let mut shelf = MemShelf::new(alloc, vec![in alloc; 14u64]?);
-    let jobs = [job(alloc).ok_or("no memory")?];
-    let mut buf = [0u8; 200];
-    let outcome = record(&rt, alloc, &mut shelf, &mut spawner, &jobs, &mut buf).ok_or("no run")?;
-    let refusal = LanesRefusal::Shelf(ShelfCall::Append);
-    assert_eq!(rt; outcome, Outcome::NotRecorded(refusal));
-    Ok(())
+    let mut spawner = spawner(alloc, &[(FIVE, Finish::Exit(0))], &[])?;
+    let mut shelf = failing_shelf(alloc, 14)?;
+    is_not_recorded(&rt, &mut shelf, &mut spawner)
 }

@@ -2,12 +2,13 @@
 
 ghost use Rattle.std.specs.Prelude.{◌≡◌};
 
+use crate::tests_suite_run::jobs;
 use edge_io::{Child, Failed, Job, Spawner};
 use std::alloc::Global;
+use std::process::Abort;
 use std::sync::Arc;
 use std::sync::atomic::{AtomicU32, Ordering};
 use std::test::Fail;
-use sub_number::Bytes;
 use suite_run::{StartRefusal, start_lanes};
 
 // A child that gives nothing. It counts that it is stopped, and that it is waited for once it was.
@@ -82,33 +83,48 @@ impl Spawner for Limited {
     }
 }
 
-fn job(alloc: Global) -> Option<Job> {
-    let command = Bytes::new(alloc, b"true").ok()?;
-    Some(Job {
-        command,
-        id_file: None,
+// It starts two children, which count there.
+fn spawner_of_two(stopped: &Arc<AtomicU32>, waited: &Arc<AtomicU32>) -> Option<Limited> {
+    Some(Limited {
+        left: 2,
+        stopped: Arc::try_clone(stopped).ok()?,
+        waited: Arc::try_clone(waited).ok()?,
+        faults: 0,
     })
+}
+
+// Whether a start fails among three jobs.
+fn is_refused(alloc: Global, spawner: &mut Limited, jobs: &[Job]) -> bool {
+    jobs.len() == 3 && matches!(start_lanes(alloc, spawner, jobs), Err(StartRefusal::Spawn))
+}
+
+// Whether a start fails behind two.
+fn third_is_refused(
+    alloc: Global,
+    stopped: &Arc<AtomicU32>,
+    waited: &Arc<AtomicU32>,
+) -> Option<bool> {
+    let jobs = jobs(alloc, 3)?;
+    let mut spawner = spawner_of_two(stopped, waited)?;
+    Some(is_refused(alloc, &mut spawner, &jobs))
+}
+
+fn are_stopped_and_waited_for<R: AllocGlobal + Abort>(
+    rt: &R,
+    stopped: &Arc<AtomicU32>,
+    waited: &Arc<AtomicU32>,
+) -> Result<(), Fail> {
+    assert!(rt; third_is_refused(rt.alloc(), stopped, waited).ok_or("no memory")?);
+    assert_eq!(rt; stopped.load(Ordering::SeqCst), 2);
+    assert_eq!(rt; waited.load(Ordering::SeqCst), 2);
+    Ok(())
 }
 
 #[test]
 fn children_are_stopped_and_waited_for_where_a_later_start_fails(
     rt: HostRuntime,
 ) -> Result<(), Fail> {
-    let alloc = rt.alloc();
-    let stopped = Arc::new(alloc, AtomicU32::new(0))?;
-    let waited = Arc::new(alloc, AtomicU32::new(0))?;
-    let mut spawner = Limited {
-        left: 2,
-        stopped: Arc::try_clone(&stopped)?,
-        waited: Arc::try_clone(&waited)?,
-        faults: 0,
-    };
-    let first = job(alloc).ok_or("no memory")?;
-    let second = job(alloc).ok_or("no memory")?;
-    let third = job(alloc).ok_or("no memory")?;
-    let started = start_lanes(alloc, &mut spawner, &[first, second, third]);
-    assert!(rt; matches!(started, Err(StartRefusal::Spawn)));
-    assert_eq!(rt; stopped.load(Ordering::SeqCst), 2);
-    assert_eq!(rt; waited.load(Ordering::SeqCst), 2);
-    Ok(())
+    let stopped = Arc::new(rt.alloc(), AtomicU32::new(0))?;
+    let waited = Arc::new(rt.alloc(), AtomicU32::new(0))?;
+    are_stopped_and_waited_for(&rt, &stopped, &waited)
 }
