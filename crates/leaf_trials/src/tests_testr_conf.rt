@@ -4,7 +4,6 @@ ghost use Rattle.std.specs.Prelude.{◌<◌};
 
 use edge_io::Job;
 use std::alloc::Global;
-use std::test::Fail;
 use sub_number::{IdList, Text};
 use testr_conf::{Conf, ConfFault, IdsFault, JobFault, Key, read_ids};
 
@@ -46,23 +45,70 @@ fn is_job(job: &Job, command: &[u8], name: &[u8], ids: &[u8]) -> bool {
     job.command.bytes() == command && file
 }
 
-fn lists(alloc: Global, text: &[u8], command: &[u8]) -> Option<bool> {
-    let job = read(alloc, text)?.list_job(alloc).ok()?;
+fn list_is(alloc: Global, conf: &Conf, command: &[u8]) -> Option<bool> {
+    let job = conf.list_job(alloc).ok()?;
     Some(is_job(&job, command, b"", b""))
 }
 
+fn lists(alloc: Global, text: &[u8], command: &[u8]) -> Option<bool> {
+    let conf = read(alloc, text)?;
+    list_is(alloc, &conf, command)
+}
+
+// Whether this is the job that runs all, or those of these ids in this lane.
+fn run_is(
+    alloc: Global,
+    conf: &Conf,
+    ids: Option<&IdList>,
+    lane: u32,
+    command: &[u8],
+    name: &[u8],
+    lines: &[u8],
+) -> Option<bool>
+    requires { lane < 64 }
+{
+    let job = conf.run_job(alloc, ids, lane).ok()?;
+    Some(is_job(&job, command, name, lines))
+}
+
 fn runs_all(alloc: Global, text: &[u8], command: &[u8]) -> Option<bool> {
-    let job = read(alloc, text)?.run_job(alloc, None, 0).ok()?;
-    Some(is_job(&job, command, b"", b""))
+    let conf = read(alloc, text)?;
+    run_is(alloc, &conf, None, 0, command, b"", b"")
+}
+
+fn push(alloc: Global, ids: &mut IdList, id: &[u8]) -> Option<()> {
+    let id = Text::new(alloc, id).ok()?;
+    ids.push(id).ok()
+}
+
+fn push_both(alloc: Global, ids: &mut IdList, first: &[u8], second: &[u8]) -> Option<()> {
+    push(alloc, ids, first)?;
+    if second.is_empty() {
+        Some(())
+    } else {
+        push(alloc, ids, second)
+    }
 }
 
 fn ids_of(alloc: Global, first: &[u8], second: &[u8]) -> Option<IdList> {
     let mut ids = IdList::new(alloc);
-    ids.push(Text::new(alloc, first).ok()?).ok()?;
-    if !second.is_empty() {
-        ids.push(Text::new(alloc, second).ok()?).ok()?;
-    }
+    push_both(alloc, &mut ids, first, second)?;
     Some(ids)
+}
+
+fn runs_ids(
+    alloc: Global,
+    text: &[u8],
+    ids: &IdList,
+    lane: u32,
+    command: &[u8],
+    name: &[u8],
+    lines: &[u8],
+) -> Option<bool>
+    requires { lane < 64 }
+{
+    let conf = read(alloc, text)?;
+    run_is(alloc, &conf, Some(ids), lane, command, name, lines)
 }
 
 fn runs(
@@ -77,57 +123,52 @@ fn runs(
     requires { lane < 64 }
 {
     let ids = ids_of(alloc, ids.0, ids.1)?;
-    let job = read(alloc, text)?.run_job(alloc, Some(&ids), lane).ok()?;
-    Some(is_job(&job, command, name, lines))
+    runs_ids(alloc, text, &ids, lane, command, name, lines)
 }
 
 #[test]
-fn the_two_jobs_of_a_small_configuration(rt: HostRuntime) -> Result<(), Fail> {
+fn the_two_jobs_of_a_small_configuration(rt: HostRuntime) {
     let alloc = rt.alloc();
     assert_eq!(rt; lists(alloc, LISTED, b"run --list"), Some(true));
     assert_eq!(rt; runs_all(alloc, LISTED, b"run "), Some(true));
-    Ok(())
+}
+
+fn refusal(alloc: Global, text: &[u8]) -> Option<JobFault> {
+    let conf = read(alloc, text)?;
+    conf.list_job(alloc).err()
 }
 
 #[test]
-fn a_listing_needs_its_option(rt: HostRuntime) -> Result<(), Fail> {
-    let alloc = rt.alloc();
+fn a_listing_needs_its_option(rt: HostRuntime) {
     let refused = Some(JobFault::NoOption(Key::ListOption));
-    assert_eq!(rt;
-        read(alloc, NOT_LISTED).and_then(|conf| conf.list_job(alloc).err()),
-        refused
-    );
-    Ok(())
+    assert_eq!(rt; refusal(rt.alloc(), NOT_LISTED), refused);
+}
+
+const REFUSED: [(&[u8], ConfFault); 10] = [
+    (b"x=1", ConfFault::NoSection(1)),
+    (b"[DEFAULT]\n  y", ConfFault::BadLine(2)),
+    (
+        b"[DEFAULT]\ntest_command=a\nTest_Command=b\nx",
+        ConfFault::Repeated(3),
+    ),
+    (b"", ConfFault::NoCommand),
+    (b"\n\n\n\n\n", ConfFault::NoCommand),
+    (b"[DEFAULT]\ntest_command= \n", ConfFault::NoCommand),
+    (b"[DEFAULT]\n# \xff\n", ConfFault::BadLine(2)),
+    (b"[a] b\n", ConfFault::BadLine(1)),
+    (b"[a]\n: b\n", ConfFault::BadLine(2)),
+    (KEYS, ConfFault::NoSection(3)),
+];
+
+#[test]
+fn the_first_line_that_is_refused_is_named(rt: HostRuntime) {
+    for &(text, refused) in &REFUSED {
+        assert_eq!(rt; fault(rt.alloc(), text), Some(refused));
+    }
 }
 
 #[test]
-fn the_first_line_that_is_refused_is_named(rt: HostRuntime) -> Result<(), Fail> {
-    let alloc = rt.alloc();
-    assert_eq!(rt; fault(alloc, b"x=1"), Some(ConfFault::NoSection(1)));
-    assert_eq!(rt;
-        fault(alloc, b"[DEFAULT]\n  y"),
-        Some(ConfFault::BadLine(2))
-    );
-    let twice = b"[DEFAULT]\ntest_command=a\nTest_Command=b\nx";
-    assert_eq!(rt; fault(alloc, twice), Some(ConfFault::Repeated(3)));
-    assert_eq!(rt; fault(alloc, b""), Some(ConfFault::NoCommand));
-    assert_eq!(rt; fault(alloc, b"\n\n\n\n\n"), Some(ConfFault::NoCommand));
-    assert_eq!(rt;
-        fault(alloc, b"[DEFAULT]\ntest_command= \n"),
-        Some(ConfFault::NoCommand)
-    );
-    assert_eq!(rt;
-        fault(alloc, b"[DEFAULT]\n# \xff\n"),
-        Some(ConfFault::BadLine(2))
-    );
-    assert_eq!(rt; fault(alloc, b"[a] b\n"), Some(ConfFault::BadLine(1)));
-    assert_eq!(rt; fault(alloc, b"[a]\n: b\n"), Some(ConfFault::BadLine(2)));
-    assert_eq!(rt; fault(alloc, KEYS), Some(ConfFault::NoSection(3)));
-    Ok(())
-}
-
-#[test]
-fn the_jobs_of_an_example(rt: HostRuntime) -> Result<(), Fail> {
+fn the_jobs_of_an_example(rt: HostRuntime) {
     let alloc = rt.alloc();
     let list =
         b"OS_STDOUT_CAPTURE=${OS_STDOUT_CAPTURE:-1} \\\n${PYTHON:-python} -m subunit.run discover -t ./ . --list ";
@@ -152,26 +193,42 @@ fn the_jobs_of_an_example(rt: HostRuntime) -> Result<(), Fail> {
         ),
         Some(true)
     );
-    Ok(())
+}
+
+fn count_is(alloc: Global, conf: &Conf, command: &[u8]) -> Option<bool> {
+    let job = conf.count_job(alloc).ok()??;
+    Some(is_job(&job, command, b"", b""))
 }
 
 fn counts(alloc: Global, text: &[u8], command: &[u8]) -> Option<bool> {
-    let job = read(alloc, text)?.count_job(alloc).ok()??;
-    Some(is_job(&job, command, b"", b""))
+    let conf = read(alloc, text)?;
+    count_is(alloc, &conf, command)
+}
+
+fn group_is(conf: &Conf, pattern: &[u8]) -> Option<bool> {
+    Some(conf.group_regex()?.bytes() == pattern)
 }
 
 fn groups_by(alloc: Global, text: &[u8], pattern: &[u8]) -> Option<bool> {
     let conf = read(alloc, text)?;
-    Some(conf.group_regex()?.bytes() == pattern)
+    group_is(&conf, pattern)
+}
+
+fn is_at(texts: &[Text], at: usize, wanted: &[u8]) -> Option<bool> {
+    Some(texts.get(at)?.bytes() == wanted)
+}
+
+fn has_tag(conf: &Conf, at: usize, tag: &[u8]) -> Option<bool> {
+    is_at(conf.filter_tags().list(), at, tag)
 }
 
 fn tag_is(alloc: Global, text: &[u8], at: usize, tag: &[u8]) -> Option<bool> {
     let conf = read(alloc, text)?;
-    Some(conf.filter_tags().list().get(at)?.bytes() == tag)
+    has_tag(&conf, at, tag)
 }
 
 #[test]
-fn settings_go_on_and_comments_do_not_end_them(rt: HostRuntime) -> Result<(), Fail> {
+fn settings_go_on_and_comments_do_not_end_them(rt: HostRuntime) {
     let alloc = rt.alloc();
     assert_eq!(rt; runs_all(alloc, MANY, b"a\nb\nc"), Some(true));
     assert_eq!(rt; counts(alloc, MANY, b"echo 3"), Some(true));
@@ -181,11 +238,10 @@ fn settings_go_on_and_comments_do_not_end_them(rt: HostRuntime) -> Result<(), Fa
     assert_eq!(rt; tag_is(alloc, MANY, 3, b""), None);
     assert_eq!(rt; counts(alloc, LISTED, b""), None);
     assert_eq!(rt; groups_by(alloc, LISTED, b""), None);
-    Ok(())
 }
 
 #[test]
-fn variables_are_replaced_once(rt: HostRuntime) -> Result<(), Fail> {
+fn variables_are_replaced_once(rt: HostRuntime) {
     let alloc = rt.alloc();
     let command = b"$.testr-ids.7 <a $IDFILE>X ${IDLIST} a $IDFILE";
     assert_eq!(rt;
@@ -200,7 +256,6 @@ fn variables_are_replaced_once(rt: HostRuntime) -> Result<(), Fail> {
         ),
         Some(true)
     );
-    Ok(())
 }
 
 fn listed(alloc: Global, text: &[u8]) -> Option<IdList> {
@@ -211,7 +266,8 @@ fn listed(alloc: Global, text: &[u8]) -> Option<IdList> {
 }
 
 fn id_is(alloc: Global, text: &[u8], at: usize, id: &[u8]) -> Option<bool> {
-    Some(listed(alloc, text)?.list().get(at)?.bytes() == id)
+    let ids = listed(alloc, text)?;
+    is_at(ids.list(), at, id)
 }
 
 fn not_listed(alloc: Global, text: &[u8]) -> Option<IdsFault> {
@@ -222,7 +278,7 @@ fn not_listed(alloc: Global, text: &[u8]) -> Option<IdsFault> {
 }
 
 #[test]
-fn ids_are_lines_without_white_space(rt: HostRuntime) -> Result<(), Fail> {
+fn ids_are_lines_without_white_space(rt: HostRuntime) {
     let alloc = rt.alloc();
     let list = b"a b \r\n\n \t\n\tc";
     assert_eq!(rt; id_is(alloc, list, 0, b"a b"), Some(true));
@@ -232,5 +288,4 @@ fn ids_are_lines_without_white_space(rt: HostRuntime) -> Result<(), Fail> {
         not_listed(alloc, b"a\n\xff\n\xff"),
         Some(IdsFault::NotText(2))
     );
-    Ok(())
 }
