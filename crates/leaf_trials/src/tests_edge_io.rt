@@ -42,7 +42,7 @@ fn shelf_failing(alloc: Global, fails: &[u64]) -> Result<MemShelf, Fail>
 // Publishes a file for good in a folder in which nothing is pending.
 fn put_file(shelf: &mut MemShelf, name: Text, bytes: Bytes) -> Result<(), NoMemory>
     requires { (folder_of shelf.old).disk.pending ≡ None }
-    ensures { (folder_of shelf.new).disk.pending ≡ None }
+    ensures { OnOk result ((folder_of shelf.new).disk.pending ≡ None) }
 {
     shelf.put(name, bytes)
 }
@@ -50,7 +50,7 @@ fn put_file(shelf: &mut MemShelf, name: Text, bytes: Bytes) -> Result<(), NoMemo
 // The same with a name and bytes that are lent.
 fn put(alloc: Global, shelf: &mut MemShelf, name: &[u8], bytes: &[u8]) -> Result<(), Fail>
     requires { (folder_of shelf.old).disk.pending ≡ None }
-    ensures { (folder_of shelf.new).disk.pending ≡ None }
+    ensures { OnOk result ((folder_of shelf.new).disk.pending ≡ None) }
 {
     let name = text(alloc, name)?;
     let bytes = Bytes::new(alloc, bytes)?;

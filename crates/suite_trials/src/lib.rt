@@ -16,3 +16,5 @@ mod tests_suite_run;
 mod tests_suite_run_starting;
 #[cfg(test)]
 mod tests_worker_mux;
+#[cfg(test)]
+mod tests_worker_mux_run;

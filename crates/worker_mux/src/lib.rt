@@ -30,8 +30,6 @@ mod pass;
 mod pen;
 mod rule;
 mod run;
-#[cfg(test)]
-mod run_tests;
 mod work;
 
 pub use belt::Belt;

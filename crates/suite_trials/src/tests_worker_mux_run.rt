@@ -5,7 +5,6 @@ ghost use Rattle.std.specs.List.{range_with_len};
 ghost use Rattle.run_shelf.specs.Stores.{recorder_kinds, recorder_fault, store_kinds, store_fault, FitsUnlessBroken, RecordsUnlessBroken};
 ghost use Rattle.worker_lane.specs.Lanes.{lane_number};
 
-use crate::{Listener, run_lanes, run_lanes_heard};
 use edge_io::{Child, Failed, Finish, MemShelf, NamesFault, PlanChild, Shelf};
 use run_shelf::{Recorder, Store};
 use std::alloc::Global;
@@ -17,6 +16,7 @@ use std::thread;
 use std::thread::Threads;
 use sub_number::{Bytes, NoMemory, Text};
 use worker_lane::Lane;
+use worker_mux::{Listener, run_lanes, run_lanes_heard};
 
 // Two packets without a route, and each of them under lanes 0 to 3.
 const FOO_BAR: &[u8] =
@@ -45,7 +45,7 @@ const FAULT_UNDER_0: &[u8] =
     b"\xb3\x2df\x40\x4b\x12process\x2dreturncode\x17text/plain;charset=utf\x38\x09traceback\x0aread\x20fault\x01\x30g\xa6\xc6j";
 
 // One lane more.
-#[tactic(auto, using(crate::proofs::Lists::numbers_push))]
+#[tactic(auto, using(worker_mux::proofs::Lists::numbers_push))]
 fn add_lane<C: Child + Drop>(alloc: Global, lanes: &mut Vec<Lane<C>>, child: C) -> Option<()>
     requires few { length lanes.old.items < 64 }
     requires numbers { map lane_number lanes.old.items ≡ range_with_len 0 (length lanes.old.items) }
@@ -532,7 +532,7 @@ impl Listener for Keeping {
 
     ghost heard = { λ _ s pieces. s.bytes.items ≡ flat_map (λ piece. piece) pieces };
 
-    #[tactic(auto, using(crate::proofs::Lists::one_piece_more))]
+    #[tactic(auto, using(worker_mux::proofs::Lists::one_piece_more))]
     fn hear(&mut self, piece: &[u8]) -> Result<(), NoMemory> {
         self.bytes.extend_from_slice(piece)?;
         Ok(())

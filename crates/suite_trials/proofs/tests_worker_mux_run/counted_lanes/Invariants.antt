@@ -1,7 +1,7 @@
 use Rattle.std.proofs.Common.{◌≡◌, ◌≤◌, ◌-◌, map, length}
 use Rattle.std.specs.List.{range_with_len}
 use Rattle.worker_lane.specs.Lanes.{lane_number}
-use Rattle.worker_mux.proofs.run_tests.counted_lanes.Given as goal
+use Rattle.suite_trials.proofs.tests_worker_mux_run.counted_lanes.Given as goal
 
 abbrev pub invariant-loop-alloc : goal.invariant-loop-alloc
 invariant-loop-alloc l = record {
