@@ -1,5 +1,8 @@
 //! The files of the caches under the commands: which one is taken, and which runs are not read then.
 
+ghost use Rattle.std.specs.Prelude.{◌≡◌, None};
+ghost use Rattle.edge_io.specs.MemState.{folder_of};
+
 use crate::configured::{CONF, ENDED, project_beside};
 use edge_io::MemShelf;
 use std::alloc::Global;
@@ -19,13 +22,19 @@ const A_PASSED_C_FAILED: &[u8] =
 // `b` passed.
 const B_PASSED: &[u8] = b"\xb3\x29\x03\x0a\x01\x62\x44\xc8\x96\x00";
 
+fn put_three(alloc: Global, shelf: &mut MemShelf, cache: &[u8]) -> Result<(), Fail>
+    requires { (folder_of shelf.old).disk.pending ≡ None }
+{
+    put(alloc, shelf, b"0", A_AND_B_FAILED)?;
+    put(alloc, shelf, b"1.part", A_PASSED_C_FAILED)?;
+    put(alloc, shelf, b"2.part", B_PASSED)?;
+    put(alloc, shelf, b"failing.set", cache)
+}
+
 // A repository of a full run and two partial ones, with this cache of the failing set. The folder fails at these calls.
 fn three_runs(alloc: Global, cache: &[u8], fails: &[u64]) -> Result<MemShelf, Fail> {
     let mut shelf = repository(alloc, fails)?;
-    put(alloc, &mut shelf, b"0", A_AND_B_FAILED)?;
-    put(alloc, &mut shelf, b"1.part", A_PASSED_C_FAILED)?;
-    put(alloc, &mut shelf, b"2.part", B_PASSED)?;
-    put(alloc, &mut shelf, b"failing.set", cache)?;
+    put_three(alloc, &mut shelf, cache)?;
     Ok(shelf)
 }
 

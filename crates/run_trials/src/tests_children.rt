@@ -1,13 +1,15 @@
 //! Workers that are watched: the orders in which they give their packets, and that they are read to their ends.
 
-use edge_io::{Child, Failed, Job, MapSite, Shelf, Spawner};
+use crate::configured::site_with;
+use edge_io::{Child, Failed, Job, Shelf, Spawner};
 use std::alloc::Global;
 use std::sync::Arc;
 use std::sync::atomic::{AtomicU32, Ordering};
 use std::test::Fail;
 use std::thread;
-use sub_number::{Bytes, Text};
-use trial_calls::{FOO, FOO_KEPT, NOTHING, SHELF_FAULT, call_with, has_file, put, repository};
+use trial_calls::{
+    FOO, FOO_KEPT, NOTHING, NamedFiles, SHELF_FAULT, call_with, has_file, put, repository,
+};
 
 const CONF: &[u8] = b"[DEFAULT]\ntest_command=run\n";
 
@@ -53,14 +55,19 @@ fn turn_of(order: &[usize], packet: usize) -> u32 {
     turn
 }
 
-// What is kept where the packets come in this order.
-fn run_of(alloc: Global, order: &[usize]) -> Result<Vec<u8>, Fail> {
-    let mut run = Vec::new(alloc);
+fn put_kept(run: &mut Vec<u8>, order: &[usize]) -> Result<(), Fail> {
     for packet in order {
         if let Some(kept) = KEPT.get(*packet) {
             run.extend_from_slice(kept)?;
         }
     }
+    Ok(())
+}
+
+// What is kept where the packets come in this order.
+fn run_of(alloc: Global, order: &[usize]) -> Result<Vec<u8>, Fail> {
+    let mut run = Vec::new(alloc);
+    put_kept(&mut run, order)?;
     Ok(run)
 }
 
@@ -178,13 +185,8 @@ impl Spawner for Schedule {
     }
 }
 
-// A site with a configuration and a list of two tests.
-fn site_of_two(alloc: Global) -> Result<MapSite, Fail> {
-    let mut site = MapSite::new(alloc, Vec::new(alloc));
-    site.put(Text::new(alloc, b".testr.conf")?, Bytes::new(alloc, CONF)?)?;
-    site.put(Text::new(alloc, b"l")?, Bytes::new(alloc, b"a\nb\n")?)?;
-    Ok(site)
-}
+// A configuration and a list of two tests.
+const TWO_TESTS: NamedFiles<'static> = &[(b".testr.conf", CONF), (b"l", b"a\nb\n")];
 
 #[test]
 fn in_whatever_order_packets_come_they_are_kept_so_and_say_the_same(
@@ -193,7 +195,7 @@ fn in_whatever_order_packets_come_they_are_kept_so_and_say_the_same(
     let alloc = rt.alloc();
     for order in ORDERS {
         let mut shelf = repository(alloc, &[])?;
-        let mut site = site_of_two(alloc)?;
+        let mut site = site_with(alloc, TWO_TESTS)?;
         let mut spawner = Schedule::new(alloc, order)?;
         let words = [
             "testr",
@@ -304,7 +306,7 @@ fn a_worker_is_read_to_its_end_though_the_folder_fails(rt: HostRuntime) -> Resul
     // Four calls look at the runs, one begins the new one, and the third one behind it fails.
     let mut shelf = repository(alloc, &[7])?;
     put(alloc, &mut shelf, b"0", FOO_KEPT)?;
-    let mut site = site_of_two(alloc)?;
+    let mut site = site_with(alloc, TWO_TESTS)?;
     let counts = no_counts(alloc)?;
     let mut spawner = Longs {
         size: 300_000,

@@ -1,13 +1,16 @@
 //! That the packets of a worker are recorded as they come.
 
-use edge_io::{Child, Failed, Job, MapSite, NamesFault, Shelf, Spawner};
+use crate::configured::site_with;
+use edge_io::{Child, Failed, Job, MemShelf, NamesFault, Shelf, Spawner};
 use std::alloc::Global;
-use std::sync::Arc;
+use std::process::Abort;
 use std::sync::atomic::{AtomicBool, Ordering};
+use std::sync::{Arc, Wait};
 use std::test::Fail;
 use std::thread;
-use sub_number::{Bytes, Text};
-use trial_calls::{FOO, FOO_KEPT, NOTHING, call_with, has_file, repository};
+use std::thread::Threads;
+use sub_number::Text;
+use trial_calls::{FOO, FOO_KEPT, NOTHING, NamedFiles, call_with, has_file, repository};
 
 // A folder that notes when the packet is added to it.
 #[derive(Drop)]
@@ -134,22 +137,34 @@ impl Spawner for Patients {
     }
 }
 
+const BARE: NamedFiles<'static> = &[(b".testr.conf", b"[DEFAULT]\ntest_command=run\n")];
+
+fn is_recorded_as_it_comes<R: Threads + Wait + Sync + AllocGlobal + Abort>(
+    rt: &R,
+    shelf: &mut Noting<MemShelf>,
+    spawner: &mut Patients,
+) -> Result<(), Fail> {
+    let mut site = site_with(rt.alloc(), BARE)?;
+    let words = ["testr", "run"];
+    let told = call_with(rt, &words, shelf, spawner, &mut site, &[])?;
+    assert!(rt; told.is(0, b"Ran 1 tests\nPASSED (id=0)\n", NOTHING));
+    assert!(rt; has_file(&mut shelf.inner, "0", FOO_KEPT)?);
+    Ok(())
+}
+
+// An empty repository that notes when the packet is added to it.
+fn empty_and_noting(alloc: Global, recorded: Arc<AtomicBool>) -> Result<Noting<MemShelf>, Fail> {
+    let inner = repository(alloc, &[])?;
+    Ok(Noting { inner, recorded })
+}
+
 #[test]
 fn a_packet_is_recorded_before_its_worker_ends(rt: HostRuntime) -> Result<(), Fail> {
-    let alloc = rt.alloc();
-    let recorded = Arc::new(alloc, AtomicBool::new(false))?;
+    let recorded = Arc::new(rt.alloc(), AtomicBool::new(false))?;
     let mut spawner = Patients {
         recorded: Arc::try_clone(&recorded)?,
         faults: 0,
     };
-    let inner = repository(alloc, &[])?;
-    let mut shelf = Noting { inner, recorded };
-    let mut site = MapSite::new(alloc, Vec::new(alloc));
-    let conf = Bytes::new(alloc, b"[DEFAULT]\ntest_command=run\n")?;
-    site.put(Text::new(alloc, b".testr.conf")?, conf)?;
-    let words = ["testr", "run"];
-    let told = call_with(&rt, &words, &mut shelf, &mut spawner, &mut site, &[])?;
-    assert!(rt; told.is(0, b"Ran 1 tests\nPASSED (id=0)\n", NOTHING));
-    assert!(rt; has_file(&mut shelf.inner, "0", FOO_KEPT)?);
-    Ok(())
+    let mut shelf = empty_and_noting(rt.alloc(), recorded)?;
+    is_recorded_as_it_comes(&rt, &mut shelf, &mut spawner)
 }
