@@ -55,11 +55,18 @@ fn turn_of(order: &[usize], packet: usize) -> u32 {
     turn
 }
 
+// What is kept of the packet of this place, if there is one.
+fn kept_of(packet: usize) -> &'static [u8] {
+    match KEPT.get(packet) {
+        Some(kept) => kept,
+        None => NOTHING,
+    }
+}
+
+// A loop that owns nothing, so that an early end drops nothing.
 fn put_kept(run: &mut Vec<u8>, order: &[usize]) -> Result<(), Fail> {
     for packet in order {
-        if let Some(kept) = KEPT.get(*packet) {
-            run.extend_from_slice(kept)?;
-        }
+        run.extend_from_slice(kept_of(*packet))?;
     }
     Ok(())
 }
