@@ -87,6 +87,24 @@ fn face<R: Threads + Wait + Sync + AllocGlobal>(
     Ok(face_alone(rt, &words, shelf, input, out, err))
 }
 
+// Whether the face answers this status, and the sinks have these bytes then.
+fn face_leaves<R: Threads + Wait + Sync + AllocGlobal>(
+    rt: &R,
+    words: &[&str],
+    shelf: &mut MemShelf,
+    input: &mut ListSource,
+    out: &mut ListSink,
+    err: &mut ListSink,
+    wanted: (u8, &[u8], &[u8]),
+) -> Result<bool, Fail> {
+    let (status, told, line) = wanted;
+    Ok(
+        face(rt, words, shelf, input, out, err)? == status
+            && out.taken() == told
+            && err.taken() == line,
+    )
+}
+
 // It takes `load`, and refuses the name of the face before it.
 fn face_takes_load<R: Threads + Wait + Sync + AllocGlobal + Abort>(
     rt: &R,
@@ -95,14 +113,11 @@ fn face_takes_load<R: Threads + Wait + Sync + AllocGlobal + Abort>(
     out: &mut ListSink,
     err: &mut ListSink,
 ) -> Result<(), Fail> {
-    assert_eq!(rt; face(rt, &["load"], shelf, input, out, err)?, 0);
-    assert_eq!(rt; out.taken(), PASSED_AS_0);
-    assert_eq!(rt; err.taken().len(), 0);
+    let wanted = (0, PASSED_AS_0, NOTHING);
+    assert!(rt; face_leaves(rt, &["load"], shelf, input, out, err, wanted)?);
     assert_eq!(rt; input.left().len(), 0);
-    let words = ["testr", "load"];
-    assert_eq!(rt; face(rt, &words, shelf, input, out, err)?, 2);
-    assert_eq!(rt; out.taken(), PASSED_AS_0);
-    assert_eq!(rt; err.taken(), WRONG_USAGE);
+    let wanted = (2, PASSED_AS_0, WRONG_USAGE);
+    assert!(rt; face_leaves(rt, &["testr", "load"], shelf, input, out, err, wanted)?);
     Ok(())
 }
 
