@@ -11,15 +11,18 @@
 //! - `groups`: ids that stay together
 //! - `rank`: the order in which groups are given away
 //! - `shares`: groups of ids, given to workers
+//! - `laws`: how far the largest share is from the best
 #![tactic(auto)]
 
 mod filters;
 mod groups;
+mod laws;
 mod pattern;
 mod rank;
 mod shares;
 
 pub use filters::{Filters, Finder, pick};
 pub use groups::Groups;
+pub use laws::shares_are_near_best;
 pub use pattern::PatternFault;
 pub use shares::partition;
