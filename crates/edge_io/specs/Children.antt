@@ -1,5 +1,6 @@
 -- What the calls of a child do to what it has left, and what they tell of its end (docs/DISK.md, children).
-use Rattle.std.specs.Prelude.{◌≡◌, ◌↔◌, ℕ, ◌<◌, ⊤, Option, IfSome, List, [], ◌++◌, length, take, All, Result, Ok, IsErr, MatchResult, ℤ}
+use Rattle.std.specs.Prelude.{◌≡◌, ◌↔◌, ℕ, ◌<◌, ⊤, Option, IfSome, List, [], ◌++◌, length, take, All, Result, Ok, IsErr, MatchResult, ℤ, FitsSigned}
+use mir.Syntax.{w32}
 use Rattle.edge_io.specs.Steps.{Goes, Stays}
 use Rattle.edge_io.specs.declared.child.Finish.{Finish}
 use Rattle.edge_io.specs.declared.child.Finish.TheVariants.{Exit, ReadFault, WaitFault}
@@ -52,3 +53,16 @@ Stops s t = t.finish ≡ s.finish
 -- what is told to be left are bytes
 abbrev pub AreBytesLeft : Option Output → Type 0
 AreBytesLeft told = IfSome told (λ s. All (λ byte. byte < 256) s.bytes)
+
+-- a status has 32 bits
+abbrev pub IsFinish : Finish → Type 0
+IsFinish finish = (status : ℤ) → finish ≡ Exit status → FitsSigned w32 status
+
+-- the finish that is told is one that a child can come to
+abbrev pub CanFinish : Option Output → Type 0
+CanFinish told = IfSome told (λ s. IsFinish s.finish)
+
+-- what a child can have left, and how it can finish
+pub record IsOutput (output : Output) : Type 0 where
+  pub bytes : All (λ byte. byte < 256) output.bytes
+  pub finish : IsFinish output.finish

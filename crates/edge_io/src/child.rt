@@ -2,7 +2,7 @@
 ghost use Rattle.std.specs.Prelude.{◌≡◌};
 ghost use Rattle.std.specs.Io.{ReadsAtMost};
 ghost use Rattle.edge_io.specs.Causes.{HasCause};
-ghost use Rattle.edge_io.specs.Children.{Output, ReadsFront, ReadsToEnd, WaitsAsTold, Stops, AreBytesLeft};
+ghost use Rattle.edge_io.specs.Children.{Output, ReadsFront, ReadsToEnd, WaitsAsTold, Stops, AreBytesLeft, CanFinish};
 ghost use Rattle.edge_io.specs.Seen.{Seen};
 ghost use Rattle.edge_io.specs.Steps.{Goes};
 
@@ -51,4 +51,7 @@ pub trait Child {
 
     /// What is told to be left are bytes.
     ghost are_bytes: { (child : Self) → AreBytesLeft (seen child).told };
+
+    /// A status that is told has 32 bits.
+    ghost has_finish: { (child : Self) → CanFinish (seen child).told };
 }

@@ -1,5 +1,6 @@
 // A child in memory.
 ghost use Rattle.std.specs.Prelude.{◌≡◌, ◌≤◌, ◌<◌, IfOk, All, Some, drop, length, min};
+ghost use Rattle.edge_io.specs.Children.{IsFinish};
 
 use crate::{Child, Failed, Finish};
 use sub_number::Bytes;
@@ -15,6 +16,7 @@ pub struct PlanChild {
     ghost has_piece: { 1 ≤ piece },
     ghost in_range: { start ≤ length bytes },
     ghost are_bytes: { All (λ byte. byte < 256) bytes },
+    ghost has_finish: { IsFinish finish },
 }
 
 impl PlanChild {
@@ -94,4 +96,6 @@ impl Child for PlanChild {
     }
 
     ghost are_bytes = { λ s. All-drop (λ byte. byte < 256) s.start s.bytes s.are_bytes };
+
+    ghost has_finish = { λ s. s.has_finish };
 }

@@ -137,6 +137,8 @@ impl Child for Scheduled {
     fn stop(&mut self) {}
 
     ghost are_bytes = { λ s. tt };
+
+    ghost has_finish = { λ s. tt };
 }
 
 // Starts the two workers, whose packets come in this order.
@@ -267,6 +269,8 @@ impl Child for Long {
     }
 
     ghost are_bytes = { λ s. tt };
+
+    ghost has_finish = { λ s. tt };
 }
 
 // Starts children that give so many bytes each.

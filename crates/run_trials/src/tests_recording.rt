@@ -108,6 +108,8 @@ impl Child for Patient {
     fn stop(&mut self) {}
 
     ghost are_bytes = { λ s. tt };
+
+    ghost has_finish = { λ s. tt };
 }
 
 // Starts such children.

@@ -280,6 +280,8 @@ impl Child for Waiting {
     }
 
     ghost are_bytes = { λ s. tt };
+
+    ghost has_finish = { λ s. tt };
 }
 
 // Starts such children: of the first one `foo` fails, and passes of each later one. The start of this number fails.

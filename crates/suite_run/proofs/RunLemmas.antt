@@ -5,22 +5,13 @@ use Rattle.edge_io.specs.Children.{Output}
 use Rattle.edge_io.specs.Disk.{Folder}
 use Rattle.edge_io.specs.Spawners.{Spawning}
 use Rattle.edge_io.specs.declared.job.Job.{Job}
-use Rattle.packet_codec.specs.Grammar.{AreBytes}
-use Rattle.suite_run.specs.Outputs.{HaveFinishes, AddsRun}
+use Rattle.suite_run.specs.Outputs.{AddsRun}
 use Rattle.suite_run.specs.Starting.{HasStarted}
 use Rattle.worker_lane.specs.declared.lot.Lot.{Lot}
 use Rattle.worker_lane.proofs.RecordedLaneLemmas.{read_again}
-use Rattle.worker_mux.specs.Outputs.{IsFinish, IsOutput, lists_from, AddsOutputs}
+use Rattle.worker_mux.specs.Outputs.{lists_from, AddsOutputs}
 use Rattle.worker_mux.specs.Runs.{AddsMerge}
 use Rattle.worker_mux.proofs.OutputLemmas.{adds_outputs}
-
-all_front : {X : Type 0} (P : X → Type 0) (xs ys : List X) → AllByRecursion P (xs ++ ys) → AllByRecursion P xs
-all_front P [] ys all = tt
-all_front P (x ∷ xs) ys all = (all.0, all_front P xs ys all.1)
-
-are_outputs : (outputs : List Output) → AllByRecursion (λ (output : Output). AreBytes output.bytes) outputs → AllByRecursion (λ (output : Output). IsFinish output.finish) outputs → AllByRecursion IsOutput outputs
-are_outputs [] bytes finishes = tt
-are_outputs (output ∷ outputs) bytes finishes = (record { bytes = bytes.0; finish = finishes.0 }, are_outputs outputs bytes.1 finishes.1)
 
 length_lists : (lane : ℕ) (outputs : List Output) → length (lists_from lane outputs) ≡ length outputs
 length_lists lane [] = refl
@@ -29,9 +20,8 @@ length_lists lane (output ∷ outputs) = ap suc (length_lists (suc lane) outputs
 pub lists_count : (jobs : List Job) (rests : List (Option (List Lot))) (s t : Spawning) → (started : HasStarted jobs rests s t) → length (lists_from 0 started.outputs) ≡ length jobs
 lists_count jobs rests s t started = length_lists 0 started.outputs ∙ started.all.count
 
-pub run_added : (jobs : List Job) (rests : List (Option (List Lot))) (s t : Spawning) (old new : Option Folder) → length jobs ≤ 64 → HaveFinishes s → (started : HasStarted jobs rests s t) → AddsMerge rests old new → AddsRun started.outputs old new
-run_added jobs rests s t old new few finishes started adds =
+pub run_added : (jobs : List Job) (rests : List (Option (List Lot))) (s t : Spawning) (old new : Option Folder) → length jobs ≤ 64 → (started : HasStarted jobs rests s t) → AddsMerge rests old new → AddsRun started.outputs old new
+run_added jobs rests s t old new few started adds =
     let outputs : List Output = started.outputs in
-    let finish : AllByRecursion (λ (output : Output). IsFinish output.finish) outputs = all_front (λ (output : Output). IsFinish output.finish) outputs t.outputs (subst (AllByRecursion (λ (output : Output). IsFinish output.finish)) started.all.taken finishes) in
-    let added : AddsOutputs outputs old new = adds_outputs rests outputs old new (omega (arith, few, started.all.count)) (are_outputs outputs started.are_bytes finish) started.rests_are adds in
+    let added : AddsOutputs outputs old new = adds_outputs rests outputs old new (omega (arith, few, started.all.count)) started.are_outputs started.rests_are adds in
     record { events = added.events; added = added.added; merge = added.merge; told = read_again added.events added.are_events added.fit }

@@ -5,7 +5,7 @@ use Rattle.std.specs.List.{range_with_len}
 use Rattle.std.specs.Option.{option_map}
 use Rattle.std.proofs.lemmas.List.{length-append, length-map, map-append}
 use Rattle.edge_io.specs.Causes.{RisesExactlyIf}
-use Rattle.edge_io.specs.Children.{Output, AreBytesLeft}
+use Rattle.edge_io.specs.Children.{Output, IsOutput, AreBytesLeft, CanFinish}
 use Rattle.edge_io.specs.Spawners.{Spawning, Starts}
 use Rattle.edge_io.specs.Steps.{Goes, Stays}
 use Rattle.edge_io.specs.declared.job.Job.{Job}
@@ -94,7 +94,7 @@ without_lane job child (Some s) (Some t) starts = record {
 
 pub none_started : (old : Option Spawning) → Goes old old (HasStarted [] [])
 none_started None = tt
-none_started (Some s) = record { outputs = []; all = all_none s s refl; are_bytes = tt; rests_are = refl }
+none_started (Some s) = record { outputs = []; all = all_none s s refl; are_outputs = tt; rests_are = refl }
 
 pub nothing_started : {X : Type 0} (left : X → Option (List Lot)) (lanes : List X) (jobs : List Job) (old : Option Spawning) → lanes ≡ [] → Goes old old (HasStarted (take 0 jobs) (map left lanes))
 nothing_started left lanes jobs old none =
@@ -114,7 +114,7 @@ starts_more done job rests more a b c started next = at a b c started next.start
         record {
           outputs = outputs ++ starts.output ∷ [];
           all = all_then done (job ∷ []) outputs (starts.output ∷ []) s t u before.all (all_one job next.child t u starts);
-          are_bytes = all_more (λ (output : Output). AreBytes output.bytes) outputs starts.output before.are_bytes (subst AreBytesLeft told next.are_bytes);
+          are_outputs = all_more IsOutput outputs starts.output before.are_outputs (record { bytes = subst AreBytesLeft told next.are_bytes; finish = subst CanFinish told next.has_finish });
           rests_are = lots ∙ sym (one_lane_more 0 (map Some outputs) (Some starts.output)) ∙ ap (lots_from 0) (sym mapped);
         }
       where

@@ -4,12 +4,11 @@ use Rattle.std.specs.declared.alloc.Global.{Global}
 use Rattle.std.specs.List.{AllByRecursion}
 use Rattle.std.specs.Option.{option_map}
 use Rattle.edge_io.specs.Causes.{RisesExactlyIf}
-use Rattle.edge_io.specs.Children.{Output, AreBytesLeft}
+use Rattle.edge_io.specs.Children.{Output, IsOutput, AreBytesLeft, CanFinish}
 use Rattle.edge_io.specs.Seen.{Seen}
 use Rattle.edge_io.specs.Spawners.{Spawning, Starts}
 use Rattle.edge_io.specs.Steps.{Goes}
 use Rattle.edge_io.specs.declared.job.Job.{Job}
-use Rattle.packet_codec.specs.Grammar.{AreBytes}
 use Rattle.suite_run.specs.declared.starting.StartRefusal.{StartRefusal}
 use Rattle.suite_run.specs.declared.starting.StartRefusal.TheVariants.{Spawn, NoMemory}
 use Rattle.worker_lane.specs.Lanes.{rest}
@@ -28,7 +27,7 @@ pub record StartsAll (jobs : List Job) (outputs : List Output) (s t : Spawning) 
 pub record HasStarted (jobs : List Job) (rests : List (Option (List Lot))) (s t : Spawning) : Type 0 where
   pub outputs : List Output
   pub all : StartsAll jobs outputs s t
-  pub are_bytes : AllByRecursion (λ output. AreBytes output.bytes) outputs
+  pub are_outputs : AllByRecursion IsOutput outputs
   pub rests_are : rests ≡ lots_from 0 (map Some outputs)
 
 -- some first jobs were started, and no others: where a start failed, not all of them
@@ -62,4 +61,5 @@ pub record StartsNext (job : Job) (before after : List (Option (List Lot))) (old
   pub child : Option Output
   pub started : Goes old new (Starts job child)
   pub are_bytes : AreBytesLeft child
+  pub has_finish : CanFinish child
   pub rests_are : after ≡ before ++ option_map (lots_for (length before)) child ∷ []

@@ -41,6 +41,8 @@ impl Child for Watched {
     }
 
     ghost are_bytes = { λ s. tt };
+
+    ghost has_finish = { λ s. tt };
 }
 
 // It starts so many children, and no more.

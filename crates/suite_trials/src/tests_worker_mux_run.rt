@@ -302,6 +302,8 @@ impl Child for Counted {
     fn stop(&mut self) {}
 
     ghost are_bytes = { λ s. tt };
+
+    ghost has_finish = { λ s. tt };
 }
 
 // Two such children.
@@ -483,6 +485,8 @@ impl Child for Patient {
     fn stop(&mut self) {}
 
     ghost are_bytes = { λ s. tt };
+
+    ghost has_finish = { λ s. tt };
 }
 
 // A lane over such a child.
@@ -645,6 +649,8 @@ impl Child for Endless {
     }
 
     ghost are_bytes = { λ s. tt };
+
+    ghost has_finish = { λ s. tt };
 }
 
 fn add_endless(alloc: Global, lanes: &mut Vec<Lane<Endless>>, waits: &Arc<AtomicU32>) -> Option<()>

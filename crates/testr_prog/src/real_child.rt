@@ -77,6 +77,8 @@ impl<R: Processes + Files> Child for RealChild<'_, R> {
 
     ghost are_bytes = { λ _. tt };
 
+    ghost has_finish = { λ _. tt };
+
     /// One read of the pipe. After a stop there is nothing more to read.
     fn read(&mut self, buf: &mut [u8]) -> Result<usize, Failed> {
         let result = self.running.read(buf);

@@ -9,7 +9,7 @@ use Rattle.std.proofs.lemmas.Bool.Decides.{nat_tests}
 use Rattle.std.proofs.lemmas.Fmt.{length_signed_le, IsAscii-signed}
 use Rattle.std.proofs.lemmas.List.{length-append, length-map}
 use Rattle.std.proofs.lemmas.List.Elements.{All-nil, All-cons, All-append, All-from_get_or}
-use Rattle.edge_io.specs.Children.{Output}
+use Rattle.edge_io.specs.Children.{IsFinish, IsOutput, Output}
 use Rattle.edge_io.specs.Disk.{Folder}
 use Rattle.edge_io.specs.declared.child.Finish.{Finish}
 use Rattle.edge_io.specs.declared.child.Finish.TheVariants.{Exit, ReadFault, WaitFault}
@@ -27,7 +27,7 @@ use Rattle.worker_lane.specs.declared.lot.Lot.TheVariants.{Packet, End}
 use Rattle.worker_lane.proofs.EndingLemmas.{ending_is_event, ending_fits}
 use Rattle.worker_lane.proofs.NoteLemmas.{HavePackets}
 use Rattle.worker_lane.proofs.RecordedLaneLemmas.{have_packets}
-use Rattle.worker_mux.specs.Outputs.{IsFinish, IsOutput, events_for, lots_from, events_from, lists_from, AddsTold, AddsOutputs}
+use Rattle.worker_mux.specs.Outputs.{events_for, lots_from, events_from, lists_from, AddsTold, AddsOutputs}
 use Rattle.worker_mux.specs.Runs.{packets_of, ArePacketsOf, AreEventsOf, HaveEvents, AddsMerge}
 
 -- ---- the event that tells of an end
@@ -78,7 +78,7 @@ exit_has_packet lane (pos (suc n)) small fits = one_event lane (returncode_text 
 exit_has_packet lane (negsuc n) small fits = one_event lane (returncode_text (negsuc n)) small (status_are_bytes (negsuc n) fits) (status_is_short (negsuc n) fits)
 
 end_has_packet : (lane : ℕ) (finish : Finish) → lane < 64 → IsFinish finish → HavePackets (ending_events lane (ending_of finish))
-end_has_packet lane (Exit status) small is = exit_has_packet lane status small is
+end_has_packet lane (Exit status) small is = exit_has_packet lane status small (is status refl)
 end_has_packet lane ReadFault small is = one_event lane fault_text small fault_are_bytes (omega arith)
 end_has_packet lane WaitFault small is = one_event lane fault_text small fault_are_bytes (omega arith)
 

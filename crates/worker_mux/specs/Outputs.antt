@@ -1,32 +1,18 @@
 -- What is recorded of children that tell what they have left and how they finish.
-use Rattle.std.specs.Prelude.{ℕ, suc, ⊤, Option, List, [], ◌∷◌, ◌++◌, FitsSigned}
-use mir.Syntax.{w32}
+use Rattle.std.specs.Prelude.{ℕ, suc, Option, List, [], ◌∷◌, ◌++◌}
 use Rattle.std.specs.Option.{option_map}
 use Rattle.std.specs.List.{All, flat_map}
 use Rattle.edge_io.specs.Children.{Output}
+pub use Rattle.edge_io.specs.Children.{IsOutput}
 use Rattle.edge_io.specs.Disk.{Folder}
 use Rattle.edge_io.specs.Steps.{Goes, Grown}
-use Rattle.edge_io.specs.declared.child.Finish.{Finish}
-use Rattle.edge_io.specs.declared.child.Finish.TheVariants.{Exit, ReadFault, WaitFault}
 use Rattle.packet_codec.specs.declared.event.Event.{Event}
 use Rattle.packet_codec.specs.Canonical.{canonical, IsEvent, Fits}
-use Rattle.packet_codec.specs.Grammar.{AreBytes}
 use Rattle.packet_codec.specs.Lanes.{IsMerge, IsMergeOfTold}
 use Rattle.worker_lane.specs.Endings.{ending_of, ending_events}
 use Rattle.worker_lane.specs.Recorded.{recorded_events}
 use Rattle.worker_lane.specs.Rest.{notes_of_stream, lots_for}
 use Rattle.worker_lane.specs.declared.lot.Lot.{Lot}
-
--- a status has 32 bits
-abbrev pub IsFinish : Finish → Type 0
-IsFinish (Exit status) = FitsSigned w32 status
-IsFinish ReadFault = ⊤
-IsFinish WaitFault = ⊤
-
--- what a child can have left, and how it can finish
-pub record IsOutput (output : Output) : Type 0 where
-  pub bytes : AreBytes output.bytes
-  pub finish : IsFinish output.finish
 
 -- the events of an output under a lane: those that are recorded of its bytes, and the one that tells of its end
 abbrev pub events_for : (lane : ℕ) → Output → List Event
