@@ -1,6 +1,6 @@
 //! All lanes, each on a thread of its own, recorded by the caller.
 
-ghost use Rattle.std.specs.Prelude.{◌≡◌, ◌≤◌, ◌<◌, [], None, length, map, IfOk, OnOk};
+ghost use Rattle.std.specs.Prelude.{◌≡◌, ◌≤◌, ◌<◌, [], None, length, map, IfOk, IsOk, OnOk};
 ghost use Rattle.std.specs.List.{AllByRecursion, range_with_len};
 ghost use Rattle.std.specs.VecDeque.{deque_capacity};
 ghost use Rattle.edge_io.specs.Steps.{Goes};
@@ -43,7 +43,8 @@ const ROOM: usize = 16;
 /// lanes; of each lane whose child tells they are all its events, once and in order. Where a call of the folder failed,
 /// the recorder is closed, and the lanes were still read to their ends (no clause says so).
 ///
-/// With `NoMemory` all children were stopped and waited for (no clause says so), and what was added is not known.
+/// With `NoMemory` all children were stopped and waited for (no clause says so), and what was added is not known. It does
+/// not come where there is no lane.
 pub fn run_lanes<R: Threads + Wait + Sync, C: Child + Send + Drop, H: Shelf>(
     rt: &R,
     alloc: Global,
@@ -61,6 +62,7 @@ pub fn run_lanes<R: Threads + Wait + Sync, C: Child + Send + Drop, H: Shelf>(
     ensures kinds { recorder_kinds recorder.new ≡ recorder_kinds recorder.old }
     ensures partial { recorder_partial recorder.new ≡ recorder_partial recorder.old }
     // What was added.
+    ensures no_lane { lanes.items ≡ [] → IsOk result }
     ensures merged { OnOk result (recorder_fault recorder.new ≡ None → AddsMerge (map (rest C.seen) lanes.items) (H.seen recorder.old.shelf.now).told (H.seen recorder.new.shelf.now).told) }
 {
     run_lanes_heard(rt, alloc, lanes, recorder, Deaf)?;
@@ -95,6 +97,7 @@ pub fn run_lanes_heard<
     ensures kinds { recorder_kinds recorder.new ≡ recorder_kinds recorder.old }
     ensures partial { recorder_partial recorder.new ≡ recorder_partial recorder.old }
     // What was added, and heard.
+    ensures no_lane { lanes.items ≡ [] → IsOk result }
     ensures merged { IfOk result (λ l. recorder_fault recorder.new ≡ None → HearsMerge (L.heard listener l) (map (rest C.seen) lanes.items) (H.seen recorder.old.shelf.now).told (H.seen recorder.new.shelf.now).told) }
 {
     if lanes.len() == 0 {
