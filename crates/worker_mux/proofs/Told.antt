@@ -2,17 +2,16 @@
 use Rattle.std.proofs.Common.{◌≡◌, ℕ, length, ◌<◌, ◌≤◌, cond, List, [], ◌∷◌, ◌++◌, set, eqb, refl, sym, ◌∙◌, ap, subst, ⊎_elim, ◌⊎◌, ◌≢◌, arith}
 use Rattle.std.specs.List.{AllByRecursion}
 use Rattle.std.proofs.lemmas.Bool.Decides.{nat_tests}
-use Rattle.std.proofs.lemmas.List.{map-append, length-map, append-nil}
+use Rattle.std.proofs.lemmas.List.{append-nil}
 use mathlib.Core.Option.{Option}
 use Rattle.crossbeam_queue.specs.Fifo.{Pushes, Pops, Forks, Merges, Learns, Held}
 use Rattle.crossbeam_queue.proofs.Lists.{set_here}
 use Rattle.worker_lane.specs.declared.lot.Lot.{Lot}
-use Rattle.worker_mux.specs.declared.knowledge.Carried.{Carried}
 use Rattle.worker_mux.specs.declared.knowledge.Parcel.{Parcel}
 use Rattle.worker_mux.specs.declared.knowledge.Settled.{Settled}
 use Rattle.worker_mux.specs.declared.knowledge.Knowledge.{Knowledge}
 use Rattle.worker_mux.specs.declared.knowledge.Knowledge.TheVariants.{Spent, Lane, Taker}
-use Rattle.worker_mux.specs.Rule.{lots_of, parcels_of, IsSettled, Kept, Rule, FirstPartsTaken, AllTaken, Stood, Tells, WasAdded, WasTaken, IsLane, IsTaker, put_of, taken_of, settled_of, count_of, with_settled, with_lane, new_lane}
+use Rattle.worker_mux.specs.Rule.{lots_of, IsSettled, Kept, FirstPartsTaken, AllTaken, Stood, Tells, WasTaken, IsLane, IsTaker, put_of, taken_of, settled_of, count_of, with_settled, with_lane, new_lane}
 use Rattle.worker_mux.specs.Packets.{IsWhole}
 use Rattle.worker_mux.proofs.Lists.{below}
 use Rattle.worker_mux.proofs.Steps.{puts, takes, settles, adds}
@@ -57,58 +56,40 @@ tells_taker pass c t s items views (reader, count, taken, settled, seat, sent, w
       of_lanes = all_known c t (λ n past. left_nil (lots_of n t) (lots_of n items) (each n ∙ (whole.none_yet n (omega (arith, mine.1))).1));
     }
 
-tells : (pass : ℕ) (v : Knowledge) → IsTaker v → Learns Kept pass v (Tells v)
-tells pass v is = subst (λ (y : Knowledge). Learns Kept pass y (Tells y)) (sym is) (tells_taker pass (count_of v) (taken_of v) (settled_of v))
+pub learns_as : (pass : ℕ) (v : Knowledge) → IsTaker v → Learns Kept pass v (Tells v)
+learns_as pass v is = subst (λ (y : Knowledge). Learns Kept pass y (Tells y)) (sym is) (tells_taker pass (count_of v) (taken_of v) (settled_of v))
 
 -- a lane's lot comes onto the belt
-puts_at : (cap pass : ℕ) (v : Knowledge) (parcel : Parcel) → IsWhole parcel.lot → IsLane parcel.lane v → Pushes Kept cap pass v parcel (λ w. w ≡ Lane parcel.lane (put_of v ++ parcel.lot ∷ []))
-puts_at cap pass v parcel is_whole is =
+pub puts_as : (cap pass : ℕ) (v : Knowledge) (parcel : Parcel) → IsWhole parcel.lot → IsLane parcel.lane v → Pushes Kept cap pass v parcel (λ w. w ≡ Lane parcel.lane (put_of v ++ parcel.lot ∷ []))
+puts_as cap pass v parcel is_whole is =
     subst (λ (y : Knowledge). Pushes Kept cap pass y parcel (λ w. w ≡ Lane parcel.lane (put_of y ++ parcel.lot ∷ []))) (sym is) (puts cap pass (put_of v) parcel is_whole)
-
-pub puts_as : (cap pass : ℕ) (v : Knowledge) (carried : Carried) → IsWhole carried.parcel.lot → IsLane carried.parcel.lane v → carried.room ≡ cap → Pushes Rule cap pass v carried (WasAdded carried.room v carried.parcel)
-puts_as cap pass v carried is_whole is room items views short rule at =
-    let shorter : length (parcels_of items) < cap = rw (length-map items (λ (c : Carried). c.parcel)) short in
-    let step = puts_at cap pass v carried.parcel is_whole is (parcels_of items) views shorter rule at in (
-      step.0,
-      subst (λ (ps : List Parcel). Kept ps (set views pass step.0)) (sym (map-append (λ (c : Carried). c.parcel) items (carried ∷ []))) step.1,
-      (step.2, (parcels_of items, rw room shorter, (set views pass step.0, pass, step.1, set_here views pass step.0 (below views pass v at)))),
-    )
-
-pub refuses_as : (pass : ℕ) (v : Knowledge) → Learns Rule pass v (λ items. Stood v (parcels_of items))
-refuses_as pass v items views rule at = stands pass v (parcels_of items) views rule at
 
 -- the lot at the front leaves the belt
 takes_at : (pass : ℕ) (v : Knowledge) → IsTaker v → Pops Kept pass v (λ parcel w. w ≡ Taker (count_of v) (taken_of v ++ parcel ∷ []) (settled_of v))
 takes_at pass v is =
     subst (λ (y : Knowledge). Pops Kept pass y (λ parcel w. w ≡ Taker (count_of y) (taken_of y ++ parcel ∷ []) (settled_of y))) (sym is) (takes pass (count_of v) (taken_of v) (settled_of v))
 
-pub takes_as : (pass : ℕ) (v : Knowledge) → IsTaker v → Pops Rule pass v (λ carried w. WasTaken v carried.parcel w)
-takes_as pass v is carried items views rule at =
-    let step = takes_at pass v is carried.parcel (parcels_of items) views rule at in (
+pub takes_as : (pass : ℕ) (v : Knowledge) → IsTaker v → Pops Kept pass v (λ parcel w. WasTaken v parcel w)
+takes_as pass v is parcel items views rule at =
+    let step = takes_at pass v is parcel items views rule at in (
       step.0,
       step.1,
       (
         step.2,
         (
-          parcels_of items,
-          tells pass v is (carried.parcel ∷ parcels_of items) views rule at,
-          tells pass step.0 (subst IsTaker (sym step.2) refl) (parcels_of items) (set views pass step.0) step.1 (set_here views pass step.0 (below views pass v at)),
+          items,
+          learns_as pass v is (parcel ∷ items) views rule at,
+          learns_as pass step.0 (subst IsTaker (sym step.2) refl) items (set views pass step.0) step.1 (set_here views pass step.0 (below views pass v at)),
         ),
       ),
     )
 
-pub learns_as : (pass : ℕ) (v : Knowledge) → IsTaker v → Learns Rule pass v (λ items. Tells v (parcels_of items))
-learns_as pass v is items views rule at = tells pass v is (parcels_of items) views rule at
-
 -- a pass is settled
-settles_at : (pass other n : ℕ) (v w : Knowledge) → IsTaker v → IsLane n w → Merges Kept pass v other w (with_settled v w) Spent
-settles_at pass other n v w is is' =
+pub settles_as : (pass other n : ℕ) (v w : Knowledge) → IsTaker v → IsLane n w → Merges Kept pass v other w (with_settled v w) Spent
+settles_as pass other n v w is is' =
     subst (λ (y : Knowledge). Merges Kept pass y other w (with_settled y w) Spent) (sym is) (
     subst (λ (z : Knowledge). Merges Kept pass (Taker (count_of v) (taken_of v) (settled_of v)) other z (with_settled (Taker (count_of v) (taken_of v) (settled_of v)) z) Spent) (sym is')
     (settles pass other n (count_of v) (put_of w) (taken_of v) (settled_of v)))
-
-pub settles_as : (pass other n : ℕ) (v w : Knowledge) → IsTaker v → IsLane n w → Merges Rule pass v other w (with_settled v w) Spent
-settles_as pass other n v w is is' items views rule at two at' = settles_at pass other n v w is is' (parcels_of items) views rule at two at'
 
 -- what the taker knows once a pass is settled
 pub once_settled : (n : ℕ) (v w : Knowledge) → IsTaker v → IsLane n w → with_settled v w ≡ Taker (count_of v) (taken_of v) (record { lane = n; list = put_of w } ∷ settled_of v)
@@ -117,11 +98,8 @@ once_settled n v w is is' =
     subst (λ (z : Knowledge). with_settled (Taker (count_of v) (taken_of v) (settled_of v)) z ≡ Taker (count_of v) (taken_of v) (record { lane = n; list = put_of z } ∷ settled_of v)) (sym is') refl)
 
 -- a pass is made
-adds_at : (pass : ℕ) (v : Knowledge) → IsTaker v → Forks Kept pass v (with_lane v) (new_lane v)
-adds_at pass v is = subst (λ (y : Knowledge). Forks Kept pass y (with_lane y) (new_lane y)) (sym is) (adds pass (count_of v) (taken_of v) (settled_of v))
-
-pub adds_as : (pass : ℕ) (v : Knowledge) → IsTaker v → Forks Rule pass v (with_lane v) (new_lane v)
-adds_as pass v is items views rule at = adds_at pass v is (parcels_of items) views rule at
+pub adds_as : (pass : ℕ) (v : Knowledge) → IsTaker v → Forks Kept pass v (with_lane v) (new_lane v)
+adds_as pass v is = subst (λ (y : Knowledge). Forks Kept pass y (with_lane y) (new_lane y)) (sym is) (adds pass (count_of v) (taken_of v) (settled_of v))
 
 pub new_taker : (v : Knowledge) → IsTaker v → IsTaker (with_lane v)
 new_taker v is = subst (λ (y : Knowledge). IsTaker (with_lane y)) (sym is) refl
@@ -130,17 +108,11 @@ new_taker v is = subst (λ (y : Knowledge). IsTaker (with_lane y)) (sym is) refl
 pub begins_empty : (n : ℕ) (v : Knowledge) → v ≡ Lane n [] → IsLane n v × (put_of v ≡ [])
 begins_empty n v e = subst (λ (y : Knowledge). IsLane n y × (put_of y ≡ [])) (sym e) (refl, refl)
 
--- what the public clauses say of a step
-pub was_full : (n : ℕ) (v : Knowledge) → Held n (λ items. Stood v (parcels_of items)) → (items : List Parcel) × (length items ≡ n) × Stood v items
-was_full n v held = (parcels_of held.0, length-map held.0 (λ (c : Carried). c.parcel) ∙ held.1, held.2)
-
-pub came_on : (room cap : ℕ) → room ≡ cap → (before : Knowledge) (parcel : Parcel) (after : Knowledge) → WasAdded room before parcel after → (items : List Parcel) × (length items < cap) × Stood after (items ++ parcel ∷ [])
-came_on room cap same before parcel after added = subst (λ (k : ℕ). (items : List Parcel) × (length items < k) × Stood after (items ++ parcel ∷ [])) same added.1
-
-pub was_empty : (v : Knowledge) → Held 0 (λ (items : List Carried). Tells v (parcels_of items)) → Tells v []
+-- where the belt was empty, that is what the taker was told
+pub was_empty : (v : Knowledge) → Held 0 (Tells v) → Tells v []
 was_empty v held = empty held.0 held.1 held.2
   where
-    empty : (items : List Carried) → length items ≡ 0 → Tells v (parcels_of items) → Tells v []
+    empty : (items : List Parcel) → length items ≡ 0 → Tells v items → Tells v []
     empty [] none_left told = told
     empty (x ∷ xs) none_left told = absurd (omega arith)
 

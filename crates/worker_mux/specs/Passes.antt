@@ -1,5 +1,5 @@
 -- What clauses see of the belt, of its passes and of its taker.
-use Rattle.std.specs.Prelude.{◌≡◌, ℕ, List, [], ◌∷◌, ◌++◌, ◌<◌, length}
+use Rattle.std.specs.Prelude.{◌≡◌, ℕ, List, [], ◌∷◌}
 use Rattle.crossbeam_queue.specs.Passes.{view, IsPassOf, ruled_capacity}
 use Rattle.worker_lane.specs.declared.lot.Lot.{Lot}
 use Rattle.worker_mux.specs.declared.belt.Belt.{Belt}
@@ -7,7 +7,7 @@ use Rattle.worker_mux.specs.declared.knowledge.Parcel.{Parcel}
 use Rattle.worker_mux.specs.declared.knowledge.Settled.{Settled}
 use Rattle.worker_mux.specs.declared.pass.LanePass.{LanePass}
 use Rattle.worker_mux.specs.declared.pass.Taker.{Taker}
-use Rattle.worker_mux.specs.Rule.{put_of, taken_of, settled_of, count_of, IsLane, IsTaker, Stood, Tells, FirstPartsTaken, AllTaken, OfLanes}
+use Rattle.worker_mux.specs.Rule.{put_of, taken_of, settled_of, count_of, IsLane, IsTaker, Tells, FirstPartsTaken, AllTaken, OfLanes}
 
 -- how many lots the belt may hold
 abbrev pub room_of : Belt → ℕ
@@ -49,14 +49,6 @@ pub record IsFresh (belt : Belt) (pass : LanePass) : Type 0 where
 abbrev pub entry_of : LanePass → Settled
 entry_of pass = record { lane = pass.number; list = lots_put pass }
 
--- at a step of the call the lot came to the belt's back, where room was left, and the pass knew its list with it
-abbrev pub CameOn : Belt → LanePass → Lot → Type 0
-CameOn belt pass lot = (items : List Parcel) × (length items < room_of belt) × Stood (view pass.pass) (items ++ record { lane = pass.number; lot = lot } ∷ [])
-
--- at a step of the call the belt held as many lots as it has room for
-abbrev pub WasFull : Belt → LanePass → Type 0
-WasFull belt pass = (items : List Parcel) × (length items ≡ room_of belt) × Stood (view pass.pass) items
-
 -- at a step of the call the lot left the belt's front
 abbrev pub LeftFront : Taker → Parcel → Taker → Type 0
 LeftFront before parcel after = (items : List Parcel) × Tells (view before.pass) (parcel ∷ items) × Tells (view after.pass) items
@@ -64,10 +56,6 @@ LeftFront before parcel after = (items : List Parcel) × Tells (view before.pass
 -- at a step of the call the rule held, and the taker knew what it shows
 abbrev pub WasAtStep : Taker → Type 0
 WasAtStep taker = (items : List Parcel) × Tells (view taker.pass) items
-
--- at a step of the call the belt was empty
-abbrev pub WasEmpty : Taker → Type 0
-WasEmpty taker = Tells (view taker.pass) []
 
 -- of each settled lane, what was taken is a first part of its list
 abbrev pub HasFirstParts : Taker → Type 0

@@ -4,17 +4,16 @@
 --     a pass is made       the taker's count grows, and a lane begins (with_lane, new_lane)
 --     a packet is put      it comes to the back, and to the end of the pass's list (WasAdded)
 --     an end is put        the same
---     a put is refused     nothing changes; the belt holds its room (Stood)
+--     a put is refused     nothing changes
 --     a lot is taken       the front goes to the end of what was taken (WasTaken)
---     none is taken        nothing changes; the belt is empty (Tells)
+--     none is taken        nothing changes, and the belt is empty (Tells)
 --     a pass is settled    it is spent, and its list goes into the taker's table (with_settled)
-use Rattle.std.specs.Prelude.{◌≡◌, ℕ, ◌+◌, ◌<◌, ◌≤◌, List, [], ◌∷◌, ◌++◌, map, length, Contains, ◌⊎◌, if◌then◌else◌, ◌==◌}
+use Rattle.std.specs.Prelude.{◌≡◌, ℕ, ◌+◌, ◌<◌, ◌≤◌, List, [], ◌∷◌, ◌++◌, Contains, ◌⊎◌, if◌then◌else◌, ◌==◌}
 use Rattle.std.specs.List.{AllByRecursion}
 use mathlib.Core.Option.{Option, some, none}
 use lib.ListN.{get_elem?}
 use Rattle.worker_lane.specs.declared.lot.Lot.{Lot}
 use Rattle.worker_mux.specs.Packets.{IsWhole}
-use Rattle.worker_mux.specs.declared.knowledge.Carried.{Carried}
 use Rattle.worker_mux.specs.declared.knowledge.Parcel.{Parcel}
 use Rattle.worker_mux.specs.declared.knowledge.Settled.{Settled}
 use Rattle.worker_mux.specs.declared.knowledge.Knowledge.{Knowledge}
@@ -24,9 +23,6 @@ use Rattle.worker_mux.specs.declared.knowledge.Knowledge.TheVariants.{Spent, Lan
 abbrev pub lots_of : ℕ → List Parcel → List Lot
 lots_of n [] = []
 lots_of n (p ∷ ps) = if p.lane == n then p.lot ∷ lots_of n ps else lots_of n ps
-
-abbrev pub parcels_of : List Carried → List Parcel
-parcels_of items = map (λ carried. carried.parcel) items
 
 -- a lane has one holder of its list: a live pass, or an entry of the table of settled lanes
 abbrev pub HasHolder : List Knowledge → List Settled → ℕ → List Lot → Option ℕ → Type 0
@@ -71,9 +67,6 @@ abbrev pub Kept : List Parcel → List Knowledge → Type 0
 Kept items views =
     (reader : ℕ) × (count : ℕ) × (taken : List Parcel) × (settled : List Settled) × (seat : ℕ → Option ℕ) × (sent : ℕ → List Lot)
     × Whole items views reader count taken settled seat sent
-
-abbrev pub Rule : List Carried → List Knowledge → Type 0
-Rule items views = Kept (parcels_of items) views
 
 -- A pass is made: the taker has one lane more, and that lane has put nothing.
 abbrev pub with_lane : Knowledge → Knowledge
@@ -139,11 +132,9 @@ pub record Tells (v : Knowledge) (items : List Parcel) : Type 0 where
   pub accounts : Accounts v items
   pub of_lanes : OfLanes v
 
--- A lot was put: it came to the back, behind fewer lots than there is room for, and is the last of its lane's list.
-abbrev pub WasAdded : ℕ → Knowledge → Parcel → Knowledge → Type 0
-WasAdded room before parcel after =
-    (after ≡ Lane parcel.lane (put_of before ++ parcel.lot ∷ []))
-    × ((items : List Parcel) × (length items < room) × Stood after (items ++ parcel ∷ []))
+-- A lot was put: it is the last of its lane's list.
+abbrev pub WasAdded : Knowledge → Parcel → Knowledge → Type 0
+WasAdded before parcel after = after ≡ Lane parcel.lane (put_of before ++ parcel.lot ∷ [])
 
 -- A lot was taken: it was at the front, and is the last of what was taken.
 abbrev pub WasTaken : Knowledge → Parcel → Knowledge → Type 0

@@ -6,9 +6,9 @@ ghost use Rattle.crossbeam_queue.specs.Passes.{view};
 ghost use Rattle.worker_mux.specs.declared.knowledge.Knowledge.TheVariants.{Taker as Seen};
 ghost use Rattle.worker_mux.specs.Packets.{IsWhole};
 ghost use Rattle.worker_mux.specs.Rule.{WasTaken};
-ghost use Rattle.worker_mux.specs.Passes.{room_of, number_of, lots_put, lane_count, lots_taken, settled_lanes, IsPassFor, IsTakerFor, IsFresh, entry_of, CameOn, WasFull, LeftFront, WasAtStep, WasEmpty, HasFirstParts, HasAll, IsOfLanes};
+ghost use Rattle.worker_mux.specs.Passes.{room_of, number_of, lots_put, lane_count, lots_taken, settled_lanes, IsPassFor, IsTakerFor, IsFresh, entry_of, LeftFront, WasAtStep, HasFirstParts, HasAll, IsOfLanes};
 
-use crate::knowledge::{Carried, Parcel};
+use crate::knowledge::Parcel;
 use crate::pass::{LanePass, Taker};
 use crate::rule::{Lanes, Line, Puts, Takes};
 use std::alloc::Global;
@@ -58,36 +58,32 @@ impl Belt {
     /// Puts a lot of whole packets, or an end, behind all that is on the belt: it is then the last of the pass's list. The
     /// pass is one of this belt.
     ///
-    /// The same lot comes back where the belt was full at a step of this call, and nothing has changed.
+    /// The same lot may come back, and nothing has changed then. It comes back where the belt was full at a step of this
+    /// call (no clause says so).
     pub fn put<R: Wait>(&self, rt: &R, pass: &mut LanePass, lot: Lot) -> Result<(), Lot>
         requires made_here { IsPassFor self.now pass.old }
         requires packets { IsWhole lot }
         ensures made_here { IsPassFor self.now pass.new }
         ensures number { number_of pass.new ≡ number_of pass.old }
         ensures put { OnOk result (lots_put pass.new ≡ lots_put pass.old ++ lot ∷ []) }
-        ensures came_on { OnOk result (CameOn self.now pass.new lot) }
         ensures handed_back { IfErr result (λ same. same ≡ lot) }
         ensures unchanged { OnErr result (lots_put pass.new ≡ lots_put pass.old) }
-        ensures full { OnErr result (WasFull self.now pass.old) }
     {
         let parcel = Parcel {
             lane: pass.number,
             lot,
         };
-        let carried = Carried {
-            parcel,
-            room: self.queue.capacity(),
-        };
-        match self.queue.push_as::<Puts, R>(rt, &mut pass.pass, carried) {
+        match self.queue.push_as::<Puts, R>(rt, &mut pass.pass, parcel) {
             Ok(()) => Ok(()),
-            Err(back) => Err(back.parcel.lot),
+            Err(back) => Err(back.lot),
         }
     }
 
     /// Takes the lot at the front, with its lane: it is of whole packets, or an end, and is then the last of what was taken.
     /// The taker is this belt's.
     ///
-    /// None comes where the belt was empty at a step of this call, and nothing has changed.
+    /// None may come, and nothing has changed then: of each settled lane all was taken. It comes where the belt was empty at
+    /// a step of this call (no other clause says so).
     pub fn take<R: Wait>(&self, rt: &R, taker: &mut Taker) -> Option<(u32, Lot)>
         requires made_here { IsTakerFor self.now taker.old }
         ensures made_here { IsTakerFor self.now taker.new }
@@ -97,7 +93,6 @@ impl Belt {
         ensures packets { IfSome result (λ lot. IsWhole lot.1) }
         ensures left_front { IfSome result (λ lot. LeftFront taker.old (record { lane = lot.0; lot = lot.1 }) taker.new) }
         ensures unchanged { IfNone result (lots_taken taker.new ≡ lots_taken taker.old) }
-        ensures empty { IfNone result (WasEmpty taker.old) }
         ensures first_parts { HasFirstParts taker.new }
         ensures all { IfNone result (HasAll taker.new) }
         ensures of_lanes { IsOfLanes taker.new }
@@ -128,13 +123,13 @@ impl Belt {
         ensures taker { IsTakerFor self.now taker.new }
         ensures some { IfSome result (λ parcel. WasTaken (view taker.old.pass) parcel (view taker.new.pass)) }
         ensures packets { IfSome result (λ parcel. IsWhole parcel.lot) }
-        ensures none { IfNone result ((view taker.new.pass ≡ view taker.old.pass) × WasEmpty taker.old) }
+        ensures none { IfNone result (view taker.new.pass ≡ view taker.old.pass) }
         ensures first_parts { HasFirstParts taker.new }
         ensures all { IfNone result (HasAll taker.new) }
         ensures of_lanes { IsOfLanes taker.new }
     {
-        let carried = self.queue.pop_as::<Takes, R>(rt, &mut taker.pass)?;
-        Some(carried.parcel)
+        let parcel = self.queue.pop_as::<Takes, R>(rt, &mut taker.pass)?;
+        Some(parcel)
     }
 
     // The step at which a pass ends.

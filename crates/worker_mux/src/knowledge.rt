@@ -10,14 +10,6 @@ pub struct Parcel {
     pub lot: Lot,
 }
 
-/// A lot on the belt. The belt's room goes with it, so that a clause can tell how full the belt was when the lot was put.
-/// No code reads it.
-#[derive(Drop)]
-pub struct Carried {
-    pub parcel: Parcel,
-    pub room: usize,
-}
-
 /// A lane whose pass is spent, and all that it has put. No value of it is made.
 #[derive(Drop)]
 pub struct Settled {

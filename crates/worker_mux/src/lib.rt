@@ -33,7 +33,7 @@ mod run;
 mod work;
 
 pub use belt::Belt;
-pub use knowledge::{Carried, Knowledge, Parcel, Settled};
+pub use knowledge::{Knowledge, Parcel, Settled};
 pub use laws::{lanes_stay_whole, outputs_are_merged};
 pub use listener::Listener;
 pub use pass::{LanePass, Taker};

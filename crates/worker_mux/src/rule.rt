@@ -1,18 +1,18 @@
 //! The steps of the belt's queue, and what each one tells.
 
-use crate::knowledge::{Carried, Knowledge};
+use crate::knowledge::{Knowledge, Parcel};
 use crossbeam_queue::RuledArrayQueue;
 use crossbeam_queue::protocol::{Join, Lesson, Outcome, Protocol, Split};
 
 /// The rule that each step keeps.
 pub struct WholeLanes;
 
-impl Protocol<Carried, Knowledge> for WholeLanes {
+impl Protocol<Parcel, Knowledge> for WholeLanes {
     ghost use Rattle.std.specs.Prelude.{[]};
-    ghost use Rattle.worker_mux.specs.Rule.{Rule};
+    ghost use Rattle.worker_mux.specs.Rule.{Kept};
     ghost use Rattle.worker_mux.specs.declared.knowledge.Knowledge.TheVariants.{Taker};
 
-    ghost holds = { Rule };
+    ghost holds = { Kept };
 
     ghost first = { Taker 0 [] [] };
 }
@@ -20,31 +20,31 @@ impl Protocol<Carried, Knowledge> for WholeLanes {
 /// A lane's lot comes onto the belt, or is refused.
 pub(crate) struct Puts;
 
-impl Outcome<Carried, Knowledge> for Puts {
+impl Outcome<Parcel, Knowledge> for Puts {
     ghost use Rattle.worker_mux.specs.Rule.{WasAdded};
 
-    ghost then = { λ before carried after. WasAdded carried.room before carried.parcel after };
+    ghost then = { λ before parcel after. WasAdded before parcel after };
 }
 
-impl Lesson<Carried, Knowledge> for Puts {
-    ghost use Rattle.worker_mux.specs.Rule.{Stood, parcels_of};
+impl Lesson<Parcel, Knowledge> for Puts {
+    ghost use Rattle.std.specs.Prelude.{⊤};
 
-    ghost fact = { λ known items. Stood known (parcels_of items) };
+    ghost fact = { λ known items. ⊤ };
 }
 
 /// The lot at the front leaves the belt, or there is none.
 pub(crate) struct Takes;
 
-impl Outcome<Carried, Knowledge> for Takes {
+impl Outcome<Parcel, Knowledge> for Takes {
     ghost use Rattle.worker_mux.specs.Rule.{WasTaken};
 
-    ghost then = { λ before carried after. WasTaken before carried.parcel after };
+    ghost then = { λ before parcel after. WasTaken before parcel after };
 }
 
-impl Lesson<Carried, Knowledge> for Takes {
-    ghost use Rattle.worker_mux.specs.Rule.{Tells, parcels_of};
+impl Lesson<Parcel, Knowledge> for Takes {
+    ghost use Rattle.worker_mux.specs.Rule.{Tells};
 
-    ghost fact = { λ known items. Tells known (parcels_of items) };
+    ghost fact = { λ known items. Tells known items };
 }
 
 /// Lanes are made and settled.
@@ -67,4 +67,4 @@ impl Join<Knowledge> for Lanes {
     ghost spent = { Spent };
 }
 
-pub(crate) type Line = RuledArrayQueue<Carried, Knowledge, WholeLanes>;
+pub(crate) type Line = RuledArrayQueue<Parcel, Knowledge, WholeLanes>;
