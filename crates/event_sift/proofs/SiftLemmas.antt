@@ -16,7 +16,7 @@ use Rattle.outcome_fold.proofs.OrderLemmas.{tests_total, exact_tests}
 use Rattle.outcome_fold.proofs.TableLemmas.{entries_in_order}
 use Rattle.outcome_fold.proofs.CloseLemmas.{table_with}
 use Rattle.outcome_fold.proofs.FoldLemmas.{append_none}
-use Rattle.event_sift.specs.Released.{if_kept, completed_part_row, released, released_with, released_behind, released_by, released_at_end, part_at, kept_open}
+use Rattle.event_sift.specs.Released.{if_kept, completed_part_row, released, released_with, released_behind, released_by, released_at_end, parts_at_end, part_at, kept_open}
 use Rattle.event_sift.specs.Sifted.{open_parts}
 
 -- At an event.
@@ -67,6 +67,16 @@ at_end kept seen es ordered is =
     ∙ sym (flat_map_map (λ (e : TestKey × List Event). e.1) (λ (e : TestKey × List Event). (e.0, kept_entry kept e)) (fin.entries (open_parts seen)))
     ∙ sym (ap (flat_map (λ (e : TestKey × List Event). e.1)) (table_with exact_tests (λ test part. kept_entry kept (test, part)) tests_total (part_at seen) (open_tests seen)))
     ∙ sym (flat_map_map (λ (part : List Event). part) (λ (e : TestKey × List Event). e.1) entries)
+
+map_map : {A B C : Type 0} (f : B → C) (g : A → B) (xs : List A) → map f (map g xs) ≡ map (λ x. f (g x)) xs
+map_map f g [] = refl
+map_map f g (x ∷ xs) = ap (λ l. f (g x) ∷ l) (map_map f g xs)
+
+pub parts_end : (kept : Row → Bool) (seen : List Event) (es : List (TestKey × List Event)) → IsStrictlySortedBy test_cmp (map (λ e. e.0) es) → fin.from_entries {R = test_cmp} es ≡ open_parts seen → map (kept_entry kept) es ≡ parts_at_end kept seen
+parts_end kept seen es ordered is =
+    ap (map (kept_entry kept)) (sym (entries_in_order tests_total es ordered) ∙ ap fin.entries is)
+    ∙ sym (map_map (λ (e : TestKey × List Event). e.1) (λ (e : TestKey × List Event). (e.0, kept_entry kept e)) (fin.entries (open_parts seen)))
+    ∙ sym (ap (map (λ (e : TestKey × List Event). e.1)) (table_with exact_tests (λ test part. kept_entry kept (test, part)) tests_total (part_at seen) (open_tests seen)))
 
 -- what an open test's part gives
 pub open_gives : (kept : Row → Bool) (t : TestKey) (part gives : List Event) → gives ≡ if_kept kept (row_of t ended.Open (elapsed (start_of part) None) part) part → gives ≡ kept_entry kept (t, part)

@@ -47,9 +47,13 @@ part_at es test = last_part (events_of_test test es)
 abbrev pub kept_open : (Row → Bool) → List Event → TestKey → List Event
 kept_open kept es test = if_kept kept (row_of test ended.Open None (part_at es test)) (part_at es test)
 
+-- the events of the open tests, by route and id, of each test that is not kept none
+abbrev pub parts_at_end : (Row → Bool) → List Event → List (List Event)
+parts_at_end kept es = fin.values (table {R = test_cmp} (kept_open kept es) (open_tests es))
+
 -- what is released at the end: the events of the open tests that are kept, by route and id
 abbrev pub released_at_end : (Row → Bool) → List Event → List Event
-released_at_end kept es = flat_map (λ part. part) (fin.values (table {R = test_cmp} (kept_open kept es) (open_tests es)))
+released_at_end kept es = flat_map (λ part. part) (parts_at_end kept es)
 
 -- all that is released of a stream of these events, in order
 abbrev pub filtered : (Row → Bool) → List Event → List Event

@@ -30,6 +30,7 @@ mod tagger;
 mod whole;
 
 pub use packet_sift::PacketSift;
+pub use part::Part;
 pub use predicate::Predicate;
 pub use rules::{ByRules, Rules, keep};
 pub use sift::Sift;

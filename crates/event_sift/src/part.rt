@@ -43,6 +43,13 @@ impl Part {
         Ok(Part { events })
     }
 
+    /// These events.
+    pub fn of(events: Vec<Event>) -> Self
+        ensures { result ≡ events.items }
+    {
+        Part { events }
+    }
+
     /// Takes one event more.
     ///
     /// With `NoMemory` the event is lost.

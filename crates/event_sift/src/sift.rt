@@ -6,7 +6,7 @@ ghost use Rattle.event_sift.specs.Keeping.{keeps};
 ghost use Rattle.std.specs.FinMap as map;
 ghost use Rattle.outcome_fold.specs.Parts as parts;
 ghost use Rattle.outcome_fold.specs.Rows.{part_with, row_of};
-ghost use Rattle.event_sift.specs.Released.{completed_part_row, if_kept, released, released_at_end};
+ghost use Rattle.event_sift.specs.Released.{completed_part_row, if_kept, parts_at_end, released, released_at_end};
 ghost use Rattle.event_sift.specs.Sifted.{HasSifted, Holds, parts_in, predicate_of, rules_of};
 
 use crate::held::Held;
@@ -132,6 +132,45 @@ impl<'a, P: Predicate + Drop> Sift<'a, P> {
             events.append(&mut kept)?;
         }
         Ok(events)
+    }
+
+    // The parts of the open tests, without an event where they are not kept.
+    fn release_parts(&mut self, held: Held) -> Result<Vec<Part>, NoMemory>
+        requires faithful { P.rules (predicate_of self.old) ≡ rules_of self.old }
+        ensures { (seen : List AnEvent) → Holds held seen → IfOk result (λ parts. parts.items ≡ parts_at_end (keeps (rules_of self.old)) seen) }
+    {
+        let mut parts = Vec::new(self.alloc);
+        for (key, part) in held.into_parts() {
+            let kept = self.if_kept(key, Ended::Open, None, part)?;
+            parts.push(Part::of(kept))?;
+        }
+        Ok(parts)
+    }
+
+    /// Ends the sift as `close` does, and gives the events of each open test apart, by route, no route first, and then by
+    /// id: all events of its last part where it is kept, and else none.
+    ///
+    /// After `NoMemory` the sift is given up too.
+    pub fn close_parts(self) -> Result<Vec<Part>, NoMemory>
+        requires faithful { P.rules (predicate_of self) ≡ rules_of self }
+        ensures { (seen : List AnEvent) → HasSifted self.entry seen → IfOk result (λ parts. parts.items ≡ parts_at_end (keeps (rules_of self.entry)) seen) }
+    {
+        let Sift {
+            alloc,
+            rules,
+            predicate,
+            held,
+        } = self;
+        // The held events are moved out, so that the rest can be given up whatever comes of them.
+        let mut rest = Sift {
+            alloc,
+            rules,
+            predicate,
+            held: Held::new(alloc),
+        };
+        let parts = rest.release_parts(held);
+        rest.let_go();
+        parts
     }
 
     /// Ends the sift, and gives the events of the open tests that are kept, by route, no route first, and then by id.

@@ -316,3 +316,32 @@ fn a_sift_holds_events_until_their_test_ends(rt: HostRuntime) -> Result<(), Fail
     assert_eq!(rt; step_by_step(alloc), Some(true));
     Ok(())
 }
+
+// Whether the one part of the sift's open tests that is kept has these events.
+fn closes_with(sift: Sift<'_, ByRules<'_>>, wanted: &[[u8; 2]]) -> bool
+    requires { asked_by (predicate_of sift) ≡ rules_of sift }
+{
+    match sift.close_parts() {
+        Ok(parts) => match parts.as_slice() {
+            [part] => are(part.events(), wanted),
+            _ => false,
+        },
+        Err(_) => false,
+    }
+}
+
+fn part_by_part(alloc: Global) -> Option<bool> {
+    let rules = default_rules(alloc)?;
+    let predicate = ByRules::new(alloc, &rules).ok()?;
+    let mut sift = Sift::new(alloc, &rules, predicate);
+    let begun = releases(alloc, &mut sift, Status::InProgress, &[]);
+    let again = releases(alloc, &mut sift, Status::Unset, &[]);
+    Some(begun && again && closes_with(sift, &[*b"-f", *b"-f"]))
+}
+
+#[test]
+fn open_tests_end_part_by_part(rt: HostRuntime) -> Result<(), Fail> {
+    let alloc = rt.alloc();
+    assert_eq!(rt; part_by_part(alloc), Some(true));
+    Ok(())
+}
