@@ -1,4 +1,5 @@
-//! Tests of the leaves: numbers, texts and checksums; words; instants; the outside in memory; the shares of tests; and configurations.
+//! Tests of the leaves: numbers, texts and checksums; words; instants; the outside in memory; the shares of tests; searches
+//! for a cause; and configurations.
 //! No program uses it.
 //!
 //! They use the public names of the rooms alone, and stand above them, so that the proofs of a room are not made once more for
@@ -11,6 +12,8 @@ mod tests_command_words;
 mod tests_edge_io;
 #[cfg(test)]
 mod tests_instants;
+#[cfg(test)]
+mod tests_isolation_bisect;
 #[cfg(test)]
 mod tests_partition_times;
 #[cfg(test)]
