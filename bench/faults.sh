@@ -26,7 +26,7 @@ import caches
 import streams
 from caches import Home, found
 from cases import (FOLDER_FAULT, LIMIT, PROGRAM, USAGE, WORK, at, bytes_of, case, check, check_refused, init, main, need,
-                   new_folder, run, wait_until)
+                   new_folder, run, wait_until, write)
 
 LAUNCHER = sys.argv[3]
 NOBODY = 65534
@@ -849,24 +849,154 @@ def help_is_told():
     check(os.listdir(folder) == [], "help makes files")
 
 
+# What the build in the launcher needs of the system, beside `rt`.
+TOOLS = ("sh", "dirname", "readlink", "sed", "awk", "cat", "cp", "cut", "date", "find", "getconf", "grep", "mkdir", "mv", "nproc", "rm",
+         "sleep", "sort", "wc")
+
+# An `rt` that proves in no time. `rt lib` makes a library where those below it are made, and `rt run` a program.
+PRETENDED_RT = """
+name=${PWD##*/}
+case $1 in
+lib)
+    for other in ../*/; do
+        other=${other%/}
+        [ "../$name" = "$other" ] || [ -f "$other/out/rlib/stamp" ] || exit 1
+    done
+    mkdir -p out/rlib out/incremental && : >out/rlib/stamp
+    ;;
+run)
+    mkdir -p out && printf '%s\\n' '#!/bin/sh' "printf '<%s>' \\"\\$@\\"" >out/testr_prog && chmod +x out/testr_prog
+    ;;
+esac
+"""
+
+
+def unbuilt(rt):
+    """A top folder with the launchers and three crates, and the path of tools that has this `rt`, if any."""
+    top = os.path.join(new_folder(), "a top")
+    for name in ("low", "middle", "testr_prog"):
+        os.makedirs(os.path.join(top, "crates", name, "src"))
+    write(top, "crates.txt", b"middle: low\ntestr_prog: middle\nlow:\n")
+    write(top, "VERSION", b"1.2.3\n")
+    os.mkdir(os.path.join(top, ".git"))
+    shutil.copytree(os.path.dirname(LAUNCHER), os.path.join(top, "bin"), symlinks=True)
+    tools = os.path.join(top, "tools")
+    os.mkdir(tools)
+    for name in (*TOOLS, "chmod"):
+        os.symlink(shutil.which(name), os.path.join(tools, name))
+    if rt is not None:
+        write(tools, "rt", b"#!/bin/sh\n" + rt.encode())
+        os.chmod(os.path.join(tools, "rt"), 0o755)
+    return top, {"PATH": tools}
+
+
+def check_cleared(top):
+    """Nothing is left of a build but its log and what it made."""
+    check(os.listdir(os.path.join(top, ".git")) == [], "small checkouts are left")
+    check("building" not in os.listdir(os.path.join(top, "crates", "testr_prog", "out")), "the build's lock is left")
+
+
 @case
 def the_build_fails():
-    top = new_folder()
-    os.makedirs(os.path.join(top, "crates", "testr_prog"))
-    os.mkdir(os.path.join(top, "bin"))
-    shutil.copy(LAUNCHER, os.path.join(top, "bin", "testr"))
-    for script, text in (("exit 1", "a failed build"), (None, "no `rt`")):
-        tools = os.path.join(top, f"tools-{script}")
-        os.mkdir(tools)
-        for name in ("sh", "dirname", "readlink", "sed"):
-            os.symlink(shutil.which(name), os.path.join(tools, name))
-        if script:
-            with open(os.path.join(tools, "rt"), "w") as file:
-                file.write(f"#!/bin/sh\n{script}\n")
-            os.chmod(file.name, 0o755)
-        status, out, err = run(top, "stats", program=[os.path.join(top, "bin", "testr")], env={"PATH": tools})
+    for rt, text in (("exit 1", "a failed build"), ("case $1 in run) ;; *) mkdir -p out/rlib && : >out/rlib/stamp ;; esac", "no program"),
+                     ("kill -9 $$", "a killed build"), (None, "no `rt`")):
+        top, env = unbuilt(rt)
+        status, out, err = run(top, "stats", program=[os.path.join(top, "bin", "testr")], env=env)
         check((status, out) == (4, b""), f"{text} answers {status}")
         check(err.endswith(b"testr: the build failed\n"), f"{text} says {err!r}")
+        if rt is not None:
+            check_cleared(top)
+            log = os.path.join(top, "crates", "testr_prog", "out", "build.log")
+            check(rt.startswith("case") or f"; {log} says why\n".encode() in err, f"{text} says {err!r}")
+
+
+@case
+def it_is_built():
+    top, env = unbuilt(PRETENDED_RT)
+    status, out, err = run(top, "a", "b c", program=[os.path.join(top, "bin", "subunit-ls")], env=env)
+    check((status, out) == (0, b"<subunit-ls><a><b c>"), f"the build answers {status}, {out!r}, {err!r}")
+    check(err.startswith(b"subunit-ls: building the program") and err.endswith(b"\nsubunit-ls: built\n"), f"it says {err!r}")
+    check_cleared(top)
+    check(run(top, "a", program=[os.path.join(top, "bin", "testr")], env=env) == (0, b"<testr><a>", b""), "it is built again")
+
+
+@case
+def two_build_at_once():
+    top, env = unbuilt(PRETENDED_RT.replace("run)", "run)\n    sleep 1"))
+    command = [os.path.join(top, "bin", "testr"), "a"]
+    both = [subprocess.Popen(command, env=env, stdin=subprocess.DEVNULL, stdout=subprocess.PIPE, stderr=subprocess.PIPE) for _ in range(2)]
+    said = [one.communicate(timeout=LIMIT) for one in both]
+    check([it for it, _ in said] == [b"<testr><a>"] * 2, f"two builds answer {said}")
+    check(sum(b"another one builds" in it for _, it in said) == 1, f"two builds say {said}")
+
+
+@case
+def a_build_is_stopped():
+    # What `rt` started ends with it, as the kit's does.
+    top, env = unbuilt("echo $$ >>../../started; exec sleep 600")
+    first = os.path.join(top, ".git", "first-build", "low", "started")
+    one = subprocess.Popen([os.path.join(top, "bin", "testr"), "a"], env=env, stdin=subprocess.DEVNULL, stdout=subprocess.PIPE, stderr=subprocess.PIPE)
+    wait_until(lambda: os.path.exists(first) and os.path.getsize(first), "no build begins")
+    with open(first) as file:
+        started = int(file.read())
+    one.terminate()
+    one.communicate(timeout=LIMIT)
+    check(one.returncode == 143, f"a stopped build answers {one.returncode}")
+    check(not os.path.exists(f"/proc/{started}"), "a stopped build goes on")
+    check_cleared(top)
+
+
+@case
+def a_version_is_told():
+    top = pretended()
+    prefix = new_folder()
+    write(top, "VERSION", b"1.2.3\n")
+    check(install(top, prefix)[0] == 0, "it is not installed")
+    for path in (os.path.join(top, "bin", "testr"), os.path.join(prefix, "bin", "testr")):
+        check(run(top, "--version", program=[path]) == (0, b"testr 1.2.3, <testr><--version>\n", b""), f"{path} tells another version")
+        check(run(top, "--version", "a", program=[path]) == (0, b"<testr><--version><a>", b""), f"{path} tells one word too many")
+
+
+def git(top, *words):
+    settings = ("-c", "user.name=a", "-c", "user.email=a@b", "-c", "commit.gpgsign=false")
+    return subprocess.run(["git", "-C", top, *settings, *words], check=True, capture_output=True, text=True).stdout.strip()
+
+
+@case
+def a_release_is_made():
+    need(shutil.which("git"), "there is no git")
+    top, env = unbuilt(PRETENDED_RT)
+    env = {**os.environ, "PATH": f"{env['PATH']}:{os.environ['PATH']}"}
+    os.rmdir(os.path.join(top, ".git"))
+    for name in ("README.md", "LICENSE", "CHANGELOG.md", "docs", "examples"):
+        path = os.path.join(os.path.dirname(LAUNCHER), "..", name)
+        (shutil.copytree if os.path.isdir(path) else shutil.copy)(path, os.path.join(top, name))
+    write(top, ".gitignore", b"out/\n")
+    git(top, "init", "-q")
+    git(top, "add", "--all")
+    git(top, "commit", "-q", "-m", "one")
+    name, made = "hombirzsa-1.2.3-x86_64-linux", []
+    for umask in (0o022, 0o077):
+        folder = new_folder()
+        status, out, err = run(top, folder, program=[os.path.join(top, "bin", "release")], env=env, umask=umask)
+        check(status == 0, f"a release answers {status}, {err!r}")
+        check(sorted(os.listdir(folder)) == [f"{name}.tar.gz", f"{name}.tar.gz.sha256"], f"a release makes {os.listdir(folder)}")
+        check(shell(folder, f"sha256sum -c {name}.tar.gz.sha256")[0] == 0, "the sum is another")
+        with open(os.path.join(folder, f"{name}.tar.gz"), "rb") as file:
+            made.append(file.read())
+    check(made[0] == made[1], "two releases of a commit differ")
+    version = f"testr 1.2.3 (commit {git(top, 'rev-parse', '--short=12', 'HEAD')})"
+    check(run(top, "--version", program=[os.path.join(top, "bin", "testr")])[1].startswith(f"{version}, ".encode()), "the checkout tells another version")
+    write(top, "crates.txt", b"testr_prog: middle\nmiddle: low\nlow:\n")
+    status, out, err = run(top, folder, program=[os.path.join(top, "bin", "release")], env=env)
+    check((status, out) == (4, b"") and b"changes" in err, f"a release of changes answers {status}, {err!r}")
+    shutil.rmtree(top)
+    check(shell(folder, f"tar -xf {name}.tar.gz && cd {name} && ./install ../there")[0] == 0, "a release is not installed")
+    for path in (os.path.join(folder, name, "bin"), os.path.join(folder, "there", "bin")):
+        check(sorted(it for it in os.listdir(path) if it != "version") == sorted(NAMES), f"{path} has other names")
+        for face in NAMES:
+            says(folder, os.path.join(path, face), face)
+        check(run(folder, "--version", program=[os.path.join(path, "testr")])[1].startswith(f"{version}, ".encode()), "a release tells another version")
 
 
 NAMES = ("testr", "subunit-filter", "subunit-tags", "subunit-ls", "subunit-stats", "tap2subunit", "subunit2tap")
