@@ -3,6 +3,8 @@
 A table whose head has `Definition` names definitions, each of which stands in the specs/ of the crate that its row names.
 A table whose head has `Contract` and `Clause` or `Clauses` names functions and the clauses of one crate: that of the row,
 or of the row before where a row names none.
+
+Looks the same of docs/GLOSSARY.md: each word in backticks stands in the file of its row, as a definition, a type or a member.
 """
 import pathlib
 import re
@@ -72,7 +74,21 @@ def missing(page):
                         yield f"clause {word} of {cells[0]}"
 
 
-lost = sorted(set(missing((ROOT / "docs" / "PROMISES.md").read_text())))
+def unfound(page):
+    for head, cells in rows_of(page):
+        file = ROOT / "crates" / cells[1]
+        if cells[1] == "crates.txt":
+            continue
+        if not file.is_file():
+            yield f"file {cells[1]} of the word {cells[0]}"
+            continue
+        text = file.read_text()
+        for word in ticked(cells[0]):
+            if not re.search(r"(?m)(^\s*(abbrev |unfoldable |pub |record |data )*|\b(fn|struct|enum|trait|const|ghost|pub|type) )" + re.escape(word) + r"\b", text):
+                yield f"word {word} in {cells[1]}"
+
+
+lost = sorted(set(missing((ROOT / "docs" / "PROMISES.md").read_text())) | set(unfound((ROOT / "docs" / "GLOSSARY.md").read_text())))
 for line in lost:
     print("missing:", line)
 print(f"{len(lost)} missing")
