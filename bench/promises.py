@@ -4,11 +4,15 @@ A table whose head has `Definition` names definitions, each of which stands in t
 A table whose head has `Contract` and `Clause` or `Clauses` names functions and the clauses of one crate: that of the row,
 or of the row before where a row names none.
 
+docs/CLAUSES.md, where it is there, is compared with the table that clauses.py makes; `--write` writes it anew.
+
 Looks the same of docs/GLOSSARY.md: each word in backticks stands in the file of its row, as a definition, a type or a member.
 """
 import pathlib
 import re
 import sys
+
+import clauses
 
 ROOT = pathlib.Path(__file__).resolve().parent.parent
 CRATES = {p.name: p for p in (ROOT / "crates").iterdir() if (p / "src").is_dir()}
@@ -88,7 +92,12 @@ def unfound(page):
                 yield f"word {word} in {cells[1]}"
 
 
+TABLE = ROOT / "docs" / "CLAUSES.md"
+if sys.argv[1:] == ["--write"]:
+    TABLE.write_text(clauses.table())
 lost = sorted(set(missing((ROOT / "docs" / "PROMISES.md").read_text())) | set(unfound((ROOT / "docs" / "GLOSSARY.md").read_text())))
+if TABLE.is_file() and TABLE.read_text() != clauses.table():
+    lost.append("docs/CLAUSES.md is not that of the sources: bench/promises.sh --write")
 for line in lost:
     print("missing:", line)
 print(f"{len(lost)} missing")
