@@ -2,6 +2,7 @@ pub mod AloneLemmas
 pub mod DecidedLemmas
 pub mod FlagLemmas
 pub mod GrammarLemmas
+pub mod HalfLemmas
 pub mod HeaderLemmas
 pub mod FilterLemmas
 pub mod KnownLemmas

@@ -14,3 +14,4 @@ pub mod Packets
 pub mod Retagging
 pub mod Respelled
 pub mod Pieces
+pub mod Halves

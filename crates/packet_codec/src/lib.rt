@@ -17,8 +17,9 @@
 //! - `piece`: a piece of a file as a packet under a lane's route
 //! - `respelling`: a packet written from its parts, as it is or with a `change`; it stands on `respelled_size` and
 //!   `respelled_bytes`
+//! - `halves`: the two halves of a packet's event, each written under a lane's route
 //! - `laws`, `canonical_law`: what holds of all spellings
-//! - `lane_laws`: what holds of all events under lanes
+//! - `lane_laws`, `half_laws`: what holds of all events under lanes, and of their halves
 #![tactic(auto)]
 
 mod canonical_law;
@@ -28,6 +29,8 @@ mod encoding;
 mod event;
 mod fields;
 mod front;
+mod half_laws;
+mod halves;
 mod header;
 mod known;
 mod lane_laws;
@@ -50,6 +53,7 @@ pub use decoding::decode;
 pub use encoding::encode;
 pub use event::{Event, FilePart};
 pub use front::Front;
+pub use half_laws::halves_fit;
 pub use header::{Header, SIGNATURE};
 pub use known::front_packet;
 pub use lane_laws::lanes_are_apart;

@@ -1,0 +1,12 @@
+use Rattle.packet_codec.specs.Halves.{second_half}
+use Rattle.packet_codec.proofs.HalfLemmas.{second_are, second_fits_so}
+use Rattle.packet_codec.proofs.packet.Packet.put_second_half.Goals as goal
+
+pub put_parts_under-requires-clause-fits : goal.put_parts_under-requires-clause-fits
+put_parts_under-requires-clause-fits c =
+    let (e, spelled) = c.self.invariant.packet in
+    let long = c.requires.halves e (rw c.self.view_is at spelled) in
+    (second_half e, second_are _ _ _ c.self.invariant e spelled _ c.behind_of.ensures, second_fits_so _ _ _ c.self.invariant e spelled c.args.lane c.requires.lane long)
+
+pub returns-clause-ok : goal.returns-clause-ok
+returns-clause-ok c = λ e s. c.put_parts_under.ensures.ok (second_half e) (second_are _ _ _ c.self.invariant e (rw (← c.self.view_is) at s) _ c.behind_of.ensures)
