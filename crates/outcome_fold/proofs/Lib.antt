@@ -11,6 +11,7 @@ pub mod AnswerLemmas
 pub mod CountLemmas
 pub mod OpenLemmas
 pub mod HeldLemmas
+pub mod HalfLemmas
 pub mod TextLemmas
 pub mod TotalLemmas
 pub mod LawLemmas

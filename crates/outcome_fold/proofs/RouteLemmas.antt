@@ -123,15 +123,17 @@ same_rows events others agree = same_groups (completed_rows events ++ open_rows 
     ∙ (λ i. same_completed events others agree route i ++ filter (is_under route) (same_open events others agree i))
     ∙ sym (filter-append (is_under route) (completed_rows others) (open_rows others)))
 
+-- where the rows are the same, so is all that they say
+pub same_says : (events others : List Event) → rows_of events ≡ rows_of others → SaySame events others
+same_says events others same = record {
+  rows = same;
+  failing = ap failing_of same;
+  passed = ap passed_of same;
+  times = ap times_of same;
+  tags = ap seen_tags_of same;
+  counts = λ filter_tags. ap (counts_of filter_tags) same;
+  status = ap status_of same;
+}
+
 pub say_same : (events others : List Event) → AgreeByRoute events others → SaySame events others
-say_same events others agree =
-    let same = same_rows events others agree in
-    record {
-      rows = same;
-      failing = ap failing_of same;
-      passed = ap passed_of same;
-      times = ap times_of same;
-      tags = ap seen_tags_of same;
-      counts = λ filter_tags. ap (counts_of filter_tags) same;
-      status = ap status_of same;
-    }
+say_same events others agree = same_says events others (same_rows events others agree)

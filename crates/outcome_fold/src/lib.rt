@@ -12,10 +12,11 @@
 //! - `rows`: the rows of a run, in their groups, how many there are, and what they say
 //! - `summing`, `summary`, `longest`: what is kept of them where the rows that pass are not
 //! - `text_set`: texts in the order of their bytes, each once
-//! - `laws`: what holds of the rows of all events
+//! - `laws`, `half_laws`: what holds of the rows of all events, and where an event stands in two halves
 #![tactic(auto)]
 
 mod fold;
+mod half_laws;
 mod laws;
 mod longest;
 mod part;
@@ -27,6 +28,7 @@ mod test_key;
 mod text_set;
 
 pub use fold::{Fold, Outcomes};
+pub use half_laws::halves_say_the_same;
 pub use laws::{orders_of_maps, rows_are_by_route, rows_of_events};
 pub use part::{KeptText, elapsed, instant_in, instant_of, text_heard, text_in};
 pub use row::{Counts, Ended, Row, ended_by};
