@@ -2,12 +2,12 @@
 use Rattle.std.proofs.Common.{◌≡◌, ℕ, ◌<◌, ◌≤◌, Bool, true, false, List, [], ◌∷◌, ◌++◌, length, map, refl, inl, inr, sym, ap, ◌∙◌, arith}
 use Rattle.std.specs.Prelude.{Option, Some, None, IfSome, IfNone, Result, Ok, Err, IfOk, OnErr, All}
 use Rattle.std.specs.Option.{option_to_list}
-use Rattle.std.proofs.lemmas.Bool.{cases_lt}
 use Rattle.std.proofs.lemmas.List.{length-append}
 use Rattle.std.proofs.lemmas.List.Elements.{All-nil, All-cons, All-head, All-tail}
 use Rattle.packet_codec.specs.declared.event.Event.{Event}
 use Rattle.packet_codec.specs.Grammar.{AreBytes}
-use Rattle.packet_codec.specs.Canonical.{canonical, canonical_size, IsEvent, Fits}
+use Rattle.packet_codec.specs.Canonical.{canonical, IsEvent, Fits}
+use Rattle.packet_codec.specs.Halves.{first_half, second_half}
 use Rattle.packet_codec.specs.Routing.{under}
 use Rattle.edge_io.specs.declared.child.Finish.{Finish}
 use Rattle.stream_reader.specs.declared.note.Note.{Note}
@@ -26,7 +26,7 @@ use Rattle.worker_lane.specs.declared.lot.Ending.{Ending}
 use Rattle.worker_lane.specs.declared.lot.Lot.TheVariants.{Packet, End}
 use Rattle.worker_lane.specs.declared.stage.Stage.{Stage}
 use Rattle.worker_lane.specs.declared.stage.Stage.TheVariants.{Reading, Closing}
-use Rattle.worker_lane.proofs.NoteLemmas.{HavePackets, note_is_short, recorded_whole, recorded_in_pieces, event_has_packets, foreign_has_packet}
+use Rattle.worker_lane.proofs.NoteLemmas.{HavePackets, note_is_short, each_way, event_has_packets, foreign_has_packet}
 use Rattle.worker_lane.proofs.RecordingLemmas.{as_before_lane, as_before_ended, given_lane, given_ended}
 use Rattle.worker_lane.proofs.RestLemmas.{given_left, fed_left, none_left, few_held}
 
@@ -43,15 +43,18 @@ are_events_of lane (event ∷ events) h u =
     (record { inner = first.0; event_is = first.1; is_event = All-head IsEvent event events h.are_events; fits = All-head Fits event events h.fit })
     (are_events_of lane events (record { are_events = All-tail IsEvent event events h.are_events; fit = All-tail Fits event events h.fit }) (All-tail (IsUnder lane) event events u))
 
+one_under : (lane : ℕ) (event : Event) (events : List Event) → All (IsUnder lane) events → All (IsUnder lane) (under lane event ∷ events)
+one_under lane event events are = All-cons (IsUnder lane) (under lane event) events (event, refl) are
+
 pieces_under : (lane : ℕ) (pieces : List (List ℕ)) → All (IsUnder lane) (map (stdout_under lane) pieces)
 pieces_under lane [] = All-nil (IsUnder lane)
 pieces_under lane (piece ∷ pieces) = All-cons (IsUnder lane) (stdout_under lane piece) (map (stdout_under lane) pieces) (stdout_event piece, refl) (pieces_under lane pieces)
 
 event_under : (lane : ℕ) (event : Event) → All (IsUnder lane) (recorded_event lane event)
-event_under lane event = elim (cases_lt 4194303 (canonical_size (under lane event))) [
-  | inl large ↦ rw (recorded_in_pieces lane event large) (pieces_under lane (pieces_of (canonical event)))
-  | inr small ↦ rw (recorded_whole lane event small) (All-cons (IsUnder lane) (under lane event) [] (event, refl) (All-nil (IsUnder lane)))
-]
+event_under lane event = each_way (All (IsUnder lane)) lane event
+    (λ fits. one_under lane event [] (All-nil (IsUnder lane)))
+    (λ long. one_under lane (first_half event) (under lane (second_half event) ∷ []) (one_under lane (second_half event) [] (All-nil (IsUnder lane))))
+    (λ long short. pieces_under lane (pieces_of (canonical event)))
 
 note_events : (lane : ℕ) (given : Note) (front : List ℕ) → lane < 64 → AreBytes front → IsMadeOf given front → IsShortNote given → All (IsEventOf lane) (recorded_note lane given)
 note_events lane (note.Event event) front small are made short = are_events_of lane (recorded_event lane event) (event_has_packets lane event front small are made) (event_under lane event)

@@ -1,5 +1,6 @@
 pub mod PiecesLemmas
 pub mod EventLemmas
+pub mod HalfLemmas
 pub mod NoteLemmas
 pub mod RecordingLemmas
 pub mod WaitingLemmas

@@ -1,12 +1,14 @@
 -- The events that are recorded of a note.
-use Rattle.std.proofs.Common.{◌≡◌, ℕ, ◌<◌, ◌≤◌, Bool, true, false, Option, List, [], ◌∷◌, ◌++◌, length, map, take, All, inl, inr, ap, arith}
+use Rattle.std.proofs.Common.{◌≡◌, ℕ, ◌<◌, ◌≤◌, Bool, true, false, Option, List, [], ◌∷◌, ◌++◌, length, map, take, All, cond, refl, sym, ◌∙◌, subst, inl, inr, ap, arith}
 use Rattle.std.proofs.lemmas.Bool.{cases_lt, cond-true, cond-false, le-leb, lt-leb}
+use Rattle.std.proofs.lemmas.Bool.Decides.{nat_tests}
 use Rattle.std.proofs.lemmas.List.{length-take, length-map, append-nil}
 use Rattle.std.proofs.lemmas.List.Elements.{All-nil, All-cons, All-append, All-map, All-weaker}
 use Rattle.packet_codec.specs.declared.event.Event.{Event}
 use Rattle.packet_codec.specs.Grammar.{AreBytes}
 use Rattle.packet_codec.specs.Packet.{SpellsEvent}
-use Rattle.packet_codec.specs.Canonical.{canonical, canonical_size, IsEvent, Fits}
+use Rattle.packet_codec.specs.Canonical.{canonical, canonical_fields, canonical_size, packet_size, IsEvent, Fits}
+use Rattle.packet_codec.specs.Halves.{has_halves, first_half, second_half}
 use Rattle.packet_codec.specs.Routing.{under}
 use Rattle.packet_codec.proofs.LeastLemmas.{size_least, spelled_fits}
 use Rattle.packet_codec.proofs.SpellingLemmas.{length_canonical}
@@ -21,8 +23,9 @@ use Rattle.stream_reader.specs.First.{FirstIs}
 use Rattle.stream_reader.proofs.FrontLemmas.{are_before, are_behind}
 use Rattle.stream_reader.proofs.NotesLemmas.{are_full}
 use Rattle.stream_reader.proofs.ExistLemmas.{some_notes}
-use Rattle.worker_lane.specs.Recorded.{pieces_of, stdout_under, recorded_event, recorded_note, recorded_events}
+use Rattle.worker_lane.specs.Recorded.{pieces_of, stdout_under, in_halves, in_pieces, recorded_event, recorded_note, recorded_events, HasPacket}
 use Rattle.worker_lane.specs.Waiting.{IsShortNote}
+use Rattle.worker_lane.proofs.HalfLemmas.{first_has_packet, second_has_packet}
 use Rattle.worker_lane.proofs.PiecesLemmas.{IsPiece, are_pieces, pieces_count}
 use Rattle.worker_lane.proofs.EventLemmas.{spelled_is_event, canonical_bytes, stdout_fits, stdout_is_event}
 
@@ -52,28 +55,46 @@ note_is_short ended bytes front rest (note.Foreign run) made first =
     let whole = whole_front ended bytes rest (note.Foreign run ∷ []) behind.0 first behind.1 in
     short_in_stream whole.0 run behind.0 whole.1
 
--- ---- an event is one, or many
+-- ---- an event is one, two or many
 
 pub recorded_whole : (lane : ℕ) (e : Event) → canonical_size (under lane e) ≤ 4194303 → recorded_event lane e ≡ under lane e ∷ []
 recorded_whole lane e small = cond-true _ _ _ (le-leb (canonical_size (under lane e)) 4194303 small)
 
-pub recorded_in_pieces : (lane : ℕ) (e : Event) → 4194303 < canonical_size (under lane e) → recorded_event lane e ≡ map (stdout_under lane) (pieces_of (canonical e))
-recorded_in_pieces lane e large = cond-false _ _ _ (lt-leb (canonical_size (under lane e)) 4194303 large)
+recorded_long : (lane : ℕ) (e : Event) → 4194303 < canonical_size (under lane e) → recorded_event lane e ≡ cond (has_halves e) (in_halves lane e) (in_pieces lane e)
+recorded_long lane e large = cond-false _ _ _ (lt-leb (canonical_size (under lane e)) 4194303 large)
+
+pub recorded_in_halves : (lane : ℕ) (e : Event) → 4194303 < canonical_size (under lane e) → has_halves e ≡ true → recorded_event lane e ≡ in_halves lane e
+recorded_in_halves lane e large long = recorded_long lane e large ∙ ap (λ (b : Bool). cond b (in_halves lane e) (in_pieces lane e)) long
+
+pub recorded_in_pieces : (lane : ℕ) (e : Event) → 4194303 < canonical_size (under lane e) → has_halves e ≡ false → recorded_event lane e ≡ in_pieces lane e
+recorded_in_pieces lane e large short = recorded_long lane e large ∙ ap (λ (b : Bool). cond b (in_halves lane e) (in_pieces lane e)) short
+
+-- what holds of each of the three holds of what is recorded
+pub each_way : (P : List Event → Type 0) (lane : ℕ) (e : Event) → (Fits (under lane e) → P (under lane e ∷ [])) → (has_halves e ≡ true → P (in_halves lane e)) → ((Fits (under lane e) → ⊥) → has_halves e ≡ false → P (in_pieces lane e)) → P (recorded_event lane e)
+each_way P lane e whole halves pieces = elim (cases_lt 4194303 (canonical_size (under lane e))) [
+  | inl large ↦ subst P (sym (recorded_long lane e large)) (elim (has_halves e) as (λ b. has_halves e ≡ b → P (cond b (in_halves lane e) (in_pieces lane e))) [ true ↦ halves | false ↦ pieces (λ fits. omega (arith, large, fits.size)) ] refl)
+  | inr small ↦ subst P (sym (recorded_whole lane e small)) (whole (record { size = small }))
+]
+
+-- a packet has more than two bytes
+packet_some : (n : ℕ) → 8 ≤ packet_size n
+packet_some n = grind (arith, nat_tests)
 
 -- no more than its bytes
 pub recorded_count : (lane : ℕ) (given : Note) (front : List ℕ) → IsMadeOf given front → 0 < length front → length (recorded_note lane given) ≤ length front
 recorded_count lane (note.Foreign run) front made some = omega arith
-recorded_count lane (note.Event e) front made some = elim (cases_lt 4194303 (canonical_size (under lane e))) [
-  | inl large ↦ omega (
-    arith,
-    ap length (recorded_in_pieces lane e large),
-    length-map (pieces_of (canonical e)) (stdout_under lane),
-    pieces_count (canonical e),
-    length_canonical e (spelled_fits front e made),
-    size_least front e made,
-  )
-  | inr small ↦ omega (arith, ap length (recorded_whole lane e small))
-]
+recorded_count lane (note.Event e) front made some = each_way
+    (λ (events : List Event). length events ≤ length front)
+    lane e
+    (λ fits. omega (arith, some))
+    (λ long. omega (arith, size_least front e made, packet_some (length (canonical_fields e))))
+    (λ long short. omega (
+      arith,
+      length-map (pieces_of (canonical e)) (stdout_under lane),
+      pieces_count (canonical e),
+      length_canonical e (spelled_fits front e made),
+      size_least front e made,
+    ))
 
 -- ---- each can be encoded
 
@@ -84,28 +105,30 @@ pub record HavePackets (events : List Event) : Type 0 where
 one_packet : (e : Event) → IsEvent e → Fits e → HavePackets (e ∷ [])
 one_packet e is fits = record { are_events = All-cons IsEvent e [] is (All-nil IsEvent); fit = All-cons Fits e [] fits (All-nil Fits) }
 
+packet_of : (e : Event) → HasPacket e → HavePackets (e ∷ [])
+packet_of e has = one_packet e has.is_event has.fits
+
 pub pieces_have_packets : (lane : ℕ) (pieces : List (List ℕ)) → lane < 64 → All IsPiece pieces → HavePackets (map (stdout_under lane) pieces)
 pieces_have_packets lane pieces small are = record {
   are_events = All-map IsEvent (stdout_under lane) pieces (All-weaker IsPiece (λ piece. IsEvent (stdout_under lane piece)) (λ piece is. stdout_is_event lane piece small is.are_bytes is.short) pieces are);
   fit = All-map Fits (stdout_under lane) pieces (All-weaker IsPiece (λ piece. Fits (stdout_under lane piece)) (λ piece is. stdout_fits lane piece small is.short) pieces are);
 }
 
+both_have_packets : (first more : List Event) → HavePackets first → HavePackets more → HavePackets (first ++ more)
+both_have_packets first more h k = record { are_events = All-append IsEvent first more h.are_events k.are_events; fit = All-append Fits first more h.fit k.fit }
+
 pub event_has_packets : (lane : ℕ) (e : Event) (front : List ℕ) → lane < 64 → AreBytes front → SpellsEvent front e → HavePackets (recorded_event lane e)
-event_has_packets lane e front small are made = elim (cases_lt 4194303 (canonical_size (under lane e))) [
-  | inl large ↦ rw (recorded_in_pieces lane e large) (pieces_have_packets lane (pieces_of (canonical e)) small (are_pieces (canonical e) (canonical_bytes front e are made)))
-  | inr fits ↦ (
-      let fit : Fits (under lane e) = record { size = fits } in
-      rw (recorded_whole lane e fits) (one_packet (under lane e) (is_event_under lane e small (spelled_is_event front e are made) fit) fit)
-      )
-]
+event_has_packets lane e front small are made = each_way HavePackets lane e
+    (λ fit. one_packet (under lane e) (is_event_under lane e small (spelled_is_event front e are made) fit) fit)
+    (λ long. both_have_packets (under lane (first_half e) ∷ []) (under lane (second_half e) ∷ [])
+    (packet_of (under lane (first_half e)) (first_has_packet lane front e small are made long))
+    (packet_of (under lane (second_half e)) (second_has_packet lane front e small are made long)))
+    (λ long short. pieces_have_packets lane (pieces_of (canonical e)) small (are_pieces (canonical e) (canonical_bytes front e are made)))
 
 pub foreign_has_packet : (lane : ℕ) (run front : List ℕ) → lane < 64 → AreBytes front → run ≡ front → length run ≤ 65536 → HavePackets (stdout_under lane run ∷ [])
 foreign_has_packet lane run front small are made short =
     let are_run : AreBytes run = rw made are in
     one_packet (stdout_under lane run) (stdout_is_event lane run small are_run short) (stdout_fits lane run small short)
-
-both_have_packets : (first more : List Event) → HavePackets first → HavePackets more → HavePackets (first ++ more)
-both_have_packets first more h k = record { are_events = All-append IsEvent first more h.are_events k.are_events; fit = All-append Fits first more h.fit k.fit }
 
 pub notes_have_packets : (lane : ℕ) (notes : List Note) (bytes : List ℕ) → lane < 64 → AreBytes bytes → AreMadeOf notes bytes → AreFullRuns notes → HavePackets (recorded_events lane notes)
 notes_have_packets lane [] bytes small are made full = record { are_events = All-nil IsEvent; fit = All-nil Fits }

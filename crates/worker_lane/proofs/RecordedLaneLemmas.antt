@@ -1,10 +1,11 @@
 -- What is recorded of several streams, each under a lane of its own.
-use Rattle.std.proofs.Common.{◌≡◌, ℕ, ◌<◌, ◌≤◌, nat_le, Bool, true, false, cond, List, [], ◌∷◌, length, get_or, map, sym, subst, arith}
+use Rattle.std.proofs.Common.{◌≡◌, ℕ, ◌<◌, ◌≤◌, true, List, [], ◌∷◌, length, get_or, map, sym, subst, arith}
 use Rattle.std.specs.List.{All, flat_map}
 use Rattle.std.proofs.lemmas.List.Elements.{All-nil, All-cons, All-append, All-map}
 use Rattle.packet_codec.specs.declared.event.Event.{Event}
 use Rattle.packet_codec.specs.Grammar.{AreBytes}
-use Rattle.packet_codec.specs.Canonical.{IsEvent, Fits, canonical, canonical_size, largest_packet}
+use Rattle.packet_codec.specs.Canonical.{IsEvent, Fits, canonical}
+use Rattle.packet_codec.specs.Halves.{first_half, second_half}
 use Rattle.packet_codec.specs.Routing.{under}
 use Rattle.packet_codec.specs.Lanes.{is_of_lane, AreOfLane, IsMerge, joined, list_of}
 use Rattle.packet_codec.proofs.MergeLemmas.{under_is_in_lane, joined_is_merge, packets_of_merge}
@@ -14,7 +15,7 @@ use Rattle.stream_reader.specs.Notes.{HasEvents, stdout_event}
 use Rattle.stream_reader.proofs.NotesLemmas.{are_full, are_made, packets_of, notes_of_packets, events_of_packets, cut_of_written}
 use Rattle.worker_lane.specs.Recorded.{HasRecorded, pieces_of, stdout_under, recorded_event, recorded_events}
 use Rattle.worker_lane.specs.RecordedLanes.{AreRecorded}
-use Rattle.worker_lane.proofs.NoteLemmas.{notes_have_packets, HavePackets}
+use Rattle.worker_lane.proofs.NoteLemmas.{each_way, notes_have_packets, HavePackets}
 
 pub have_packets : (lane : ℕ) (bytes : List ℕ) (events : List Event) → lane < 64 → AreBytes bytes → HasRecorded lane bytes events → HavePackets events
 have_packets lane bytes events small are h =
@@ -34,11 +35,10 @@ one_own : (lane : ℕ) (e : Event) → lane < 64 → AreOfLane lane (under lane 
 one_own lane e small = All-cons (Own lane) (under lane e) [] (own lane e small) (All-nil (Own lane))
 
 event_own : (lane : ℕ) (e : Event) → lane < 64 → AreOfLane lane (recorded_event lane e)
-event_own lane e small = which (nat_le (canonical_size (under lane e)) largest_packet)
-  where
-    which : (b : Bool) → AreOfLane lane (cond b (under lane e ∷ []) (map (stdout_under lane) (pieces_of (canonical e))))
-    which true = one_own lane e small
-    which false = All-map (Own lane) (stdout_under lane) (pieces_of (canonical e)) (λ k d below. own lane (stdout_event (get_or (pieces_of (canonical e)) k d)) small)
+event_own lane e small = each_way (AreOfLane lane) lane e
+    (λ fits. one_own lane e small)
+    (λ long. All-cons (Own lane) (under lane (first_half e)) (under lane (second_half e) ∷ []) (own lane (first_half e) small) (one_own lane (second_half e) small))
+    (λ long short. All-map (Own lane) (stdout_under lane) (pieces_of (canonical e)) (λ k d below. own lane (stdout_event (get_or (pieces_of (canonical e)) k d)) small))
 
 notes_own : (lane : ℕ) (notes : List Note) → lane < 64 → AreOfLane lane (recorded_events lane notes)
 notes_own lane [] small = All-nil (Own lane)

@@ -10,7 +10,14 @@ use Rattle.packet_codec.specs.Canonical.{canonical, canonical_body, canonical_si
 use Rattle.packet_codec.specs.Grammar.{AreBytes}
 use Rattle.packet_codec.specs.Header.{BeginsWithPacket}
 use Rattle.packet_codec.specs.Packet.{SpellsEvent}
+use Rattle.packet_codec.specs.Halves.{has_halves, first_half, second_half}
+use Rattle.packet_codec.proofs.DecidedLemmas.{Decided}
+use Rattle.packet_codec.proofs.GrammarLemmas.{fits_from_are}
 use Rattle.packet_codec.proofs.LaneLemmas.{is_event_under}
+use Rattle.packet_codec.proofs.LeastLemmas.{spelled_fits}
+use Rattle.packet_codec.proofs.PacketLemmas.{one_event}
+use Rattle.packet_codec.proofs.SpelledLemmas.{read_packet}
+use Rattle.packet_codec.proofs.SpellingLemmas.{canonical_spells}
 use Rattle.packet_codec.specs.Routing.{under}
 use Rattle.stream_reader.specs.declared.first.First.{First}
 use Rattle.stream_reader.specs.declared.first.First.TheVariants as found
@@ -20,10 +27,11 @@ use Rattle.worker_lane.specs.declared.waiting.Spelling.{Spelling}
 use Rattle.worker_lane.specs.declared.waiting.Waiting.{Waiting}
 use Rattle.worker_lane.specs.declared.waiting.Waiting.TheVariants as waits
 use Rattle.worker_lane.specs.Recorded.{pieces_of, stdout_under, recorded_event, recorded_note, HasPacket}
-use Rattle.worker_lane.specs.Waiting.{waiting_events, pieces_left, HasPiecesLeft, IsSound, PutsOne, PutsNote}
+use Rattle.worker_lane.specs.Waiting.{waiting_events, pieces_left, half_found, half_left, half_left_is, HasPiecesLeft, IsHalved, IsSound, PutsOne, PutsNote}
 use Rattle.worker_lane.proofs.PiecesLemmas.{pieces_first}
-use Rattle.worker_lane.proofs.EventLemmas.{spelled_is_event}
-use Rattle.worker_lane.proofs.NoteLemmas.{recorded_whole, recorded_in_pieces}
+use Rattle.worker_lane.proofs.EventLemmas.{spelled_is_event, canonical_bytes}
+use Rattle.worker_lane.proofs.HalfLemmas.{first_has_packet, second_has_packet}
+use Rattle.worker_lane.proofs.NoteLemmas.{recorded_whole, recorded_in_halves, recorded_in_pieces, each_way}
 
 -- the slice that is taken is the next piece
 pub piece_is : (bytes piece : List ℕ) (given size : ℕ) → given < length bytes → size ≡ min (length bytes - given) 65536 → piece ≡ take ((given + size) - given) (drop given bytes) → piece ≡ take 65536 (drop given bytes)
@@ -93,11 +101,57 @@ too_long lane e long = elim (cases_lt 4194303 (canonical_size (under lane e))) [
   | inr small ↦ absurd (long (record { size = small }))
 ]
 
-pub puts_in_pieces : (lane : ℕ) (e : Event) (first spelling : Spelling) (left : Waiting) (old new : List ℕ) → (Fits (under lane e) → ⊥) → first.bytes.items ≡ canonical e → first.given ≡ 0 → PutsOne (pieces_left lane first) old (pieces_left lane spelling) new → waiting_events lane left ≡ pieces_left lane spelling → PutsOne (recorded_event lane e) old (waiting_events lane left) new
-puts_in_pieces lane e first spelling left old new long bytes-is given-is puts left-is =
+pub puts_in_pieces : (lane : ℕ) (e : Event) (first spelling : Spelling) (left : Waiting) (old new : List ℕ) → (Fits (under lane e) → ⊥) → has_halves e ≡ false → first.bytes.items ≡ canonical e → first.given ≡ 0 → PutsOne (pieces_left lane first) old (pieces_left lane spelling) new → waiting_events lane left ≡ pieces_left lane spelling → PutsOne (recorded_event lane e) old (waiting_events lane left) new
+puts_in_pieces lane e first spelling left old new long short bytes-is given-is puts left-is =
     let all : pieces_left lane first ≡ recorded_event lane e =
-    (λ i. map (stdout_under lane) (pieces_of (drop (given-is i) (bytes-is i)))) ∙ sym (recorded_in_pieces lane e (too_long lane e long)) in
+    (λ i. map (stdout_under lane) (pieces_of (drop (given-is i) (bytes-is i)))) ∙ sym (recorded_in_pieces lane e (too_long lane e long) short) in
     rw left-is (rw all at puts)
+
+-- ---- the halves of a packet
+
+-- where the bytes are a packet of the event, it is the one that is found
+half_is : (lane : ℕ) (bytes : List ℕ) (e : Event) → AreBytes bytes → SpellsEvent bytes e → (decided : Decided ((event : Event) × SpellsEvent bytes event)) → half_found lane decided ≡ under lane (second_half e) ∷ []
+half_is lane bytes e are spelled (inl found) = ap (λ (event : Event). under lane (second_half event) ∷ []) (one_event bytes found.0 e (fits_from_are bytes are) found.1 spelled)
+half_is lane bytes e are spelled (inr never) = absurd (never (e, spelled))
+
+pub half_waits : (lane : ℕ) (bytes : List ℕ) (e : Event) → AreBytes bytes → SpellsEvent bytes e → half_left lane bytes ≡ under lane (second_half e) ∷ []
+half_waits lane bytes e are spelled = half_left_is lane bytes ∙ half_is lane bytes e are spelled (read_packet bytes)
+
+module _ (packet : List ℕ) (e : Event) (are : AreBytes packet) (spelled : SpellsEvent packet e) where
+  -- its shortest spelling is a packet of the same event
+  kept_bytes : AreBytes (canonical e)
+  kept_bytes = canonical_bytes packet e are spelled
+
+  kept_spelled : SpellsEvent (canonical e) e
+  kept_spelled = canonical_spells e (spelled_is_event packet e are spelled) (spelled_fits packet e spelled)
+
+  pub halved : (bytes : List ℕ) → has_halves e ≡ true → bytes ≡ canonical e → IsHalved bytes
+  halved bytes long is = rw is (record { are_bytes = kept_bytes; event = e; spelled = kept_spelled; long = long })
+
+  pub puts_first_half : (lane : ℕ) (bytes : List ℕ) (left : Waiting) (old new : List ℕ) → lane < 64 → (Fits (under lane e) → ⊥) → has_halves e ≡ true → bytes ≡ canonical e → waiting_events lane left ≡ half_left lane bytes → new ≡ old ++ canonical (under lane (first_half e)) → PutsOne (recorded_event lane e) old (waiting_events lane left) new
+  puts_first_half lane bytes left old new small long halves is left-is grown =
+      let waits : waiting_events lane left ≡ under lane (second_half e) ∷ [] = left-is ∙ ap (half_left lane) is ∙ half_waits lane (canonical e) e kept_bytes kept_spelled in (
+        under lane (first_half e),
+        record {
+          events_are = recorded_in_halves lane e (too_long lane e long) halves ∙ ap (λ (l : List Event). under lane (first_half e) ∷ l) (sym waits);
+          new_is = grown;
+          has_packet = first_has_packet lane packet e small are spelled halves;
+        },
+      )
+
+-- each event that it spells may be cut in two
+pub halves_of : (bytes : List ℕ) (e : Event) → IsHalved bytes → SpellsEvent bytes e → has_halves e ≡ true
+halves_of bytes e is spelled = ap has_halves (one_event bytes e is.event (fits_from_are bytes is.are_bytes) spelled is.spelled) ∙ is.long
+
+pub puts_second_half : (lane : ℕ) (bytes : List ℕ) (old new : List ℕ) → lane < 64 → (is : IsHalved bytes) → new ≡ old ++ canonical (under lane (second_half is.event)) → PutsOne (half_left lane bytes) old [] new
+puts_second_half lane bytes old new small is grown = (
+  under lane (second_half is.event),
+  record {
+    events_are = half_waits lane bytes is.event is.are_bytes is.spelled;
+    new_is = grown;
+    has_packet = second_has_packet lane bytes is.event small is.are_bytes is.spelled is.long;
+  },
+)
 
 -- ---- the first packet of a note was put
 
@@ -122,13 +176,11 @@ some_pieces : (lane : ℕ) (bytes : List ℕ) → 0 < length bytes → 0 < lengt
 some_pieces lane bytes some = omega (arith, length-map (pieces_of bytes) (stdout_under lane), ap length (pieces_first bytes some))
 
 some_recorded : (lane : ℕ) (e : Event) → 0 < length (recorded_event lane e)
-some_recorded lane e = elim (cases_lt 4194303 (canonical_size (under lane e))) [
-  | inl large ↦ omega (arith, ap length (recorded_in_pieces lane e large), some_pieces lane (canonical e) (spelling_some e))
-  | inr small ↦ omega (arith, ap length (recorded_whole lane e small))
-]
+some_recorded lane e = each_way (λ (events : List Event). 0 < length events) lane e (λ fits. omega arith) (λ long. omega arith) (λ long short. some_pieces lane (canonical e) (spelling_some e))
 
 pub waiting_some : (lane : ℕ) (waiting : Waiting) → IsSound waiting → (waiting ≡ waits.Nothing → ⊥) → 0 < length (waiting_events lane waiting)
 waiting_some lane waits.Nothing sound other = absurd (other refl)
+waiting_some lane (waits.SecondHalf bytes) sound other = omega (arith, ap length (half_waits lane bytes.items sound.event sound.are_bytes sound.spelled))
 waiting_some lane (waits.Pieces spelling) sound other = some_pieces lane (drop spelling.given spelling.bytes.items) (omega (arith, sound, length-drop spelling.given spelling.bytes.items))
 
 pub not_nothing : (lane : ℕ) (waiting : Waiting) (test : Bool) → IsSound waiting → IsTrue test ↔ (waiting ≡ waits.Nothing) → test ≡ false → waiting_events lane waiting ≡ [] → ⊥

@@ -3,6 +3,7 @@ use Rattle.std.specs.Prelude.{◌≡◌, ℕ, ◌+◌, ◌*◌, ◌-◌, ◌/◌
 use Rattle.std.specs.List.{flat_map, range_with_len}
 use Rattle.packet_codec.specs.declared.event.Event.{Event}
 use Rattle.packet_codec.specs.Canonical.{canonical, canonical_size, largest_packet, IsEvent, Fits}
+use Rattle.packet_codec.specs.Halves.{has_halves, first_half, second_half}
 use Rattle.packet_codec.specs.Routing.{under}
 use Rattle.stream_reader.specs.declared.note.Note.{Note}
 use Rattle.stream_reader.specs.declared.note.Note.TheVariants as note
@@ -20,11 +21,20 @@ pieces_of bytes = map (λ i. take longest_piece (drop (i * longest_piece) bytes)
 abbrev pub stdout_under : (lane : ℕ) → (bytes : List ℕ) → Event
 stdout_under lane bytes = under lane (stdout_event bytes)
 
--- The event under the lane, where it fits. Where it does not, its own shortest spelling, in pieces.
+-- the event in two halves, each under the lane
+abbrev pub in_halves : (lane : ℕ) → Event → List Event
+in_halves lane event = under lane (first_half event) ∷ under lane (second_half event) ∷ []
+
+-- the event's own shortest spelling, in pieces under the lane
+abbrev pub in_pieces : (lane : ℕ) → Event → List Event
+in_pieces lane event = map (stdout_under lane) (pieces_of (canonical event))
+
+-- The event under the lane, where it fits. Where it does not, its halves, where its file may be cut in two, and else its
+-- spelling in pieces.
 abbrev pub recorded_event : (lane : ℕ) → Event → List Event
 recorded_event lane event =
     if nat_le (canonical_size (under lane event)) largest_packet then under lane event ∷ []
-    else map (stdout_under lane) (pieces_of (canonical event))
+    else (if has_halves event then in_halves lane event else in_pieces lane event)
 
 abbrev pub recorded_note : (lane : ℕ) → Note → List Event
 recorded_note lane (note.Event event) = recorded_event lane event

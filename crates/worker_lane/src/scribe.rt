@@ -90,8 +90,9 @@ impl Scribe {
     }
 
     /// Appends the next recorded packet, and answers true: under the lane, where it fits there, from the parts that were
-    /// read, and else as a piece of the file `stdout`. False comes where there is none: before the end, until more bytes
-    /// are fed; behind the end, where all were given. After false before the end at most 4,259,837 bytes are held.
+    /// read; else a half of it, where its file may be cut in two, or a piece of the file `stdout`. False comes where no
+    /// note and no half or piece is left: before the end, until more bytes are fed; behind the end, where all were given.
+    /// After false before the end at most 4,259,837 bytes are held.
     pub fn next_into(&mut self, out: &mut Vec<u8>) -> Result<bool, NoMemory>
         ensures given { IfOk result (λ given. given ≡ true → GivesPacket self.old out.old.items self.new out.new.items) }
         ensures packet { IfOk result (λ given. given ≡ true → GivesOne self.old out.old.items self.new out.new.items) }

@@ -4,14 +4,15 @@ ghost use Rattle.std.specs.Prelude.{◌≡◌, ◌↔◌, IsTrue, ◌<◌, ◌�
 ghost use Rattle.packet_codec.specs.declared.event.Event.{Event as AnEvent};
 ghost use Rattle.packet_codec.specs.Canonical.{Fits};
 ghost use Rattle.packet_codec.specs.Grammar.{AreBytes};
+ghost use Rattle.packet_codec.specs.Halves.{has_halves};
 ghost use Rattle.packet_codec.specs.Packet.{IsPacket, SpellsEvent};
 ghost use Rattle.packet_codec.specs.Routing.{under};
 ghost use Rattle.worker_lane.specs.Recorded.{longest_piece, recorded_event};
-ghost use Rattle.worker_lane.specs.Waiting.{waiting_events, pieces_left, IsSound, PutsOne};
+ghost use Rattle.worker_lane.specs.Waiting.{waiting_events, pieces_left, half_left, IsHalved, IsSound, PutsOne};
 ghost use Rattle.worker_lane.specs.declared.waiting.Waiting.TheVariants.{Nothing};
 
 use crate::stdout::put_stdout;
-use packet_codec::Packet;
+use packet_codec::{Packet, known_packet};
 use std::alloc::Global;
 use sub_number::NoMemory;
 
@@ -32,6 +33,8 @@ pub(crate) enum Waiting {
     Nothing,
     /// The further pieces.
     Pieces(Spelling),
+    /// The second half of the event of this packet.
+    SecondHalf(Vec<u8>),
 }
 
 pub(crate) fn is_nothing(waiting: &Waiting) -> bool
@@ -62,15 +65,33 @@ pub(crate) fn put_first(
     ensures none { IfOk result (λ given. given ≡ false → (waiting_events lane waiting.old ≡ []) × (waiting.new ≡ waiting.old) × (out.new.items ≡ out.old.items)) }
     ensures err { OnErr result ((waiting_events lane waiting.new ≡ waiting_events lane waiting.old) × (out.new.items ≡ out.old.items)) }
 {
-    let Waiting::Pieces(spelling) = waiting else {
-        return Ok(false);
-    };
-    put_piece(lane, spelling, out)?;
-    if spelling.given < spelling.bytes.len() {
-        return Ok(true);
+    match waiting {
+        Waiting::Nothing => Ok(false),
+        Waiting::Pieces(spelling) => {
+            put_piece(lane, spelling, out)?;
+            if spelling.given < spelling.bytes.len() {
+                return Ok(true);
+            }
+            wait_for(waiting, Waiting::Nothing);
+            Ok(true)
+        }
+        Waiting::SecondHalf(packet) => {
+            put_second_half(lane, packet, out)?;
+            wait_for(waiting, Waiting::Nothing);
+            Ok(true)
+        }
     }
-    wait_for(waiting, Waiting::Nothing);
-    Ok(true)
+}
+
+// Appends the packet of the second half of the event of a packet.
+fn put_second_half(lane: u32, packet: &[u8], out: &mut Vec<u8>) -> Result<(), NoMemory>
+    requires lane { lane < 64 }
+    requires halved { IsHalved packet.now }
+    ensures ok { OnOk result (PutsOne (half_left lane packet.now) out.old.items [] out.new.items) }
+    ensures err { OnErr result (out.new.items ≡ out.old.items) }
+{
+    known_packet(packet).put_second_half(lane, out)?;
+    Ok(())
 }
 
 /// Appends the packet of the first event that is recorded of the packet, from where its parts stand. The others wait, if
@@ -95,12 +116,62 @@ pub(crate) fn put_packet(
     if packet.put_under(lane, out)? {
         return Ok(());
     }
-    put_in_pieces(alloc, lane, packet, waiting, out)
+    put_too_long(alloc, lane, packet, waiting, out)
+}
+
+// Appends the first packet of what is recorded of a packet whose event does not fit under the lane. It is seldom so.
+#[inline(never)]
+fn put_too_long(
+    alloc: Global,
+    lane: u32,
+    packet: &Packet<'_>,
+    waiting: &mut Waiting,
+    out: &mut Vec<u8>,
+) -> Result<(), NoMemory>
+    requires lane { lane < 64 }
+    requires packet { IsPacket packet.now }
+    requires bytes { AreBytes packet.now }
+    requires too_long { (e : AnEvent) → SpellsEvent packet.now e → Fits (under lane e) → ⊥ }
+    requires sound { IsSound waiting.old }
+    ensures sound { IsSound waiting.new }
+    ensures puts { (e : AnEvent) → SpellsEvent packet.now e → OnOk result (PutsOne (recorded_event lane e) out.old.items (waiting_events lane waiting.new) out.new.items) }
+    ensures err { OnErr result ((waiting.new ≡ waiting.old) × (out.new.items ≡ out.old.items)) }
+{
+    if packet.has_halves() {
+        put_in_halves(alloc, lane, packet, waiting, out)
+    } else {
+        put_in_pieces(alloc, lane, packet, waiting, out)
+    }
+}
+
+// Appends the packet of the first half of its event, which does not fit under the lane and may be cut in two. Its
+// shortest spelling is kept for the second half, which waits.
+fn put_in_halves(
+    alloc: Global,
+    lane: u32,
+    packet: &Packet<'_>,
+    waiting: &mut Waiting,
+    out: &mut Vec<u8>,
+) -> Result<(), NoMemory>
+    requires lane { lane < 64 }
+    requires packet { IsPacket packet.now }
+    requires bytes { AreBytes packet.now }
+    requires too_long { (e : AnEvent) → SpellsEvent packet.now e → Fits (under lane e) → ⊥ }
+    requires halves { (e : AnEvent) → SpellsEvent packet.now e → has_halves e ≡ true }
+    requires sound { IsSound waiting.old }
+    ensures sound { IsSound waiting.new }
+    ensures puts { (e : AnEvent) → SpellsEvent packet.now e → OnOk result (PutsOne (recorded_event lane e) out.old.items (waiting_events lane waiting.new) out.new.items) }
+    ensures err { OnErr result ((waiting.new ≡ waiting.old) × (out.new.items ≡ out.old.items)) }
+{
+    let mut bytes = Vec::new(alloc);
+    packet.put_shortest(&mut bytes)?;
+    packet.put_first_half(lane, out)?;
+    wait_for(waiting, Waiting::SecondHalf(bytes));
+    Ok(())
 }
 
 // Appends the packet of the first piece of the packet's own shortest spelling, where its event does not fit under the
-// lane. The others wait, if there are any. It is seldom so.
-#[inline(never)]
+// lane and may not be cut in two. The others wait, if there are any.
 fn put_in_pieces(
     alloc: Global,
     lane: u32,
@@ -110,7 +181,8 @@ fn put_in_pieces(
 ) -> Result<(), NoMemory>
     requires lane { lane < 64 }
     requires packet { IsPacket packet.now }
-    requires long { (e : AnEvent) → SpellsEvent packet.now e → Fits (under lane e) → ⊥ }
+    requires too_long { (e : AnEvent) → SpellsEvent packet.now e → Fits (under lane e) → ⊥ }
+    requires halves { (e : AnEvent) → SpellsEvent packet.now e → has_halves e ≡ false }
     requires sound { IsSound waiting.old }
     ensures sound { IsSound waiting.new }
     ensures puts { (e : AnEvent) → SpellsEvent packet.now e → OnOk result (PutsOne (recorded_event lane e) out.old.items (waiting_events lane waiting.new) out.new.items) }

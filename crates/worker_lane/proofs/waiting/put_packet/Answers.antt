@@ -9,10 +9,10 @@ returns-then-branch-clause-puts c = λ e spelled.
 pub returns-clause-puts : goal.returns-clause-puts
 returns-clause-puts c = λ e spelled.
     let same = (c.in_ok-put_under.ensures.too_long e spelled c.if-branch.false).1 in
-    rw same at (c.put_in_pieces.ensures.puts e spelled)
+    rw same at (c.put_too_long.ensures.puts e spelled)
 
 pub returns-clause-err : goal.returns-clause-err
 returns-clause-err c =
     let (e, spelled) = c.requires.packet in
     let same = (c.in_ok-put_under.ensures.too_long e spelled c.if-branch.false).1 in
-    rw same at c.put_in_pieces.ensures.err
+    rw same at c.put_too_long.ensures.err
