@@ -10,6 +10,8 @@
 //! - `part`: the checksum of a part from two registers, by products of polynomials
 //! - `powers`: the table for these products
 //! - `laws`: that the register is linear
+//!
+//! Its tests stand in a room above it, `packet_trials`.
 #![tactic(auto)]
 
 mod laws;
@@ -20,6 +22,3 @@ mod prefixes;
 pub use laws::registers_are_linear;
 pub use part::part_crc;
 pub use prefixes::Prefixes;
-
-#[cfg(test)]
-mod tests;

@@ -11,6 +11,8 @@
 //! - `ls`, `sifting`, `stats`, `subunit_to_tap`, `tagging`: those filters; `tally`: what is counted
 //! - `of_tap`, `open_line`, `packets`, `pass_tap`: lines of the Test Anything Protocol as packets
 //! - `event_laws`, `laws`: what filters write of all streams
+//!
+//! Its tests stand in a room above it, `filter_trials`.
 #![tactic(auto)]
 
 mod asked;
@@ -58,12 +60,3 @@ pub use tagging::tag_stream;
 pub use through::pass_notes;
 pub use tool::{Tool, tool_of};
 pub use top::filters;
-
-#[cfg(test)]
-mod tests;
-#[cfg(test)]
-mod tests_events;
-#[cfg(test)]
-mod tests_tap;
-#[cfg(test)]
-mod tests_top;

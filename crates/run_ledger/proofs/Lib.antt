@@ -7,7 +7,7 @@ pub mod LedgerLemmas
 pub mod ReplaceLemmas
 pub mod UniqueLemmas
 pub mod ExistLemmas
-mod WrittenLemmas
+pub mod WrittenLemmas
 pub mod BehindLemmas
 pub mod FormLemmas
 pub mod HeadLemmas

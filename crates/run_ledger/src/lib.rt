@@ -18,6 +18,8 @@
 //! - `refreshing`: both caches, written anew for the runs as they are
 //! - `laws`, `cache_laws`: each run has one list of rows, each cache holds one thing, and what keeps files sound
 //! - `lane_laws`: a run of several lanes has the rows of the lanes one after another
+//!
+//! Its tests stand in a room above it, `store_trials`.
 #![tactic(auto)]
 
 mod cache_laws;
@@ -53,12 +55,3 @@ pub use rows::rows_of;
 pub use run_reader::RunReader;
 pub use times_cache::{TimesCache, read_times_cache, write_times_cache};
 pub use written_run::WrittenRun;
-
-#[cfg(test)]
-mod tests;
-#[cfg(test)]
-mod tests_caches;
-#[cfg(test)]
-mod tests_refresh;
-#[cfg(test)]
-mod tests_times;

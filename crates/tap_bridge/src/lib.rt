@@ -11,6 +11,8 @@
 //! - `ids`, `comment`, `event`: the parts of the events, and the events
 //! - `waiting`, `reader`: lines in turn, and the events that they give
 //! - `writer`: rows as lines
+//!
+//! Its tests stand in a room above it, `filter_trials`.
 #![tactic(auto)]
 
 mod blanks;
@@ -28,6 +30,3 @@ mod writer;
 
 pub use reader::TapReader;
 pub use writer::TapWriter;
-
-#[cfg(test)]
-mod tests;
