@@ -28,7 +28,7 @@ PROCESSORS = len(os.sched_getaffinity(0))
 TICKS = os.sysconf("SC_CLK_TCK")
 PAGE = os.sysconf("SC_PAGE_SIZE")
 MOST = 10
-PROOFS, TESTS, BASES, EDITS, MAKING, REST = "proofs", "tests", "bases", "edits", "programs", "rest"
+PROOFS, TESTS, BASES, EDITS, MAKING, REST, BEFORE = "proofs", "tests", "bases", "edits", "programs", "rest", "before"
 KINDS = {
     PROOFS: "of crates",
     TESTS: "of tests",
@@ -36,6 +36,7 @@ KINDS = {
     EDITS: "tries of edits",
     MAKING: "programs, compiled after their proof",
     REST: "rt itself, layouts, links, runs of programs and tests",
+    BEFORE: "what had ended when this was begun",
 }
 
 
@@ -154,7 +155,7 @@ class Watch:
             self.share(gone, top.ended - self.ended - sum(it.took for it in gone), now)
         else:
             # (what ended before it was watched)
-            self.rows["", REST, "before this"].took += top.ended
+            self.rows["", BEFORE, ""].took += top.ended
         for child in gone:
             child.count(self.rows)
         self.children, self.ended = here, top.ended
@@ -224,6 +225,8 @@ def tell(rows, clock=None):
     print(f"\ngate: {minutes(whole)} processor minutes{by_clock}, on {PROCESSORS} processors\n")
     print("| What | Minutes | Parts |\n|---|---|---|")
     for kind, what in KINDS.items():
+        if kind == BEFORE and sums[kind] < 1:
+            continue
         print(f"| {kind}: {what} | {minutes(sums[kind])} | {parts[kind] or ''} |")
     print(f"\n| The {MOST} dearest parts | Minutes | GB |\n|---|---|---|")
     dear = sorted((it for it in rows.items() if it[0][0]), key=lambda it: -it[1].took)
