@@ -58,7 +58,7 @@ testr failing || [ $? -eq 1 ]
 subunit-ls <"$examples/three-passed.subunit"
 subunit-filter --success <"$examples/one-passed.subunit" | subunit-stats
 subunit-tags quick <"$examples/one-passed.subunit" | subunit2tap
-echo 'ok 1 - a' | tap2subunit | subunit-ls
+{ echo 1..1; echo 'ok 1 - a'; } | tap2subunit | subunit-ls
 TRY
 chroot "$there" /bin/sh /tmp/try >"$work/said" 2>&1 || { cat "$work/said"; echo 'release: WRONG: it failed in the empty root'; exit 1; }
 cat "$work/said"
