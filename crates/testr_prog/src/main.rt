@@ -1,45 +1,14 @@
 //! The program: the real input, outputs, arguments and folder behind the top call.
 //!
-//! These rooms know files and processes of the system, and nothing of packets or runs.
-//!
-//! - `folder_shelf`, `folder`, `published`: the folder of runs, its draft, and the files that are published in it
-//! - `lock`, `identity`: who may use the folder beside others, and whether a name still leads to the file that was opened
-//! - `real_spawner`, `real_child`, `id_paper`: worker processes, and the files of ids that they are told
-//! - `real_site`: files of the project by name
-//! - `stream_source`, `stream_sink`, `descriptors`: standard input and outputs, also where they are closed
-//! - `cause`, `counting`: why a call of the system failed, and the count of such faults
-//! - `help`, `filter_help`: the texts of `--help`
+//! `real_outside` has the objects that it is called on, and `help_texts` what is printed of it where the words ask for
+//! that. Here is decided which commands share the folder's lock, and which lines tell of the cause of a fault.
 #![tactic(auto)]
 
-mod cause;
-mod counting;
-mod descriptors;
-mod filter_help;
-mod folder;
-mod folder_shelf;
-mod help;
-mod id_paper;
-mod identity;
-mod lock;
-#[cfg(test)]
-mod outside_tests;
-mod published;
-mod real_child;
-mod real_site;
-mod real_spawner;
-mod stream_sink;
-mod stream_source;
-#[cfg(test)]
-mod tests;
-
-use cause::Cause;
-use descriptors::hold_closed;
 use edge_io::write_whole;
-use folder_shelf::FolderShelf;
-use help::help;
-use lock::Sharing;
-use real_site::RealSite;
-use real_spawner::RealSpawner;
+use help_texts::help;
+use real_outside::{
+    Cause, FolderShelf, RealSite, RealSpawner, Sharing, StreamSink, StreamSource, hold_closed,
+};
 use std::alloc::Global;
 use std::env;
 use std::env::Env;
@@ -47,8 +16,6 @@ use std::io::{ErrorKind, Stderr, Stdout};
 use std::process::ExitCode;
 use std::sync::Wait;
 use std::thread::Threads;
-use stream_sink::StreamSink;
-use stream_source::StreamSource;
 use testr_cli::program;
 
 // The exit status of a fault of the outside.

@@ -1,0 +1,82 @@
+// Which words ask for help.
+
+use help_texts::help;
+use std::alloc::Global;
+use std::io;
+use std::process::Abort;
+use std::test::Fail;
+
+fn add_words(alloc: Global, list: &mut Vec<String>, words: &[&str]) -> io::Result<()> {
+    for word in words {
+        list.push(String::from_str(alloc, word)?)?;
+    }
+    Ok(())
+}
+
+fn has_help(rt: &HostRuntime, words: &[&str]) -> io::Result<bool> {
+    let mut list = Vec::new(rt.alloc());
+    add_words(rt.alloc(), &mut list, words)?;
+    Ok(help(&list).is_some())
+}
+
+const COMMANDS: [&str; 9] = [
+    "init",
+    "load",
+    "run",
+    "list-tests",
+    "last",
+    "failing",
+    "slowest",
+    "stats",
+    "selftest",
+];
+
+fn check_command(rt: &impl Abort, host: &HostRuntime, word: &str) -> io::Result<()> {
+    assert!(rt; has_help(host, &["testr", word, "--help"])?);
+    assert!(rt; !has_help(host, &["testr", word])?);
+    assert!(rt; !has_help(host, &["testr", word, "--help", "--help"])?);
+    Ok(())
+}
+
+fn check_testr(rt: &impl Abort, host: &HostRuntime) -> io::Result<()> {
+    assert!(rt; has_help(host, &["testr", "--help"])?);
+    assert!(rt; has_help(host, &["testr", "--version"])?);
+    assert!(rt; !has_help(host, &["testr"])?);
+    assert!(rt; !has_help(host, &["testr", "other", "--help"])?);
+    Ok(())
+}
+
+#[test]
+fn help_is_for_its_words_alone(rt: HostRuntime) -> Result<(), Fail> {
+    for word in &COMMANDS {
+        check_command(&rt, &rt, word)?;
+    }
+    check_testr(&rt, &rt)?;
+    Ok(())
+}
+
+const FILTERS: [&str; 6] = [
+    "subunit-filter",
+    "subunit-tags",
+    "subunit-ls",
+    "subunit-stats",
+    "tap2subunit",
+    "subunit2tap",
+];
+
+fn check_filter(rt: &impl Abort, host: &HostRuntime, name: &str) -> io::Result<()> {
+    assert!(rt; has_help(host, &[name, "--help"])?);
+    assert!(rt; !has_help(host, &[name])?);
+    assert!(rt; !has_help(host, &[name, "--help", "--help"])?);
+    assert!(rt; !has_help(host, &[name, "--version"])?);
+    Ok(())
+}
+
+#[test]
+fn each_filter_has_help(rt: HostRuntime) -> Result<(), Fail> {
+    for name in &FILTERS {
+        check_filter(&rt, &rt, name)?;
+    }
+    assert!(rt; !has_help(&rt, &["subunit-rm", "--help"])?);
+    Ok(())
+}
