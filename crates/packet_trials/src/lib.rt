@@ -1,9 +1,12 @@
-//! Tests of packets, of streams of them, and of what is recorded of a worker's output. No program uses it.
+//! Tests of packets, of streams of them and the checksums of their parts, and of what is recorded of a worker's output. No
+//! program uses it.
 //!
 //! They use the public names of the rooms alone, and stand above them, so that the proofs of a room are not made once more for
 //! its tests. Each file has the room in its name.
 #![tactic(auto)]
 
+#[cfg(test)]
+mod tests_crc_parts;
 #[cfg(test)]
 mod tests_drawn_lanes;
 #[cfg(test)]
