@@ -1,8 +1,16 @@
-//! Tests of the filters: the Test Anything Protocol both ways. No program uses it.
+//! Tests of the filters: the Test Anything Protocol both ways, and filters over streams in memory. No program uses it.
 //!
 //! They use the public names of the rooms alone, and stand above them, so that the proofs of a room are not made once more for
-//! its tests. Each file has the room in its name.
+//! its tests. Each file has the room in its name. `calls` has what they share.
 #![tactic(auto)]
 
+#[cfg(test)]
+mod calls;
+#[cfg(test)]
+mod tests_filter_cli;
+#[cfg(test)]
+mod tests_filter_cli_events;
+#[cfg(test)]
+mod tests_filter_cli_tap;
 #[cfg(test)]
 mod tests_tap_bridge;
