@@ -3,7 +3,7 @@ use Rattle.std.proofs.Common.{◌≡◌, ℕ, ◌<◌, List, [], ◌∷◌, ◌+
 use Rattle.std.specs.List.{flat_map}
 use Rattle.std.proofs.lemmas.List.{length-append, append-nil, drop_at}
 use Rattle.std.proofs.lemmas.List.Concat.{flat_map-append}
-use Rattle.std.proofs.lemmas.List.Elements.{All-nil, All-append, All-head, All-tail}
+use Rattle.std.proofs.lemmas.List.Elements.{All-nil, All-cons, All-append, All-head, All-tail}
 use Rattle.packet_codec.specs.declared.event.Event.{Event}
 use Rattle.packet_codec.specs.Canonical.{IsEvent, Fits, canonical}
 use Rattle.packet_codec.specs.Grammar.{Found}
@@ -96,6 +96,15 @@ packets_both events more bytes piece whole is are also = record {
   fit = All-append Fits events more are.fit also.fit;
   packets = is ∙ (λ i. are.packets i ++ also.packets i) ∙ sym (flat_map-append canonical events more);
 }
+
+-- one packet more
+pub packets_more : (bytes whole : List ℕ) (event : Event) → IsEvent event → Fits event → whole ≡ bytes ++ canonical event → ArePackets bytes → ArePackets whole
+packets_more bytes whole event is fits parts (events, are) =
+    let one : ArePacketsOf (event ∷ []) (canonical event) = record { are_events = All-cons IsEvent event [] is (All-nil IsEvent); fit = All-cons Fits event [] fits (All-nil Fits); packets = sym (append-nil (canonical event)) } in
+    (events ++ event ∷ [], packets_both events (event ∷ []) bytes (canonical event) whole parts are one)
+
+pub no_packets : ArePackets []
+no_packets = ([], record { are_events = All-nil IsEvent; fit = All-nil Fits; packets = refl })
 
 -- ---- a run that is written
 
