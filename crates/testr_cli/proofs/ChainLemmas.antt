@@ -1,11 +1,12 @@
 -- What holds of a chain because it holds of its steps.
-use Rattle.std.proofs.Common.{◌≡◌, ℕ, ◌≤◌, Option, None, Some, Result, Ok, Err, subst, ◌∙◌, arith}
+use Rattle.std.proofs.Common.{◌≡◌, ℕ, Option, None, Some, Result, Ok, Err, subst, ◌∙◌}
 use Rattle.edge_io.specs.Causes.{Rose}
 use Rattle.edge_io.specs.Steps.{Goes}
 use Rattle.testr_cli.specs.Steps.{Step, Then, stops, goes_on, Gives}
-use Rattle.testr_cli.specs.Outside.{Work, Place, in_folder, in_site, in_spawner, in_input, in_out, SameCounts, RisesAt, SomeRose, of_folder, of_site, of_spawner, of_input, of_out}
-use Rattle.testr_cli.specs.Answer.{refusal_code, place_of}
+use Rattle.testr_cli.specs.Outside.{Work, Place, in_folder, in_site, in_spawner, in_input, in_out, SameCounts, RisesAt}
+use Rattle.testr_cli.specs.Answer.{place_of, IsChildFault}
 use Rattle.testr_cli.specs.declared.answer.Refusal.{Refusal}
+use Rattle.testr_cli.proofs.RefusalLemmas.{IsNamed}
 use Rattle.testr_cli.proofs.Resting.{Rests, rests_then}
 
 -- a chain that was done is its first step done, and then the rest
@@ -22,18 +23,12 @@ then_did value (goes_on v between done next) = record { value = v; between = bet
 abbrev pub IsQuiet : Work → Work → Type 0
 IsQuiet a b = Goes a.folder.told b.folder.told Rests
 
--- what is true where it refuses
-pub record IsRefused (refusal : Refusal) (a b : Work) : Type 0 where
-  pub least : 3 ≤ refusal_code refusal
-  pub most : refusal_code refusal ≤ 5
+-- What is true where it refuses: it is not for the words, the count of the part whose fault it is rose and no other, and it
+-- is the fault of a child only where programs are started.
+pub record IsRefused (Starts : Type 0) (refusal : Refusal) (a b : Work) : Type 0 where
+  pub named : IsNamed refusal
   pub counts : RisesAt (place_of refusal) a b
-  pub fault : refusal_code refusal ≡ 4 → SomeRose a b
-
--- and where by a fault alone
-pub record IsFault (refusal : Refusal) (a b : Work) : Type 0 where
-  pub code : refusal_code refusal ≡ 4
-  pub counts : RisesAt (place_of refusal) a b
-  pub rose : SomeRose a b
+  pub child : IsChildFault (Err refusal) → Starts
 
 pub counts_after : (place : Option Place) (a m b : Work) → SameCounts a m → RisesAt place m b → RisesAt place a b
 counts_after None a m b same rises = record { folder = rises.folder ∙ same.folder; site = rises.site ∙ same.site; spawner = rises.spawner ∙ same.spawner; input = rises.input ∙ same.input; out = rises.out ∙ same.out }
@@ -43,23 +38,16 @@ counts_after (Some in_spawner) a m b same rises = (subst (λ (n : ℕ). Rose n b
 counts_after (Some in_input) a m b same rises = (subst (λ (n : ℕ). Rose n b.input.faults) same.input rises.0, rises.1 ∙ same.folder, rises.2 ∙ same.site, rises.3 ∙ same.spawner, rises.4 ∙ same.out)
 counts_after (Some in_out) a m b same rises = (subst (λ (n : ℕ). Rose n b.out.faults) same.out rises.0, rises.1 ∙ same.folder, rises.2 ∙ same.site, rises.3 ∙ same.spawner, rises.4 ∙ same.input)
 
-pub rose_after : (a m b : Work) → SameCounts a m → SomeRose m b → SomeRose a b
-rose_after a m b same (of_folder rose) = of_folder (subst (λ (n : ℕ). Rose n b.folder.faults) same.folder rose)
-rose_after a m b same (of_site rose) = of_site (subst (λ (n : ℕ). Rose n b.site.faults) same.site rose)
-rose_after a m b same (of_spawner rose) = of_spawner (subst (λ (n : ℕ). Rose n b.spawner.faults) same.spawner rose)
-rose_after a m b same (of_input rose) = of_input (subst (λ (n : ℕ). Rose n b.input.faults) same.input rose)
-rose_after a m b same (of_out rose) = of_out (subst (λ (n : ℕ). Rose n b.out.faults) same.out rose)
-
 pub counts_then : (a m b : Work) → SameCounts a m → SameCounts m b → SameCounts a b
 counts_then a m b first second = counts_after None a m b first second
 
-pub is_fault : (refusal : Refusal) (a b : Work) → IsFault refusal a b → IsRefused refusal a b
-is_fault refusal a b fault = record {
-  least = omega (arith, fault.code);
-  most = omega (arith, fault.code);
-  counts = fault.counts;
-  fault = λ four. fault.rose;
-}
+-- a step that leaves this as it was
+abbrev pub LeavesPart : {W X A E : Type 0} → (W → X) → Step W A E → Type 0
+LeavesPart {W = W} {A = A} {E = E} part step = (a b : W) (result : Result A E) → step a b result → part b ≡ part a
+
+pub then_leaves : {W X A B E R : Type 0} (part : W → X) {name : E → R} {first : Step W A E} {second : A → Step W B R} → LeavesPart part first → ((v : A) → LeavesPart part (second v)) → LeavesPart part (Then name first second)
+then_leaves part same rest a b result (stops fault is step) = same a b (Err fault) step
+then_leaves part same rest a b result (goes_on v m step next) = rest v m b result next ∙ same a m (Ok v) step
 
 module _ {W : Type 0} (see : W → Work) where
   -- no count rises where it is done
@@ -70,12 +58,8 @@ module _ {W : Type 0} (see : W → Work) where
   abbrev pub Quiet : {A E : Type 0} → Step W A E → Type 0
   Quiet {A = A} {E = E} step = (a b : W) (result : Result A E) → step a b result → IsQuiet (see a) (see b)
 
-  abbrev pub Refuses : {A E : Type 0} → (E → Refusal) → Step W A E → Type 0
-  Refuses {E = E} name step = (a b : W) (e : E) → step a b (Err e) → IsRefused (name e) (see a) (see b)
-
-  -- it refuses by a fault alone
-  abbrev pub Faults : {A E : Type 0} → (E → Refusal) → Step W A E → Type 0
-  Faults {E = E} name step = (a b : W) (e : E) → step a b (Err e) → IsFault (name e) (see a) (see b)
+  abbrev pub Refuses : (Starts : Type 0) {A E : Type 0} → (E → Refusal) → Step W A E → Type 0
+  Refuses Starts {E = E} name step = (a b : W) (e : E) → step a b (Err e) → IsRefused Starts (name e) (see a) (see b)
 
   module _ {A B E : Type 0} {name : E → Refusal} {first : Step W A E} {second : A → Step W B Refusal} where
     pub then_quiet : Quiet first → ((v : A) → Quiet (second v)) → Quiet (Then name first second)
@@ -87,39 +71,18 @@ module _ {W : Type 0} (see : W → Work) where
     then_counts counts rest a b value (stops e is step) = cc
     then_counts counts rest a b value (goes_on v m done next) = counts_then (see a) (see m) (see b) (counts a m v done) (rest v m b value next)
 
-    pub then_refuses : Counts first → Refuses name first → ((v : A) → Refuses (λ r. r) (second v)) → Refuses (λ r. r) (Then name first second)
-    then_refuses counts refuses rest a b r (stops e is step) =
+    pub then_refuses : {Starts : Type 0} → Counts first → Refuses Starts name first → ((v : A) → Refuses Starts (λ r. r) (second v)) → Refuses Starts (λ r. r) (Then name first second)
+    then_refuses {Starts = Starts} counts refuses rest a b r (stops e is step) =
         let same : name e ≡ r = cc in
-        subst (λ (x : Refusal). IsRefused x (see a) (see b)) same (refuses a b e step)
-    then_refuses counts refuses rest a b r (goes_on v m done next) =
+        subst (λ (x : Refusal). IsRefused Starts x (see a) (see b)) same (refuses a b e step)
+    then_refuses {Starts = Starts} counts refuses rest a b r (goes_on v m done next) =
         let late = rest v m b r next in
-        record {
-          least = late.least;
-          most = late.most;
-          counts = counts_after (place_of r) (see a) (see m) (see b) (counts a m v done) late.counts;
-          fault = λ four. rose_after (see a) (see m) (see b) (counts a m v done) (late.fault four);
-        }
-
-    -- behind this step a fault alone may come
-    pub then_late : Counts first → Refuses name first → ((v : A) → Faults (λ r. r) (second v)) → Refuses (λ r. r) (Then name first second)
-    then_late counts refuses rest a b r (stops e is step) =
-        let same : name e ≡ r = cc in
-        subst (λ (x : Refusal). IsRefused x (see a) (see b)) same (refuses a b e step)
-    then_late counts refuses rest a b r (goes_on v m done next) =
-        let late = rest v m b r next in
-        is_fault r (see a) (see b) (record {
-          code = late.code;
-          counts = counts_after (place_of r) (see a) (see m) (see b) (counts a m v done) late.counts;
-          rose = rose_after (see a) (see m) (see b) (counts a m v done) late.rose;
-        })
-
-    pub then_last : Faults name first → ((v : A) (a b : W) (r : Refusal) → second v a b (Err r) → ⊥) → Faults (λ r. r) (Then name first second)
-    then_last faults rest a b r (stops e is step) =
-        let same : name e ≡ r = cc in
-        subst (λ (x : Refusal). IsFault x (see a) (see b)) same (faults a b e step)
-    then_last faults rest a b r (goes_on v m done next) = absurd (rest v m b r next)
+        record { named = late.named; counts = counts_after (place_of r) (see a) (see m) (see b) (counts a m v done) late.counts; child = late.child }
 
 pub gives_not : {W A R : Type 0} {value : A} (a b : W) (r : R) → Gives value a b (Err r) → ⊥
 gives_not a b r gives =
     let is = gives.answer in
     cc
+
+pub gives_refuses : {W A : Type 0} {value : A} (see : W → Work) (Starts : Type 0) → Refuses see Starts (λ r. r) (Gives {R = Refusal} value)
+gives_refuses see Starts a b r gives = absurd (gives_not a b r gives)

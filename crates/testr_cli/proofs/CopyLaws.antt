@@ -1,15 +1,16 @@
 -- What the copy of a run keeps, and what is true where it refuses.
-use Rattle.std.proofs.Common.{ℕ, List, Result, Ok, Err, refl, arith}
+use Rattle.std.proofs.Common.{ℕ, List, Result, Ok, Err, refl}
 use Rattle.edge_io.specs.Disk.{Files}
 use Rattle.edge_io.specs.Seen.{Seen}
 use Rattle.edge_io.specs.Spawners.{Spawning}
+use Rattle.testr_cli.specs.Answer.{place_of}
 use Rattle.testr_cli.specs.Copying.{Copies, copy_refusal}
-use Rattle.testr_cli.specs.Outside.{Work, Shown, work, SameCounts, of_folder, of_out}
+use Rattle.testr_cli.specs.Outside.{Work, Shown, work, SameCounts, RisesAt}
 use Rattle.testr_cli.specs.declared.copying.CopyFault.{CopyFault}
 use Rattle.testr_cli.specs.declared.copying.CopyFault.TheVariants.{Read, Write}
 use Rattle.testr_cli.specs.declared.told.TellFault.TheVariants as tell_fault
 use Rattle.testr_cli.proofs.Resting.{rests_of_stays}
-use Rattle.testr_cli.proofs.ChainLemmas.{IsQuiet, IsRefused, is_fault}
+use Rattle.testr_cli.proofs.ChainLemmas.{IsQuiet, IsRefused}
 
 module _ (site : Seen Files) (spawner : Seen Spawning) (input : Seen (List ℕ)) (number : ℕ) (a b : Shown) where
   abbrev see : Shown → Work
@@ -21,20 +22,11 @@ module _ (site : Seen Files) (spawner : Seen Spawning) (input : Seen (List ℕ))
   pub copy_quiet : (result : Result (Unit {0}) CopyFault) → Copies number a b result → IsQuiet (see a) (see b)
   copy_quiet result copies = rests_of_stays a.folder.told b.folder.told copies.counts.same
 
-  pub copy_refuses : (fault : CopyFault) → Copies number a b (Err fault) → IsRefused (copy_refusal fault) (see a) (see b)
-  copy_refuses (Read tell_fault.Shelf) copies = is_fault (copy_refusal (Read tell_fault.Shelf)) (see a) (see b) (record {
-    code = refl;
-    counts = (copies.counts.reads.rose refl, refl, refl, refl, copies.counts.writes.stands refl);
-    rose = of_folder (copies.counts.reads.rose refl);
-  })
-  copy_refuses (Read tell_fault.NoMemory) copies = record {
-    least = omega arith;
-    most = omega arith;
-    counts = record { folder = copies.counts.reads.stands refl; site = refl; spawner = refl; input = refl; out = copies.counts.writes.stands refl };
-    fault = λ four. absurd (omega (arith, four));
-  }
-  copy_refuses (Write fault) copies = is_fault (copy_refusal (Write fault)) (see a) (see b) (record {
-    code = refl;
-    counts = (copies.counts.writes.rose refl, copies.counts.reads.stands refl, refl, refl, refl);
-    rose = of_out (copies.counts.writes.rose refl);
-  })
+  copy_rises : (fault : CopyFault) → Copies number a b (Err fault) → RisesAt (place_of (copy_refusal fault)) (see a) (see b)
+  copy_rises (Read tell_fault.Shelf) copies = (copies.counts.reads.rose refl, refl, refl, refl, copies.counts.writes.stands refl)
+  copy_rises (Read tell_fault.NoMemory) copies = record { folder = copies.counts.reads.stands refl; site = refl; spawner = refl; input = refl; out = copies.counts.writes.stands refl }
+  copy_rises (Write fault) copies = (copies.counts.writes.rose refl, copies.counts.reads.stands refl, refl, refl, refl)
+
+  pub copy_refuses : {Starts : Type 0} (fault : CopyFault) → Copies number a b (Err fault) → IsRefused Starts (copy_refusal fault) (see a) (see b)
+  copy_refuses (Read fault) copies = record { named = tt; counts = copy_rises (Read fault) copies; child = λ c. absurd c }
+  copy_refuses (Write fault) copies = record { named = tt; counts = copy_rises (Write fault) copies; child = λ c. absurd c }

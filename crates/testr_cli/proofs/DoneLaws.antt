@@ -21,7 +21,7 @@ use Rattle.run_shelf.proofs.Joining.{stays_some}
 use Rattle.run_shelf.proofs.SameLemmas.{shows_still}
 use Rattle.sub_text.specs.Texts.{report_of}
 use Rattle.testr_cli.specs.Outside.{Work, Shown}
-use Rattle.testr_cli.specs.Runs.{run_bytes, HasRunAndCaches, KeepsFiles}
+use Rattle.testr_cli.specs.Runs.{run_bytes, HasRunAndCaches, KeepsFiles, AddsRun}
 use Rattle.testr_cli.specs.Verdicts.{verdict_of, verdict_code}
 use Rattle.testr_cli.specs.Says.{SaysOfFolder, OfLastRun}
 use Rattle.testr_cli.specs.Files.{RecordsSources}
@@ -30,7 +30,7 @@ use Rattle.testr_cli.specs.Reporting.{IsReport}
 use Rattle.testr_cli.specs.Init.{Inits}
 use Rattle.testr_cli.specs.Load.{Loads}
 use Rattle.testr_cli.specs.Ask.{CopiesLast, PrintsAnswer, AnswersOf, Asks}
-use Rattle.testr_cli.specs.Program.{LoadsAll, ReadsInputFor, AddsRun, AnswersQuestion}
+use Rattle.testr_cli.specs.Program.{LoadsAll, ReadsInputFor, AnswersQuestion}
 use Rattle.testr_cli.specs.declared.command.Question.{Question}
 use Rattle.testr_cli.specs.declared.command.Question.TheVariants.{Last}
 use Rattle.testr_cli.specs.declared.answer.Verdict.{Verdict}

@@ -1,5 +1,5 @@
 -- The runs that a folder showed are shown still, where no run may have been kept.
-use Rattle.std.proofs.Common.{◌≡◌, inl, inr, ℕ, ◌<◌, Bool, true, false, Some, Result, Ok, Err, List, sym, ap, subst, ◌∙◌, arith}
+use Rattle.std.proofs.Common.{◌≡◌, inl, inr, ℕ, ◌<◌, Bool, true, false, Some, Result, Ok, Err, List, refl, sym, ap, subst, ◌∙◌, arith}
 use Rattle.edge_io.specs.Disk.{Files, Disk, Folder, put}
 use Rattle.edge_io.specs.Seen.{Seen}
 use Rattle.edge_io.specs.Steps.{Goes, Settled}
@@ -18,17 +18,18 @@ use Rattle.run_shelf.proofs.RunLemmas.{put_other}
 use Rattle.testr_cli.specs.Steps.{Step, Then, stops, goes_on, Gives, At}
 use Rattle.testr_cli.specs.Outside.{Work, work_folder, work_out}
 use Rattle.testr_cli.specs.Tasks.{load}
-use Rattle.testr_cli.specs.Runs.{KeepsFiles}
+use Rattle.testr_cli.specs.Runs.{KeepsRuns, KeepsFiles}
 use Rattle.testr_cli.specs.Store.{Makes, Keeps}
 use Rattle.testr_cli.specs.Refreshing.{Refreshes}
 use Rattle.testr_cli.specs.Reporting.{Prints}
 use Rattle.testr_cli.specs.Init.{Inits}
 use Rattle.testr_cli.specs.Load.{Loads}
 use Rattle.testr_cli.specs.Answer.{may_have_placed, may_have_kept}
-use Rattle.testr_cli.specs.Program.{KeepsRuns}
 use Rattle.testr_cli.specs.declared.answer.Verdict.{Verdict}
 use Rattle.testr_cli.specs.declared.answer.Refusal.{Refusal}
 use Rattle.testr_cli.specs.declared.answer.Refusal.TheVariants.{Keep, Refresh, Print}
+use Rattle.testr_cli.specs.declared.store.KeepFault.{KeepFault}
+use Rattle.testr_cli.specs.declared.told.TellFault.{TellFault}
 use Rattle.testr_cli.proofs.Resting.{Rests}
 use Rattle.testr_cli.proofs.ChainLemmas.{Quiet, gives_not}
 use Rattle.testr_cli.proofs.StepLaws.{still_quiet, open_quiet, begin_quiet, record_quiet}
@@ -98,41 +99,48 @@ place_keeps name bytes SyncFolder s t fails not = cc
 abbrev all : Work → Work
 all w = w
 
-module _ (partial : Bool) (names : List (List ℕ)) where
-  abbrev may_have : Refusal → Bool
-  may_have r = may_have_kept (Some (load partial names)) (Err r)
+-- ---- where it refuses, but for what may have kept a run
 
+module _ (may : Refusal → Bool) where
   -- reads of the folder give the same files where it refuses, but for a fault behind the run's name
-  abbrev KeepsUnless : Step Work Verdict Refusal → Type 0
-  KeepsUnless step = (a b : Work) (r : Refusal) → step a b (Err r) → may_have r ≡ false → Goes a.folder.told b.folder.told KeepsFiles
+  abbrev pub KeepsUnless : {A : Type 0} → Step Work A Refusal → Type 0
+  KeepsUnless step = (a b : Work) (r : Refusal) → step a b (Err r) → may r ≡ false → Goes a.folder.told b.folder.told KeepsFiles
 
-  then_keeps : {A E : Type 0} {name : E → Refusal} {first : Step Work A E} {second : A → Step Work Verdict Refusal} → Quiet all first → ((v : A) → KeepsUnless (second v)) → KeepsUnless (Then name first second)
+  pub then_keeps : {A B E : Type 0} {name : E → Refusal} {first : Step Work A E} {second : A → Step Work B Refusal} → Quiet all first → ((v : A) → KeepsUnless (second v)) → KeepsUnless (Then name first second)
   then_keeps quiet rest a b r (stops e is step) not = goes_weaker a.folder.told b.folder.told Rests KeepsFiles (quiet a b (Err e) step) (λ s t rests. rests.files)
   then_keeps quiet rest a b r (goes_on v m done next) not =
       goes_then a.folder.told m.folder.told b.folder.told Rests KeepsFiles KeepsFiles (quiet a m (Ok v) done) (rest v m b r next not) (λ s m t rests files. files ∙ rests.files)
 
-  refused_as : (named r : Refusal) → ◌≡◌ {A = Result Verdict Refusal} (Err r) (Err named) → may_have r ≡ false → may_have named ≡ false
-  refused_as named r is not =
-      let same : r ≡ named = cc in
-      sym (ap may_have same) ∙ not
+  same_refusal : {A : Type 0} (named r : Refusal) → ◌≡◌ {A = Result A Refusal} (Err r) (Err named) → r ≡ named
+  same_refusal named r is = cc
 
-  kept_last : (number : ℕ) (rows : List Row) (text : List ℕ) (verdict : Verdict) → KeepsUnless (Then Keep (At work_folder (Keeps partial number)) (λ _. Then Refresh (At work_folder (Refreshes number rows)) (λ _. Then Print (At work_out (Prints text)) (λ _. Gives verdict))))
-  kept_last number rows text verdict a b r (stops fault is step) not =
-      let before = refused_as (Keep fault) r is not in
+  pub refused_as : {A : Type 0} (named r : Refusal) → ◌≡◌ {A = Result A Refusal} (Err r) (Err named) → may r ≡ may named
+  refused_as named r is = ap may (same_refusal named r is)
+
+  pub never : (r : Refusal) → may r ≡ true → may r ≡ false → ⊥
+  never r is not = cc
+
+  -- the step that names the run, that of the caches, and what comes behind
+  pub named_last : {A : Type 0} (partial : Bool) (number : ℕ) (rows : List Row) (rest : Step Work A Refusal) → ((fault : KeepFault) → may (Keep fault) ≡ may_have_placed fault.call) → ((fault : TellFault) → may (Refresh fault) ≡ true) → ((a b : Work) (r : Refusal) → rest a b (Err r) → may r ≡ true) → KeepsUnless (Then Keep (At work_folder (Keeps partial number)) (λ _. Then Refresh (At work_folder (Refreshes number rows)) (λ _. rest)))
+  named_last partial number rows rest placed refreshed late a b r (stops fault is step) not =
+      let before = sym (placed fault) ∙ sym (refused_as (Keep fault) r is) ∙ not in
       goes_weaker a.folder.told b.folder.told (OfDraft (λ bytes. PlaceFails (run_name number partial) bytes fault.call)) KeepsFiles step.at.failed (λ s t of. place_keeps (run_name number partial) of.bytes fault.call s t of.does before)
-  kept_last number rows text verdict a b r (goes_on _ m step (stops fault is refreshed)) not =
-      let never : true ≡ false = refused_as (Refresh fault) r is not in
-      cc
-  kept_last number rows text verdict a b r (goes_on _ m step (goes_on _ m2 refreshed (stops fault is printed))) not =
-      let never : true ≡ false = refused_as (Print fault) r is not in
-      cc
-  kept_last number rows text verdict a b r (goes_on _ m step (goes_on _ m2 refreshed (goes_on _ m3 printed gives))) not = absurd (gives_not m3 b r gives)
+  named_last partial number rows rest placed refreshed late a b r (goes_on _ m step (stops fault is refresh)) not = absurd (never r (refused_as (Refresh fault) r is ∙ refreshed fault) not)
+  named_last partial number rows rest placed refreshed late a b r (goes_on _ m step (goes_on _ m2 refresh next)) not = absurd (never r (late m2 b r next) not)
 
-  pub load_keeps : KeepsUnless (Loads partial names)
+module _ (partial : Bool) (names : List (List ℕ)) where
+  abbrev may_have : Refusal → Bool
+  may_have r = may_have_kept (Some (load partial names)) (Err r)
+
+  printed_late : (text : List ℕ) (verdict : Verdict) (a b : Work) (r : Refusal) → Then Print (At work_out (Prints text)) (λ _. Gives verdict) a b (Err r) → may_have r ≡ true
+  printed_late text verdict a b r (stops fault is printed) = refused_as may_have (Print fault) r is
+  printed_late text verdict a b r (goes_on _ m printed gives) = absurd (gives_not m b r gives)
+
+  pub load_keeps : KeepsUnless may_have (Loads partial names)
   load_keeps =
-      then_keeps (λ a b r s. open_quiet a b r s.at) (λ found.
-      then_keeps (λ a b r s. still_quiet a b s.same) (λ _.
-      then_keeps (λ a b r s. begin_quiet a b r s.at) (λ _.
-      then_keeps (λ a b r s. record_quiet a b names r s) (λ rows.
-      then_keeps (λ a b r s. still_quiet a b s.same) (λ report.
-      kept_last _ rows _ _)))))
+      then_keeps may_have (λ a b r s. open_quiet a b r s.at) (λ found.
+      then_keeps may_have (λ a b r s. still_quiet a b s.same) (λ _.
+      then_keeps may_have (λ a b r s. begin_quiet a b r s.at) (λ _.
+      then_keeps may_have (λ a b r s. record_quiet a b names r s) (λ rows.
+      then_keeps may_have (λ a b r s. still_quiet a b s.same) (λ report.
+      named_last may_have partial _ rows (Then Print (At work_out (Prints report.text)) (λ _. Gives report.verdict)) (λ fault. refl) (λ fault. refl) (printed_late report.text report.verdict))))))

@@ -1,21 +1,27 @@
 -- A run that is kept behind its draft, then the caches, and then what leaves the folder.
-use Rattle.std.proofs.Common.{◌≡◌, ℕ, Bool, Option, IfSome, List, Result, Ok, Err, sym, subst}
-use Rattle.edge_io.specs.Disk.{Folder}
+use Rattle.std.proofs.Common.{◌≡◌, ◌⊎◌, inl, inr, ℕ, Bool, Option, IfSome, List, Result, Ok, Err, sym, subst}
+use Rattle.edge_io.specs.Disk.{Files, Folder, IsImage}
+use Rattle.edge_io.specs.Moments.{Passes}
 use Rattle.edge_io.specs.Seen.{Seen}
 use Rattle.edge_io.specs.Steps.{Goes}
+use Rattle.edge_io.proofs.Going.{goes_then, goes_weaker}
+use Rattle.edge_io.proofs.Passing.{passes_then, passes_weaker}
 use Rattle.outcome_fold.specs.declared.row.Row.{Row}
 use Rattle.run_ledger.specs.Reading.{AreRowsOf}
+use Rattle.run_ledger.specs.Refreshing.{KeepsSound}
 use Rattle.run_shelf.specs.Drafts.{Writes}
 use Rattle.run_shelf.specs.Images.{KeepsRun, PassesRun}
 use Rattle.run_shelf.specs.Repository.{Run, run_of}
 use Rattle.run_shelf.proofs.DraftLemmas.{run_kept, run_passes}
 use Rattle.testr_cli.specs.Outside.{Work, work_folder}
 use Rattle.testr_cli.specs.Refreshing.{Refreshes}
+use Rattle.testr_cli.specs.Runs.{HasRunAndCaches}
 use Rattle.testr_cli.specs.Steps.{Step, Then, stops, goes_on, At}
 use Rattle.testr_cli.specs.Store.{Keeps}
 use Rattle.testr_cli.specs.declared.answer.Refusal.{Refusal}
 use Rattle.testr_cli.specs.declared.answer.Refusal.TheVariants.{Keep, Refresh}
-use Rattle.testr_cli.proofs.SoundLemmas.{IsCalm, PassesAll, goes_named, goes_refreshed}
+use Rattle.testr_cli.proofs.Resting.{Rests, rests_images}
+use Rattle.testr_cli.proofs.SoundLemmas.{IsCalm, PassesAll, goes_named, goes_refreshed, rests_sound, sound_then}
 
 module _ {A : Type 0} (partial : Bool) (number : ℕ) (bytes : List ℕ) (rows : List Row) (rest : Step Work A Refusal) (leaves : (a b : Work) (result : Result A Refusal) → rest a b result → b.folder ≡ a.folder) where
   abbrev run : Run
@@ -40,3 +46,34 @@ module _ {A : Type 0} (partial : Bool) (number : ℕ) (bytes : List ℕ) (rows :
         (run_kept number partial bytes s a.folder.told k.folder.told written step.at.kept)
         (run_passes number partial bytes s a.folder.told k.folder.told written step.at.any_moment)
         next
+
+-- ---- what a command leaves that adds at most one run, of which this is told
+
+module _ (Extra : Files → Files → Type 0) where
+  abbrev LeftBy : Folder → Files → Type 0
+  LeftBy s image = IsImage s.disk image ⊎ Extra s.disk.published image
+
+  -- what a stop at each moment leaves, and that it is sound where it was
+  pub record Moves (s t : Folder) : Type 0 where
+    pub stops : Passes (LeftBy s) s t
+    pub sound : KeepsSound s t
+
+  pub quiet_moves : (a b : Option Folder) → Goes a b Rests → Goes a b Moves
+  quiet_moves a b quiet = goes_weaker a b Rests Moves quiet (λ s t rests. record {
+    stops = passes_weaker (IsImage s.disk) (LeftBy s) (λ image left. inl left) s t rests.old;
+    sound = rests_sound s t rests;
+  })
+
+  module _ (number : ℕ) (run : Run) (told : (files image : Files) → HasRunAndCaches files number run image → Extra files image) where
+    left_by : (s m : Folder) → Rests s m → (image : Files) → IsImage m.disk image ⊎ HasRunAndCaches m.disk.published number run image → LeftBy s image
+    left_by s m rests image (inl before) = inl (rests_images s m rests image before)
+    left_by s m rests image (inr beside) = inr (told s.disk.published image (subst (λ (files : Files). HasRunAndCaches files number run image) rests.files beside))
+
+    pub run_moves : (a m b : Option Folder) → Goes a m Rests → Goes m b (PassesAll number run) → Goes a b Moves
+    run_moves a m b quiet runs = goes_then a m b Rests (PassesAll number run) Moves quiet runs (λ s m t rests passes. record {
+      stops =
+          passes_then (LeftBy s) s m t
+          (passes_weaker (IsImage s.disk) (LeftBy s) (λ image left. inl left) s m rests.old)
+          (passes_weaker (λ image. IsImage m.disk image ⊎ HasRunAndCaches m.disk.published number run image) (LeftBy s) (left_by s m rests) m t passes.stops);
+      sound = sound_then s m t (rests_sound s m rests) passes.sound;
+    })

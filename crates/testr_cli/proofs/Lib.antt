@@ -17,6 +17,7 @@ pub mod FolderLemmas
 pub mod Resting
 pub mod SoundLemmas
 pub mod KeepingLaws
+pub mod RefusalLemmas
 pub mod ChainLemmas
 pub mod StepLaws
 pub mod CopyLaws
@@ -36,10 +37,9 @@ pub mod SuiteKeeps
 pub mod SuiteAsks
 pub mod SuiteMoves
 pub mod SuiteLaws
+pub mod SelfTestLaws
 pub mod PromiseLemmas
 pub mod Performing
-pub mod SuitePromises
-pub mod SelfTestLaws
 pub mod SelfTestRows
 pub mod SelectLemmas
 pub mod PlanLemmas

@@ -3,8 +3,8 @@ use Rattle.std.proofs.Common.{◌≡◌, ◌⊎◌, inl, inr, ℕ, Bool, Option,
 use Rattle.edge_io.specs.Disk.{Files, Folder, IsImage}
 use Rattle.edge_io.specs.Seen.{Seen}
 use Rattle.edge_io.specs.Steps.{Goes}
-use Rattle.edge_io.proofs.Going.{goes_from, goes_then, goes_weaker}
-use Rattle.edge_io.proofs.Passing.{passes_then, passes_weaker}
+use Rattle.edge_io.proofs.Going.{goes_from}
+use Rattle.edge_io.proofs.Passing.{passes_weaker}
 use Rattle.outcome_fold.specs.declared.row.Row.{Row}
 use Rattle.run_ledger.specs.Caches.{IsSound}
 use Rattle.run_ledger.specs.Reading.{AreRowsOf}
@@ -24,32 +24,18 @@ use Rattle.testr_cli.specs.Store.{Makes, Opens, TakesRun, Keeps}
 use Rattle.testr_cli.specs.declared.store.RunsFault.{RunsFault}
 use Rattle.testr_cli.specs.Refreshing.{Refreshes}
 use Rattle.testr_cli.specs.Reporting.{Report, Reports, Prints}
-use Rattle.testr_cli.specs.Stops.{HasLoadedRun, PassesLoad}
+use Rattle.testr_cli.specs.Stops.{HasLoadedRun}
 use Rattle.testr_cli.specs.Init.{Inits}
 use Rattle.testr_cli.specs.Load.{Loads}
 use Rattle.testr_cli.specs.declared.answer.Verdict.{Verdict}
 use Rattle.testr_cli.specs.declared.answer.Refusal.{Refusal}
 use Rattle.testr_cli.specs.declared.answer.Refusal.TheVariants.{Memory, Keep, Refresh, Print}
 use Rattle.testr_cli.proofs.SourcesLemmas.{IsRunOf, writes_run}
-use Rattle.testr_cli.proofs.Resting.{Rests, rests_then, rests_images}
-use Rattle.testr_cli.proofs.SoundLemmas.{IsCalm, PassesAll, rests_sound, sound_then, surveyed_calm, goes_rested}
-use Rattle.testr_cli.proofs.KeepingLaws.{keeps_moves}
+use Rattle.testr_cli.proofs.Resting.{Rests, rests_then}
+use Rattle.testr_cli.proofs.SoundLemmas.{IsCalm, PassesAll, surveyed_calm, goes_rested}
+use Rattle.testr_cli.proofs.KeepingLaws.{keeps_moves, Moves, quiet_moves, run_moves}
 use Rattle.testr_cli.proofs.ChainLemmas.{IsQuiet}
 use Rattle.testr_cli.proofs.StepLaws.{still_quiet, open_quiet, begin_quiet, record_quiet}
-
-abbrev LeftBy : Bool → List (List ℕ) → Option Files → Option (List ℕ) → Folder → Files → Type 0
-LeftBy partial names told left s image = IsImage s.disk image ⊎ HasLoadedRun partial names told left s.disk.published image
-
--- what a stop at each moment leaves, and that it is sound where it was
-pub record LoadMoves (partial : Bool) (names : List (List ℕ)) (told : Option Files) (left : Option (List ℕ)) (s t : Folder) : Type 0 where
-  pub stops : PassesLoad partial names told left s t
-  pub sound : KeepsSound s t
-
-pub quiet_moves : (partial : Bool) (names : List (List ℕ)) (told : Option Files) (left : Option (List ℕ)) (a b : Option Folder) → Goes a b Rests → Goes a b (LoadMoves partial names told left)
-quiet_moves partial names told left a b quiet = goes_weaker a b Rests (LoadMoves partial names told left) quiet (λ s t rests. record {
-  stops = passes_weaker (IsImage s.disk) (LeftBy partial names told left s) (λ image left. inl left) s t rests.old;
-  sound = rests_sound s t rests;
-})
 
 module _ (partial : Bool) (number : ℕ) (run : List ℕ) where
   abbrev Runs : Folder → Folder → Type 0
@@ -79,36 +65,31 @@ module _ (partial : Bool) (number : ℕ) (run : List ℕ) where
       beside = subst (λ (l : List ℕ). HasRunAndCaches files number (run_of partial l) image) records.packets beside;
     }
 
-    left_by : (s m : Folder) → Rests s m → (image : Files) → IsImage m.disk image ⊎ HasRunAndCaches m.disk.published number (run_of partial run) image → LeftBy partial names told left s image
-    left_by s m rests image (inl before) = inl (rests_images s m rests image before)
-    left_by s m rests image (inr beside) = inr (loaded_run s.disk.published image (subst (λ (files : Files). HasRunAndCaches files number (run_of partial run) image) rests.files beside))
-
-    run_moves : (a m b : Option Folder) → Goes a m Rests → Goes m b Runs → Goes a b (LoadMoves partial names told left)
-    run_moves a m b quiet runs = goes_then a m b Rests Runs (LoadMoves partial names told left) quiet runs (λ s m t rests passes. record {
-      stops =
-          passes_then (LeftBy partial names told left s) s m t
-          (passes_weaker (IsImage s.disk) (LeftBy partial names told left s) (λ image left. inl left) s m rests.old)
-          (passes_weaker (λ image. IsImage m.disk image ⊎ HasRunAndCaches m.disk.published number (run_of partial run) image) (LeftBy partial names told left s) (left_by s m rests) m t passes.stops);
-      sound = sound_then s m t (rests_sound s m rests) passes.sound;
-    })
-
 taken : (a m m2 : Work) (found : Found) → At work_folder Opens a m (Ok found) → Still {E = RunsFault} (TakesRun (length (kinds_of found))) m m2 (Ok tt) → IsQuiet a m2
 taken a m m2 found opened took = rests_then a.folder.told m.folder.told m2.folder.told (open_quiet a m (Ok found) opened.at) (still_quiet m m2 took.same)
 
-pub load_moves : (partial : Bool) (names : List (List ℕ)) (a b : Work) (result : Result Verdict Refusal) → Loads partial names a b result → Goes a.folder.told b.folder.told (LoadMoves partial names a.site.told a.input.told)
-load_moves partial names a b result (stops fault is step) = quiet_moves partial names a.site.told a.input.told a.folder.told b.folder.told (open_quiet a b (Err fault) step.at)
-load_moves partial names a b result (goes_on found m opened (stops fault is step)) = quiet_moves partial names a.site.told a.input.told a.folder.told b.folder.told (rests_then a.folder.told m.folder.told b.folder.told (open_quiet a m (Ok found) opened.at) (still_quiet m b step.same))
-load_moves partial names a b result (goes_on found m opened (goes_on _ m2 took (stops fault is step))) = quiet_moves partial names a.site.told a.input.told a.folder.told b.folder.told (rests_then a.folder.told m2.folder.told b.folder.told (taken a m m2 found opened took) (begin_quiet m2 b (Err fault) step.at))
-load_moves partial names a b result (goes_on found m opened (goes_on _ m2 took (goes_on _ m3 begun (stops refused is step)))) = quiet_moves partial names a.site.told a.input.told a.folder.told b.folder.told (rests_then a.folder.told m2.folder.told b.folder.told (taken a m m2 found opened took) (rests_then m2.folder.told m3.folder.told b.folder.told (begin_quiet m2 m3 (Ok tt) begun.at) (record_quiet m3 b names (Err refused) step)))
-load_moves partial names a b result (goes_on found m opened (goes_on _ m2 took (goes_on _ m3 begun (goes_on rows m4 recorded next)))) =
-    let input : m3.input ≡ a.input = (λ i. (begun.rest i).input) ∙ (λ i. (took.same i).input) ∙ (λ i. (opened.rest i).input) in
-    let site : m3.site ≡ a.site = (λ i. (begun.rest i).site) ∙ (λ i. (took.same i).site) ∙ (λ i. (opened.rest i).site) in
-    let all = writes_run names rows m3 m4 recorded in
-    let records : IsRunOf names a.site.told a.input.told all.run = subst (λ (s : Seen Files). IsRunOf names s.told a.input.told all.run) site (subst (λ (s : Seen (List ℕ)). IsRunOf names m3.site.told s.told all.run) input all.is) in
-    let written : Goes m2.folder.told m4.folder.told (Writes all.run) = goes_writes m2.folder.told m3.folder.told m4.folder.told all.run begun.at.begun all.written in
-    let quiet : IsQuiet m2 m4 = rests_then m2.folder.told m3.folder.told m4.folder.told (begin_quiet m2 m3 (Ok tt) begun.at) (record_quiet m3 m4 names (Ok rows) recorded) in
-    let calm : IfSome m2.folder.told IsCalm = subst (λ (w : Work). IfSome w.folder.told IsCalm) (sym took.same) (surveyed_calm (kinds_of found) a.folder.told m.folder.told opened.at.found) in
-    run_moves partial (length (kinds_of found)) all.run names a.site.told a.input.told records a.folder.told m2.folder.told b.folder.told (taken a m m2 found opened took) (reported_or_not partial (length (kinds_of found)) all.run m2.folder.told m4 b calm written quiet rows result all.rows_are next)
+module _ (partial : Bool) (names : List (List ℕ)) where
+  abbrev pub MovesFrom : Work → Work → Type 0
+  MovesFrom a b = Goes a.folder.told b.folder.told (Moves (HasLoadedRun partial names a.site.told a.input.told))
+
+  quiet_from : (a b : Work) → IsQuiet a b → MovesFrom a b
+  quiet_from a b quiet = quiet_moves (HasLoadedRun partial names a.site.told a.input.told) a.folder.told b.folder.told quiet
+
+  pub load_moves : (a b : Work) (result : Result Verdict Refusal) → Loads partial names a b result → MovesFrom a b
+  load_moves a b result (stops fault is step) = quiet_from a b (open_quiet a b (Err fault) step.at)
+  load_moves a b result (goes_on found m opened (stops fault is step)) = quiet_from a b (rests_then a.folder.told m.folder.told b.folder.told (open_quiet a m (Ok found) opened.at) (still_quiet m b step.same))
+  load_moves a b result (goes_on found m opened (goes_on _ m2 took (stops fault is step))) = quiet_from a b (rests_then a.folder.told m2.folder.told b.folder.told (taken a m m2 found opened took) (begin_quiet m2 b (Err fault) step.at))
+  load_moves a b result (goes_on found m opened (goes_on _ m2 took (goes_on _ m3 begun (stops refused is step)))) = quiet_from a b (rests_then a.folder.told m2.folder.told b.folder.told (taken a m m2 found opened took) (rests_then m2.folder.told m3.folder.told b.folder.told (begin_quiet m2 m3 (Ok tt) begun.at) (record_quiet m3 b names (Err refused) step)))
+  load_moves a b result (goes_on found m opened (goes_on _ m2 took (goes_on _ m3 begun (goes_on rows m4 recorded next)))) =
+      let input : m3.input ≡ a.input = (λ i. (begun.rest i).input) ∙ (λ i. (took.same i).input) ∙ (λ i. (opened.rest i).input) in
+      let site : m3.site ≡ a.site = (λ i. (begun.rest i).site) ∙ (λ i. (took.same i).site) ∙ (λ i. (opened.rest i).site) in
+      let all = writes_run names rows m3 m4 recorded in
+      let records : IsRunOf names a.site.told a.input.told all.run = subst (λ (s : Seen Files). IsRunOf names s.told a.input.told all.run) site (subst (λ (s : Seen (List ℕ)). IsRunOf names m3.site.told s.told all.run) input all.is) in
+      let written : Goes m2.folder.told m4.folder.told (Writes all.run) = goes_writes m2.folder.told m3.folder.told m4.folder.told all.run begun.at.begun all.written in
+      let quiet : IsQuiet m2 m4 = rests_then m2.folder.told m3.folder.told m4.folder.told (begin_quiet m2 m3 (Ok tt) begun.at) (record_quiet m3 m4 names (Ok rows) recorded) in
+      let calm : IfSome m2.folder.told IsCalm = subst (λ (w : Work). IfSome w.folder.told IsCalm) (sym took.same) (surveyed_calm (kinds_of found) a.folder.told m.folder.told opened.at.found) in
+      let number = length (kinds_of found) in
+      run_moves (HasLoadedRun partial names a.site.told a.input.told) number (run_of partial all.run) (loaded_run partial number all.run names a.site.told a.input.told records) a.folder.told m2.folder.told b.folder.told (taken a m m2 found opened took) (reported_or_not partial number all.run m2.folder.told m4 b calm written quiet rows result all.rows_are next)
 
 pub init_moves : (a b : Seen Folder) (result : Result Verdict Refusal) → Inits a b result → Goes a.told b.told PassesFormat
 init_moves a b result (stops fault is step) = step.any_moment

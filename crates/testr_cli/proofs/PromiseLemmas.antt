@@ -1,139 +1,228 @@
 -- An answer keeps all that is promised.
-use Rattle.std.proofs.Common.{◌≡◌, ◌⊎◌, inl, inr, ℕ, ◌≤◌, Bool, Option, None, Some, Result, Ok, Err, List, refl, sym, ap, subst, ◌∙◌, IsTrue, true, false, arith}
+use Rattle.std.proofs.Common.{◌≡◌, ◌⊎◌, inl, inr, ℕ, ◌≤◌, Bool, Option, None, Some, Result, Ok, Err, List, ◌∷◌, refl, sym, ap, subst, ◌∙◌, IsTrue, true, false, arith}
 use Rattle.edge_io.specs.Disk.{Folder, IsImage}
 use Rattle.edge_io.specs.Steps.{Goes, Stays}
 use Rattle.edge_io.proofs.Going.{goes_weaker}
 use Rattle.edge_io.proofs.Passing.{passes_weaker}
 use Rattle.run_ledger.specs.Refreshing.{KeepsSound}
-use Rattle.run_shelf.specs.Images.{MakesRepository, PassesOld, PassesFormat, HasFormatBeside}
-use Rattle.testr_cli.specs.Outside.{Outside, Work, work_of, shown, SomeRose, SameCounts, RisesAt}
-use Rattle.testr_cli.specs.Tasks.{Task, init, load, ask}
+use Rattle.run_shelf.specs.Images.{PassesOld, PassesFormat, HasFormatBeside}
+use Rattle.testr_cli.specs.Answer.{refusal_code, code_of, place_in, may_have_kept, IsChildFault}
+use Rattle.testr_cli.specs.Outside.{Outside, Work, work_of, shown, work_out, Place, SomeRose, SameCounts, RisesAt}
+use Rattle.testr_cli.specs.Program.{Performs, Does, CanPerform, Leaves, StartsPrograms, SomeFailed, IsPerformed, GivesUp, Answers, Promises, AnswersQuestion, TestrPromises}
+use Rattle.testr_cli.specs.Runs.{KeepsFiles, KeepsRuns}
+use Rattle.testr_cli.specs.Stops.{PassesTask, PassesLoad, HasLoadedRun}
+use Rattle.testr_cli.specs.SuiteStops.{PassesSuiteRun, HasSuiteRun}
+use Rattle.testr_cli.specs.Suites.{is_partial}
+use Rattle.testr_cli.specs.Tasks.{Task, init, load, ask, list, run, selftest}
 use Rattle.testr_cli.specs.Verdicts.{verdict_code}
-use Rattle.testr_cli.specs.Runs.{KeepsFiles}
-use Rattle.testr_cli.specs.Answer.{refusal_code, code_of, place_in, may_have_kept}
-use Rattle.testr_cli.specs.Stops.{PassesCommand, PassesLoad}
-use Rattle.testr_cli.specs.Program.{Performs, GivesUp, Answers, Promises, KeepsRuns, LoadsAll, AnswersQuestion, CanPerform, IsPerformed}
-use Rattle.testr_cli.specs.declared.command.Question.{Question}
+use Rattle.testr_cli.specs.Words.{testr_word}
 use Rattle.testr_cli.specs.declared.answer.Verdict.{Verdict}
 use Rattle.testr_cli.specs.declared.answer.Verdict.TheVariants.{Passed, Failed}
 use Rattle.testr_cli.specs.declared.answer.Refusal.{Refusal}
-use Rattle.testr_cli.proofs.Resting.{Rests, rests_same}
-use Rattle.testr_cli.proofs.SoundLemmas.{rests_sound}
-use Rattle.testr_cli.proofs.ChainLemmas.{IsRefused}
-use Rattle.testr_cli.proofs.StepLaws.{still_counts}
-use Rattle.testr_cli.proofs.CommandLaws.{load_refuses, load_counts, ask_refuses, ask_counts, ask_quiet, init_refuses, init_counts}
-use Rattle.testr_cli.proofs.MomentLaws.{LoadMoves, quiet_moves, init_moves, init_sound, load_moves}
-use Rattle.testr_cli.proofs.DoneLaws.{init_made, init_passed, load_did, ask_did}
+use Rattle.testr_cli.specs.declared.command.Question.{Question}
+use Rattle.testr_cli.specs.declared.drawing.Drawing.{Drawing}
 use Rattle.testr_cli.proofs.CauseLaws.{init_never, load_never, ask_never}
+use Rattle.testr_cli.proofs.ChainLemmas.{IsRefused}
+use Rattle.testr_cli.proofs.CommandLaws.{load_refuses, load_counts, load_beside, ask_refuses, ask_counts, ask_quiet, init_refuses, init_counts}
+use Rattle.testr_cli.proofs.DoneLaws.{init_made, init_passed, load_did, ask_did}
 use Rattle.testr_cli.proofs.KeepLemmas.{files_keep, keeps_runs, init_keeps, load_keeps}
+use Rattle.testr_cli.proofs.KeepingLaws.{Moves, quiet_moves}
+use Rattle.testr_cli.proofs.MomentLaws.{init_moves, init_sound, load_moves}
+use Rattle.testr_cli.proofs.RefusalLemmas.{codes, IsFault, of_part, of_child, faults, some_rose}
+use Rattle.testr_cli.proofs.Resting.{Rests, rests_same}
+use Rattle.testr_cli.proofs.SelfTestLaws.{selftest_beside, selftest_failed, selftest_never, selftest_did}
+use Rattle.testr_cli.proofs.SoundLemmas.{rests_sound}
+use Rattle.testr_cli.proofs.StepLaws.{still_counts}
+use Rattle.testr_cli.proofs.SuiteCauses.{NoCause, list_never}
+use Rattle.testr_cli.proofs.SuiteDone.{list_did, run_did}
+use Rattle.testr_cli.proofs.SuiteKeeps.{run_keeps}
+use Rattle.testr_cli.proofs.SuiteLaws.{list_refused, list_counted, run_refused, run_counted, selftest_refused, selftest_counted}
+use Rattle.testr_cli.proofs.SuiteMoves.{run_suite_moves}
+use Rattle.testr_cli.proofs.SuiteNever.{run_never}
+use Rattle.testr_cli.proofs.SuiteQuiet.{list_same}
 
-pub verdicts : (v : Verdict) → verdict_code v ≤ 1
+verdicts : (v : Verdict) → verdict_code v ≤ 1
 verdicts Passed = omega arith
 verdicts Failed = omega arith
 
-pub stays : (x y : Option Folder) → y ≡ x → Goes x y Stays
+stays : (x y : Option Folder) → y ≡ x → Goes x y Stays
 stays None None same = tt
 stays None (Some t) same = cc
 stays (Some s) None same = cc
 stays (Some s) (Some t) same = cc
 
-module _ (a b : Work) where
-  refused : (command : Task) (r : Refusal) → Performs (Some command) a b (Err r) → IsRefused r a b
-  refused init r done = subst (IsRefused r a) (sym done.rest) (init_refuses a.site a.spawner a.input a.out a.folder b.folder r done.at)
-  refused (load partial names) r done = load_refuses partial names a b r done
-  refused (ask question) r done = subst (IsRefused r a) (sym done.rest) (ask_refuses a.site a.spawner a.input question (shown a.folder a.out) (shown b.folder b.out) r done.at)
+-- a fault is that of a part, whose count rose, or that of a child
+by_fault : (Starts : Type 0) (r : Refusal) (a b : Work) → IsRefused Starts r a b → IsFault r → SomeRose a b ⊎ (Starts × IsChildFault (Err r))
+by_fault Starts r a b is (of_part place at) = inl (some_rose place a b (subst (λ (p : Option Place). RisesAt p a b) at is.counts))
+by_fault Starts r a b is (of_child child) = inr (is.child child, child)
 
-  counted : (command : Task) (v : Verdict) → Performs (Some command) a b (Ok v) → SameCounts a b
+-- no cause is left but want of memory
+by_code : (answer code : ℕ) → answer ≡ code → 3 ≤ code → code ≤ 5 → (code ≡ 3 → ⊥) → (code ≡ 4 → ⊥) → answer ≡ 5
+by_code answer code same least most three four = omega arith
+
+no_fault : {A B C : Type 0} → (A → ⊥) → (C → ⊥) → A ⊎ (B × C) → ⊥
+no_fault none child (inl rose) = none rose
+no_fault none child (inr given) = child given.1
+
+-- ---- where the folder is as it was
+
+module _ (a b : Work) (same : b.folder ≡ a.folder) where
+  same_quiet : Goes a.folder.told b.folder.told Rests
+  same_quiet = rests_same a.folder.told b.folder.told (λ i. (same i).told)
+
+  same_sound : Goes a.folder.told b.folder.told KeepsSound
+  same_sound = goes_weaker a.folder.told b.folder.told Rests KeepsSound same_quiet rests_sound
+
+  same_runs : Goes a.folder.told b.folder.told KeepsRuns
+  same_runs = goes_weaker a.folder.told b.folder.told Rests KeepsRuns same_quiet keeps_runs
+
+  same_moments : (asked : Option Task) → Goes a.folder.told b.folder.told (PassesTask asked a)
+  same_moments (Some init) = goes_weaker a.folder.told b.folder.told Rests PassesFormat same_quiet (λ s t rests. passes_weaker (IsImage s.disk) (λ image. IsImage s.disk image ⊎ HasFormatBeside s.disk.published image) (λ image left. inl left) s t rests.old)
+  same_moments (Some (load partial names)) = goes_weaker a.folder.told b.folder.told (Moves (HasLoadedRun partial names a.site.told a.input.told)) (PassesLoad partial names a.site.told a.input.told) (quiet_moves (HasLoadedRun partial names a.site.told a.input.told) a.folder.told b.folder.told same_quiet) (λ s t moves. moves.stops)
+  same_moments (Some (ask question)) = goes_weaker a.folder.told b.folder.told Rests PassesOld same_quiet (λ s t rests. rests.old)
+  same_moments (Some (run options)) = goes_weaker a.folder.told b.folder.told (Moves (HasSuiteRun (is_partial options) a.spawner.told)) (PassesSuiteRun (is_partial options) a.spawner.told) (quiet_moves (HasSuiteRun (is_partial options) a.spawner.told) a.folder.told b.folder.told same_quiet) (λ s t moves. moves.stops)
+  same_moments asked = stays a.folder.told b.folder.told (λ i. (same i).told)
+
+-- ---- from the chains: a line for each task
+
+module _ (a b : Work) where
+  refused : (task : Task) (r : Refusal) → Performs (Some task) a b (Err r) → IsRefused (StartsPrograms (Some task)) r a b
+  refused init r done = subst (λ (w : Work). IsRefused ⊥ r a w) (sym done.rest) (init_refuses a.site a.spawner a.input a.out a.folder b.folder r done.at)
+  refused (load partial names) r done = load_refuses partial names a b r done
+  refused (ask question) r done = subst (λ (w : Work). IsRefused ⊥ r a w) (sym done.rest) (ask_refuses a.site a.spawner a.input question (shown a.folder a.out) (shown b.folder b.out) r done.at)
+  refused (list patterns) r done = list_refused patterns a b r done
+  refused (run options) r done = run_refused options a b r done
+  refused (selftest drawing) r done = selftest_refused drawing a b r done
+
+  counted : (task : Task) (v : Verdict) → Performs (Some task) a b (Ok v) → SameCounts a b
   counted init v done = subst (SameCounts a) (sym done.rest) (init_counts a.site a.spawner a.input a.out a.folder b.folder v done.at)
   counted (load partial names) v done = load_counts partial names a b v done
   counted (ask question) v done = subst (SameCounts a) (sym done.rest) (ask_counts a.site a.spawner a.input question (shown a.folder a.out) (shown b.folder b.out) v done.at)
+  counted (list patterns) v done = list_counted patterns a b v done
+  counted (run options) v done = run_counted options a b v done
+  counted (selftest drawing) v done = selftest_counted drawing a b v done
 
-  counts_of : (command : Option Task) (outcome : Result Verdict Refusal) → Performs command a b outcome → RisesAt (place_in outcome) a b
-  counts_of None outcome done = subst (λ (r : Result Verdict Refusal). RisesAt (place_in r) a b) (sym done.usage) (still_counts a b done.same)
-  counts_of (Some command) (Ok v) done = counted command v done
-  counts_of (Some command) (Err r) done = (refused command r done).counts
+  failed : (task : Task) (r : Refusal) → Performs (Some task) a b (Err r) → refusal_code r ≡ 4 → SomeFailed (Some task) a b ⊎ (StartsPrograms (Some task) × IsChildFault (Err r))
+  failed (selftest drawing) r done four = inl (selftest_failed drawing a b r done four)
+  failed task r done four = by_fault (StartsPrograms (Some task)) r a b (refused task r done) (faults r four)
 
-  moments_of : (command : Option Task) (outcome : Result Verdict Refusal) → Performs command a b outcome → Goes a.folder.told b.folder.told (PassesCommand command a.site.told a.input.told)
-  moments_of None outcome done = stays a.folder.told b.folder.told (λ i. (done.same i).folder.told)
+  asked_rests : (question : Question) (outcome : Result Verdict Refusal) → Performs (Some (ask question)) a b outcome → Goes a.folder.told b.folder.told Rests
+  asked_rests question outcome done = ask_quiet a.site a.spawner a.input question (shown a.folder a.out) (shown b.folder b.out) outcome done.at
+
+  tested : (drawing : Drawing) (outcome : Result Verdict Refusal) → Performs (Some (selftest drawing)) a b outcome → work_out.put b a.out ≡ work_out.put a a.out
+  tested drawing outcome done = selftest_beside a.out drawing a b outcome done
+
+  moments_of : (asked : Option Task) (outcome : Result Verdict Refusal) → Performs asked a b outcome → Goes a.folder.told b.folder.told (PassesTask asked a)
+  moments_of None outcome done = same_moments a b (λ i. (done.same i).folder) None
   moments_of (Some init) outcome done = init_moves a.folder b.folder outcome done.at
-  moments_of (Some (load partial names)) outcome done = goes_weaker a.folder.told b.folder.told (LoadMoves partial names a.site.told a.input.told) (PassesLoad partial names a.site.told a.input.told) (load_moves partial names a b outcome done) (λ s t moves. moves.stops)
-  moments_of (Some (ask question)) outcome done = goes_weaker a.folder.told b.folder.told Rests PassesOld (ask_quiet a.site a.spawner a.input question (shown a.folder a.out) (shown b.folder b.out) outcome done.at) (λ s t rests. rests.old)
+  moments_of (Some (load partial names)) outcome done = goes_weaker a.folder.told b.folder.told (Moves (HasLoadedRun partial names a.site.told a.input.told)) (PassesLoad partial names a.site.told a.input.told) (load_moves partial names a b outcome done) (λ s t moves. moves.stops)
+  moments_of (Some (ask question)) outcome done = goes_weaker a.folder.told b.folder.told Rests PassesOld (asked_rests question outcome done) (λ s t rests. rests.old)
+  moments_of (Some (list patterns)) outcome done = same_moments a b (list_same patterns a b outcome done) (Some (list patterns))
+  moments_of (Some (run options)) outcome done = goes_weaker a.folder.told b.folder.told (Moves (HasSuiteRun (is_partial options) a.spawner.told)) (PassesSuiteRun (is_partial options) a.spawner.told) (run_suite_moves options a b outcome done) (λ s t moves. moves.stops)
+  moments_of (Some (selftest drawing)) outcome done = same_moments a b (λ i. (tested drawing outcome done i).folder) (Some (selftest drawing))
 
-  quiet_sound : Goes a.folder.told b.folder.told Rests → Goes a.folder.told b.folder.told KeepsSound
-  quiet_sound quiet = goes_weaker a.folder.told b.folder.told Rests KeepsSound quiet rests_sound
-
-  sound_of : (command : Option Task) (outcome : Result Verdict Refusal) → Performs command a b outcome → Goes a.folder.told b.folder.told KeepsSound
-  sound_of None outcome done = quiet_sound (rests_same a.folder.told b.folder.told (λ i. (done.same i).folder.told))
+  sound_of : (asked : Option Task) (outcome : Result Verdict Refusal) → Performs asked a b outcome → Goes a.folder.told b.folder.told KeepsSound
+  sound_of None outcome done = same_sound a b (λ i. (done.same i).folder)
   sound_of (Some init) outcome done = init_sound a.folder b.folder outcome done.at
-  sound_of (Some (load partial names)) outcome done = goes_weaker a.folder.told b.folder.told (LoadMoves partial names a.site.told a.input.told) KeepsSound (load_moves partial names a b outcome done) (λ s t moves. moves.sound)
-  sound_of (Some (ask question)) outcome done = quiet_sound (ask_quiet a.site a.spawner a.input question (shown a.folder a.out) (shown b.folder b.out) outcome done.at)
+  sound_of (Some (load partial names)) outcome done = goes_weaker a.folder.told b.folder.told (Moves (HasLoadedRun partial names a.site.told a.input.told)) KeepsSound (load_moves partial names a b outcome done) (λ s t moves. moves.sound)
+  sound_of (Some (ask question)) outcome done = goes_weaker a.folder.told b.folder.told Rests KeepsSound (asked_rests question outcome done) rests_sound
+  sound_of (Some (list patterns)) outcome done = same_sound a b (list_same patterns a b outcome done)
+  sound_of (Some (run options)) outcome done = goes_weaker a.folder.told b.folder.told (Moves (HasSuiteRun (is_partial options) a.spawner.told)) KeepsSound (run_suite_moves options a b outcome done) (λ s t moves. moves.sound)
+  sound_of (Some (selftest drawing)) outcome done = same_sound a b (λ i. (tested drawing outcome done i).folder)
 
-  kept_of : (command : Option Task) (outcome : Result Verdict Refusal) → Performs command a b outcome → may_have_kept command outcome ≡ false → Goes a.folder.told b.folder.told KeepsRuns
-  kept_of None outcome done not = goes_weaker a.folder.told b.folder.told Rests KeepsRuns (rests_same a.folder.told b.folder.told (λ i. (done.same i).folder.told)) keeps_runs
+  kept_of : (asked : Option Task) (outcome : Result Verdict Refusal) → Performs asked a b outcome → may_have_kept asked outcome ≡ false → Goes a.folder.told b.folder.told KeepsRuns
+  kept_of None outcome done not = same_runs a b (λ i. (done.same i).folder)
   kept_of (Some init) outcome done not = init_keeps a.folder b.folder outcome done.at
   kept_of (Some (load partial names)) (Ok v) done not = cc
   kept_of (Some (load partial names)) (Err r) done not = goes_weaker a.folder.told b.folder.told KeepsFiles KeepsRuns (load_keeps partial names a b r done not) files_keep
-  kept_of (Some (ask question)) outcome done not = goes_weaker a.folder.told b.folder.told Rests KeepsRuns (ask_quiet a.site a.spawner a.input question (shown a.folder a.out) (shown b.folder b.out) outcome done.at) keeps_runs
+  kept_of (Some (ask question)) outcome done not = goes_weaker a.folder.told b.folder.told Rests KeepsRuns (asked_rests question outcome done) keeps_runs
+  kept_of (Some (list patterns)) outcome done not = same_runs a b (list_same patterns a b outcome done)
+  kept_of (Some (run options)) (Ok v) done not = cc
+  kept_of (Some (run options)) (Err r) done not = goes_weaker a.folder.told b.folder.told KeepsFiles KeepsRuns (run_keeps options a b r done not) files_keep
+  kept_of (Some (selftest drawing)) outcome done not = same_runs a b (λ i. (tested drawing outcome done i).folder)
+
+  did_of : (task : Task) (v : Verdict) → Performs (Some task) a b (Ok v) → Does (Some task) a b (verdict_code v)
+  did_of init v done = (init_made a.folder b.folder v done.at, init_passed a.folder b.folder v done.at)
+  did_of (load partial names) v done = load_did partial names a b v done
+  did_of (ask question) v done = subst (λ (w : Work). AnswersQuestion question a w (verdict_code v)) (sym done.rest) (ask_did question a.site a.spawner a.input (shown a.folder a.out) (shown b.folder b.out) v done.at)
+  did_of (list patterns) v done = list_did patterns a b v done
+  did_of (run options) v done = run_did options a b v done
+  did_of (selftest drawing) v done = selftest_did drawing a b v done
+
+  -- a task that starts no program has no fault of one
+  no_child : (task : Task) (r : Refusal) → (StartsPrograms (Some task) → ⊥) → Performs (Some task) a b (Err r) → IsChildFault (Err r) → ⊥
+  no_child task r starts done child = starts ((refused task r done).child child)
+
+  never_of : (task : Task) (r : Refusal) → Performs (Some task) a b (Err r) → CanPerform (Some task) a → NoCause r
+  never_of init r done can =
+      let four = init_never a.folder b.folder r done.at can in
+      ((λ three. omega (arith, four, three)), no_child init r (λ starts. starts) done)
+  never_of (load partial names) r done can = (load_never partial names a b r done can, no_child (load partial names) r (λ starts. starts) done)
+  never_of (ask question) r done can = (ask_never question a.site a.spawner a.input (shown a.folder a.out) (shown b.folder b.out) r done.at can, no_child (ask question) r (λ starts. starts) done)
+  never_of (list patterns) r done can = list_never patterns a b r done can
+  never_of (run options) r done can = run_never options a b r done can
+  never_of (selftest drawing) r done can = (selftest_never drawing a b r done, no_child (selftest drawing) r (λ starts. starts) done)
+
+  -- ---- from these: once for all
+
+  counts_of : (asked : Option Task) (outcome : Result Verdict Refusal) → Performs asked a b outcome → RisesAt (place_in outcome) a b
+  counts_of None outcome done = subst (λ (r : Result Verdict Refusal). RisesAt (place_in r) a b) (sym done.usage) (still_counts a b done.same)
+  counts_of (Some task) (Ok v) done = counted task v done
+  counts_of (Some task) (Err r) done = (refused task r done).counts
 
   module _ (answer : ℕ) where
-    usage_of : (command : Option Task) (outcome : Result Verdict Refusal) → Performs command a b outcome → answer ≡ code_of outcome → (answer ≡ 2 → command ≡ None) × (command ≡ None → answer ≡ 2)
+    usage_of : (asked : Option Task) (outcome : Result Verdict Refusal) → Performs asked a b outcome → answer ≡ code_of outcome → (answer ≡ 2 → asked ≡ None) × (asked ≡ None → answer ≡ 2)
     usage_of None outcome done code = (λ two. refl, λ none. code ∙ ap code_of done.usage)
-    usage_of (Some command) (Ok v) done code = (λ two. absurd (omega (arith, verdicts v, code, two)), λ none. cc)
-    usage_of (Some command) (Err r) done code = (λ two. absurd (omega (arith, code, two, (refused command r done).least)), λ none. cc)
+    usage_of (Some task) (Ok v) done code = (λ two. absurd (omega (arith, verdicts v, code, two)), λ none. cc)
+    usage_of (Some task) (Err r) done code = (λ two. absurd (omega (arith, code, two, (codes r (refused task r done).named).least)), λ none. cc)
 
-    fault_of : (command : Option Task) (outcome : Result Verdict Refusal) → Performs command a b outcome → answer ≡ code_of outcome → answer ≡ 4 → SomeRose a b
+    fault_of : (asked : Option Task) (outcome : Result Verdict Refusal) → Performs asked a b outcome → answer ≡ code_of outcome → answer ≡ 4 → SomeFailed asked a b ⊎ (StartsPrograms asked × IsChildFault outcome)
     fault_of None outcome done code four =
-        let two = code ∙ ap code_of done.usage in
+        let two : answer ≡ 2 = code ∙ ap code_of done.usage in
         absurd (omega (arith, two, four))
-    fault_of (Some command) (Ok v) done code four = absurd (omega (arith, verdicts v, code, four))
-    fault_of (Some command) (Err r) done code four = (refused command r done).fault (sym code ∙ four)
+    fault_of (Some task) (Ok v) done code four = absurd (omega (arith, verdicts v, code, four))
+    fault_of (Some task) (Err r) done code four = failed task r done (sym code ∙ four)
 
-    made_of : (outcome : Result Verdict Refusal) → Performs (Some init) a b outcome → answer ≡ code_of outcome → answer ≡ 0 → Goes a.folder.told b.folder.told MakesRepository
-    made_of (Ok v) done code zero = init_made a.folder b.folder v done.at
-    made_of (Err r) done code zero = absurd (omega (arith, code, zero, (refused init r done).least))
+    did_at : (asked : Option Task) (outcome : Result Verdict Refusal) → Performs asked a b outcome → answer ≡ code_of outcome → answer ≤ 1 → Does asked a b answer
+    did_at None outcome done code few =
+        let two : answer ≡ 2 = code ∙ ap code_of done.usage in
+        omega (arith, two, few)
+    did_at (Some task) (Ok v) done code few = subst (λ (n : ℕ). Does (Some task) a b n) (sym code) (did_of task v done)
+    did_at (Some task) (Err r) done code few = absurd (omega (arith, code, few, (codes r (refused task r done).named).least))
 
-    loaded_of : (partial : Bool) (names : List (List ℕ)) (outcome : Result Verdict Refusal) → Performs (Some (load partial names)) a b outcome → answer ≡ code_of outcome → answer ≤ 1 → LoadsAll partial names a b answer
-    loaded_of partial names (Ok v) done code less = subst (λ (n : ℕ). LoadsAll partial names a b n) (sym code) (load_did partial names a b v done)
-    loaded_of partial names (Err r) done code less = absurd (omega (arith, code, less, (refused (load partial names) r done).least))
+    few_or_five : (task : Task) (outcome : Result Verdict Refusal) → Performs (Some task) a b outcome → answer ≡ code_of outcome → CanPerform (Some task) a → (SomeFailed (Some task) a b → ⊥) → (answer ≤ 1) ⊎ (answer ≡ 5)
+    few_or_five task (Ok v) done code can none = inl (omega (arith, verdicts v, code))
+    few_or_five task (Err r) done code can none =
+        let is = codes r (refused task r done).named in
+        let never = never_of task r done can in
+        inr (by_code answer (refusal_code r) code is.least is.most never.0 (λ four. no_fault none never.1 (failed task r done four)))
 
-    asked_of : (question : Question) (outcome : Result Verdict Refusal) → Performs (Some (ask question)) a b outcome → answer ≡ code_of outcome → answer ≤ 1 → AnswersQuestion question a b answer
-    asked_of question (Ok v) done code less = subst (λ (n : ℕ). AnswersQuestion question a b n) (sym code) (subst (λ (w : Work). AnswersQuestion question a w (verdict_code v)) (sym done.rest) (ask_did question a.site a.spawner a.input (shown a.folder a.out) (shown b.folder b.out) v done.at))
-    asked_of question (Err r) done code less = absurd (omega (arith, code, less, (refused (ask question) r done).least))
-
-    five : (command : Task) (r : Refusal) → Performs (Some command) a b (Err r) → answer ≡ refusal_code r → (refusal_code r ≡ 3 → ⊥) → (SomeRose a b → ⊥) → answer ≡ 5
-    five command r done code three none = by answer (refusal_code r) code is.least is.most three (λ four. none (is.fault four))
-      where
-        is : IsRefused r a b
-        is = refused command r done
-
-        by : (answer code : ℕ) → answer ≡ code → 3 ≤ code → code ≤ 5 → (code ≡ 3 → ⊥) → (code ≡ 4 → ⊥) → answer ≡ 5
-        by answer code same least most three four = omega arith
-
-    complete_of : (command : Option Task) (outcome : Result Verdict Refusal) → Performs command a b outcome → answer ≡ code_of outcome → CanPerform command a → (SomeRose a b → ⊥) → IsPerformed command answer
+    complete_of : (asked : Option Task) (outcome : Result Verdict Refusal) → Performs asked a b outcome → answer ≡ code_of outcome → CanPerform asked a → (SomeFailed asked a b → ⊥) → IsPerformed asked answer
     complete_of None outcome done code can none = can
     complete_of (Some init) (Ok v) done code can none = code ∙ init_passed a.folder b.folder v done.at
-    complete_of (Some init) (Err r) done code can none = absurd (none ((refused init r done).fault (init_never a.folder b.folder r done.at can)))
-    complete_of (Some (load partial names)) (Ok v) done code can none = inl (omega (arith, verdicts v, code))
-    complete_of (Some (load partial names)) (Err r) done code can none = inr (five (load partial names) r done code (load_never partial names a b r done can) none)
-    complete_of (Some (ask question)) (Ok v) done code can none = inl (omega (arith, verdicts v, code))
-    complete_of (Some (ask question)) (Err r) done code can none = inr (five (ask question) r done code (ask_never question a.site a.spawner a.input (shown a.folder a.out) (shown b.folder b.out) r done.at can) none)
+    complete_of (Some init) (Err r) done code can none = absurd (no_fault none (no_child init r (λ starts. starts) done) (failed init r done (init_never a.folder b.folder r done.at can)))
+    complete_of (Some task) outcome done code can none = few_or_five task outcome done code can none
 
--- where memory was wanting for the words
-module _ (a b : Work) (outcome : Result Verdict Refusal) (gives : GivesUp a b outcome) where
-  pub gave_up_quiet : Goes a.folder.told b.folder.told Rests
-  gave_up_quiet = rests_same a.folder.told b.folder.told (λ i. (gives.same i).folder.told)
+-- ---- what stays
 
-  pub gave_up_sound : Goes a.folder.told b.folder.told KeepsSound
-  gave_up_sound = goes_weaker a.folder.told b.folder.told Rests KeepsSound gave_up_quiet rests_sound
+leaves_of : (before after : Outside) (asked : Option Task) (outcome : Result Verdict Refusal) → Performs asked (work_of before) (work_of after) outcome → Leaves asked before after
+leaves_of before after None outcome done = λ i. (done.same i).spawner
+leaves_of before after (Some init) outcome done = λ i. (done.rest i).spawner
+leaves_of before after (Some (load partial names)) outcome done = load_beside partial names (work_of before) (work_of after) outcome done
+leaves_of before after (Some (ask question)) outcome done = λ i. (done.rest i).spawner
+leaves_of before after (Some (list patterns)) outcome done = tt
+leaves_of before after (Some (run options)) outcome done = tt
+leaves_of before after (Some (selftest drawing)) outcome done =
+    let same = tested (work_of before) (work_of after) drawing outcome done in
+    record { folder = λ i. (same i).folder; site = λ i. (same i).site; spawner = λ i. (same i).spawner; input = λ i. (same i).input }
 
-  pub gave_up_counts : RisesAt (place_in outcome) a b
-  gave_up_counts = subst (λ (r : Result Verdict Refusal). RisesAt (place_in r) a b) (sym gives.memory) (still_counts a b gives.same)
+leaves_all : (before after : Outside) (asked : Option Task) → work_of after ≡ work_of before → Leaves asked before after
+leaves_all before after (Some (list patterns)) same = tt
+leaves_all before after (Some (run options)) same = tt
+leaves_all before after (Some (selftest drawing)) same = record { folder = λ i. (same i).folder; site = λ i. (same i).site; spawner = λ i. (same i).spawner; input = λ i. (same i).input }
+leaves_all before after asked same = λ i. (same i).spawner
 
-  gave_up_moments : (asked : Option Task) → Goes a.folder.told b.folder.told (PassesCommand asked a.site.told a.input.told)
-  gave_up_moments None = stays a.folder.told b.folder.told (λ i. (gives.same i).folder.told)
-  gave_up_moments (Some init) = goes_weaker a.folder.told b.folder.told Rests PassesFormat gave_up_quiet (λ s t rests. passes_weaker (IsImage s.disk) (λ image. IsImage s.disk image ⊎ HasFormatBeside s.disk.published image) (λ image left. inl left) s t rests.old)
-  gave_up_moments (Some (load partial names)) = goes_weaker a.folder.told b.folder.told (LoadMoves partial names a.site.told a.input.told) (PassesLoad partial names a.site.told a.input.told) (quiet_moves partial names a.site.told a.input.told a.folder.told b.folder.told gave_up_quiet) (λ s t moves. moves.stops)
-  gave_up_moments (Some (ask question)) = goes_weaker a.folder.told b.folder.told Rests PassesOld gave_up_quiet (λ s t rests. rests.old)
+-- ---- the promises
 
 module _ (reading : Bool) (asked : Option Task) (before after : Outside) (answer : ℕ) where
   abbrev a : Work
@@ -141,9 +230,6 @@ module _ (reading : Bool) (asked : Option Task) (before after : Outside) (answer
 
   abbrev b : Work
   b = work_of after
-
-  as_named : {named : Task} (outcome : Result Verdict Refusal) → asked ≡ Some named → Performs asked a b outcome → Performs (Some named) a b outcome
-  as_named outcome is done = subst (λ c. Performs c a b outcome) is done
 
   performed : (answers : Answers reading asked before after answer) → Performs asked a b answers.outcome → Promises reading asked before after answer
   performed answers done =
@@ -155,30 +241,30 @@ module _ (reading : Bool) (asked : Option Task) (before after : Outside) (answer
         usage = (usage_of a b answer asked outcome done code).0;
         no_command = λ none. inl ((usage_of a b answer asked outcome done code).1 none);
         fault = fault_of a b answer asked outcome done code;
+        leaves = leaves_of before after asked outcome done;
         kept = kept_of a b asked outcome done;
         any_moment = moments_of a b asked outcome done;
         sound = sound_of a b asked outcome done;
-        made = λ is. made_of a b answer outcome (as_named outcome is done) code;
-        loaded = λ partial names is. loaded_of a b answer partial names outcome (as_named outcome is done) code;
-        answered = λ question is. asked_of a b answer question outcome (as_named outcome is done) code;
+        did = did_at a b answer asked outcome done code;
         completeness = λ can none. inl (complete_of a b answer asked outcome done code can none);
       }
 
+  -- where memory was wanting for the words
   gave_up : (answers : Answers reading asked before after answer) → IsTrue reading → GivesUp a b answers.outcome → Promises reading asked before after answer
   gave_up answers reads gives =
       let five : answer ≡ 5 = answers.told.code ∙ ap code_of gives.memory in
+      let same : b.folder ≡ a.folder = λ i. (gives.same i).folder in
       record {
         answers = answers;
-        counts = gave_up_counts a b answers.outcome gives;
+        counts = subst (λ (r : Result Verdict Refusal). RisesAt (place_in r) a b) (sym gives.memory) (still_counts a b gives.same);
         usage = λ two. absurd (omega (arith, five, two));
         no_command = λ none. inr (reads, five);
         fault = λ four. absurd (omega (arith, five, four));
-        kept = λ not. goes_weaker a.folder.told b.folder.told Rests KeepsRuns (gave_up_quiet a b answers.outcome gives) keeps_runs;
-        any_moment = gave_up_moments a b answers.outcome gives asked;
-        sound = gave_up_sound a b answers.outcome gives;
-        made = λ is zero. absurd (omega (arith, five, zero));
-        loaded = λ partial names is less. absurd (omega (arith, five, less));
-        answered = λ question is less. absurd (omega (arith, five, less));
+        leaves = leaves_all before after asked gives.same;
+        kept = λ not. same_runs a b same;
+        any_moment = same_moments a b same asked;
+        sound = same_sound a b same;
+        did = λ few. absurd (omega (arith, five, few));
         completeness = λ can none. inr (reads, five);
       }
 
@@ -188,9 +274,15 @@ module _ (reading : Bool) (asked : Option Task) (before after : Outside) (answer
     | inr given ↦ gave_up answers given.0 given.1
   ]
 
--- what is promised without a reading of words is promised with one
+-- ---- from one call to the next
+
+-- what was asked for is this
+pub asked_as : {reading : Bool} {read asked : Option Task} → read ≡ asked → (before after : Outside) (answer : ℕ) → Answers reading read before after answer → Answers reading asked before after answer
+asked_as {reading = reading} is before after answer answers = subst (λ (o : Option Task). Answers reading o before after answer) is answers
+
+-- what is answered without a reading of words is answered with one
 with_reading : {asked : Option Task} {before after : Outside} {answer : ℕ} → Answers false asked before after answer → Answers true asked before after answer
-with_reading {asked = asked} {before = before} {after = after} answers = record {
+with_reading answers = record {
   outcome = answers.outcome;
   done = only answers.done;
   told = answers.told;
@@ -200,6 +292,11 @@ with_reading {asked = asked} {before = before} {after = after} answers = record 
     only (inl done) = inl done
     only (inr given) = absurd (cc)
 
-pub read_for : {asked read : Option Task} → asked ≡ read → (before after : Outside) (answer : ℕ) → Promises false asked before after answer → Promises true read before after answer
-read_for {asked = asked} is before after answer given =
-    subst (λ (o : Option Task). Promises true o before after answer) is (promises true asked before after answer (with_reading given.answers))
+pub read_for : {asked read : Option Task} → asked ≡ read → (before after : Outside) (answer : ℕ) → Answers false asked before after answer → Promises true read before after answer
+read_for {read = read} is before after answer answers = promises true read before after answer (with_reading (asked_as is before after answer answers))
+
+-- the words behind the name are these
+pub testr_behind : (rest behind : List (List ℕ)) → testr_word ∷ rest ≡ testr_word ∷ behind → (before after : Outside) (answer : ℕ) → TestrPromises rest before after answer → TestrPromises behind before after answer
+testr_behind rest behind is before after answer given =
+    let same : rest ≡ behind = cc in
+    subst (λ (l : List (List ℕ)). TestrPromises l before after answer) same given

@@ -1,6 +1,6 @@
 -- That runs are spared, by how many calls of the folder there were.
 use Rattle.std.proofs.Common.{◌≡◌, ℕ, Bool, true, false, Option, None, Some, List, ◌∷◌, length, sym, ap, subst, ◌∙◌, arith}
-use Rattle.std.specs.Prelude.{⊤, nat_le, if◌then◌else◌}
+use Rattle.std.specs.Prelude.{⊤, nat_le, option_map, if◌then◌else◌}
 use Rattle.edge_io.specs.Disk.{Files, Folder}
 use Rattle.edge_io.specs.Steps.{Goes}
 use Rattle.run_shelf.specs.Outcomes.{Surveys, TicksUpTo}
@@ -8,15 +8,17 @@ use Rattle.run_shelf.specs.Repository.{Shows, IsRepository}
 use Rattle.run_shelf.specs.Sides.{side_name}
 use Rattle.run_shelf.specs.declared.side.Side.TheVariants.{Failing}
 use Rattle.run_ledger.specs.Caches.{IsSound}
+use Rattle.testr_cli.specs.Drawings.{drawing_of}
 use Rattle.testr_cli.specs.Says.{OfBytes}
 use Rattle.testr_cli.specs.Sparing.{SparesRuns, SparesFor, LooksOnly, SparesReads}
-use Rattle.testr_cli.specs.Tasks.{Task, load, ask, task_with}
+use Rattle.testr_cli.specs.Tasks.{Task, load, ask, selftest, task_with}
 use Rattle.testr_cli.specs.Words.{testr_word, asked_by}
 use Rattle.testr_cli.specs.declared.command.Command.{Command}
 use Rattle.testr_cli.specs.declared.command.Question.{Question}
 use Rattle.testr_cli.specs.declared.command.Question.TheVariants.{Failing as AsksFailing}
 use Rattle.testr_cli.specs.declared.command.Verb.{Verb}
 use Rattle.testr_cli.specs.declared.command.Verb.TheVariants as verb
+use Rattle.testr_cli.specs.declared.drawing.Drawing.{Drawing}
 
 -- so few calls, and no read behind them
 pub few_spare : (calls : ℕ) (told : Option Folder) (before now : ℕ) → TicksUpTo calls before now → SparesRuns calls told before now
@@ -71,9 +73,14 @@ no_load : (few : Bool) (c : Command) (list : Bool) → (if few then Some (load c
 no_load true c list is = cc
 no_load false c list is = cc
 
+no_drawn : (drawn : Option Drawing) (question : Question) → option_map selftest drawn ≡ Some (ask question) → ⊥
+no_drawn None question is = cc
+no_drawn (Some drawing) question is = cc
+
 not_asked : (v : Verb) (c : Command) (list : Bool) → IsOther v → task_with v c ≡ Some (ask (AsksFailing list)) → ⊥
 not_asked verb.Load c list other is = no_load (nat_le (length c.names) 64) c list is
 not_asked verb.Failing c list other is = other
+not_asked verb.SelfTest c list other is = no_drawn (drawing_of c) (AsksFailing list) is
 not_asked v c list other is = cc
 
 -- a question, but not that of the failing set
@@ -101,7 +108,7 @@ nothing_asked verb.Init c question silent is = cc
 nothing_asked verb.Load c question silent is = no_question (nat_le (length c.names) 64) c question is
 nothing_asked verb.Run c question silent is = cc
 nothing_asked verb.ListTests c question silent is = cc
-nothing_asked verb.SelfTest c question silent is = cc
+nothing_asked verb.SelfTest c question silent is = no_drawn (drawing_of c) question is
 nothing_asked asks c question silent is = silent
 
 pub silent_spare : (v : Verb) {w : Verb} (c : Command) (told : Option Folder) (before now : ℕ) → v ≡ w → AsksNothing w → SparesReads (task_with v c) told before now

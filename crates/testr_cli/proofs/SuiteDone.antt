@@ -29,10 +29,9 @@ use Rattle.worker_mux.specs.Runs.{AddsMerge}
 use Rattle.testr_cli.specs.Asking.{FindsFailing, FindsTimes}
 use Rattle.testr_cli.specs.Outside.{Work, work_folder, work_site, work_spawner}
 use Rattle.testr_cli.specs.Perhaps.{Perhaps, not_asked, did, refused, when}
-use Rattle.testr_cli.specs.Program.{AddsRun}
 use Rattle.testr_cli.specs.Reporting.{Report, IsReport}
 use Rattle.testr_cli.specs.RunSuite.{ListsSuite, RunsSuite, Works, TellsRun}
-use Rattle.testr_cli.specs.Runs.{run_bytes, KeepsFiles}
+use Rattle.testr_cli.specs.Runs.{run_bytes, KeepsFiles, AddsRun}
 use Rattle.testr_cli.specs.Selecting.{UsesCalled, CountsWorkers, Selects, Plans}
 use Rattle.testr_cli.specs.Steps.{Step, Then, Gives, At}
 use Rattle.testr_cli.specs.SuiteProgram.{ListsAll, RunsAll}

@@ -1,17 +1,15 @@
 -- What a stop at each moment of `run` and of `list-tests` leaves.
-use Rattle.std.proofs.Common.{◌≡◌, ◌⊎◌, inl, inr, ℕ, ◌≤◌, Bool, Option, None, Some, IfSome, Result, Ok, Err, List, ◌++◌, length, All, refl, sym, ap, subst, ◌∙◌, arith, append_assoc}
+use Rattle.std.proofs.Common.{◌≡◌, ℕ, ◌≤◌, Bool, Option, None, Some, IfSome, Result, Ok, Err, List, ◌++◌, length, All, refl, sym, ap, subst, ◌∙◌, arith, append_assoc}
 use Rattle.std.proofs.lemmas.List.Elements.{All-weaker}
-use Rattle.edge_io.specs.Disk.{Files, Folder, IsImage}
+use Rattle.edge_io.specs.Disk.{Files, Folder}
 use Rattle.edge_io.specs.Seen.{Seen}
 use Rattle.edge_io.specs.Spawners.{Spawning}
 use Rattle.edge_io.specs.Steps.{Goes, Stays, Grown}
 use Rattle.edge_io.specs.declared.job.Job.{Job}
-use Rattle.edge_io.proofs.Going.{goes_then, goes_weaker}
-use Rattle.edge_io.proofs.Passing.{passes_then, passes_weaker}
+use Rattle.edge_io.proofs.Going.{goes_then}
 use Rattle.outcome_fold.specs.declared.row.Row.{Row}
 use Rattle.packet_codec.specs.Lanes.{IsOfLaneBelow}
 use Rattle.packet_codec.specs.declared.event.Event.{Event}
-use Rattle.run_ledger.specs.Refreshing.{KeepsSound}
 use Rattle.run_shelf.specs.Drafts.{Writes}
 use Rattle.run_shelf.specs.Holds.{kinds_of}
 use Rattle.run_shelf.specs.Repository.{run_of}
@@ -26,19 +24,18 @@ use Rattle.testr_cli.specs.RunSuite.{Works, TellsRun, RunsBy, RunsSuite}
 use Rattle.testr_cli.specs.Runs.{run_bytes, HasRunAndCaches}
 use Rattle.testr_cli.specs.Selecting.{Selects, Plans}
 use Rattle.testr_cli.specs.Steps.{Then, stops, goes_on, Gives}
-use Rattle.testr_cli.specs.SuiteProgram.{PerformsSuite}
-use Rattle.testr_cli.specs.SuiteStops.{AreOfWorkers, HasSuiteRun, PassesSuiteRun, PassesSuite}
-use Rattle.testr_cli.specs.Suites.{Suite, list, run, RunOptions, is_partial}
+use Rattle.testr_cli.specs.SuiteStops.{AreOfWorkers, HasSuiteRun}
+use Rattle.testr_cli.specs.Suites.{RunOptions, is_partial}
 use Rattle.testr_cli.specs.declared.answer.Verdict.{Verdict}
 use Rattle.testr_cli.specs.declared.answer.Refusal.{Refusal}
 use Rattle.testr_cli.proofs.ChainLemmas.{IsQuiet}
-use Rattle.testr_cli.proofs.Resting.{Rests, rests_then, rests_images, rests_of_same}
-use Rattle.testr_cli.proofs.SoundLemmas.{IsCalm, PassesAll, rests_sound, sound_then, calm_after, surveyed_calm}
-use Rattle.testr_cli.proofs.KeepingLaws.{keeps_moves}
+use Rattle.testr_cli.proofs.Resting.{rests_then, rests_of_same}
+use Rattle.testr_cli.proofs.SoundLemmas.{IsCalm, calm_after, surveyed_calm}
+use Rattle.testr_cli.proofs.KeepingLaws.{keeps_moves, Moves, quiet_moves, run_moves}
 use Rattle.testr_cli.proofs.StepLaws.{still_quiet, open_quiet, begin_quiet}
 use Rattle.testr_cli.proofs.SuiteAsks.{Takes, Asks, same_asks, asks_then, select_asks, plan_asks}
 use Rattle.testr_cli.proofs.SuiteJobs.{few_jobs, selected_range}
-use Rattle.testr_cli.proofs.SuiteQuiet.{SameFolder, beside_quiet, spawner_quiet, select_quiet, plan_quiet, site_quiet, list_same}
+use Rattle.testr_cli.proofs.SuiteQuiet.{spawner_quiet, select_quiet, plan_quiet, site_quiet}
 
 quiet_then : (a m b : Work) → IsQuiet a m → IsQuiet m b → IsQuiet a b
 quiet_then a m b first second = rests_then a.folder.told m.folder.told b.folder.told first second
@@ -49,7 +46,7 @@ goes_stays None (Some t) same = cc
 goes_stays (Some s) None same = cc
 goes_stays (Some s) (Some t) same = cc
 
-same_stays : (a b : Work) → SameFolder a b → Goes a.folder.told b.folder.told Stays
+same_stays : (a b : Work) → b.folder ≡ a.folder → Goes a.folder.told b.folder.told Stays
 same_stays a b same = goes_stays a.folder.told b.folder.told (λ i. (same i).told)
 
 then_stays : (a m b : Option Folder) (P : Folder → Folder → Type 0) → Goes a m P → Goes m b Stays → Goes a b P
@@ -83,52 +80,21 @@ module _ (jobs : List Job) (few : length jobs ≤ 64) (rests : List (Option (Lis
 -- ---- the chain
 
 module _ (partial : Bool) (told : Option Spawning) where
-  abbrev Left : Folder → Files → Type 0
-  Left s image = IsImage s.disk image ⊎ HasSuiteRun partial told s.disk.published image
+  abbrev MovesTo : Work → Work → Type 0
+  MovesTo a b = Goes a.folder.told b.folder.told (Moves (HasSuiteRun partial told))
 
-  -- what a stop at each moment leaves, and that it is sound where it was
-  pub record RunMoves (s t : Folder) : Type 0 where
-    pub stops : PassesSuiteRun partial told s t
-    pub sound : KeepsSound s t
+  rests_moves : (a b : Work) → IsQuiet a b → MovesTo a b
+  rests_moves a b quiet = quiet_moves (HasSuiteRun partial told) a.folder.told b.folder.told quiet
 
-  abbrev Moves : Work → Work → Type 0
-  Moves a b = Goes a.folder.told b.folder.told RunMoves
+  suite_run : (number : ℕ) (events : List Event) → All (IsOfLaneBelow 64) events → IfSome told (AreOfWorkers events) → (files image : Files) → HasRunAndCaches files number (run_of partial (run_bytes events)) image → HasSuiteRun partial told files image
+  suite_run number events lanes workers files image beside = record { number = number; events = events; of_lanes = lanes; of_workers = workers; beside = beside }
 
-  quiet_moves : (a b : Work) → IsQuiet a b → Moves a b
-  quiet_moves a b quiet = goes_weaker a.folder.told b.folder.told Rests RunMoves quiet (λ s t rests. record {
-    stops = passes_weaker (IsImage s.disk) (Left s) (λ image left. inl left) s t rests.old;
-    sound = rests_sound s t rests;
-  })
-
-  module _ (number : ℕ) (events : List Event) (lanes : All (IsOfLaneBelow 64) events) (workers : IfSome told (AreOfWorkers events)) where
-    abbrev Runs : Folder → Folder → Type 0
-    Runs = PassesAll number (run_of partial (run_bytes events))
-
-    left_by : (s m : Folder) → Rests s m → (image : Files) → IsImage m.disk image ⊎ HasRunAndCaches m.disk.published number (run_of partial (run_bytes events)) image → Left s image
-    left_by s m rests image (inl before) = inl (rests_images s m rests image before)
-    left_by s m rests image (inr beside) = inr (record {
-      number = number;
-      events = events;
-      of_lanes = lanes;
-      of_workers = workers;
-      beside = subst (λ (files : Files). HasRunAndCaches files number (run_of partial (run_bytes events)) image) rests.files beside;
-    })
-
-    run_moves : (a m b : Work) → IsQuiet a m → Goes m.folder.told b.folder.told Runs → Moves a b
-    run_moves a m b quiet runs = goes_then a.folder.told m.folder.told b.folder.told Rests Runs RunMoves quiet runs (λ s m t rests passes. record {
-      stops =
-          passes_then (Left s) s m t
-          (passes_weaker (IsImage s.disk) (Left s) (λ image left. inl left) s m rests.old)
-          (passes_weaker (λ image. IsImage m.disk image ⊎ HasRunAndCaches m.disk.published number (run_of partial (run_bytes events)) image) (Left s) (left_by s m rests) m t passes.stops);
-      sound = sound_then s m t (rests_sound s m rests) passes.sound;
-    })
-
-  works_moves : (number : ℕ) (jobs : List Job) → length jobs ≤ 64 → (a w b : Work) (result : Result (List Row) Refusal) → told ≡ a.spawner.told → IsQuiet a w → Asks 2 a w → IfSome w.folder.told IsCalm → Works partial number jobs w b result → Moves a b
-  works_moves number jobs few a w b result is_told quiet asks calm (stops fault is step) = quiet_moves a b (quiet_then a w b quiet (begin_quiet w b (Err fault) step.at))
+  works_moves : (number : ℕ) (jobs : List Job) → length jobs ≤ 64 → (a w b : Work) (result : Result (List Row) Refusal) → told ≡ a.spawner.told → IsQuiet a w → Asks 2 a w → IfSome w.folder.told IsCalm → Works partial number jobs w b result → MovesTo a b
+  works_moves number jobs few a w b result is_told quiet asks calm (stops fault is step) = rests_moves a b (quiet_then a w b quiet (begin_quiet w b (Err fault) step.at))
   works_moves number jobs few a w b result is_told quiet asks calm (goes_on _ m begun (stops fault is step)) =
-      quiet_moves a b (quiet_then a w b quiet (quiet_then w m b (begin_quiet w m (Ok tt) begun.at) (spawner_quiet m b step.rest)))
+      rests_moves a b (quiet_then a w b quiet (quiet_then w m b (begin_quiet w m (Ok tt) begun.at) (spawner_quiet m b step.rest)))
   works_moves number jobs few a w b result is_told quiet asks calm (goes_on _ m begun (goes_on rests m2 started (stops fault is step))) =
-      quiet_moves a b (quiet_then a w b quiet (quiet_then w m b (begin_quiet w m (Ok tt) begun.at) (quiet_then m m2 b (spawner_quiet m m2 started.rest) (rests_of_same m2.folder.told b.folder.told step.at.files))))
+      rests_moves a b (quiet_then a w b quiet (quiet_then w m b (begin_quiet w m (Ok tt) begun.at) (quiet_then m m2 b (spawner_quiet m m2 started.rest) (rests_of_same m2.folder.told b.folder.told step.at.files))))
   works_moves number jobs few a w b result is_told quiet asks calm (goes_on _ m begun (goes_on rests m2 started (goes_on rows m3 recorded named))) =
       let adds : AddsMerge rests m2.folder.told m3.folder.told = recorded.at.recorded.merge in
       let events : List Event = adds.events in
@@ -136,7 +102,7 @@ module _ (partial : Bool) (told : Option Spawning) where
       let written : Goes w.folder.told m3.folder.told (Writes (run_bytes events)) = goes_writes w.folder.told m.folder.told m3.folder.told (run_bytes events) begun.at.begun grown in
       let starts : Goes w.spawner.told m2.spawner.told (HasStarted jobs rests) = subst (λ (s : Seen Spawning). Goes s.told m2.spawner.told (HasStarted jobs rests)) (λ i. (begun.rest i).spawner) started.at.started in
       let workers : IfSome told (AreOfWorkers events) = subst (λ (s : Option Spawning). IfSome s (AreOfWorkers events)) (sym is_told) (of_workers jobs few rests m2.folder.told m3.folder.told adds a.spawner.told w.spawner.told m2.spawner.told asks starts) in
-      run_moves number events (of_lanes jobs few rests m2.folder.told m3.folder.told adds started.at.count) workers a w b quiet
+      run_moves (HasSuiteRun partial told) number (run_of partial (run_bytes events)) (suite_run number events (of_lanes jobs few rests m2.folder.told m3.folder.told adds started.at.count) workers) a.folder.told w.folder.told b.folder.told quiet
       (keeps_moves partial number (run_bytes events) rows (Gives rows) (λ x y r gives i. (gives.same i).folder) w.folder.told recorded.at.recorded.rows_are calm m3 b result written named)
 
 tells_stays : (number : ℕ) (tags : List (List ℕ)) (rows : List Row) (a b : Work) (result : Result Verdict Refusal) → TellsRun number tags rows a b result → Goes a.folder.told b.folder.told Stays
@@ -146,16 +112,16 @@ tells_stays number tags rows a b result (goes_on report m step (goes_on _ m2 pri
 
 module _ (options : RunOptions) (settings : Settings) where
   abbrev MovesFrom : Work → Work → Type 0
-  MovesFrom a b = Goes a.folder.told b.folder.told (RunMoves (is_partial options) a.spawner.told)
+  MovesFrom a b = Goes a.folder.told b.folder.told (Moves (HasSuiteRun (is_partial options) a.spawner.told))
 
   quiet_from : (a b : Work) → IsQuiet a b → MovesFrom a b
-  quiet_from a b quiet = quiet_moves (is_partial options) a.spawner.told a b quiet
+  quiet_from a b quiet = rests_moves (is_partial options) a.spawner.told a b quiet
 
   -- behind the steps that select the tests
   worked_moves : (number : ℕ) (jobs : List Job) → length jobs ≤ 64 → (a w b : Work) (result : Result Verdict Refusal) → IsQuiet a w → Asks 2 a w → IfSome w.folder.told IsCalm → Then (λ refusal. refusal) (Works (is_partial options) number jobs) (λ rows. TellsRun number settings.filter_tags rows) w b result → MovesFrom a b
   worked_moves number jobs few a w b result quiet asks calm (stops fault is step) = works_moves (is_partial options) a.spawner.told number jobs few a w b (Err fault) refl quiet asks calm step
   worked_moves number jobs few a w b result quiet asks calm (goes_on rows m step next) =
-      then_stays a.folder.told m.folder.told b.folder.told (RunMoves (is_partial options) a.spawner.told)
+      then_stays a.folder.told m.folder.told b.folder.told (Moves (HasSuiteRun (is_partial options) a.spawner.told))
       (works_moves (is_partial options) a.spawner.told number jobs few a w m (Ok rows) refl quiet asks calm step)
       (tells_stays number settings.filter_tags rows m b result next)
 
@@ -181,16 +147,8 @@ module _ (options : RunOptions) (settings : Settings) where
       let calm : IfSome m3.folder.told IsCalm = subst (λ (w : Work). IfSome w.folder.told IsCalm) (sym (compiled.same ∙ took.same)) (surveyed_calm (kinds_of found) a.folder.told m.folder.told opened.at.found) in
       selected_moves (length (kinds_of found)) a m3 b result quiet same calm selecting
 
-run_suite_moves : (options : RunOptions) (a b : Work) (result : Result Verdict Refusal) → RunsSuite options a b result → Goes a.folder.told b.folder.told (RunMoves (is_partial options) a.spawner.told)
-run_suite_moves options a b result (stops fault is step) = quiet_moves (is_partial options) a.spawner.told a b (site_quiet a b step.rest)
+pub run_suite_moves : (options : RunOptions) (a b : Work) (result : Result Verdict Refusal) → RunsSuite options a b result → Goes a.folder.told b.folder.told (Moves (HasSuiteRun (is_partial options) a.spawner.told))
+run_suite_moves options a b result (stops fault is step) = rests_moves (is_partial options) a.spawner.told a b (site_quiet a b step.rest)
 run_suite_moves options a b result (goes_on settings m read next) =
-    subst (λ (f : Seen Folder). Goes f.told b.folder.told (RunMoves (is_partial options) a.spawner.told)) (λ i. (read.rest i).folder)
-    (subst (λ (s : Seen Spawning). Goes m.folder.told b.folder.told (RunMoves (is_partial options) s.told)) (λ i. (read.rest i).spawner) (by_moves options settings m b result next))
-
-pub suite_moves : (asked : Suite) (a b : Work) (outcome : Result Verdict Refusal) → PerformsSuite asked a b outcome → Goes a.folder.told b.folder.told (PassesSuite asked a.spawner.told)
-suite_moves (list patterns) a b outcome performs = same_stays a b (list_same patterns a b outcome performs)
-suite_moves (run options) a b outcome performs = goes_weaker a.folder.told b.folder.told (RunMoves (is_partial options) a.spawner.told) (PassesSuiteRun (is_partial options) a.spawner.told) (run_suite_moves options a b outcome performs) (λ s t moves. moves.stops)
-
-pub suite_sound : (asked : Suite) (a b : Work) (outcome : Result Verdict Refusal) → PerformsSuite asked a b outcome → Goes a.folder.told b.folder.told KeepsSound
-suite_sound (list patterns) a b outcome performs = goes_weaker a.folder.told b.folder.told Rests KeepsSound (beside_quiet a b (list_same patterns a b outcome performs)) rests_sound
-suite_sound (run options) a b outcome performs = goes_weaker a.folder.told b.folder.told (RunMoves (is_partial options) a.spawner.told) KeepsSound (run_suite_moves options a b outcome performs) (λ s t moves. moves.sound)
+    subst (λ (f : Seen Folder). Goes f.told b.folder.told (Moves (HasSuiteRun (is_partial options) a.spawner.told))) (λ i. (read.rest i).folder)
+    (subst (λ (s : Seen Spawning). Goes m.folder.told b.folder.told (Moves (HasSuiteRun (is_partial options) s.told))) (λ i. (read.rest i).spawner) (by_moves options settings m b result next))

@@ -36,16 +36,15 @@ use Rattle.testr_conf.specs.declared.fault.JobFault.{JobFault}
 use Rattle.testr_conf.specs.declared.fault.JobFault.TheVariants as job_fault
 use Rattle.testr_conf.specs.declared.ids.IdsFault.{IdsFault}
 use Rattle.testr_conf.specs.declared.ids.IdsFault.TheVariants.{NotText}
-use Rattle.testr_cli.specs.Answer.{refusal_code}
 use Rattle.testr_cli.specs.Outside.{Work}
 use Rattle.testr_cli.specs.Perhaps.{when, Perhaps, not_asked, did, refused}
 use Rattle.testr_cli.specs.RunSuite.{Works, TellsRun, RunsBy, RunsSuite}
 use Rattle.testr_cli.specs.Runs.{HasRuns}
 use Rattle.testr_cli.specs.Selecting.{UsesCalled, UsesAsked, CountsWorkers, needs_listing, Selects, MakesJobs, Plans}
 use Rattle.testr_cli.specs.Steps.{Step, stops, goes_on}
-use Rattle.testr_cli.specs.SuiteProgram.{PerformsSuite, IsChildFault, calls_by, calls_of, EndsWell, CountIsTold, CallsOutNone, may_list, may_hand, CanRun, CanPerformSuite}
+use Rattle.testr_cli.specs.SuiteProgram.{calls_by, calls_of, EndsWell, CountIsTold, CallsOutNone, may_list, may_hand, CanRun}
 use Rattle.testr_cli.specs.SuiteTexts.{list_code, table_code, job_code, start_code, lanes_code}
-use Rattle.testr_cli.specs.Suites.{Suite, list, run, RunOptions}
+use Rattle.testr_cli.specs.Suites.{RunOptions}
 use Rattle.testr_cli.specs.Told.{tell_code}
 use Rattle.testr_cli.specs.declared.answer.Refusal.{Refusal}
 use Rattle.testr_cli.specs.declared.answer.Refusal.TheVariants as refusal
@@ -55,7 +54,7 @@ use Rattle.testr_cli.specs.declared.told.TellFault.TheVariants as tell_fault
 use Rattle.testr_cli.proofs.FolderLemmas.{none_or_some, takes_in_repository, not_full}
 use Rattle.testr_cli.proofs.ChainLemmas.{then_did, gives_not}
 use Rattle.testr_cli.proofs.CauseLaws.{open_never, runs_are}
-use Rattle.testr_cli.proofs.SuiteCauses.{NoCause, same_cause, moved, from_both, from_told, not_too_much, same_text, conf_never, same_settings, pattern_never, ends_behind, broken_never, listing_never, list_never}
+use Rattle.testr_cli.proofs.SuiteCauses.{NoCause, same_cause, moved, from_both, from_told, not_too_much, same_text, conf_never, same_settings, pattern_never, ends_behind, broken_never, listing_never}
 
 -- ---- refusals that have no such cause
 
@@ -458,9 +457,3 @@ run_never options a b r (goes_on settings m read next) can =
     let same : can.settings ≡ settings = same_settings can.settings settings a.site m.site can.conf read.at in
     let by : CanRunBy options settings a = subst (λ (s : Settings). CanRunBy options s a) same (can_run_by options a can) in
     run_by_never options settings m b r next (read_then options settings a m (λ i. (read.rest i).folder.told) read.at.same (λ i. (read.rest i).spawner.told) by)
-
--- ---- both
-
-pub suite_never : (asked : Suite) (a b : Work) (r : Refusal) → PerformsSuite asked a b (Err r) → CanPerformSuite asked a → (refusal_code r ≡ 3 → ⊥) × (IsChildFault (Err r) → ⊥)
-suite_never (list patterns) a b r performs can = list_never patterns a b r performs can
-suite_never (run options) a b r performs can = run_never options a b r performs can

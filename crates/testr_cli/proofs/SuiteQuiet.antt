@@ -1,21 +1,20 @@
 -- What the steps of `run` and `list-tests` leave of the folder: all but the steps of its draft leave what reads give and
 -- what a stop leaves.
-use Rattle.std.proofs.Common.{◌≡◌, ℕ, zero, suc, Bool, true, false, Option, None, Some, List, Result, Ok, Err, ◌∙◌}
+use Rattle.std.proofs.Common.{◌≡◌, ℕ, zero, suc, Bool, true, false, Option, None, Some, List, Result, Ok, Err}
 use Rattle.edge_io.specs.Disk.{Folder}
 use Rattle.edge_io.specs.Seen.{Seen}
 use Rattle.edge_io.specs.Steps.{Goes}
 use Rattle.testr_conf.specs.Settings.{Settings}
-use Rattle.testr_cli.specs.Outside.{Work, work_site, work_spawner}
+use Rattle.testr_cli.specs.Outside.{Work, work_folder, work_site, work_spawner}
 use Rattle.testr_cli.specs.Perhaps.{Perhaps, not_asked, did, refused}
 use Rattle.testr_cli.specs.RunSuite.{ListsSuite}
 use Rattle.testr_cli.specs.Selecting.{UsesCalled, UsesAsked, CountsWorkers, Selects, Plans}
-use Rattle.testr_cli.specs.Steps.{Step, Then, stops, goes_on, Gives}
+use Rattle.testr_cli.specs.Steps.{Step, Gives}
 use Rattle.testr_cli.specs.Suites.{RunOptions}
-use Rattle.testr_cli.specs.declared.answer.Verdict.{Verdict}
 use Rattle.testr_cli.specs.declared.answer.Refusal.{Refusal}
 use Rattle.testr_cli.specs.declared.selecting.Selected.{Selected}
 use Rattle.testr_cli.proofs.Resting.{Rests, rests_same, rests_of_stays}
-use Rattle.testr_cli.proofs.ChainLemmas.{IsQuiet, Quiet, then_quiet}
+use Rattle.testr_cli.proofs.ChainLemmas.{IsQuiet, Quiet, then_quiet, LeavesPart, then_leaves}
 use Rattle.testr_cli.proofs.StepLaws.{still_quiet}
 
 abbrev pub all : Work → Work
@@ -70,18 +69,11 @@ plan_quiet settings selected =
 
 -- ---- steps that leave the folder as it is
 
-abbrev pub SameFolder : Work → Work → Type 0
-SameFolder a b = b.folder ≡ a.folder
-
-then_same : {A B E R : Type 0} {name : E → R} {first : Step Work A E} {second : A → Step Work B R} → ((a b : Work) (result : Result A E) → first a b result → SameFolder a b) → ((v : A) (a b : Work) (result : Result B R) → second v a b result → SameFolder a b) → (a b : Work) (result : Result B R) → Then name first second a b result → SameFolder a b
-then_same same rest a b result (stops fault is step) = same a b (Err fault) step
-then_same same rest a b result (goes_on v m step next) = rest v m b result next ∙ same a m (Ok v) step
-
-pub list_same : (patterns : List (List ℕ)) (a b : Work) (result : Result Verdict Refusal) → ListsSuite patterns a b result → SameFolder a b
+pub list_same : (patterns : List (List ℕ)) → LeavesPart work_folder.of (ListsSuite patterns)
 list_same patterns =
-    then_same (λ a b r s i. (s.rest i).folder) (λ settings.
-    then_same (λ a b r s i. (s.same i).folder) (λ _.
-    then_same (λ a b r s i. (s.rest i).folder) (λ ids.
-    then_same (λ a b r s i. (s.same i).folder) (λ text.
-    then_same (λ a b r s i. (s.rest i).folder) (λ _ a b r s i.
+    then_leaves work_folder.of (λ a b r s i. (s.rest i).folder) (λ settings.
+    then_leaves work_folder.of (λ a b r s i. (s.same i).folder) (λ _.
+    then_leaves work_folder.of (λ a b r s i. (s.rest i).folder) (λ ids.
+    then_leaves work_folder.of (λ a b r s i. (s.same i).folder) (λ text.
+    then_leaves work_folder.of (λ a b r s i. (s.rest i).folder) (λ _ a b r s i.
     (s.same i).folder)))))

@@ -1,11 +1,11 @@
 -- The refusals, each of one step, with its status and its line, which are that step's (docs/COMMANDS.md, "Refusals").
-use Rattle.std.specs.Prelude.{ℕ, Bool, true, false, Option, None, Some, List, Result, Ok, Err}
+use Rattle.std.specs.Prelude.{⊤, ℕ, Bool, true, false, Option, None, Some, List, Result, Ok, Err}
 use Rattle.run_shelf.specs.declared.faults.InitFault.TheVariants as init_fault
 use Rattle.run_shelf.specs.declared.faults.OpenFault.TheVariants as open_fault
 use Rattle.run_shelf.specs.declared.faults.ShelfCall.{ShelfCall}
 use Rattle.run_shelf.specs.declared.faults.ShelfCall.TheVariants.{Publish, SyncFolder}
 use Rattle.testr_cli.specs.Outside.{Place, in_folder, in_site, in_spawner, in_input, in_out}
-use Rattle.testr_cli.specs.Tasks.{Task, load}
+use Rattle.testr_cli.specs.Tasks.{Task, load, run}
 use Rattle.testr_cli.specs.Words.{usage_text}
 use Rattle.testr_cli.specs.Store.{init_code, init_text, open_code, open_text, runs_text, keep_text}
 use Rattle.testr_cli.specs.Recording.{record_code, record_text}
@@ -104,11 +104,28 @@ may_have_placed Publish = true
 may_have_placed SyncFolder = true
 may_have_placed call = false
 
--- Whether a run may be shown that was not before: a load was done; or a call failed that was to give its run the name, or
--- that came behind; or there was no memory for the caches. So it is of no other outcome.
+-- Whether a run may be shown that was not before, of a load: it was done; or a call failed that was to give its run the name,
+-- or that came behind; or there was no memory for the caches.
+abbrev pub load_may_have_kept : Result Verdict Refusal → Bool
+load_may_have_kept (Ok verdict) = true
+load_may_have_kept (Err (Keep fault)) = may_have_placed fault.call
+load_may_have_kept (Err (Refresh fault)) = true
+load_may_have_kept (Err (Print fault)) = true
+load_may_have_kept outcome = false
+
+-- The same of a run of the project's tests, whose report is made behind the naming: so there may have been no memory for it.
+abbrev pub run_may_have_kept : Result Verdict Refusal → Bool
+run_may_have_kept (Err (Report fault)) = true
+run_may_have_kept outcome = load_may_have_kept outcome
+
+-- The same of each task. No other than these two shows a run that was not shown before.
 abbrev pub may_have_kept : Option Task → Result Verdict Refusal → Bool
-may_have_kept (Some (load partial names)) (Ok verdict) = true
-may_have_kept (Some (load partial names)) (Err (Keep fault)) = may_have_placed fault.call
-may_have_kept (Some (load partial names)) (Err (Refresh fault)) = true
-may_have_kept (Some (load partial names)) (Err (Print fault)) = true
-may_have_kept asked outcome = false
+may_have_kept (Some (load partial names)) = load_may_have_kept
+may_have_kept (Some (run options)) = run_may_have_kept
+may_have_kept asked = λ outcome. false
+
+-- the program that lists the tests, or the one that tells how many workers there are, was not read to its end
+abbrev pub IsChildFault : Result Verdict Refusal → Type 0
+IsChildFault (Err (Call call.Child)) = ⊤
+IsChildFault (Err (Listing listing.Child)) = ⊤
+IsChildFault outcome = ⊥

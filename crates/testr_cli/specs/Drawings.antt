@@ -1,7 +1,5 @@
 -- What `selftest` asks for (docs/COMMANDS.md, "Words").
 use Rattle.std.specs.Prelude.{Bool, ◌&&◌, nat_le, ◌*◌, Option, Some, None, ℕ, if◌then◌else◌}
-use Rattle.testr_cli.specs.declared.command.Verb.{Verb}
-use Rattle.testr_cli.specs.declared.command.Verb.TheVariants as verb
 use Rattle.testr_cli.specs.declared.command.Command.{Command}
 use Rattle.testr_cli.specs.declared.drawing.Drawing.{Drawing}
 
@@ -13,11 +11,6 @@ are_few lanes tests = nat_le 1 lanes && (nat_le lanes 64 && (nat_le 1 tests && n
 abbrev pub if_few : Drawing → Option Drawing
 if_few drawing = if are_few drawing.lanes drawing.tests then Some drawing else None
 
--- the drawing that a command of this verb asks for
-abbrev pub drawing_with : Verb → Command → Option Drawing
-drawing_with verb.SelfTest command = if_few (record { seed = command.seed; lanes = command.lanes; tests = command.tests })
-drawing_with other command = None
-
--- the drawing that a command asks for; none where it asks for something else
+-- the drawing of the numbers that the command has, where it is that small
 abbrev pub drawing_of : Command → Option Drawing
-drawing_of command = drawing_with command.verb command
+drawing_of command = if_few (record { seed = command.seed; lanes = command.lanes; tests = command.tests })

@@ -1,8 +1,8 @@
 pub mod Steps
 pub mod Outside
-pub mod Tasks
 pub mod Suites
 pub mod Drawings
+pub mod Tasks
 pub mod Words
 pub mod Runs
 pub mod Verdicts
@@ -27,10 +27,9 @@ pub mod Init
 pub mod Load
 pub mod Ask
 pub mod Sparing
-pub mod Stops
-pub mod Program
 pub mod SuiteStops
-pub mod SelfTestProgram
+pub mod Stops
 pub mod SuiteProgram
+pub mod Program
 pub mod Exact
 pub mod ExactSuite

@@ -17,6 +17,13 @@ pub record Outside : Type 0 where
 abbrev pub outside : Seen Folder → Seen Files → Seen Spawning → Seen (List ℕ) → Seen (List ℕ) → Seen (List ℕ) → Outside
 outside folder site spawner input out errors = record { folder = folder; site = site; spawner = spawner; input = input; out = out; errors = errors }
 
+-- nothing but the sinks is touched
+pub record LeavesOutside (before after : Outside) : Type 0 where
+  pub folder : after.folder ≡ before.folder
+  pub site : after.site ≡ before.site
+  pub spawner : after.spawner ≡ before.spawner
+  pub input : after.input ≡ before.input
+
 -- all but the errors' sink: what a command may touch
 pub record Work : Type 0 where
   pub folder : Seen Folder

@@ -1,10 +1,8 @@
 -- What a call of the program promises.
-use Rattle.std.specs.Prelude.{◌≡◌, ◌⊎◌, ℕ, ◌≤◌, ◌<◌, Bool, IsTrue, false, Option, Some, None, IsSomeAnd, IfSome, All, List, [], ◌∷◌, ◌++◌, length, Result, Ok, Err}
+use Rattle.std.specs.Prelude.{◌≡◌, ◌⊎◌, ⊤, ℕ, ◌≤◌, ◌<◌, Bool, IsTrue, true, false, Option, Some, None, IsSomeAnd, IfSome, All, List, [], ◌∷◌, length, Result, Ok, Err}
 use Rattle.std.specs.Io.KnownBytes.{Appends, IsAtEnd}
 use Rattle.edge_io.specs.Bytes.{AppendsPrefix}
 use Rattle.edge_io.specs.Causes.{Rose}
-use Rattle.edge_io.specs.Disk.{Folder}
-use Rattle.edge_io.specs.Moments.{LeavesOnly}
 use Rattle.edge_io.specs.Seen.{Seen}
 use Rattle.edge_io.specs.Steps.{Goes}
 use Rattle.sub_number.specs.declared.memory.NoMemory.{NoMemory}
@@ -12,54 +10,42 @@ use Rattle.packet_codec.specs.declared.event.Event.{Event}
 use Rattle.packet_codec.specs.Grammar.{AreBytes}
 use Rattle.outcome_fold.specs.Rows.{rows_of}
 use Rattle.outcome_fold.specs.Answers.{status_of}
-use Rattle.testr_cli.specs.Files.{AreSources, HasRecordedInTurn}
-use Rattle.run_ledger.specs.Refreshing.{KeepsSound}
-use Rattle.run_shelf.specs.Images.{MakesRepository}
-use Rattle.run_shelf.specs.Repository.{Run, run_of, Shows, IsRepository, most_runs, format_name}
-use Rattle.sub_text.specs.Texts.{report_of}
-use Rattle.testr_cli.specs.Steps.{Step, At}
-use Rattle.testr_cli.specs.Outside.{Outside, Work, work_of, work_folder, work_shown, SomeRose, RisesAt}
-use Rattle.testr_cli.specs.Tasks.{Task, init, load, ask}
-use Rattle.testr_cli.specs.Runs.{run_bytes, HasRuns, KeepsFiles}
-use Rattle.testr_cli.specs.Verdicts.{verdict_code}
-use Rattle.testr_cli.specs.Says.{SaysOfFolder, OfLastRun}
-use Rattle.testr_cli.specs.Recording.{most_bytes}
-use Rattle.testr_cli.specs.Refreshing.{BringsCaches}
-use Rattle.testr_cli.specs.Answer.{refusal_text, code_of, place_in, may_have_kept}
-use Rattle.testr_cli.specs.Init.{Inits}
-use Rattle.testr_cli.specs.Load.{Loads}
-use Rattle.testr_cli.specs.Ask.{Asks}
-use Rattle.testr_cli.specs.Stops.{PassesCommand}
-use Rattle.testr_cli.specs.declared.words.UsageFault.TheVariants.{Words}
 use Rattle.filter_cli.specs.Outside.{outside as piped}
 use Rattle.filter_cli.specs.Promises.{Promises as FilterPromises}
-use Rattle.testr_cli.specs.declared.command.Question.{Question}
-use Rattle.testr_cli.specs.declared.answer.Verdict.{Verdict}
+use Rattle.run_ledger.specs.Refreshing.{KeepsSound}
+use Rattle.run_shelf.specs.Images.{MakesRepository}
+use Rattle.run_shelf.specs.Repository.{Run, Shows, IsRepository, most_runs, format_name}
+use Rattle.sub_text.specs.Texts.{report_of}
+use Rattle.testr_cli.specs.Answer.{refusal_text, code_of, place_in, may_have_kept, IsChildFault}
+use Rattle.testr_cli.specs.Ask.{Asks}
+use Rattle.testr_cli.specs.Files.{AreSources, HasRecordedInTurn}
+use Rattle.testr_cli.specs.Init.{Inits}
+use Rattle.testr_cli.specs.Load.{Loads}
+use Rattle.testr_cli.specs.Outside.{Outside, LeavesOutside, Work, work_of, work_folder, work_shown, SomeRose, RisesAt}
+use Rattle.testr_cli.specs.Recording.{most_bytes}
+use Rattle.testr_cli.specs.Refreshing.{BringsCaches}
+use Rattle.testr_cli.specs.RunSuite.{ListsSuite, RunsSuite}
+use Rattle.testr_cli.specs.Runs.{HasRuns, KeepsFiles, KeepsRuns, AddsRun}
+use Rattle.testr_cli.specs.Says.{SaysOfFolder, OfLastRun}
+use Rattle.testr_cli.specs.SelfTest.{TestsItself, SumsUpAll}
+use Rattle.testr_cli.specs.Steps.{Step, At}
+use Rattle.testr_cli.specs.Stops.{PassesTask}
+use Rattle.testr_cli.specs.SuiteProgram.{ListsAll, RunsAll, CanList, CanRun}
+use Rattle.testr_cli.specs.Tasks.{Task, init, load, ask, list, run, selftest}
+use Rattle.testr_cli.specs.Verdicts.{verdict_code}
+use Rattle.testr_cli.specs.Words.{testr_word, asked_by}
 use Rattle.testr_cli.specs.declared.answer.Refusal.{Refusal}
 use Rattle.testr_cli.specs.declared.answer.Refusal.TheVariants.{Usage, Memory}
+use Rattle.testr_cli.specs.declared.answer.Verdict.{Verdict}
+use Rattle.testr_cli.specs.declared.command.Question.{Question}
+use Rattle.testr_cli.specs.declared.words.UsageFault.TheVariants.{Words}
 
--- ---- the answer
+-- ---- refusals
 
 -- words that are no command are refused, and touch nothing
 pub record Refuses (before after : Work) (outcome : Result Verdict Refusal) : Type 0 where
   pub usage : outcome ≡ Err (Usage Words)
   pub same : after ≡ before
-
--- what a command does to the parts that it touches; all else stays
-abbrev pub Performs : Option Task → Step Work Verdict Refusal
-Performs None = Refuses
-Performs (Some init) = At work_folder Inits
-Performs (Some (load partial names)) = Loads partial names
-Performs (Some (ask question)) = At work_shown (Asks question)
-
--- the line of a refusal went to the errors' sink: whole, or in part where that sink failed
-abbrev pub TellsLine : Result Verdict Refusal → Seen (List ℕ) → Seen (List ℕ) → Type 0
-TellsLine (Ok verdict) before after = after ≡ before
-TellsLine (Err refusal) before after = AppendsPrefix before.told after.told (refusal_text refusal) × (Appends before.told after.told (refusal_text refusal) ⊎ Rose before.faults after.faults)
-
-pub record Tells (outcome : Result Verdict Refusal) (before after : Seen (List ℕ)) (answer : ℕ) : Type 0 where
-  pub line : TellsLine outcome before after
-  pub code : answer ≡ code_of outcome
 
 -- memory was wanting while the words were read, and nothing was touched
 pub record GivesUp (before after : Work) (outcome : Result Verdict Refusal) : Type 0 where
@@ -67,31 +53,17 @@ pub record GivesUp (before after : Work) (outcome : Result Verdict Refusal) : Ty
   pub memory : outcome ≡ Err (Memory fault)
   pub same : after ≡ before
 
--- what was asked for was done; or, where words were read for it, memory was wanting for them
-abbrev pub PerformsOrNot : (reading : Bool) → Option Task → Step Work Verdict Refusal
-PerformsOrNot reading asked before after outcome = Performs asked before after outcome ⊎ (IsTrue reading × GivesUp before after outcome)
+-- the line of a refusal went to the errors' sink: whole, or in part where that sink failed
+abbrev pub TellsLine : Result Verdict Refusal → Seen (List ℕ) → Seen (List ℕ) → Type 0
+TellsLine (Ok verdict) before after = after ≡ before
+TellsLine (Err refusal) before after = AppendsPrefix before.told after.told (refusal_text refusal) × (Appends before.told after.told (refusal_text refusal) ⊎ Rose before.faults after.faults)
 
--- one outcome, which the steps of the command made, and its line and its status
-pub record Answers (reading : Bool) (asked : Option Task) (before after : Outside) (answer : ℕ) : Type 0 where
-  pub outcome : Result Verdict Refusal
-  pub done : PerformsOrNot reading asked (work_of before) (work_of after) outcome
-  pub told : Tells outcome before.errors after.errors answer
-
--- ---- what is kept
-
--- the runs shown before are shown after
-abbrev pub KeepsRuns : Folder → Folder → Type 0
-KeepsRuns s t = (runs : List Run) → Shows s.disk.published runs → Shows t.disk.published runs
+-- the line of the outcome was told so, and the status is the outcome's
+pub record Tells (outcome : Result Verdict Refusal) (before after : Seen (List ℕ)) (answer : ℕ) : Type 0 where
+  pub line : TellsLine outcome before after
+  pub code : answer ≡ code_of outcome
 
 -- ---- `load`
-
--- the runs, with one more of these events
-abbrev pub with_run : Bool → List Run → List Event → List Run
-with_run partial runs events = runs ++ run_of partial (run_bytes events) ∷ []
-
--- Whatever runs the folder showed, it shows one more, and so does what each later stop leaves.
-abbrev pub AddsRun : Bool → List Event → Folder → Folder → Type 0
-AddsRun partial events s t = (runs : List Run) → Shows s.disk.published runs → Shows t.disk.published (with_run partial runs events) × LeavesOnly (λ image. Shows image (with_run partial runs events)) t.disk
 
 -- the input was read to its end where no file is named, and is as before where files are
 abbrev pub ReadsInputFor : List (List ℕ) → Seen (List ℕ) → Seen (List ℕ) → Type 0
@@ -148,44 +120,102 @@ pub record CanAsk (question : Question) (before : Work) : Type 0 where
   pub repository : IsSomeAnd before.folder.told (λ s. IsRepository s.disk.published)
   pub some : OfLastRun question → IsSomeAnd before.folder.told (λ s. (number : ℕ) × (0 < number) × HasRuns number s)
 
--- no refusal of the command but a fault or want of memory has a cause
+-- ---- the tables: a line for each task, or for those that differ, and a last one for all others
+
+-- what a task does to the parts that it touches; all else stays
+abbrev pub Performs : Option Task → Step Work Verdict Refusal
+Performs None = Refuses
+Performs (Some init) = At work_folder Inits
+Performs (Some (load partial names)) = Loads partial names
+Performs (Some (ask question)) = At work_shown (Asks question)
+Performs (Some (list patterns)) = ListsSuite patterns
+Performs (Some (run options)) = RunsSuite options
+Performs (Some (selftest drawing)) = TestsItself drawing
+
+-- what was done, where the status is 0 or 1
+abbrev pub Does : Option Task → Work → Work → ℕ → Type 0
+Does None before after answer = ⊥
+Does (Some init) before after answer = Goes before.folder.told after.folder.told MakesRepository × (answer ≡ 0)
+Does (Some (load partial names)) before after answer = LoadsAll partial names before after answer
+Does (Some (ask question)) before after answer = AnswersQuestion question before after answer
+Does (Some (list patterns)) before after answer = ListsAll patterns before after answer
+Does (Some (run options)) before after answer = RunsAll options before after answer
+Does (Some (selftest drawing)) before after answer = SumsUpAll drawing before after answer
+
+-- no refusal but a fault or want of memory has a cause
 abbrev pub CanPerform : Option Task → Work → Type 0
 CanPerform None before = ⊥
 CanPerform (Some init) before = CanInit before
 CanPerform (Some (load partial names)) before = CanLoad names before
 CanPerform (Some (ask question)) before = CanAsk question before
+CanPerform (Some (list patterns)) before = CanList patterns before
+CanPerform (Some (run options)) before = CanRun options before
+CanPerform (Some (selftest drawing)) before = ⊤
+
+-- what stays as it was at every exit
+abbrev pub Leaves : Option Task → Outside → Outside → Type 0
+Leaves (Some (list patterns)) before after = ⊤
+Leaves (Some (run options)) before after = ⊤
+Leaves (Some (selftest drawing)) before after = LeavesOutside before after
+Leaves asked before after = after.spawner ≡ before.spawner
+
+-- it starts programs, so a fault may be that of one of them, of which there is no count
+abbrev pub StartsPrograms : Option Task → Type 0
+StartsPrograms (Some (list patterns)) = ⊤
+StartsPrograms (Some (run options)) = ⊤
+StartsPrograms asked = ⊥
+
+-- a part that it touches failed
+abbrev pub SomeFailed : Option Task → Work → Work → Type 0
+SomeFailed (Some (selftest drawing)) before after = Rose before.out.faults after.out.faults
+SomeFailed asked before after = SomeRose before after
 
 -- it was done, or memory was wanting; `init` takes no memory
 abbrev pub IsPerformed : Option Task → ℕ → Type 0
 IsPerformed None answer = ⊥
 IsPerformed (Some init) answer = answer ≡ 0
-IsPerformed (Some (load partial names)) answer = (answer ≤ 1) ⊎ (answer ≡ 5)
-IsPerformed (Some (ask question)) answer = (answer ≤ 1) ⊎ (answer ≡ 5)
+IsPerformed asked answer = (answer ≤ 1) ⊎ (answer ≡ 5)
+
+-- ---- the answer
+
+-- what was asked for was done; or, where words were read for it, memory was wanting for them
+abbrev pub PerformsOrNot : (reading : Bool) → Option Task → Step Work Verdict Refusal
+PerformsOrNot reading asked before after outcome = Performs asked before after outcome ⊎ (IsTrue reading × GivesUp before after outcome)
+
+-- one outcome, which the steps of the command made, and its line and its status
+pub record Answers (reading : Bool) (asked : Option Task) (before after : Outside) (answer : ℕ) : Type 0 where
+  pub outcome : Result Verdict Refusal
+  pub done : PerformsOrNot reading asked (work_of before) (work_of after) outcome
+  pub told : Tells outcome before.errors after.errors answer
 
 -- ---- the promises
 
 -- What each call promises that is asked for this, from the outside before it to that after it. Nothing is asked for where
 -- words are no command. Where words were read for it, `reading`, memory may be wanting for them.
 pub record Promises (reading : Bool) (asked : Option Task) (before after : Outside) (answer : ℕ) : Type 0 where
-  -- there is one outcome, which the command's steps made, and the status and the line on the errors' sink are its own
+  -- there is one outcome, which the task's steps made, and the status and the line on the errors' sink are its own
   pub answers : Answers reading asked before after answer
   -- the count of that part's faults rose whose fault the outcome is, and no other
   pub counts : RisesAt (place_in answers.outcome) (work_of before) (work_of after)
   pub usage : answer ≡ 2 → asked ≡ None
   pub no_command : asked ≡ None → (answer ≡ 2) ⊎ (IsTrue reading × (answer ≡ 5))
-  pub fault : answer ≡ 4 → SomeRose (work_of before) (work_of after)
-  -- the runs that the folder showed it shows, and no other, unless a load was done or failed from the naming of its run on
+  -- a part that is touched failed; or, where programs are started, one of them
+  pub fault : answer ≡ 4 → SomeFailed asked (work_of before) (work_of after) ⊎ (StartsPrograms asked × IsChildFault answers.outcome)
+  pub leaves : Leaves asked before after
+  -- the runs that the folder showed it shows, and no other, unless a run was kept, or the call failed from its naming on
   pub kept : may_have_kept asked answers.outcome ≡ false → Goes before.folder.told after.folder.told KeepsRuns
   -- a stop at each moment leaves what one before the call might have left, or the files as reads gave them before the
-  -- call with all that the command adds
-  pub any_moment : Goes before.folder.told after.folder.told (PassesCommand asked before.site.told before.input.told)
+  -- call with all that the task adds
+  pub any_moment : Goes before.folder.told after.folder.told (PassesTask asked (work_of before))
   -- where all that a stop before the call might have left is sound, so is what one at each moment of it leaves
   pub sound : Goes before.folder.told after.folder.told KeepsSound
-  pub made : asked ≡ Some init → answer ≡ 0 → Goes before.folder.told after.folder.told MakesRepository
-  pub loaded : (partial : Bool) (names : List (List ℕ)) → asked ≡ Some (load partial names) → answer ≤ 1 → LoadsAll partial names (work_of before) (work_of after) answer
-  pub answered : (question : Question) → asked ≡ Some (ask question) → answer ≤ 1 → AnswersQuestion question (work_of before) (work_of after) answer
+  pub did : answer ≤ 1 → Does asked (work_of before) (work_of after) answer
   -- it does not give up without a cause
-  pub completeness : CanPerform asked (work_of before) → (SomeRose (work_of before) (work_of after) → ⊥) → IsPerformed asked answer ⊎ (IsTrue reading × (answer ≡ 5))
+  pub completeness : CanPerform asked (work_of before) → (SomeFailed asked (work_of before) (work_of after) → ⊥) → IsPerformed asked answer ⊎ (IsTrue reading × (answer ≡ 5))
+
+-- what `testr` promises for all its words
+abbrev pub TestrPromises : List (List ℕ) → Outside → Outside → ℕ → Type 0
+TestrPromises words = Promises true (asked_by words)
 
 -- what the filters do for the words, from the input to the output; the folder, the files and the spawner stay
 pub record PromisesOfFilters (words : List (List ℕ)) (before after : Outside) (answer : ℕ) : Type 0 where
@@ -193,3 +223,9 @@ pub record PromisesOfFilters (words : List (List ℕ)) (before after : Outside) 
   pub folder : after.folder ≡ before.folder
   pub site : after.site ≡ before.site
   pub spawner : after.spawner ≡ before.spawner
+
+-- What each call of the program promises for all its words: what `testr` does for those behind its name, and for others
+-- what the filters do, which also say where words are neither.
+pub record ProgramPromises (words : List (List ℕ)) (before after : Outside) (answer : ℕ) : Type 0 where
+  pub testr : (behind : List (List ℕ)) → words ≡ testr_word ∷ behind → TestrPromises behind before after answer
+  pub filters : ((behind : List (List ℕ)) → words ≡ testr_word ∷ behind → ⊥) → PromisesOfFilters words before after answer

@@ -1,10 +1,12 @@
 -- `testr selftest`: what its workers print, and the chain of its steps.
 use Rattle.std.specs.Prelude.{◌≡◌, ℕ, List, [], ◌++◌, length, map, Result, IfOk}
+use Rattle.std.specs.Io.KnownBytes.{Appends}
 use Rattle.std.specs.List.{AllByRecursion, flat_map, range_with_len}
 use Rattle.drawn_lanes.specs.Outputs.{events_of}
 use Rattle.edge_io.specs.Children.{Output}
 use Rattle.edge_io.specs.Spawners.{Spawning}
 use Rattle.edge_io.specs.declared.job.Job.{Job}
+use Rattle.outcome_fold.specs.Answers.{status_of}
 use Rattle.outcome_fold.specs.Rows.{rows_of}
 use Rattle.outcome_fold.specs.declared.row.Row.{Row}
 use Rattle.packet_codec.specs.Lanes.{joined}
@@ -57,3 +59,9 @@ TestsItself drawing =
     Then Memory (Still (SumsUp drawing)) (λ told.
     Then Print (At work_out (Prints told.text.items)) (λ _.
     Gives told.verdict))
+
+-- The summary of the drawn workers was printed and the status is theirs: both are those of the workers one after another,
+-- whatever the threads did that read them.
+pub record SumsUpAll (drawing : Drawing) (before after : Work) (answer : ℕ) : Type 0 where
+  pub printed : Appends before.out.told after.out.told (summary_of (rows_in_turn drawing) 0 [])
+  pub status : answer ≡ status_of (rows_in_turn drawing)

@@ -1,5 +1,5 @@
 -- What a stop at each moment of a command leaves (docs/DISK.md, the shelf).
-use Rattle.std.specs.Prelude.{◌⊎◌, ℕ, Bool, Option, Some, None, All, List}
+use Rattle.std.specs.Prelude.{◌⊎◌, ℕ, Bool, Option, Some, All, List}
 use Rattle.edge_io.specs.Disk.{Files, Folder, IsImage}
 use Rattle.edge_io.specs.Steps.{Stays}
 use Rattle.edge_io.specs.Moments.{Passes}
@@ -9,7 +9,10 @@ use Rattle.testr_cli.specs.Files.{AreSources, HasRecordedInTurn}
 use Rattle.run_shelf.specs.Repository.{run_of}
 use Rattle.run_shelf.specs.Images.{PassesOld, PassesFormat}
 use Rattle.testr_cli.specs.Runs.{run_bytes, HasRunAndCaches}
-use Rattle.testr_cli.specs.Tasks.{Task, init, load, ask}
+use Rattle.testr_cli.specs.Outside.{Work}
+use Rattle.testr_cli.specs.Suites.{is_partial}
+use Rattle.testr_cli.specs.SuiteStops.{PassesSuiteRun}
+use Rattle.testr_cli.specs.Tasks.{Task, init, load, ask, run}
 
 -- The files and one run more, whole: the run of what is recorded of all sources, which are the input's bytes or those of
 -- the files named, where these are told. Of other files only those of the caches may differ.
@@ -27,8 +30,10 @@ pub record HasLoadedRun (partial : Bool) (names : List (List ℕ)) (told : Optio
 abbrev pub PassesLoad : Bool → List (List ℕ) → Option Files → Option (List ℕ) → Folder → Folder → Type 0
 PassesLoad partial names told left s t = Passes (λ image. IsImage s.disk image ⊎ HasLoadedRun partial names told left s.disk.published image) s t
 
-abbrev pub PassesCommand : Option Task → Option Files → Option (List ℕ) → Folder → Folder → Type 0
-PassesCommand None told left = Stays
-PassesCommand (Some init) told left = PassesFormat
-PassesCommand (Some (load partial names)) told left = PassesLoad partial names told left
-PassesCommand (Some (ask question)) told left = PassesOld
+-- what a stop at each moment of what was asked for leaves, from this on
+abbrev pub PassesTask : Option Task → Work → Folder → Folder → Type 0
+PassesTask (Some init) before = PassesFormat
+PassesTask (Some (load partial names)) before = PassesLoad partial names before.site.told before.input.told
+PassesTask (Some (ask question)) before = PassesOld
+PassesTask (Some (run options)) before = PassesSuiteRun (is_partial options) before.spawner.told
+PassesTask asked before = Stays

@@ -1,5 +1,5 @@
--- What `testr` promises for the commands that start programs: `run` and `list-tests`. The first is the run theorem.
-use Rattle.std.specs.Prelude.{◌≡◌, ◌⊎◌, ⊤, ℕ, zero, suc, ◌≤◌, ◌<◌, nat_lt, pos, Bool, true, false, not, ◌&&◌, ◌||◌, is_some, Option, Some, None, IfSome, IsSomeAnd, All, List, ◌∷◌, ◌++◌, length, Result, Ok, Err, IsOk}
+-- What `list-tests` and `run` do, and what they need to be done. The promise of a run is the run theorem.
+use Rattle.std.specs.Prelude.{◌≡◌, ⊤, ℕ, zero, suc, ◌≤◌, ◌<◌, nat_lt, pos, Bool, true, false, not, ◌&&◌, ◌||◌, is_some, Option, Some, None, IfSome, IsSomeAnd, All, List, ◌∷◌, ◌++◌, length, Ok, IsOk}
 use Rattle.std.specs.List.{AllByRecursion}
 use Rattle.std.specs.Io.KnownBytes.{Appends}
 use Rattle.edge_io.specs.Children.{Output}
@@ -14,7 +14,6 @@ use Rattle.packet_codec.specs.Canonical.{IsEvent, Fits}
 use Rattle.packet_codec.specs.Lanes.{IsOfLaneBelow, IsMerge, joined}
 use Rattle.packet_codec.specs.declared.event.Event.{Event}
 use Rattle.partition_times.specs.Patterns.{IsPattern}
-use Rattle.run_ledger.specs.Refreshing.{KeepsSound}
 use Rattle.run_shelf.specs.Repository.{Run, Shows, most_runs}
 use Rattle.sub_text.specs.Texts.{report_of}
 use Rattle.suite_plan.specs.Calling.{TellsNumber}
@@ -24,57 +23,16 @@ use Rattle.suite_plan.specs.Listing.{ListsSo}
 use Rattle.suite_plan.specs.LoadList.{IsLoadList}
 use Rattle.suite_plan.specs.Processors.{table_name}
 use Rattle.suite_plan.specs.Texts.{most_text}
-use Rattle.suite_plan.specs.declared.calling.CallRefusal.TheVariants as call
-use Rattle.suite_plan.specs.declared.listing.ListingRefusal.TheVariants as listing
 use Rattle.suite_run.specs.Starting.{StartsAll}
 use Rattle.testr_conf.specs.Jobs.{count_job_of, list_job_of, run_job_of, id_lines}
 use Rattle.testr_conf.specs.Settings.{Settings}
 use Rattle.worker_mux.specs.Outputs.{IsOutput, lists_from}
-use Rattle.testr_cli.specs.Answer.{place_in, may_have_placed}
-use Rattle.testr_cli.specs.Outside.{Outside, Work, work_of, work_folder, SomeRose, RisesAt}
-use Rattle.testr_cli.specs.Program.{GivesUp, KeepsRuns, AddsRun, Tells, Promises, PromisesOfFilters}
+use Rattle.testr_cli.specs.Outside.{Work, work_folder}
 use Rattle.testr_cli.specs.Refreshing.{BringsCaches}
-use Rattle.testr_cli.specs.RunSuite.{ListsSuite, RunsSuite}
-use Rattle.testr_cli.specs.Runs.{HasRuns, KeepsFiles}
+use Rattle.testr_cli.specs.Runs.{HasRuns, KeepsFiles, AddsRun}
 use Rattle.testr_cli.specs.Selecting.{Selects, Plans}
-use Rattle.testr_cli.specs.SelfTestProgram.{SelfTestPromises, drawing_asked_by}
-use Rattle.testr_cli.specs.Steps.{Step}
-use Rattle.testr_cli.specs.SuiteStops.{PassesSuite}
-use Rattle.testr_cli.specs.Suites.{Suite, list, run, RunOptions, is_partial, suite_of}
-use Rattle.testr_cli.specs.Words.{testr_word, and_then, command_of, asked_by}
-use Rattle.testr_cli.specs.declared.answer.Refusal.{Refusal}
-use Rattle.testr_cli.specs.declared.answer.Refusal.TheVariants.{Keep, Refresh, Report, Print, Call, Listing}
-use Rattle.testr_cli.specs.declared.answer.Verdict.{Verdict}
-use Rattle.testr_cli.specs.declared.drawing.Drawing.{Drawing}
+use Rattle.testr_cli.specs.Suites.{RunOptions, is_partial}
 use Rattle.testr_cli.specs.declared.selecting.Selected.{Selected}
-
--- ---- the answer
-
-abbrev pub PerformsSuite : Suite → Step Work Verdict Refusal
-PerformsSuite (list patterns) = ListsSuite patterns
-PerformsSuite (run options) = RunsSuite options
-
--- one outcome, which the steps of the command made, or memory was wanting for the words; and its line and its status
-pub record SuiteAnswers (asked : Suite) (before after : Outside) (answer : ℕ) : Type 0 where
-  pub outcome : Result Verdict Refusal
-  pub done : PerformsSuite asked (work_of before) (work_of after) outcome ⊎ GivesUp (work_of before) (work_of after) outcome
-  pub told : Tells outcome before.errors after.errors answer
-
--- the program that lists the tests, or the one that tells how many workers there are, was not read to its end
-abbrev pub IsChildFault : Result Verdict Refusal → Type 0
-IsChildFault (Err (Call call.Child)) = ⊤
-IsChildFault (Err (Listing listing.Child)) = ⊤
-IsChildFault outcome = ⊥
-
--- Whether a run may be shown that was not before: a run was done; or a call failed that was to give it its name, or that
--- came behind; or there was no memory for the caches or its report. So it is of no other outcome.
-abbrev pub may_have_run : Suite → Result Verdict Refusal → Bool
-may_have_run (run options) (Ok verdict) = true
-may_have_run (run options) (Err (Keep fault)) = may_have_placed fault.call
-may_have_run (run options) (Err (Refresh fault)) = true
-may_have_run (run options) (Err (Report fault)) = true
-may_have_run (run options) (Err (Print fault)) = true
-may_have_run asked outcome = false
 
 -- ---- `list-tests`
 
@@ -187,45 +145,3 @@ pub record CanRun (options : RunOptions) (before : Work) : Type 0 where
   pub job : may_list options ≡ true → IsOk (list_job_of settings)
   pub ends : may_list options ≡ true → IsSomeAnd before.spawner.told (EndsWell (calls_of options settings))
   pub handed : may_hand options ≡ true → (ids : Ids) (lane : ℕ) → IsOk (run_job_of settings (Some ids) lane)
-
--- no refusal of the command but a fault or want of memory has a cause
-abbrev pub CanPerformSuite : Suite → Work → Type 0
-CanPerformSuite (list patterns) = CanList patterns
-CanPerformSuite (run options) = CanRun options
-
--- ---- the promises
-
-pub record SuitePromises (asked : Suite) (before after : Outside) (answer : ℕ) : Type 0 where
-  -- there is one outcome, which the command's steps made, and the status and the line on the errors' sink are its own
-  pub answers : SuiteAnswers asked before after answer
-  -- the count of that part's faults rose whose fault the outcome is, and no other
-  pub counts : RisesAt (place_in answers.outcome) (work_of before) (work_of after)
-  pub usage : answer ≡ 2 → ⊥
-  pub fault : answer ≡ 4 → SomeRose (work_of before) (work_of after) ⊎ IsChildFault answers.outcome
-  -- the runs that the folder showed it shows, and no other, unless a run was done or failed from the naming of its run on
-  pub kept : may_have_run asked answers.outcome ≡ false → Goes before.folder.told after.folder.told KeepsRuns
-  -- a stop at each moment leaves what one before the call might have left, or the files as reads gave them before the
-  -- call with the whole run
-  pub any_moment : Goes before.folder.told after.folder.told (PassesSuite asked before.spawner.told)
-  -- where all that a stop before the call might have left is sound, so is what one at each moment of it leaves
-  pub sound : Goes before.folder.told after.folder.told KeepsSound
-  pub listed : (patterns : Ids) → asked ≡ list patterns → answer ≤ 1 → ListsAll patterns (work_of before) (work_of after) answer
-  pub ran : (options : RunOptions) → asked ≡ run options → answer ≤ 1 → RunsAll options (work_of before) (work_of after) answer
-  -- it does not give up without a cause
-  pub completeness : CanPerformSuite asked (work_of before) → (SomeRose (work_of before) (work_of after) → ⊥) → (answer ≤ 1) ⊎ (answer ≡ 5)
-
--- what the words behind `testr` ask for of the tests of the project
-abbrev pub suite_asked_by : List (List ℕ) → Option Suite
-suite_asked_by words = and_then (command_of words) suite_of
-
--- What `testr` promises for all its words: those that start programs, `selftest`, and all others, which leave the spawner.
-pub record TestrPromises (words : List (List ℕ)) (before after : Outside) (answer : ℕ) : Type 0 where
-  pub suite : (asked : Suite) → suite_asked_by words ≡ Some asked → SuitePromises asked before after answer
-  pub selftest : (asked : Drawing) → drawing_asked_by words ≡ Some asked → SelfTestPromises asked before after answer
-  pub others : suite_asked_by words ≡ None → drawing_asked_by words ≡ None → Promises true (asked_by words) before after answer × (after.spawner ≡ before.spawner)
-
--- What each call of the program promises for all its words: what `testr` does for those behind its name, and for others
--- what the filters do, which also say where words are neither.
-pub record ProgramPromises (words : List (List ℕ)) (before after : Outside) (answer : ℕ) : Type 0 where
-  pub testr : (behind : List (List ℕ)) → words ≡ testr_word ∷ behind → TestrPromises behind before after answer
-  pub filters : ((behind : List (List ℕ)) → words ≡ testr_word ∷ behind → ⊥) → PromisesOfFilters words before after answer

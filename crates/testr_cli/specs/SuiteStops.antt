@@ -1,17 +1,15 @@
--- What a stop at each moment of `run` and `list-tests` leaves (docs/DISK.md, the shelf).
+-- What a stop at each moment of `run` leaves (docs/DISK.md, the shelf).
 use Rattle.std.specs.Prelude.{◌≡◌, ◌⊎◌, ℕ, ◌≤◌, Bool, Option, IfSome, List, ◌++◌, length}
 use Rattle.std.specs.List.{All, AllByRecursion}
 use Rattle.edge_io.specs.Children.{Output}
 use Rattle.edge_io.specs.Disk.{Files, Folder, IsImage}
 use Rattle.edge_io.specs.Moments.{Passes}
 use Rattle.edge_io.specs.Spawners.{Spawning}
-use Rattle.edge_io.specs.Steps.{Stays}
 use Rattle.packet_codec.specs.declared.event.Event.{Event}
 use Rattle.packet_codec.specs.Lanes.{IsOfLaneBelow, IsMerge}
 use Rattle.run_shelf.specs.Repository.{run_of}
 use Rattle.worker_mux.specs.Outputs.{IsOutput, lists_from}
 use Rattle.testr_cli.specs.Runs.{run_bytes, HasRunAndCaches}
-use Rattle.testr_cli.specs.Suites.{Suite, list, run, is_partial}
 
 -- Of the children to come, the first two at most are asked for the number of workers and for the tests, and those behind
 -- them are the workers. The events are a merge of the workers': of each all, once and in order, and no others. A status
@@ -38,7 +36,3 @@ pub record HasSuiteRun (partial : Bool) (told : Option Spawning) (files image : 
 -- caches are
 abbrev pub PassesSuiteRun : Bool → Option Spawning → Folder → Folder → Type 0
 PassesSuiteRun partial told s t = Passes (λ image. IsImage s.disk image ⊎ HasSuiteRun partial told s.disk.published image) s t
-
-abbrev pub PassesSuite : Suite → Option Spawning → Folder → Folder → Type 0
-PassesSuite (list patterns) told = Stays
-PassesSuite (run options) told = PassesSuiteRun (is_partial options) told

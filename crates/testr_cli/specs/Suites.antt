@@ -1,7 +1,5 @@
--- What `run` and `list-tests` ask for.
+-- What `run` asks for.
 use Rattle.std.specs.Prelude.{Bool, not, ◌||◌, nat_eq, Option, Some, None, List, ℕ, length, is_some}
-use Rattle.testr_cli.specs.declared.command.Verb.{Verb}
-use Rattle.testr_cli.specs.declared.command.Verb.TheVariants as verb
 use Rattle.testr_cli.specs.declared.command.Command.{Command}
 
 -- what `run` is asked to do
@@ -26,13 +24,7 @@ is_part called failing load_list patterns = called || (failing || (is_some load_
 abbrev pub is_partial : RunOptions → Bool
 is_partial options = is_part options.partial options.failing options.load_list options.patterns
 
--- what is done with the tests of the project
-pub data Suite : Type 0 where
-  -- their ids that have one of these patterns are printed
-  list : List (List ℕ) → Suite
-  -- they are run
-  run : RunOptions → Suite
-
+-- what is said of a run by the command
 abbrev pub run_options : Command → RunOptions
 run_options command = record {
   partial = command.partial;
@@ -42,13 +34,3 @@ run_options command = record {
   load_list = command.load_list;
   patterns = command.names;
 }
-
--- what is done for a command of this verb
-abbrev pub suite_with : Verb → Command → Option Suite
-suite_with verb.Run command = Some (run (run_options command))
-suite_with verb.ListTests command = Some (list command.names)
-suite_with other command = None
-
--- what is done for a command; none where it is none of the tests
-abbrev pub suite_of : Command → Option Suite
-suite_of command = suite_with command.verb command

@@ -5,7 +5,7 @@ ghost use Rattle.command_words.specs.Code.{shown};
 ghost use Rattle.testr_cli.specs.Drawings as drawings;
 ghost use Rattle.testr_cli.specs.Words as words;
 
-use crate::command::{Command, Verb};
+use crate::command::Command;
 use crate::values::number;
 use command_words::Item;
 
@@ -51,19 +51,16 @@ fn are_few(lanes: u32, tests: u32) -> bool
         && u64::from(lanes) * u64::from(tests) <= u64::from(MOST_TESTS)
 }
 
-/// The drawing that the command asks for. None comes exactly where it asks for something else.
+/// The drawing of the command's numbers. None comes exactly where it is not small enough.
 pub(crate) fn drawing_of(command: &Command) -> Option<Drawing>
     ensures { result ≡ drawings.drawing_of command.now }
 {
-    match command.verb {
-        Verb::SelfTest => Drawing {
-            seed: command.seed,
-            lanes: command.lanes,
-            tests: command.tests,
-        }
-        .if_few(),
-        _ => None,
+    Drawing {
+        seed: command.seed,
+        lanes: command.lanes,
+        tests: command.tests,
     }
+    .if_few()
 }
 
 /// The drawing of these items, which are the names of its three numbers. None comes exactly where they are not.

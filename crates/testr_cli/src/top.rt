@@ -5,20 +5,16 @@ ghost use Rattle.edge_io.specs.Disk.{Files, Folder};
 ghost use Rattle.edge_io.specs.Seen.{Seen};
 ghost use Rattle.edge_io.specs.Spawners.{Spawning};
 ghost use Rattle.command_words.specs.Items.{texts};
-ghost use Rattle.testr_cli.specs.Drawings.{are_few, drawing_of as drawing_asked_in};
 ghost use Rattle.testr_cli.specs.Outside.{outside, work};
-ghost use Rattle.testr_cli.specs.Program.{Promises, Performs, Tells};
-ghost use Rattle.testr_cli.specs.SelfTestProgram.{SelfTestAnswers};
-ghost use Rattle.testr_cli.specs.SuiteProgram.{ProgramPromises, TestrPromises, SuiteAnswers};
+ghost use Rattle.testr_cli.specs.Program.{Performs, Tells, Answers, Promises, TestrPromises, ProgramPromises};
 ghost use Rattle.testr_cli.specs.Sparing.{SparesReads};
-ghost use Rattle.testr_cli.specs.Suites.{Suite, run as run_asked, list as list_asked, run_options, suite_of};
-ghost use Rattle.testr_cli.specs.Tasks.{task_of, task_with};
+ghost use Rattle.testr_cli.specs.Tasks.{task_of, task_with, quiet_of};
 ghost use Rattle.testr_cli.specs.Words.{testr_word, asked_by};
-ghost use Rattle.testr_cli.specs.declared.command.Verb.TheVariants.{Load};
+ghost use Rattle.testr_cli.specs.declared.command.Verb.TheVariants.{Load, Run, ListTests, SelfTest};
 
 use crate::ask::ask;
 use crate::command::{Command, Question, Verb};
-use crate::drawing::{Drawing, drawing_of};
+use crate::drawing::drawing_of;
 use crate::init::init;
 use crate::list::list;
 use crate::load::load;
@@ -134,72 +130,39 @@ fn follow<R: Threads + Wait + Sync, H: Shelf, S: Spawner, F: Site, I: Source, O:
     out: &mut O,
     err: &mut E,
 ) -> u8
-    ensures suite { (asked : Suite) → suite_of command.now ≡ Some asked → SuiteAnswers asked
+    ensures answers { Answers false (task_of command.now)
         (outside (H.seen shelf.old) (F.seen site.old) (S.seen spawner.old) (I.seen input.old) (O.seen out.old) (E.seen err.old))
         (outside (H.seen shelf.new) (F.seen site.new) (S.seen spawner.new) (I.seen input.new) (O.seen out.new) (E.seen err.new))
         result }
-    ensures selftest { (asked : Drawing) → drawing_asked_in command.now ≡ Some asked → SelfTestAnswers asked
-        (outside (H.seen shelf.old) (F.seen site.old) (S.seen spawner.old) (I.seen input.old) (O.seen out.old) (E.seen err.old))
-        (outside (H.seen shelf.new) (F.seen site.new) (S.seen spawner.new) (I.seen input.new) (O.seen out.new) (E.seen err.new))
-        result }
-    ensures others { suite_of command.now ≡ None → drawing_asked_in command.now ≡ None → Promises false (task_of command.now)
-        (outside (H.seen shelf.old) (F.seen site.old) (S.seen spawner.old) (I.seen input.old) (O.seen out.old) (E.seen err.old))
-        (outside (H.seen shelf.new) (F.seen site.new) (S.seen spawner.new) (I.seen input.new) (O.seen out.new) (E.seen err.new))
-        result }
-    ensures spawner { suite_of command.now ≡ None → S.seen spawner.new ≡ S.seen spawner.old }
-    ensures spares { SparesReads (task_of command.now) (H.seen shelf.old).told (H.clock shelf.old) (H.clock shelf.new) }
-{
-    match drawing_of(command) {
-        Some(drawing) => test_itself(rt, alloc, drawing, out, err),
-        None => obey(rt, alloc, command, shelf, spawner, site, input, out, err),
-    }
-}
-
-// Runs the workers of the drawing, and sums them up.
-fn test_itself<R: Threads + Wait + Sync, O: Sink, E: Sink>(
-    rt: &R,
-    alloc: Global,
-    drawing: Drawing,
-    out: &mut O,
-    err: &mut E,
-) -> u8
-    requires few { are_few drawing.lanes drawing.tests ≡ true }
-    ensures { (folder : Seen Folder) → (site : Seen Files) → (spawner : Seen Spawning) → (input : Seen (List ℕ)) → SelfTestAnswers drawing
-        (outside folder site spawner input (O.seen out.old) (E.seen err.old))
-        (outside folder site spawner input (O.seen out.new) (E.seen err.new))
-        result }
-{
-    let outcome = selftest(rt, alloc, drawing, out);
-    answer(outcome, err)
-}
-
-// Does what the command says, where that is not to test itself, and answers its status.
-fn obey<R: Threads + Wait + Sync, H: Shelf, S: Spawner, F: Site, I: Source, O: Sink, E: Sink>(
-    rt: &R,
-    alloc: Global,
-    command: &Command,
-    shelf: &mut H,
-    spawner: &mut S,
-    site: &mut F,
-    input: &mut I,
-    out: &mut O,
-    err: &mut E,
-) -> u8
-    ensures suite { (asked : Suite) → suite_of command.now ≡ Some asked → SuiteAnswers asked
-        (outside (H.seen shelf.old) (F.seen site.old) (S.seen spawner.old) (I.seen input.old) (O.seen out.old) (E.seen err.old))
-        (outside (H.seen shelf.new) (F.seen site.new) (S.seen spawner.new) (I.seen input.new) (O.seen out.new) (E.seen err.new))
-        result }
-    ensures others { suite_of command.now ≡ None → Promises false (task_of command.now)
-        (outside (H.seen shelf.old) (F.seen site.old) (S.seen spawner.old) (I.seen input.old) (O.seen out.old) (E.seen err.old))
-        (outside (H.seen shelf.new) (F.seen site.new) (S.seen spawner.new) (I.seen input.new) (O.seen out.new) (E.seen err.new))
-        result }
-    ensures spawner { suite_of command.now ≡ None → S.seen spawner.new ≡ S.seen spawner.old }
     ensures spares { SparesReads (task_of command.now) (H.seen shelf.old).told (H.clock shelf.old) (H.clock shelf.new) }
 {
     match command.verb {
         Verb::Run => run_suite(rt, alloc, command, shelf, spawner, site, out, err),
         Verb::ListTests => list_suite(alloc, command, spawner, site, out, err),
+        Verb::SelfTest => test_itself(rt, alloc, command, out, err),
         _ => quiet(alloc, command, shelf, site, input, out, err),
+    }
+}
+
+// Runs the workers of the drawing that the command asks for, and sums them up.
+fn test_itself<R: Threads + Wait + Sync, O: Sink, E: Sink>(
+    rt: &R,
+    alloc: Global,
+    command: &Command,
+    out: &mut O,
+    err: &mut E,
+) -> u8
+    ensures { (folder : Seen Folder) → (site : Seen Files) → (spawner : Seen Spawning) → (input : Seen (List ℕ)) → Answers false (task_with SelfTest command.now)
+        (outside folder site spawner input (O.seen out.old) (E.seen err.old))
+        (outside folder site spawner input (O.seen out.new) (E.seen err.new))
+        result }
+{
+    match drawing_of(command) {
+        Some(drawing) => {
+            let outcome = selftest(rt, alloc, drawing, out);
+            answer(outcome, err)
+        }
+        None => answer(Err(Refusal::Usage(UsageFault::Words)), err),
     }
 }
 
@@ -214,7 +177,7 @@ fn run_suite<R: Threads + Wait + Sync, H: Shelf, S: Spawner, F: Site, O: Sink, E
     out: &mut O,
     err: &mut E,
 ) -> u8
-    ensures { (input : Seen (List ℕ)) → SuiteAnswers (run_asked (run_options command.now))
+    ensures { (input : Seen (List ℕ)) → Answers false (task_with Run command.now)
         (outside (H.seen shelf.old) (F.seen site.old) (S.seen spawner.old) input (O.seen out.old) (E.seen err.old))
         (outside (H.seen shelf.new) (F.seen site.new) (S.seen spawner.new) input (O.seen out.new) (E.seen err.new))
         result }
@@ -237,7 +200,7 @@ fn list_suite<S: Spawner, F: Site, O: Sink, E: Sink>(
     out: &mut O,
     err: &mut E,
 ) -> u8
-    ensures { (folder : Seen Folder) → (input : Seen (List ℕ)) → SuiteAnswers (list_asked command.now.names)
+    ensures { (folder : Seen Folder) → (input : Seen (List ℕ)) → Answers false (task_with ListTests command.now)
         (outside folder (F.seen site.old) (S.seen spawner.old) input (O.seen out.old) (E.seen err.old))
         (outside folder (F.seen site.new) (S.seen spawner.new) input (O.seen out.new) (E.seen err.new))
         result }
@@ -264,7 +227,7 @@ pub fn quiet<H: Shelf, F: Site, I: Source, O: Sink, E: Sink>(
     out: &mut O,
     err: &mut E,
 ) -> u8
-    ensures promises { (spawner : Seen Spawning) → Promises false (task_of command.now)
+    ensures promises { (spawner : Seen Spawning) → Promises false (quiet_of (task_of command.now))
         (outside (H.seen shelf.old) (F.seen site.old) spawner (I.seen input.old) (O.seen out.old) (E.seen err.old))
         (outside (H.seen shelf.new) (F.seen site.new) spawner (I.seen input.new) (O.seen out.new) (E.seen err.new))
         result }
@@ -283,7 +246,7 @@ fn perform<'a, H: Shelf, F: Site, I: Source, O: Sink>(
     input: &mut I,
     out: &mut O,
 ) -> Result<Verdict, Refusal<'a>>
-    ensures step { (spawner : Seen Spawning) → Performs (task_of command.now)
+    ensures step { (spawner : Seen Spawning) → Performs (quiet_of (task_of command.now))
         (work (H.seen shelf.old) (F.seen site.old) spawner (I.seen input.old) (O.seen out.old))
         (work (H.seen shelf.new) (F.seen site.new) spawner (I.seen input.new) (O.seen out.new))
         result }

@@ -1,30 +1,30 @@
-use Rattle.std.proofs.Common.{◌≡◌, Some, None, refl, sym, ◌∙◌}
-use Rattle.testr_cli.specs.Drawings.{drawing_of}
-use Rattle.testr_cli.proofs.SelfTestLaws.{apart, few_drawn, one_drawn, as_asked, not_both}
-use Rattle.testr_cli.proofs.SparingLemmas.{none_spare}
+use Rattle.std.proofs.Common.{sym, ap}
+use Rattle.testr_cli.specs.Tasks.{task_with}
+use Rattle.testr_cli.proofs.Performing.{all_done}
+use Rattle.testr_cli.proofs.PromiseLemmas.{asked_as}
+use Rattle.testr_cli.proofs.SparingLemmas.{silent_spare}
 use Rattle.testr_cli.proofs.top.follow.Goals as goal
 
-pub test_itself-requires-clause-few : goal.test_itself-requires-clause-few
-test_itself-requires-clause-few g c = λ _ _. few_drawn c.args.command.now.verb c.args.command.now c.in-Some.drawing (sym c.drawing_of.ensures ∙ c.in-Some.is)
+pub returns-in-Run : goal.returns-in-Run
+returns-in-Run g c = record {
+  answers = asked_as (sym (ap (λ v. task_with v c.args.command.now) c.in-Run.is)) _ _ _ (c.run_suite.ensures _);
+  spares = silent_spare c.args.command.now.verb c.args.command.now _ _ _ c.in-Run.is tt;
+}
 
-pub returns-in-Some : goal.returns-in-Some
-returns-in-Some g c =
-    let drawn : drawing_of c.args.command.now ≡ Some c.in-Some.drawing = sym c.drawing_of.ensures ∙ c.in-Some.is in
-    record {
-      suite = λ asked is. absurd (apart c.args.command.now.verb c.args.command.now c.in-Some.drawing asked drawn is);
-      selftest = λ asked is. as_asked (one_drawn c.in-Some.drawing asked drawn is) (c.test_itself.ensures _ _ _ _);
-      others = λ none undrawn. absurd (not_both c.in-Some.drawing drawn undrawn);
-      spawner = λ none. refl;
-      spares = none_spare _ _ _ _ refl;
-    }
+pub returns-in-ListTests : goal.returns-in-ListTests
+returns-in-ListTests g c = record {
+  answers = asked_as (sym (ap (λ v. task_with v c.args.command.now) c.in-ListTests.is)) _ _ _ (c.list_suite.ensures _ _);
+  spares = silent_spare c.args.command.now.verb c.args.command.now _ _ _ c.in-ListTests.is tt;
+}
 
-pub returns-in-None : goal.returns-in-None
-returns-in-None g c =
-    let undrawn : drawing_of c.args.command.now ≡ None = sym c.drawing_of.ensures ∙ c.in-None.is in
-    record {
-      suite = c.obey.ensures.suite;
-      selftest = λ asked is. absurd (not_both asked is undrawn);
-      others = λ none _. c.obey.ensures.others none;
-      spawner = c.obey.ensures.spawner;
-      spares = c.obey.ensures.spares;
-    }
+pub returns-in-SelfTest : goal.returns-in-SelfTest
+returns-in-SelfTest g c = record {
+  answers = asked_as (sym (ap (λ v. task_with v c.args.command.now) c.in-SelfTest.is)) _ _ _ (c.test_itself.ensures _ _ _ _);
+  spares = silent_spare c.args.command.now.verb c.args.command.now _ _ _ c.in-SelfTest.is tt;
+}
+
+pub returns-in_default : goal.returns-in_default
+returns-in_default g c = record {
+  answers = asked_as (all_done c.args.command.now.verb c.args.command.now c.in_default.not-Run c.in_default.not-ListTests c.in_default.not-SelfTest) _ _ _ (c.quiet.ensures.promises _).answers;
+  spares = c.quiet.ensures.spares;
+}

@@ -1,26 +1,26 @@
-use Rattle.std.proofs.Common.{sym, ap, refl}
-use Rattle.testr_cli.specs.Tasks.{task_with}
-use Rattle.testr_cli.proofs.Performing.{performs, refuses, not_done}
+use Rattle.std.proofs.Common.{sym, ap, refl, ◌∙◌}
+use Rattle.testr_cli.specs.Tasks.{task_with, quiet_of}
+use Rattle.testr_cli.proofs.Performing.{performs, refuses, not_done, quiet_load}
 use Rattle.testr_cli.proofs.SparingLemmas.{none_spare, other_spare, silent_spare}
 use Rattle.testr_cli.proofs.top.perform.Goals as goal
 
 pub returns-in-Init-clause-step : goal.returns-in-Init-clause-step
-returns-in-Init-clause-step g c = λ spawner. performs _ _ _ (sym (ap (λ v. task_with v c.args.command.now) c.in-Init.is)) (record { at = c.init.ensures; rest = refl })
+returns-in-Init-clause-step g c = λ spawner. performs _ _ _ (sym (ap (λ v. quiet_of (task_with v c.args.command.now)) c.in-Init.is)) (record { at = c.init.ensures; rest = refl })
 
 pub returns-in-Load-clause-step : goal.returns-in-Load-clause-step
-returns-in-Load-clause-step g c = λ spawner. performs _ _ _ (sym (ap (λ v. task_with v c.args.command.now) c.in-Load.is)) (c.load_named.ensures spawner)
+returns-in-Load-clause-step g c = λ spawner. performs _ _ _ (sym (quiet_load c.args.command.now) ∙ sym (ap (λ v. quiet_of (task_with v c.args.command.now)) c.in-Load.is)) (c.load_named.ensures spawner)
 
 pub returns-in-Last-clause-step : goal.returns-in-Last-clause-step
-returns-in-Last-clause-step g c = λ spawner. performs _ _ _ (sym (ap (λ v. task_with v c.args.command.now) c.in-Last.is)) (record { at = c.ask.ensures.step; rest = refl })
+returns-in-Last-clause-step g c = λ spawner. performs _ _ _ (sym (ap (λ v. quiet_of (task_with v c.args.command.now)) c.in-Last.is)) (record { at = c.ask.ensures.step; rest = refl })
 
 pub returns-in-Failing-clause-step : goal.returns-in-Failing-clause-step
-returns-in-Failing-clause-step g c = λ spawner. performs _ _ _ (sym (ap (λ v. task_with v c.args.command.now) c.in-Failing.is)) (record { at = c.ask-in-Failing.ensures.step; rest = refl })
+returns-in-Failing-clause-step g c = λ spawner. performs _ _ _ (sym (ap (λ v. quiet_of (task_with v c.args.command.now)) c.in-Failing.is)) (record { at = c.ask-in-Failing.ensures.step; rest = refl })
 
 pub returns-in-Slowest-clause-step : goal.returns-in-Slowest-clause-step
-returns-in-Slowest-clause-step g c = λ spawner. performs _ _ _ (sym (ap (λ v. task_with v c.args.command.now) c.in-Slowest.is)) (record { at = c.ask-in-Slowest.ensures.step; rest = refl })
+returns-in-Slowest-clause-step g c = λ spawner. performs _ _ _ (sym (ap (λ v. quiet_of (task_with v c.args.command.now)) c.in-Slowest.is)) (record { at = c.ask-in-Slowest.ensures.step; rest = refl })
 
 pub returns-in-Stats-clause-step : goal.returns-in-Stats-clause-step
-returns-in-Stats-clause-step g c = λ spawner. performs _ _ _ (sym (ap (λ v. task_with v c.args.command.now) c.in-Stats.is)) (record { at = c.ask-in-Stats.ensures.step; rest = refl })
+returns-in-Stats-clause-step g c = λ spawner. performs _ _ _ (sym (ap (λ v. quiet_of (task_with v c.args.command.now)) c.in-Stats.is)) (record { at = c.ask-in-Stats.ensures.step; rest = refl })
 
 pub returns-in-Run-clause-step : goal.returns-in-Run-clause-step
 returns-in-Run-clause-step g c = λ spawner. refuses _ (not_done c.args.command.now.verb c.args.command.now c.in-Run.is)

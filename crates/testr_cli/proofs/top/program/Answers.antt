@@ -3,7 +3,7 @@ use Rattle.std.proofs.lemmas.List.{take_rest}
 use Rattle.command_words.specs.Items.{texts}
 use Rattle.testr_cli.specs.Words.{names_testr, testr_word}
 use Rattle.testr_cli.proofs.SparingLemmas.{none_spare, behind_spare}
-use Rattle.testr_cli.proofs.SuitePromises.{testr_behind}
+use Rattle.testr_cli.proofs.PromiseLemmas.{testr_behind}
 use Rattle.testr_cli.proofs.WordsLemmas.{names_first, names_other}
 use Rattle.testr_cli.proofs.top.program.Goals as goal
 
