@@ -6,13 +6,8 @@ ghost use Rattle.testr_cli.specs.Telling.{line_text};
 use crate::copying::CopyFault;
 use crate::recording::RecordFault;
 use crate::reporting::PrintFault;
-use crate::store::{KeepFault, RunsFault, init_line, init_status, open_line, open_status};
-use crate::suite_refusals::{
-    call_line, call_status, conf_line, conf_status, job_line, job_status, lanes_line, lanes_status,
-    list_line, list_status, listing_line, listing_status, pattern_line, pattern_status, start_line,
-    start_status, table_line, table_status,
-};
-use crate::telling::Line;
+use crate::store::{KeepFault, RunsFault};
+use crate::telling::{Line, Refuses};
 use crate::told::TellFault;
 use crate::words::UsageFault;
 use run_shelf::{InitFault, OpenFault};
@@ -283,22 +278,22 @@ impl<'a> Refusal<'a> {
     {
         match self {
             Refusal::Usage(_) => 2,
-            Refusal::Init(fault) => init_status(fault),
-            Refusal::Open(fault) => open_status(fault),
+            Refusal::Init(fault) => fault.code(),
+            Refusal::Open(fault) => fault.code(),
             Refusal::Runs(_) => 3,
             Refusal::Record(fault) => fault.code(),
             Refusal::Refresh(fault) | Refusal::Tell(fault) => fault.code(),
             Refusal::Keep(_) | Refusal::Print(_) => 4,
             Refusal::Memory(_) | Refusal::Report(_) => 5,
-            Refusal::Conf(refusal) => conf_status(refusal),
-            Refusal::Pattern(refusal) => pattern_status(refusal),
-            Refusal::LoadList(refusal) => list_status(refusal),
-            Refusal::Call(refusal) => call_status(refusal),
-            Refusal::Table(refusal) => table_status(refusal),
-            Refusal::Listing(refusal) => listing_status(refusal),
-            Refusal::Job(fault) => job_status(fault),
-            Refusal::Start(refusal) => start_status(refusal),
-            Refusal::Lanes(refusal) => lanes_status(refusal),
+            Refusal::Conf(refusal) => refusal.code(),
+            Refusal::Pattern(refusal) => refusal.code(),
+            Refusal::LoadList(refusal) => refusal.code(),
+            Refusal::Call(refusal) => refusal.code(),
+            Refusal::Table(refusal) => refusal.code(),
+            Refusal::Listing(refusal) => refusal.code(),
+            Refusal::Job(fault) => fault.code(),
+            Refusal::Start(refusal) => refusal.code(),
+            Refusal::Lanes(refusal) => refusal.code(),
         }
     }
 
@@ -308,23 +303,23 @@ impl<'a> Refusal<'a> {
     {
         match self {
             Refusal::Usage(fault) => fault.line(),
-            Refusal::Init(fault) => init_line(fault),
-            Refusal::Open(fault) => open_line(fault),
+            Refusal::Init(fault) => fault.line(),
+            Refusal::Open(fault) => fault.line(),
             Refusal::Runs(fault) => fault.line(),
             Refusal::Record(fault) => fault.line(),
             Refusal::Memory(_) | Refusal::Report(_) => Line::of("testr: out of memory\n"),
             Refusal::Keep(fault) => fault.line(),
             Refusal::Refresh(fault) | Refusal::Tell(fault) => fault.line(),
             Refusal::Print(fault) => fault.line(),
-            Refusal::Conf(refusal) => conf_line(refusal),
-            Refusal::Pattern(refusal) => pattern_line(refusal),
-            Refusal::LoadList(refusal) => list_line(refusal),
-            Refusal::Call(refusal) => call_line(refusal),
-            Refusal::Table(refusal) => table_line(refusal),
-            Refusal::Listing(refusal) => listing_line(refusal),
-            Refusal::Job(fault) => job_line(fault),
-            Refusal::Start(refusal) => start_line(refusal),
-            Refusal::Lanes(refusal) => lanes_line(refusal),
+            Refusal::Conf(refusal) => refusal.line(),
+            Refusal::Pattern(refusal) => refusal.line(),
+            Refusal::LoadList(refusal) => refusal.line(),
+            Refusal::Call(refusal) => refusal.line(),
+            Refusal::Table(refusal) => refusal.line(),
+            Refusal::Listing(refusal) => refusal.line(),
+            Refusal::Job(fault) => fault.line(),
+            Refusal::Start(refusal) => refusal.line(),
+            Refusal::Lanes(refusal) => refusal.line(),
         }
     }
 }

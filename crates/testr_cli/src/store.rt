@@ -5,11 +5,11 @@ ghost use Rattle.edge_io.specs.Steps.{HasDraft};
 ghost use Rattle.run_shelf.specs.Holds.{kinds_of, HasRoom, FitsWhereTold};
 ghost use Rattle.run_shelf.specs.Outcomes.{TicksUpTo};
 ghost use Rattle.run_shelf.specs.Repository.{most_runs};
-ghost use Rattle.testr_cli.specs.Store.{Makes, init_code, init_text, Opens, open_code, open_text, TakesRun, HasRunFor, runs_text, Begins, Keeps, keep_text};
+ghost use Rattle.testr_cli.specs.Store.{Makes, Opens, TakesRun, HasRunFor, runs_text, Begins, Keeps, keep_text};
 ghost use Rattle.testr_cli.specs.Telling.{line_text};
 
 use crate::command::Question;
-use crate::telling::{Line, Part};
+use crate::telling::{Line, Part, Refuses};
 use edge_io::Shelf;
 use run_shelf::{
     Found, InitFault, MOST_RUNS, OpenFault, ShelfCall, begin_run, finish_run, make_repository,
@@ -24,23 +24,25 @@ pub fn make<H: Shelf>(shelf: &mut H) -> Result<(), InitFault>
     make_repository(shelf)
 }
 
-/// The status of a repository that was not made.
-pub fn init_status(fault: InitFault) -> u8
-    ensures { result ≡ init_code fault }
-{
-    match fault {
-        InitFault::Exists => 3,
-        InitFault::Shelf(_) => 4,
-    }
-}
+impl<'a> Refuses<'a> for InitFault {
+    ghost use Rattle.testr_cli.specs.Store.{init_code, init_text};
 
-/// The line that tells why it was not made.
-pub fn init_line(fault: InitFault) -> Line<'static>
-    ensures { line_text result ≡ init_text fault }
-{
-    match fault {
-        InitFault::Exists => Line::of("testr: a repository is already here\n"),
-        InitFault::Shelf(_) => Line::of("testr: fault of the repository folder\n"),
+    ghost status = { init_code };
+
+    ghost text = { init_text };
+
+    fn code(self) -> u8 {
+        match self {
+            InitFault::Exists => 3,
+            InitFault::Shelf(_) => 4,
+        }
+    }
+
+    fn line(self) -> Line<'a> {
+        match self {
+            InitFault::Exists => Line::of("testr: a repository is already here\n"),
+            InitFault::Shelf(_) => Line::of("testr: fault of the repository folder\n"),
+        }
     }
 }
 
@@ -52,31 +54,33 @@ pub fn open<H: Shelf>(alloc: Global, shelf: &mut H) -> Result<Found, OpenFault>
     survey(alloc, shelf)
 }
 
-/// The status of a folder that was not opened.
-pub fn open_status(fault: OpenFault) -> u8
-    ensures { result ≡ open_code fault }
-{
-    match fault {
-        OpenFault::NoStore | OpenFault::UnknownFormat | OpenFault::Gap(_) => 3,
-        OpenFault::Shelf(_) => 4,
-        OpenFault::NoMemory => 5,
-    }
-}
+impl<'a> Refuses<'a> for OpenFault {
+    ghost use Rattle.testr_cli.specs.Store.{open_code, open_text};
 
-/// The line that tells why it was not opened.
-pub fn open_line(fault: OpenFault) -> Line<'static>
-    ensures { line_text result ≡ open_text fault }
-{
-    match fault {
-        OpenFault::NoStore => Line::of("testr: no repository here\n"),
-        OpenFault::UnknownFormat => Line::of("testr: unknown repository format\n"),
-        OpenFault::Gap(number) => Line {
-            front: "testr: run ",
-            part: Part::Number(number),
-            rest: " is missing\n",
-        },
-        OpenFault::Shelf(_) => Line::of("testr: fault of the repository folder\n"),
-        OpenFault::NoMemory => Line::of("testr: out of memory\n"),
+    ghost status = { open_code };
+
+    ghost text = { open_text };
+
+    fn code(self) -> u8 {
+        match self {
+            OpenFault::NoStore | OpenFault::UnknownFormat | OpenFault::Gap(_) => 3,
+            OpenFault::Shelf(_) => 4,
+            OpenFault::NoMemory => 5,
+        }
+    }
+
+    fn line(self) -> Line<'a> {
+        match self {
+            OpenFault::NoStore => Line::of("testr: no repository here\n"),
+            OpenFault::UnknownFormat => Line::of("testr: unknown repository format\n"),
+            OpenFault::Gap(number) => Line {
+                front: "testr: run ",
+                part: Part::Number(number),
+                rest: " is missing\n",
+            },
+            OpenFault::Shelf(_) => Line::of("testr: fault of the repository folder\n"),
+            OpenFault::NoMemory => Line::of("testr: out of memory\n"),
+        }
     }
 }
 

@@ -2,10 +2,10 @@
 
 ghost use Rattle.std.specs.Prelude.{◌≡◌, ◌++◌, codes};
 ghost use Rattle.std.specs.Fmt.{decimal};
-ghost use Rattle.testr_cli.specs.SuiteTexts.{conf_code, conf_text, pattern_code, pattern_text, list_code, list_text, call_code, call_text, table_code, table_text, key_text, listing_code, listing_text, job_code, job_text, start_code, start_text, lanes_code, lanes_text};
+ghost use Rattle.testr_cli.specs.SuiteTexts.{key_text};
 ghost use Rattle.testr_cli.specs.Telling.{line_text};
 
-use crate::telling::{Line, Part};
+use crate::telling::{Line, Part, Refuses};
 use suite_plan::{
     CallRefusal, ConfRefusal, ListRefusal, ListingRefusal, PatternRefusal, TableRefusal,
 };
@@ -20,35 +20,37 @@ const FAULT_OF_A_START: &str = "testr: fault starting a program\n";
 
 const FAULT_OF_A_CHILD: &str = "testr: fault reading a program\n";
 
-/// The status of a configuration that was not read.
-pub fn conf_status(refusal: ConfRefusal) -> u8
-    ensures { result ≡ conf_code refusal }
-{
-    match refusal {
-        ConfRefusal::TooLong
-        | ConfRefusal::Absent
-        | ConfRefusal::BadLine(_)
-        | ConfRefusal::NoSection(_)
-        | ConfRefusal::Repeated(_)
-        | ConfRefusal::NoCommand => 3,
-        ConfRefusal::Site => 4,
-        ConfRefusal::NoMemory => 5,
-    }
-}
+impl<'a> Refuses<'a> for ConfRefusal {
+    ghost use Rattle.testr_cli.specs.SuiteTexts.{conf_code, conf_text};
 
-/// The line that tells why it was not read.
-pub fn conf_line(refusal: ConfRefusal) -> Line<'static>
-    ensures { line_text result ≡ conf_text refusal }
-{
-    match refusal {
-        ConfRefusal::Site => Line::of(FAULT_OF_A_FILE),
-        ConfRefusal::TooLong => Line::of("testr: .testr.conf is too long\n"),
-        ConfRefusal::Absent => Line::of("testr: no .testr.conf\n"),
-        ConfRefusal::BadLine(number) => conf_line_at(number, ": not a setting\n"),
-        ConfRefusal::NoSection(number) => conf_line_at(number, ": outside a section\n"),
-        ConfRefusal::Repeated(number) => conf_line_at(number, ": repeated\n"),
-        ConfRefusal::NoCommand => Line::of("testr: .testr.conf: no test_command\n"),
-        ConfRefusal::NoMemory => Line::of(OUT_OF_MEMORY),
+    ghost status = { conf_code };
+
+    ghost text = { conf_text };
+
+    fn code(self) -> u8 {
+        match self {
+            ConfRefusal::TooLong
+            | ConfRefusal::Absent
+            | ConfRefusal::BadLine(_)
+            | ConfRefusal::NoSection(_)
+            | ConfRefusal::Repeated(_)
+            | ConfRefusal::NoCommand => 3,
+            ConfRefusal::Site => 4,
+            ConfRefusal::NoMemory => 5,
+        }
+    }
+
+    fn line(self) -> Line<'a> {
+        match self {
+            ConfRefusal::Site => Line::of(FAULT_OF_A_FILE),
+            ConfRefusal::TooLong => Line::of("testr: .testr.conf is too long\n"),
+            ConfRefusal::Absent => Line::of("testr: no .testr.conf\n"),
+            ConfRefusal::BadLine(number) => conf_line_at(number, ": not a setting\n"),
+            ConfRefusal::NoSection(number) => conf_line_at(number, ": outside a section\n"),
+            ConfRefusal::Repeated(number) => conf_line_at(number, ": repeated\n"),
+            ConfRefusal::NoCommand => Line::of("testr: .testr.conf: no test_command\n"),
+            ConfRefusal::NoMemory => Line::of(OUT_OF_MEMORY),
+        }
     }
 }
 
@@ -63,136 +65,146 @@ fn conf_line_at(number: u32, rest: &'static str) -> Line<'static>
     }
 }
 
-/// The status of patterns that were not taken.
-pub fn pattern_status(refusal: PatternRefusal<'_>) -> u8
-    ensures { result ≡ pattern_code refusal.entry }
-{
-    match refusal {
-        PatternRefusal::Bad(_) => 3,
-        PatternRefusal::NoMemory => 5,
+impl<'a> Refuses<'a> for PatternRefusal<'a> {
+    ghost use Rattle.testr_cli.specs.SuiteTexts.{pattern_code, pattern_text};
+
+    ghost status = { pattern_code };
+
+    ghost text = { pattern_text };
+
+    fn code(self) -> u8 {
+        match self {
+            PatternRefusal::Bad(_) => 3,
+            PatternRefusal::NoMemory => 5,
+        }
+    }
+
+    fn line(self) -> Line<'a> {
+        match self {
+            PatternRefusal::Bad(pattern) => Line {
+                front: "testr: bad pattern: ",
+                part: Part::Name(pattern),
+                rest: "\n",
+            },
+            PatternRefusal::NoMemory => Line::of(OUT_OF_MEMORY),
+        }
     }
 }
 
-/// The line that tells why they were not taken.
-pub fn pattern_line(refusal: PatternRefusal<'_>) -> Line<'_>
-    ensures { line_text result ≡ pattern_text refusal.entry }
-{
-    match refusal {
-        PatternRefusal::Bad(pattern) => Line {
-            front: "testr: bad pattern: ",
-            part: Part::Name(pattern),
-            rest: "\n",
-        },
-        PatternRefusal::NoMemory => Line::of(OUT_OF_MEMORY),
+impl<'a> Refuses<'a> for ListRefusal<'a> {
+    ghost use Rattle.testr_cli.specs.SuiteTexts.{list_code, list_text};
+
+    ghost status = { list_code };
+
+    ghost text = { list_text };
+
+    fn code(self) -> u8 {
+        match self {
+            ListRefusal::TooLong(_) | ListRefusal::Absent(_) | ListRefusal::NotId(_, _) => 3,
+            ListRefusal::Site => 4,
+            ListRefusal::NoMemory => 5,
+        }
+    }
+
+    fn line(self) -> Line<'a> {
+        match self {
+            ListRefusal::Site => Line::of(FAULT_OF_A_FILE),
+            ListRefusal::TooLong(name) => Line {
+                front: "testr: ",
+                part: Part::Name(name),
+                rest: " is too long\n",
+            },
+            ListRefusal::Absent(name) => Line {
+                front: "testr: no file ",
+                part: Part::Name(name),
+                rest: "\n",
+            },
+            ListRefusal::NotId(name, number) => Line {
+                front: "testr: ",
+                part: Part::Place(name, number),
+                rest: ": not an id\n",
+            },
+            ListRefusal::NoMemory => Line::of(OUT_OF_MEMORY),
+        }
     }
 }
 
-/// The status of a list of ids that was not read.
-pub fn list_status(refusal: ListRefusal<'_>) -> u8
-    ensures { result ≡ list_code refusal.entry }
-{
-    match refusal {
-        ListRefusal::TooLong(_) | ListRefusal::Absent(_) | ListRefusal::NotId(_, _) => 3,
-        ListRefusal::Site => 4,
-        ListRefusal::NoMemory => 5,
+impl<'a> Refuses<'a> for CallRefusal {
+    ghost use Rattle.testr_cli.specs.SuiteTexts.{call_code, call_text};
+
+    ghost status = { call_code };
+
+    ghost text = { call_text };
+
+    fn code(self) -> u8 {
+        match self {
+            CallRefusal::NoNumber => 3,
+            CallRefusal::Spawn | CallRefusal::Child => 4,
+            CallRefusal::NoMemory => 5,
+        }
+    }
+
+    fn line(self) -> Line<'a> {
+        match self {
+            CallRefusal::Spawn => Line::of(FAULT_OF_A_START),
+            CallRefusal::Child => Line::of(FAULT_OF_A_CHILD),
+            CallRefusal::NoNumber => Line::of("testr: test_run_concurrency gave no number\n"),
+            CallRefusal::NoMemory => Line::of(OUT_OF_MEMORY),
+        }
     }
 }
 
-/// The line that tells why it was not read.
-pub fn list_line(refusal: ListRefusal<'_>) -> Line<'_>
-    ensures { line_text result ≡ list_text refusal.entry }
-{
-    match refusal {
-        ListRefusal::Site => Line::of(FAULT_OF_A_FILE),
-        ListRefusal::TooLong(name) => Line {
-            front: "testr: ",
-            part: Part::Name(name),
-            rest: " is too long\n",
-        },
-        ListRefusal::Absent(name) => Line {
-            front: "testr: no file ",
-            part: Part::Name(name),
-            rest: "\n",
-        },
-        ListRefusal::NotId(name, number) => Line {
-            front: "testr: ",
-            part: Part::Place(name, number),
-            rest: ": not an id\n",
-        },
-        ListRefusal::NoMemory => Line::of(OUT_OF_MEMORY),
+impl<'a> Refuses<'a> for TableRefusal {
+    ghost use Rattle.testr_cli.specs.SuiteTexts.{table_code, table_text};
+
+    ghost status = { table_code };
+
+    ghost text = { table_text };
+
+    fn code(self) -> u8 {
+        match self {
+            TableRefusal::TooLong => 3,
+            TableRefusal::Site => 4,
+            TableRefusal::NoMemory => 5,
+        }
+    }
+
+    fn line(self) -> Line<'a> {
+        match self {
+            TableRefusal::Site => Line::of(FAULT_OF_A_FILE),
+            TableRefusal::TooLong => Line::of("testr: /proc/cpuinfo is too long\n"),
+            TableRefusal::NoMemory => Line::of(OUT_OF_MEMORY),
+        }
     }
 }
 
-/// The status of a number of workers that was not called out.
-pub fn call_status(refusal: CallRefusal) -> u8
-    ensures { result ≡ call_code refusal }
-{
-    match refusal {
-        CallRefusal::NoNumber => 3,
-        CallRefusal::Spawn | CallRefusal::Child => 4,
-        CallRefusal::NoMemory => 5,
-    }
-}
+impl<'a> Refuses<'a> for ListingRefusal {
+    ghost use Rattle.testr_cli.specs.SuiteTexts.{listing_code, listing_text};
 
-/// The line that tells why it was not called out.
-pub fn call_line(refusal: CallRefusal) -> Line<'static>
-    ensures { line_text result ≡ call_text refusal }
-{
-    match refusal {
-        CallRefusal::Spawn => Line::of(FAULT_OF_A_START),
-        CallRefusal::Child => Line::of(FAULT_OF_A_CHILD),
-        CallRefusal::NoNumber => Line::of("testr: test_run_concurrency gave no number\n"),
-        CallRefusal::NoMemory => Line::of(OUT_OF_MEMORY),
-    }
-}
+    ghost status = { listing_code };
 
-/// The status of a table of processors that was not read.
-pub fn table_status(refusal: TableRefusal) -> u8
-    ensures { result ≡ table_code refusal }
-{
-    match refusal {
-        TableRefusal::TooLong => 3,
-        TableRefusal::Site => 4,
-        TableRefusal::NoMemory => 5,
-    }
-}
+    ghost text = { listing_text };
 
-/// The line that tells why it was not read.
-pub fn table_line(refusal: TableRefusal) -> Line<'static>
-    ensures { line_text result ≡ table_text refusal }
-{
-    match refusal {
-        TableRefusal::Site => Line::of(FAULT_OF_A_FILE),
-        TableRefusal::TooLong => Line::of("testr: /proc/cpuinfo is too long\n"),
-        TableRefusal::NoMemory => Line::of(OUT_OF_MEMORY),
+    fn code(self) -> u8 {
+        match self {
+            ListingRefusal::NoListOption | ListingRefusal::Failed(_) => 3,
+            ListingRefusal::Spawn | ListingRefusal::Child => 4,
+            ListingRefusal::NoMemory => 5,
+        }
     }
-}
 
-/// The status of tests that were not listed.
-pub fn listing_status(refusal: ListingRefusal) -> u8
-    ensures { result ≡ listing_code refusal }
-{
-    match refusal {
-        ListingRefusal::NoListOption | ListingRefusal::Failed(_) => 3,
-        ListingRefusal::Spawn | ListingRefusal::Child => 4,
-        ListingRefusal::NoMemory => 5,
-    }
-}
-
-/// The line that tells why they were not listed.
-pub fn listing_line(refusal: ListingRefusal) -> Line<'static>
-    ensures { line_text result ≡ listing_text refusal }
-{
-    match refusal {
-        ListingRefusal::NoListOption => key_line(Key::ListOption),
-        ListingRefusal::Spawn => Line::of(FAULT_OF_A_START),
-        ListingRefusal::Child => Line::of(FAULT_OF_A_CHILD),
-        ListingRefusal::Failed(status) => Line {
-            front: "testr: listing ended with ",
-            part: Part::Status(status),
-            rest: "\n",
-        },
-        ListingRefusal::NoMemory => Line::of(OUT_OF_MEMORY),
+    fn line(self) -> Line<'a> {
+        match self {
+            ListingRefusal::NoListOption => key_line(Key::ListOption),
+            ListingRefusal::Spawn => Line::of(FAULT_OF_A_START),
+            ListingRefusal::Child => Line::of(FAULT_OF_A_CHILD),
+            ListingRefusal::Failed(status) => Line {
+                front: "testr: listing ended with ",
+                part: Part::Status(status),
+                rest: "\n",
+            },
+            ListingRefusal::NoMemory => Line::of(OUT_OF_MEMORY),
+        }
     }
 }
 
@@ -206,62 +218,68 @@ fn key_line(key: Key) -> Line<'static>
     }
 }
 
-/// The status of jobs that were not made.
-pub fn job_status(fault: JobFault) -> u8
-    ensures { result ≡ job_code fault }
-{
-    match fault {
-        JobFault::NoOption(_) => 3,
-        JobFault::NoMemory => 5,
+impl<'a> Refuses<'a> for JobFault {
+    ghost use Rattle.testr_cli.specs.SuiteTexts.{job_code, job_text};
+
+    ghost status = { job_code };
+
+    ghost text = { job_text };
+
+    fn code(self) -> u8 {
+        match self {
+            JobFault::NoOption(_) => 3,
+            JobFault::NoMemory => 5,
+        }
+    }
+
+    fn line(self) -> Line<'a> {
+        match self {
+            JobFault::NoOption(key) => key_line(key),
+            JobFault::NoMemory => Line::of(OUT_OF_MEMORY),
+        }
     }
 }
 
-/// The line that tells why they were not made.
-pub fn job_line(fault: JobFault) -> Line<'static>
-    ensures { line_text result ≡ job_text fault }
-{
-    match fault {
-        JobFault::NoOption(key) => key_line(key),
-        JobFault::NoMemory => Line::of(OUT_OF_MEMORY),
+impl<'a> Refuses<'a> for StartRefusal {
+    ghost use Rattle.testr_cli.specs.SuiteTexts.{start_code, start_text};
+
+    ghost status = { start_code };
+
+    ghost text = { start_text };
+
+    fn code(self) -> u8 {
+        match self {
+            StartRefusal::Spawn => 4,
+            StartRefusal::NoMemory => 5,
+        }
+    }
+
+    fn line(self) -> Line<'a> {
+        match self {
+            StartRefusal::Spawn => Line::of(FAULT_OF_A_START),
+            StartRefusal::NoMemory => Line::of(OUT_OF_MEMORY),
+        }
     }
 }
 
-/// The status of workers that were not started.
-pub fn start_status(refusal: StartRefusal) -> u8
-    ensures { result ≡ start_code refusal }
-{
-    match refusal {
-        StartRefusal::Spawn => 4,
-        StartRefusal::NoMemory => 5,
-    }
-}
+impl<'a> Refuses<'a> for LanesRefusal {
+    ghost use Rattle.testr_cli.specs.SuiteTexts.{lanes_code, lanes_text};
 
-/// The line that tells why they were not started.
-pub fn start_line(refusal: StartRefusal) -> Line<'static>
-    ensures { line_text result ≡ start_text refusal }
-{
-    match refusal {
-        StartRefusal::Spawn => Line::of(FAULT_OF_A_START),
-        StartRefusal::NoMemory => Line::of(OUT_OF_MEMORY),
-    }
-}
+    ghost status = { lanes_code };
 
-/// The status of workers that were not recorded.
-pub fn lanes_status(refusal: LanesRefusal) -> u8
-    ensures { result ≡ lanes_code refusal }
-{
-    match refusal {
-        LanesRefusal::Shelf(_) => 4,
-        LanesRefusal::NoMemory => 5,
-    }
-}
+    ghost text = { lanes_text };
 
-/// The line that tells why they were not recorded.
-pub fn lanes_line(refusal: LanesRefusal) -> Line<'static>
-    ensures { line_text result ≡ lanes_text refusal }
-{
-    match refusal {
-        LanesRefusal::Shelf(_) => Line::of("testr: fault of the repository folder\n"),
-        LanesRefusal::NoMemory => Line::of(OUT_OF_MEMORY),
+    fn code(self) -> u8 {
+        match self {
+            LanesRefusal::Shelf(_) => 4,
+            LanesRefusal::NoMemory => 5,
+        }
+    }
+
+    fn line(self) -> Line<'a> {
+        match self {
+            LanesRefusal::Shelf(_) => Line::of("testr: fault of the repository folder\n"),
+            LanesRefusal::NoMemory => Line::of(OUT_OF_MEMORY),
+        }
     }
 }

@@ -1,6 +1,6 @@
 //! Tells of a refusal.
 
-ghost use Rattle.std.specs.Prelude.{OnOk};
+ghost use Rattle.std.specs.Prelude.{◌≡◌, ℕ, List, OnOk};
 ghost use Rattle.std.specs.Fmt.{decimal, signed_decimal};
 ghost use Rattle.std.specs.Io.KnownBytes.{Appends};
 ghost use Rattle.edge_io.specs.Bytes.{AppendsPrefix};
@@ -37,8 +37,6 @@ pub struct Line<'a> {
 }
 
 impl Line<'_> {
-    ghost use Rattle.std.specs.Prelude.{◌≡◌};
-
     /// A line of one part.
     pub fn of(front: &'static str) -> Line<'static>
         ensures { line_text result ≡ front.now }
@@ -49,6 +47,21 @@ impl Line<'_> {
             rest: "",
         }
     }
+}
+
+/// Why a step refuses: its exit status, and the line that tells of it.
+pub(crate) trait Refuses<'a>: Copy {
+    ghost status: { Self → ℕ };
+
+    ghost text: { Self → List ℕ };
+
+    /// The exit status: 3 for a named refusal, 4 for a fault of the outside, 5 for want of memory.
+    fn code(self) -> u8
+        ensures { result ≡ status self };
+
+    /// The line that tells of it.
+    fn line(self) -> Line<'a>
+        ensures { line_text result ≡ text self };
 }
 
 /// Writes the line.
