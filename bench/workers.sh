@@ -1,7 +1,8 @@
 #!/bin/sh
 # Tries `testr run --parallel` with real worker processes: 4 and 64 of them, workers that sleep side by side, one that is
-# slow while another prints much, one that is killed in the middle; what each is told to run, on a first run and on one
-# with known times; a disk that is full, an output that is closed; and kills of the program at random moments.
+# slow while another prints much, one that is killed in the middle, one that cannot be started; what each is told to run,
+# on a first run and on one with known times; a disk that is full, an output that is closed; and kills of the program at
+# random moments.
 # usage: bench/workers.sh [CASE..]: by default all cases. The variable KILLS says how often the program is killed: 100,
 # unless it is set. MEBIBYTES says how much the worker prints that prints much: 1024, unless it is set, and so much room is
 # needed on the disk.
@@ -43,6 +44,13 @@ EACH = """#!/bin/sh
 number=${2##*.}
 [ ! -e "workers/$number" ] || exec sh "workers/$number" "$2"
 while read -r id; do cat "packets/$id"; done < "$2"
+"""
+
+# The shell becomes the worker, so that it is the worker who is killed.
+EXEC = b"""[DEFAULT]
+test_command=exec ./worker $LISTOPT $IDOPTION
+test_id_option=--ids $IDFILE
+test_list_option=--list
 """
 
 
@@ -173,11 +181,22 @@ def one_prints_much_while_another_is_slow():
 def one_of_several_is_killed():
     folder = many(40, worker=EACH)
     write(folder, "workers/2", b"cat packets/t00000\nkill -9 $$\n")
-    write(folder, ".testr.conf", b"[DEFAULT]\ntest_command=exec ./worker $LISTOPT $IDOPTION\ntest_id_option=--ids $IDFILE\n"
-          b"test_list_option=--list\n")
+    write(folder, ".testr.conf", EXEC)
     found = run(folder, "run", "--parallel", "--concurrency=4")
     check_answer(found, 1, report([(b"process-returncode", b"returncode -9\n")], 32, 0), "run")
     check_clean(folder)
+
+
+def check_no_worker(folder):
+    """No process goes on in the folder."""
+    left = []
+    for number in filter(str.isdigit, os.listdir("/proc")):
+        try:
+            if os.path.samefile(f"/proc/{number}/cwd", folder):
+                left.append(number)
+        except OSError:
+            continue
+    check(not left, f"{left} go on")
 
 
 @case
@@ -196,6 +215,8 @@ def the_disk_is_full():
     status, out, err = run(folder, "run", "--parallel", "--concurrency=2", preexec_fn=limit)
     check((status, out) == (4, b"") and err.startswith(b"testr: fault of the repository folder\n"), f"{status}, {out}, {err}")
     check(sorted(os.listdir(os.path.join(folder, "told"))) == ["0", "1"], "a worker was not read to its end")
+    check_no_worker(folder)
+    check(not [name for name in os.listdir(folder) if name.startswith(".testr-ids")], "a file of ids is left")
     check(bytes_of(folder, "0") == before, "the earlier run has changed")
     os.remove(os.path.join(folder, "workers/0"))
     os.remove(os.path.join(folder, "workers/1"))
@@ -221,6 +242,21 @@ def the_output_is_closed():
 
 def is_there(number):
     return os.path.exists(f"/proc/{number}")
+
+
+@case
+def a_start_that_fails_leaves_no_worker():
+    """The file of ids of the second worker has a name that a folder has. The first worker is ended, and its file goes."""
+    folder = many(2, worker=EACH)
+    write(folder, ".testr.conf", EXEC)
+    write(folder, "workers/0", b"exec sleep 600\n")
+    os.makedirs(os.path.join(folder, ".testr-ids.1/kept"))
+    status, out, err = run(folder, "run", "--parallel", "--concurrency=2")
+    check((status, out) == (4, b""), f"{status}, {out}, {err}")
+    check_no_worker(folder)
+    check(run(folder, "stats")[1] == b"runs=0\n", "a run is there")
+    shutil.rmtree(os.path.join(folder, ".testr-ids.1"))
+    check_clean(folder)
 
 
 @case
