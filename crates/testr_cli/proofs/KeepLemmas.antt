@@ -1,5 +1,5 @@
 -- The runs that a folder showed are shown still, where no run may have been kept.
-use Rattle.std.proofs.Common.{◌≡◌, inl, inr, ℕ, ◌<◌, Bool, true, false, Some, Result, Ok, Err, List, refl, sym, ap, subst, ◌∙◌, arith}
+use Rattle.std.proofs.Common.{◌≡◌, inl, inr, ℕ, ◌<◌, Bool, true, false, None, Some, Result, Ok, Err, List, refl, sym, ap, subst, ◌∙◌, arith}
 use Rattle.edge_io.specs.Disk.{Files, Disk, Folder, put}
 use Rattle.edge_io.specs.Seen.{Seen}
 use Rattle.edge_io.specs.Steps.{Goes, Settled}
@@ -12,13 +12,13 @@ use Rattle.run_shelf.specs.declared.faults.InitFault.TheVariants as init_fault
 use Rattle.run_shelf.specs.Drafts.{OfDraft, PlaceFails}
 use Rattle.run_shelf.specs.Images.{MakesRepository}
 use Rattle.run_shelf.specs.Outcomes.{InitFails, InitFailsAt}
-use Rattle.run_shelf.specs.Repository.{Run, Shows, run_at, run_of_files, run_name, full_name, partial_name, most_runs, format_name, format_bytes}
+use Rattle.run_shelf.specs.Repository.{Run, Shows, IsRepository, run_at, run_of_files, run_name, full_name, partial_name, most_runs, format_name, format_bytes}
 use Rattle.run_shelf.proofs.NameLemmas.{format_differs}
 use Rattle.run_shelf.proofs.RunLemmas.{put_other}
 use Rattle.testr_cli.specs.Steps.{Step, Then, stops, goes_on, Gives, At}
 use Rattle.testr_cli.specs.Outside.{Work, work_folder, work_out}
 use Rattle.testr_cli.specs.Tasks.{load}
-use Rattle.testr_cli.specs.Runs.{KeepsRuns, KeepsFiles}
+use Rattle.testr_cli.specs.Runs.{KeepsRuns, KeepsRepository, KeepsFiles}
 use Rattle.testr_cli.specs.Store.{Makes, Keeps}
 use Rattle.testr_cli.specs.Refreshing.{Refreshes}
 use Rattle.testr_cli.specs.Reporting.{Prints}
@@ -83,6 +83,39 @@ make_keeps a b (Err (init_fault.Shelf call)) makes = goes_weaker a.told b.told (
 pub init_keeps : (a b : Seen Folder) (outcome : Result Verdict Refusal) → Inits a b outcome → Goes a.told b.told KeepsRuns
 init_keeps a b outcome (stops fault is step) = make_keeps a b (Err fault) step
 init_keeps a b outcome (goes_on v m step gives) = subst (λ (f : Seen Folder). Goes a.told f.told KeepsRuns) (sym gives.same) (make_keeps a m (Ok v) step)
+
+-- where `init` puts `format` there was none, so no repository
+lacks_format : (s t : Folder) → s.disk.published format_name ≡ None → KeepsRepository s t
+lacks_format s t absent repository =
+    let both : Some format_bytes ≡ None = sym repository.format ∙ absent in
+    cc
+
+same_repository : (s t : Folder) → t.disk.published ≡ s.disk.published → KeepsRepository s t
+same_repository s t same repository = subst IsRepository (sym same) repository
+
+settled_repository : (s t : Folder) → Settled s t → KeepsRepository s t
+settled_repository s t is = same_repository s t (ap (λ (f : Folder). f.disk.published) is)
+
+init_fails_repository : (call : ShelfCall) (s t : Folder) → InitFailsAt call s t → KeepsRepository s t
+init_fails_repository Names s t fails = absurd fails
+init_fails_repository Length s t fails = settled_repository s t fails
+init_fails_repository ReadAt s t fails = absurd fails
+init_fails_repository StartDraft s t fails = lacks_format s t fails.absent
+init_fails_repository Append s t fails = lacks_format s t fails.absent
+init_fails_repository SyncDraft s t fails = lacks_format s t fails.absent
+init_fails_repository Publish s t (inl lacks) = lacks_format s t lacks.absent
+init_fails_repository Publish s t (inr there) = lacks_format s t there.absent
+init_fails_repository SyncFolder s t (inl stays) = same_repository s t (ap (λ (f : Folder). f.disk.published) stays)
+init_fails_repository SyncFolder s t (inr there) = lacks_format s t there.absent
+
+make_repository : (a b : Seen Folder) (result : Result (Unit {0}) InitFault) → Makes a b result → Goes a.told b.told KeepsRepository
+make_repository a b (Ok done) makes = goes_weaker a.told b.told MakesRepository KeepsRepository makes.made (λ s t made. lacks_format s t made.absent)
+make_repository a b (Err init_fault.Exists) makes = goes_weaker a.told b.told (InitFails init_fault.Exists) KeepsRepository makes.refused (λ s t there. settled_repository s t there.1)
+make_repository a b (Err (init_fault.Shelf call)) makes = goes_weaker a.told b.told (InitFails (init_fault.Shelf call)) KeepsRepository makes.refused (init_fails_repository call)
+
+pub init_repository : (a b : Seen Folder) (outcome : Result Verdict Refusal) → Inits a b outcome → Goes a.told b.told KeepsRepository
+init_repository a b outcome (stops fault is step) = make_repository a b (Err fault) step
+init_repository a b outcome (goes_on v m step gives) = subst (λ (f : Seen Folder). Goes a.told f.told KeepsRepository) (sym gives.same) (make_repository a m (Ok v) step)
 
 -- ---- `load`
 

@@ -15,13 +15,13 @@ use Rattle.run_shelf.specs.Repository.{Run, run_of}
 use Rattle.run_shelf.proofs.DraftLemmas.{run_kept, run_passes}
 use Rattle.testr_cli.specs.Outside.{Work, work_folder}
 use Rattle.testr_cli.specs.Refreshing.{Refreshes}
-use Rattle.testr_cli.specs.Runs.{HasRunAndCaches}
+use Rattle.testr_cli.specs.Runs.{HasRunAndCaches, KeepsRepository}
 use Rattle.testr_cli.specs.Steps.{Step, Then, stops, goes_on, At}
 use Rattle.testr_cli.specs.Store.{Keeps}
 use Rattle.testr_cli.specs.declared.answer.Refusal.{Refusal}
 use Rattle.testr_cli.specs.declared.answer.Refusal.TheVariants.{Keep, Refresh}
 use Rattle.testr_cli.proofs.Resting.{Rests, rests_images}
-use Rattle.testr_cli.proofs.SoundLemmas.{IsCalm, PassesAll, goes_named, goes_refreshed, rests_sound, sound_then}
+use Rattle.testr_cli.proofs.SoundLemmas.{IsCalm, PassesAll, goes_named, goes_refreshed, rests_repository, rests_sound, sound_then}
 
 module _ {A : Type 0} (partial : Bool) (number : ℕ) (bytes : List ℕ) (rows : List Row) (rest : Step Work A Refusal) (leaves : (a b : Work) (result : Result A Refusal) → rest a b result → b.folder ≡ a.folder) where
   abbrev run : Run
@@ -40,7 +40,7 @@ module _ {A : Type 0} (partial : Bool) (number : ℕ) (bytes : List ℕ) (rows :
 
     -- over a draft of these bytes
     pub keeps_moves : (a b : Work) (result : Result A Refusal) → Goes s a.folder.told (Writes bytes) → Then Keep (At work_folder (Keeps partial number)) (λ _. Caches) a b result → Goes s b.folder.told (PassesAll number run)
-    keeps_moves a b result written (stops fault is step) = goes_named number run s b.folder.told calm (run_passes number partial bytes s a.folder.told b.folder.told written step.at.any_moment)
+    keeps_moves a b result written (stops fault is step) = goes_named number run s b.folder.told calm step.at.reads (run_passes number partial bytes s a.folder.told b.folder.told written step.at.any_moment)
     keeps_moves a b result written (goes_on _ k step next) =
         caches_moves k b result
         (run_kept number partial bytes s a.folder.told k.folder.told written step.at.kept)
@@ -53,15 +53,17 @@ module _ (Extra : Files → Files → Type 0) where
   abbrev LeftBy : Folder → Files → Type 0
   LeftBy s image = IsImage s.disk image ⊎ Extra s.disk.published image
 
-  -- what a stop at each moment leaves, and that it is sound where it was
+  -- what a stop at each moment leaves, that it is sound where it was, and that a repository stays one
   pub record Moves (s t : Folder) : Type 0 where
     pub stops : Passes (LeftBy s) s t
     pub sound : KeepsSound s t
+    pub repository : KeepsRepository s t
 
   pub quiet_moves : (a b : Option Folder) → Goes a b Rests → Goes a b Moves
   quiet_moves a b quiet = goes_weaker a b Rests Moves quiet (λ s t rests. record {
     stops = passes_weaker (IsImage s.disk) (LeftBy s) (λ image left. inl left) s t rests.old;
     sound = rests_sound s t rests;
+    repository = rests_repository s t rests;
   })
 
   module _ (number : ℕ) (run : Run) (told : (files image : Files) → HasRunAndCaches files number run image → Extra files image) where
@@ -76,4 +78,5 @@ module _ (Extra : Files → Files → Type 0) where
           (passes_weaker (IsImage s.disk) (LeftBy s) (λ image left. inl left) s m rests.old)
           (passes_weaker (λ image. IsImage m.disk image ⊎ HasRunAndCaches m.disk.published number run image) (LeftBy s) (left_by s m rests) m t passes.stops);
       sound = sound_then s m t (rests_sound s m rests) passes.sound;
+      repository = λ was. passes.repository;
     })

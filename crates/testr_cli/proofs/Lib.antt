@@ -30,12 +30,13 @@ pub mod MergeLaws
 pub mod SuiteDone
 pub mod CauseLaws
 pub mod SuiteCauses
+pub mod LeftIds
 pub mod SuiteNever
 pub mod KeepLemmas
 pub mod SuiteQuiet
 pub mod SuiteKeeps
-pub mod SuiteAsks
-pub mod SuiteMoves
+pub mod SuiteReach
+pub mod SuiteLeaves
 pub mod SuiteLaws
 pub mod SelfTestLaws
 pub mod PromiseLemmas

@@ -48,7 +48,7 @@ module _ (partial : Bool) (number : ℕ) (run : List ℕ) where
   -- behind a run that was begun at s and written up to a
   module _ (s : Option Folder) (a b : Work) (calm : IfSome s IsCalm) (written : Goes s a.folder.told (Writes run)) (quiet : Goes s a.folder.told Rests) where
     reported_or_not : (rows : List Row) (result : Result Verdict Refusal) → AreRowsOf run rows → Then Memory (Still (Reports number [] rows)) (λ (report : Report). Then Keep (At work_folder (Keeps partial number)) (λ _. Then Refresh (At work_folder (Refreshes number rows)) (λ _. Then Print (At work_out (Prints report.text)) (λ _. Gives report.verdict)))) a b result → Goes s b.folder.told Runs
-    reported_or_not rows result are (stops fault is step) = goes_rested number (run_of partial run) s b.folder.told (subst (λ (w : Work). Goes s w.folder.told Rests) (sym step.same) quiet)
+    reported_or_not rows result are (stops fault is step) = goes_rested number (run_of partial run) s b.folder.told calm (subst (λ (w : Work). Goes s w.folder.told Rests) (sym step.same) quiet)
     reported_or_not rows result are (goes_on report m step next) =
         keeps_moves partial number run rows (Then Print (At work_out (Prints report.text)) (λ _. Gives report.verdict)) (printed_or_not report.text report.verdict) s are calm m b result
         (subst (λ (w : Work). Goes s w.folder.told (Writes run)) (sym step.same) written) next

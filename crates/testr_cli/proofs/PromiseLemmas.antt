@@ -8,11 +8,10 @@ use Rattle.run_ledger.specs.Refreshing.{KeepsSound}
 use Rattle.run_shelf.specs.Images.{PassesOld, PassesFormat, HasFormatBeside}
 use Rattle.testr_cli.specs.Answer.{refusal_code, code_of, place_in, may_have_kept, IsChildFault}
 use Rattle.testr_cli.specs.Outside.{Outside, Work, work_of, shown, work_out, Place, SomeRose, SameCounts, RisesAt}
-use Rattle.testr_cli.specs.Program.{Performs, Does, CanPerform, Leaves, StartsPrograms, SomeFailed, IsPerformed, GivesUp, Answers, Promises, AnswersQuestion, TestrPromises}
-use Rattle.testr_cli.specs.Runs.{KeepsFiles, KeepsRuns}
+use Rattle.testr_cli.specs.Program.{Performs, Does, CanPerform, Leaves, Keeps, StartsPrograms, SomeFailed, IsPerformed, GivesUp, Answers, Promises, AnswersQuestion, TestrPromises}
+use Rattle.testr_cli.specs.Runs.{KeepsFiles, KeepsRepository, KeepsRuns}
 use Rattle.testr_cli.specs.Stops.{PassesTask, PassesLoad, HasLoadedRun}
-use Rattle.testr_cli.specs.SuiteStops.{PassesSuiteRun, HasSuiteRun}
-use Rattle.testr_cli.specs.Suites.{is_partial}
+use Rattle.testr_cli.specs.SuiteStops.{PassesSuiteRun}
 use Rattle.testr_cli.specs.Tasks.{Task, init, load, ask, list, run, selftest}
 use Rattle.testr_cli.specs.Verdicts.{verdict_code}
 use Rattle.testr_cli.specs.Words.{testr_word}
@@ -25,21 +24,22 @@ use Rattle.testr_cli.proofs.CauseLaws.{init_never, load_never, ask_never}
 use Rattle.testr_cli.proofs.ChainLemmas.{IsRefused}
 use Rattle.testr_cli.proofs.CommandLaws.{load_refuses, load_counts, load_beside, ask_refuses, ask_counts, ask_quiet, init_refuses, init_counts}
 use Rattle.testr_cli.proofs.DoneLaws.{init_made, init_passed, load_did, ask_did}
-use Rattle.testr_cli.proofs.KeepLemmas.{files_keep, keeps_runs, init_keeps, load_keeps}
+use Rattle.testr_cli.proofs.KeepLemmas.{keeps_runs, init_keeps, init_repository, load_keeps}
 use Rattle.testr_cli.proofs.KeepingLaws.{Moves, quiet_moves}
 use Rattle.testr_cli.proofs.MomentLaws.{init_moves, init_sound, load_moves}
 use Rattle.testr_cli.proofs.RefusalLemmas.{codes, IsFault, of_part, of_child, faults, some_rose}
 use Rattle.testr_cli.proofs.Resting.{Rests, rests_same}
 use Rattle.testr_cli.proofs.SelfTestLaws.{selftest_beside, selftest_failed, selftest_never, selftest_did}
-use Rattle.testr_cli.proofs.SoundLemmas.{rests_sound}
+use Rattle.testr_cli.proofs.SoundLemmas.{rests_repository, rests_sound}
 use Rattle.testr_cli.proofs.StepLaws.{still_counts}
 use Rattle.testr_cli.proofs.SuiteCauses.{NoCause, list_never}
 use Rattle.testr_cli.proofs.SuiteDone.{list_did, run_did}
 use Rattle.testr_cli.proofs.SuiteKeeps.{run_keeps}
 use Rattle.testr_cli.proofs.SuiteLaws.{list_refused, list_counted, run_refused, run_counted, selftest_refused, selftest_counted}
-use Rattle.testr_cli.proofs.SuiteMoves.{run_suite_moves}
+use Rattle.testr_cli.proofs.SuiteLeaves.{RunsMoves, run_leaves, run_suite_moves}
 use Rattle.testr_cli.proofs.SuiteNever.{run_never}
 use Rattle.testr_cli.proofs.SuiteQuiet.{list_same}
+use Rattle.testr_cli.proofs.SuiteReach.{same_few}
 
 verdicts : (v : Verdict) → verdict_code v ≤ 1
 verdicts Passed = omega arith
@@ -73,14 +73,18 @@ module _ (a b : Work) (same : b.folder ≡ a.folder) where
   same_sound : Goes a.folder.told b.folder.told KeepsSound
   same_sound = goes_weaker a.folder.told b.folder.told Rests KeepsSound same_quiet rests_sound
 
-  same_runs : Goes a.folder.told b.folder.told KeepsRuns
-  same_runs = goes_weaker a.folder.told b.folder.told Rests KeepsRuns same_quiet keeps_runs
+  same_repository : Goes a.folder.told b.folder.told KeepsRepository
+  same_repository = goes_weaker a.folder.told b.folder.told Rests KeepsRepository same_quiet rests_repository
 
-  same_moments : (asked : Option Task) → Goes a.folder.told b.folder.told (PassesTask asked a)
+  same_keeps : (asked : Option Task) → Goes a.folder.told b.folder.told (Keeps asked)
+  same_keeps (Some init) = goes_weaker a.folder.told b.folder.told Rests KeepsRuns same_quiet keeps_runs
+  same_keeps asked = goes_weaker a.folder.told b.folder.told Rests KeepsFiles same_quiet (λ s t rests. rests.files)
+
+  same_moments : (asked : Option Task) → Goes a.folder.told b.folder.told (PassesTask asked a b)
   same_moments (Some init) = goes_weaker a.folder.told b.folder.told Rests PassesFormat same_quiet (λ s t rests. passes_weaker (IsImage s.disk) (λ image. IsImage s.disk image ⊎ HasFormatBeside s.disk.published image) (λ image left. inl left) s t rests.old)
   same_moments (Some (load partial names)) = goes_weaker a.folder.told b.folder.told (Moves (HasLoadedRun partial names a.site.told a.input.told)) (PassesLoad partial names a.site.told a.input.told) (quiet_moves (HasLoadedRun partial names a.site.told a.input.told) a.folder.told b.folder.told same_quiet) (λ s t moves. moves.stops)
   same_moments (Some (ask question)) = goes_weaker a.folder.told b.folder.told Rests PassesOld same_quiet (λ s t rests. rests.old)
-  same_moments (Some (run options)) = goes_weaker a.folder.told b.folder.told (Moves (HasSuiteRun (is_partial options) a.spawner.told)) (PassesSuiteRun (is_partial options) a.spawner.told) (quiet_moves (HasSuiteRun (is_partial options) a.spawner.told) a.folder.told b.folder.told same_quiet) (λ s t moves. moves.stops)
+  same_moments (Some (run options)) = goes_weaker a.folder.told b.folder.told Rests (PassesSuiteRun options a b) same_quiet (λ s t rests. inl rests.old)
   same_moments asked = stays a.folder.told b.folder.told (λ i. (same i).told)
 
 -- ---- from the chains: a line for each task
@@ -112,13 +116,13 @@ module _ (a b : Work) where
   tested : (drawing : Drawing) (outcome : Result Verdict Refusal) → Performs (Some (selftest drawing)) a b outcome → work_out.put b a.out ≡ work_out.put a a.out
   tested drawing outcome done = selftest_beside a.out drawing a b outcome done
 
-  moments_of : (asked : Option Task) (outcome : Result Verdict Refusal) → Performs asked a b outcome → Goes a.folder.told b.folder.told (PassesTask asked a)
+  moments_of : (asked : Option Task) (outcome : Result Verdict Refusal) → Performs asked a b outcome → Goes a.folder.told b.folder.told (PassesTask asked a b)
   moments_of None outcome done = same_moments a b (λ i. (done.same i).folder) None
   moments_of (Some init) outcome done = init_moves a.folder b.folder outcome done.at
   moments_of (Some (load partial names)) outcome done = goes_weaker a.folder.told b.folder.told (Moves (HasLoadedRun partial names a.site.told a.input.told)) (PassesLoad partial names a.site.told a.input.told) (load_moves partial names a b outcome done) (λ s t moves. moves.stops)
   moments_of (Some (ask question)) outcome done = goes_weaker a.folder.told b.folder.told Rests PassesOld (asked_rests question outcome done) (λ s t rests. rests.old)
   moments_of (Some (list patterns)) outcome done = same_moments a b (list_same patterns a b outcome done) (Some (list patterns))
-  moments_of (Some (run options)) outcome done = goes_weaker a.folder.told b.folder.told (Moves (HasSuiteRun (is_partial options) a.spawner.told)) (PassesSuiteRun (is_partial options) a.spawner.told) (run_suite_moves options a b outcome done) (λ s t moves. moves.stops)
+  moments_of (Some (run options)) outcome done = goes_weaker a.folder.told b.folder.told (RunsMoves options a b) (PassesSuiteRun options a b) (run_suite_moves options a b outcome done) (λ s t moves. moves.stops)
   moments_of (Some (selftest drawing)) outcome done = same_moments a b (λ i. (tested drawing outcome done i).folder) (Some (selftest drawing))
 
   sound_of : (asked : Option Task) (outcome : Result Verdict Refusal) → Performs asked a b outcome → Goes a.folder.told b.folder.told KeepsSound
@@ -127,19 +131,28 @@ module _ (a b : Work) where
   sound_of (Some (load partial names)) outcome done = goes_weaker a.folder.told b.folder.told (Moves (HasLoadedRun partial names a.site.told a.input.told)) KeepsSound (load_moves partial names a b outcome done) (λ s t moves. moves.sound)
   sound_of (Some (ask question)) outcome done = goes_weaker a.folder.told b.folder.told Rests KeepsSound (asked_rests question outcome done) rests_sound
   sound_of (Some (list patterns)) outcome done = same_sound a b (list_same patterns a b outcome done)
-  sound_of (Some (run options)) outcome done = goes_weaker a.folder.told b.folder.told (Moves (HasSuiteRun (is_partial options) a.spawner.told)) KeepsSound (run_suite_moves options a b outcome done) (λ s t moves. moves.sound)
+  sound_of (Some (run options)) outcome done = goes_weaker a.folder.told b.folder.told (RunsMoves options a b) KeepsSound (run_suite_moves options a b outcome done) (λ s t moves. moves.sound)
   sound_of (Some (selftest drawing)) outcome done = same_sound a b (λ i. (tested drawing outcome done i).folder)
 
-  kept_of : (asked : Option Task) (outcome : Result Verdict Refusal) → Performs asked a b outcome → may_have_kept asked outcome ≡ false → Goes a.folder.told b.folder.told KeepsRuns
-  kept_of None outcome done not = same_runs a b (λ i. (done.same i).folder)
+  repository_of : (asked : Option Task) (outcome : Result Verdict Refusal) → Performs asked a b outcome → Goes a.folder.told b.folder.told KeepsRepository
+  repository_of None outcome done = same_repository a b (λ i. (done.same i).folder)
+  repository_of (Some init) outcome done = init_repository a.folder b.folder outcome done.at
+  repository_of (Some (load partial names)) outcome done = goes_weaker a.folder.told b.folder.told (Moves (HasLoadedRun partial names a.site.told a.input.told)) KeepsRepository (load_moves partial names a b outcome done) (λ s t moves. moves.repository)
+  repository_of (Some (ask question)) outcome done = goes_weaker a.folder.told b.folder.told Rests KeepsRepository (asked_rests question outcome done) rests_repository
+  repository_of (Some (list patterns)) outcome done = same_repository a b (list_same patterns a b outcome done)
+  repository_of (Some (run options)) outcome done = goes_weaker a.folder.told b.folder.told (RunsMoves options a b) KeepsRepository (run_suite_moves options a b outcome done) (λ s t moves. moves.repository)
+  repository_of (Some (selftest drawing)) outcome done = same_repository a b (λ i. (tested drawing outcome done i).folder)
+
+  kept_of : (asked : Option Task) (outcome : Result Verdict Refusal) → Performs asked a b outcome → may_have_kept asked outcome ≡ false → Goes a.folder.told b.folder.told (Keeps asked)
+  kept_of None outcome done not = same_keeps a b (λ i. (done.same i).folder) None
   kept_of (Some init) outcome done not = init_keeps a.folder b.folder outcome done.at
   kept_of (Some (load partial names)) (Ok v) done not = cc
-  kept_of (Some (load partial names)) (Err r) done not = goes_weaker a.folder.told b.folder.told KeepsFiles KeepsRuns (load_keeps partial names a b r done not) files_keep
-  kept_of (Some (ask question)) outcome done not = goes_weaker a.folder.told b.folder.told Rests KeepsRuns (asked_rests question outcome done) keeps_runs
-  kept_of (Some (list patterns)) outcome done not = same_runs a b (list_same patterns a b outcome done)
+  kept_of (Some (load partial names)) (Err r) done not = load_keeps partial names a b r done not
+  kept_of (Some (ask question)) outcome done not = goes_weaker a.folder.told b.folder.told Rests KeepsFiles (asked_rests question outcome done) (λ s t rests. rests.files)
+  kept_of (Some (list patterns)) outcome done not = same_keeps a b (list_same patterns a b outcome done) (Some (list patterns))
   kept_of (Some (run options)) (Ok v) done not = cc
-  kept_of (Some (run options)) (Err r) done not = goes_weaker a.folder.told b.folder.told KeepsFiles KeepsRuns (run_keeps options a b r done not) files_keep
-  kept_of (Some (selftest drawing)) outcome done not = same_runs a b (λ i. (tested drawing outcome done i).folder)
+  kept_of (Some (run options)) (Err r) done not = run_keeps options a b r done not
+  kept_of (Some (selftest drawing)) outcome done not = same_keeps a b (λ i. (tested drawing outcome done i).folder) (Some (selftest drawing))
 
   did_of : (task : Task) (v : Verdict) → Performs (Some task) a b (Ok v) → Does (Some task) a b (verdict_code v)
   did_of init v done = (init_made a.folder b.folder v done.at, init_passed a.folder b.folder v done.at)
@@ -211,14 +224,14 @@ leaves_of before after (Some init) outcome done = λ i. (done.rest i).spawner
 leaves_of before after (Some (load partial names)) outcome done = load_beside partial names (work_of before) (work_of after) outcome done
 leaves_of before after (Some (ask question)) outcome done = λ i. (done.rest i).spawner
 leaves_of before after (Some (list patterns)) outcome done = tt
-leaves_of before after (Some (run options)) outcome done = tt
+leaves_of before after (Some (run options)) outcome done = run_leaves options (work_of before) (work_of after) outcome done
 leaves_of before after (Some (selftest drawing)) outcome done =
     let same = tested (work_of before) (work_of after) drawing outcome done in
     record { folder = λ i. (same i).folder; site = λ i. (same i).site; spawner = λ i. (same i).spawner; input = λ i. (same i).input }
 
 leaves_all : (before after : Outside) (asked : Option Task) → work_of after ≡ work_of before → Leaves asked before after
 leaves_all before after (Some (list patterns)) same = tt
-leaves_all before after (Some (run options)) same = tt
+leaves_all before after (Some (run options)) same = record { started = inl (same_few 2 before.spawner.told after.spawner.told (λ i. (same i).spawner.told)); printed = inl (λ i. (same i).out.told) }
 leaves_all before after (Some (selftest drawing)) same = record { folder = λ i. (same i).folder; site = λ i. (same i).site; spawner = λ i. (same i).spawner; input = λ i. (same i).input }
 leaves_all before after asked same = λ i. (same i).spawner
 
@@ -243,6 +256,7 @@ module _ (reading : Bool) (asked : Option Task) (before after : Outside) (answer
         fault = fault_of a b answer asked outcome done code;
         leaves = leaves_of before after asked outcome done;
         kept = kept_of a b asked outcome done;
+        repository = repository_of a b asked outcome done;
         any_moment = moments_of a b asked outcome done;
         sound = sound_of a b asked outcome done;
         did = did_at a b answer asked outcome done code;
@@ -261,7 +275,8 @@ module _ (reading : Bool) (asked : Option Task) (before after : Outside) (answer
         no_command = λ none. inr (reads, five);
         fault = λ four. absurd (omega (arith, five, four));
         leaves = leaves_all before after asked gives.same;
-        kept = λ not. same_runs a b same;
+        kept = λ not. same_keeps a b same asked;
+        repository = same_repository a b same;
         any_moment = same_moments a b same asked;
         sound = same_sound a b same;
         did = λ few. absurd (omega (arith, five, few));

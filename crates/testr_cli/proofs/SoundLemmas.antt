@@ -5,7 +5,7 @@ use Rattle.edge_io.specs.Disk.{Files, Disk, Folder, IsImage, put, put_same}
 use Rattle.edge_io.specs.Moments.{LeavesOnly, Passes}
 use Rattle.edge_io.specs.Seen.{Seen}
 use Rattle.edge_io.specs.Steps.{Goes}
-use Rattle.edge_io.proofs.Going.{goes_then, goes_from, goes_weaker}
+use Rattle.edge_io.proofs.Going.{goes_then, goes_from}
 use Rattle.edge_io.proofs.Passing.{passes_then, passes_weaker}
 use Rattle.outcome_fold.specs.declared.row.Row.{Row}
 use Rattle.run_ledger.specs.Cached.{ReadsSound}
@@ -22,10 +22,10 @@ use Rattle.run_shelf.specs.Sides.{side_name, SameButSides, KeepsButSides, Passes
 use Rattle.run_shelf.specs.declared.side.Side.TheVariants.{Failing, Times}
 use Rattle.run_shelf.proofs.Joining.{at_rest_images}
 use Rattle.run_shelf.proofs.RunLemmas.{last_item, put_other}
-use Rattle.run_shelf.proofs.SameLemmas.{same_itself, shows_still}
+use Rattle.run_shelf.proofs.SameLemmas.{same_itself, shows_still, repository_still}
 use Rattle.run_shelf.proofs.ShowsLemmas.{shown}
 use Rattle.testr_cli.specs.Refreshing.{Refreshes, HoldsCaches, BringsCaches}
-use Rattle.testr_cli.specs.Runs.{HasRunAndCaches}
+use Rattle.testr_cli.specs.Runs.{HasRunAndCaches, KeepsRepository}
 use Rattle.testr_cli.specs.declared.told.TellFault.{TellFault}
 use Rattle.testr_cli.proofs.Resting.{Rests, rests_images, passes_leaves, goes_both, surveyed_fits}
 
@@ -33,6 +33,9 @@ use Rattle.testr_cli.proofs.Resting.{Rests, rests_images, passes_leaves, goes_bo
 
 pub rests_sound : (s t : Folder) → Rests s t → KeepsSound s t
 rests_sound s t rests sound = passes_weaker (IsImage s.disk) IsSound sound s t rests.old
+
+pub rests_repository : (s t : Folder) → Rests s t → KeepsRepository s t
+rests_repository s t rests repository = subst IsRepository (sym rests.files) repository
 
 pub sound_then : (s m t : Folder) → KeepsSound s m → KeepsSound m t → KeepsSound s t
 sound_then s m t first second sound =
@@ -121,10 +124,11 @@ pub record KeepsRunAndCaches (number : ℕ) (run : Run) (s t : Folder) : Type 0 
   pub fresh : IsCalm s → BringsCaches s t
 
 -- a stop at each moment leaves what one at the first might have left, or the files as read then and one run more; and what
--- is sound where all that one at the first might have left is
+-- is sound where all that one at the first might have left is; and reads give a repository
 pub record PassesAll (number : ℕ) (run : Run) (s t : Folder) : Type 0 where
   pub stops : Passes (λ image. IsImage s.disk image ⊎ HasRunAndCaches s.disk.published number run image) s t
   pub sound : KeepsSound s t
+  pub repository : IsRepository t.disk.published
 
 module _ (number : ℕ) (run : Run) where
   abbrev Left : Folder → Files → Type 0
@@ -150,16 +154,26 @@ module _ (number : ℕ) (run : Run) where
       by image (inl left) = sound image left
       by image (inr beside) = sound_beside s.disk.published image number run beside calm.repository (sound s.disk.published (calm_counts s calm))
 
-  pub named_all : (s t : Folder) → IsCalm s → PassesRun number run s t → PassesAll number run s t
-  named_all s t calm passes = record {
+  -- reads give the files as they were, or these with the run beside them
+  repository_named : (s t : Folder) → IsCalm s → PassesRun number run s t → IsImage t.disk t.disk.published → IsRepository t.disk.published
+  repository_named s t calm passes reads = by (passes_leaves (λ image. IsImage s.disk image ⊎ HasRunBeside s.disk.published number run image) s t passes (λ image left. inl left) t.disk.published reads)
+    where
+      by : IsImage s.disk t.disk.published ⊎ HasRunBeside s.disk.published number run t.disk.published → IsRepository t.disk.published
+      by (inl left) = subst IsRepository (sym (calm.only t.disk.published left)) calm.repository
+      by (inr beside) = beside.repository
+
+  pub named_all : (s t : Folder) → IsCalm s → PassesRun number run s t → IsImage t.disk t.disk.published → PassesAll number run s t
+  named_all s t calm passes reads = record {
     stops = passes_weaker (λ image. IsImage s.disk image ⊎ HasRunBeside s.disk.published number run image) (Left s) (left_by s) s t passes;
     sound = sound_run s t calm passes;
+    repository = repository_named s t calm passes reads;
   }
 
-  pub rests_all : (s t : Folder) → Rests s t → PassesAll number run s t
-  rests_all s t rests = record {
+  pub rests_all : (s t : Folder) → IsCalm s → Rests s t → PassesAll number run s t
+  rests_all s t calm rests = record {
     stops = passes_weaker (IsImage s.disk) (Left s) (λ image left. inl left) s t rests.old;
     sound = rests_sound s t rests;
+    repository = subst IsRepository (sym rests.files) calm.repository;
   }
 
   -- the rows of the run's bytes are those of the last run
@@ -174,12 +188,14 @@ module _ (number : ℕ) (run : Run) where
       subst (λ (o : Option Run). IsSomeAnd o (λ r. AreRowsOf r.bytes rows)) (sym there) are
 
   -- the run, and what the step of the caches did
-  refreshed_all : (rows : List Row) (s m t : Folder) → AreRowsOf run.bytes rows → IsCalm s → KeepsRun number run s m → PassesRun number run s m → PassesButSides m t → (HasRowsAt number rows m → KeepsSound m t) → PassesAll number run s t
-  refreshed_all rows s m t are calm kept passes sides sound =
-      let first = named_all s m calm passes in
+  refreshed_all : (rows : List Row) (s m t : Folder) → AreRowsOf run.bytes rows → IsCalm s → KeepsRun number run s m → PassesRun number run s m → KeepsButSides m t → PassesButSides m t → (HasRowsAt number rows m → KeepsSound m t) → PassesAll number run s t
+  refreshed_all rows s m t are calm kept passes but sides sound =
+      let beside = kept_beside number run s m kept in
+      let run_stops = passes_weaker (λ image. IsImage s.disk image ⊎ HasRunBeside s.disk.published number run image) (Left s) (left_by s) s m passes in
       record {
-        stops = passes_then (Left s) s m t first.stops (passes_weaker (λ image. IsImage m.disk image ⊎ SameButSides m.disk.published image) (Left s) (λ image left. inr (behind s m kept image left)) m t sides);
-        sound = sound_then s m t first.sound (sound (rows_at rows s m are calm kept));
+        stops = passes_then (Left s) s m t run_stops (passes_weaker (λ image. IsImage m.disk image ⊎ SameButSides m.disk.published image) (Left s) (λ image left. inr (behind s m kept image left)) m t sides);
+        sound = sound_then s m t (sound_run s m calm passes) (sound (rows_at rows s m are calm kept));
+        repository = repository_still m.disk.published t.disk.published but beside.repository;
       }
 
   cached : (rows : List Row) (s m t : Folder) → AreRowsOf run.bytes rows → KeepsRun number run s m → KeepsButSides m t → PassesButSides m t → (HasRowsAt number rows m → ReadsSound m → PutsCaches m t) → KeepsRunAndCaches number run s t
@@ -193,11 +209,17 @@ module _ (number : ℕ) (run : Run) where
   -- ---- where the folder is told
 
   module _ (a b : Option Folder) where
-    pub goes_named : IfSome a IsCalm → Goes a b (PassesRun number run) → Goes a b (PassesAll number run)
-    goes_named calm passes = goes_from a b IsCalm (PassesRun number run) (PassesAll number run) calm passes named_all
+    pub goes_named : IfSome a IsCalm → IfSome b (λ t. IsImage t.disk t.disk.published) → Goes a b (PassesRun number run) → Goes a b (PassesAll number run)
+    goes_named calm reads passes = by a b calm reads passes
+      where
+        by : (a b : Option Folder) → IfSome a IsCalm → IfSome b (λ t. IsImage t.disk t.disk.published) → Goes a b (PassesRun number run) → Goes a b (PassesAll number run)
+        by None None calm reads passes = tt
+        by None (Some t) calm reads passes = absurd passes
+        by (Some s) None calm reads passes = absurd passes
+        by (Some s) (Some t) calm reads passes = named_all s t calm passes reads
 
-    pub goes_rested : Goes a b Rests → Goes a b (PassesAll number run)
-    goes_rested quiet = goes_weaker a b Rests (PassesAll number run) quiet rests_all
+    pub goes_rested : IfSome a IsCalm → Goes a b Rests → Goes a b (PassesAll number run)
+    goes_rested calm quiet = goes_from a b IsCalm Rests (PassesAll number run) calm quiet rests_all
 
   module _ (rows : List Row) (a : Option Folder) (b c : Seen Folder) (result : Result (Unit {0}) TellFault) (step : Refreshes number rows b c result) where
     pub goes_refreshed : AreRowsOf run.bytes rows → IfSome a IsCalm → Goes a b.told (KeepsRun number run) → Goes a b.told (PassesRun number run) → Goes a c.told (PassesAll number run)
@@ -205,9 +227,10 @@ module _ (number : ℕ) (run : Run) where
         let before : Goes a b.told (λ s m. IsCalm s × KeepsRun number run s m × PassesRun number run s m) =
         goes_from a b.told IsCalm (λ s m. KeepsRun number run s m × PassesRun number run s m) (λ s m. IsCalm s × KeepsRun number run s m × PassesRun number run s m) calm
         (goes_both a b.told (KeepsRun number run) (PassesRun number run) (λ s m. KeepsRun number run s m × PassesRun number run s m) kept passes (λ s m k p. (k, p))) (λ s m is both. (is, both.0, both.1)) in
-        let after : Goes b.told c.told (λ m t. PassesButSides m t × (HasRowsAt number rows m → KeepsSound m t)) =
-        goes_both b.told c.told PassesButSides (λ m t. HasRowsAt number rows m → KeepsSound m t) (λ m t. PassesButSides m t × (HasRowsAt number rows m → KeepsSound m t)) step.any_moment step.sound (λ m t p q. (p, q)) in
-        goes_then a b.told c.told (λ s m. IsCalm s × KeepsRun number run s m × PassesRun number run s m) (λ m t. PassesButSides m t × (HasRowsAt number rows m → KeepsSound m t)) (PassesAll number run) before after (λ s m t first second. refreshed_all rows s m t are first.0 first.1 first.2 second.0 second.1)
+        let others : Goes b.told c.told (λ m t. KeepsButSides m t × PassesButSides m t) = goes_both b.told c.told KeepsButSides PassesButSides (λ m t. KeepsButSides m t × PassesButSides m t) step.others step.any_moment (λ m t p q. (p, q)) in
+        let after : Goes b.told c.told (λ m t. (KeepsButSides m t × PassesButSides m t) × (HasRowsAt number rows m → KeepsSound m t)) =
+        goes_both b.told c.told (λ m t. KeepsButSides m t × PassesButSides m t) (λ m t. HasRowsAt number rows m → KeepsSound m t) (λ m t. (KeepsButSides m t × PassesButSides m t) × (HasRowsAt number rows m → KeepsSound m t)) others step.sound (λ m t p q. (p, q)) in
+        goes_then a b.told c.told (λ s m. IsCalm s × KeepsRun number run s m × PassesRun number run s m) (λ m t. (KeepsButSides m t × PassesButSides m t) × (HasRowsAt number rows m → KeepsSound m t)) (PassesAll number run) before after (λ s m t first second. refreshed_all rows s m t are first.0 first.1 first.2 second.0.0 second.0.1 second.1)
 
   pub goes_cached : (rows : List Row) (a : Option Folder) (b c : Seen Folder) → Refreshes number rows b c (Ok tt) → AreRowsOf run.bytes rows → Goes a b.told (KeepsRun number run) → Goes a c.told (KeepsRunAndCaches number run)
   goes_cached rows a b c step are kept =

@@ -9,7 +9,6 @@ use Rattle.edge_io.specs.Spawners.{Spawning}
 use Rattle.edge_io.specs.Steps.{Goes, Stays, Grown}
 use Rattle.edge_io.specs.declared.job.Job.{Job}
 use Rattle.edge_io.proofs.Going.{goes_then, goes_weaker}
-use Rattle.outcome_fold.specs.Answers.{status_of}
 use Rattle.outcome_fold.specs.Rows.{rows_of}
 use Rattle.outcome_fold.specs.declared.row.Row.{Row}
 use Rattle.packet_codec.specs.Canonical.{IsEvent, Fits}
@@ -54,7 +53,7 @@ use Rattle.testr_cli.proofs.SuiteJobs.{selected_range, few_jobs}
 -- ---- `list-tests`
 
 -- a step between the same states
-goes_ends : {S : Type 0} {a b x y : Option S} (R : S → S → Type 0) → a ≡ x → b ≡ y → Goes a b R → Goes x y R
+pub goes_ends : {S : Type 0} {a b x y : Option S} (R : S → S → Type 0) → a ≡ x → b ≡ y → Goes a b R → Goes x y R
 goes_ends {a = a} {y = y} R first last step = subst (λ o. Goes o y R) first (subst (λ o. Goes a o R) last step)
 
 pub list_did : (patterns : Ids) (a b : Work) (v : Verdict) → ListsSuite patterns a b (Ok v) → ListsAll patterns a b (verdict_code v)
@@ -101,12 +100,12 @@ same_told (Some s) None same = cc
 same_told (Some s) (Some t) same = tt
 
 -- so what is so where the later state is told is so where the earlier one is
-told_before : {S : Type 0} (a b : Option S) (R : S → S → Type 0) (X : Type 0) → Goes a b R → IfSome b (λ _. X) → IfSome a (λ _. X)
+pub told_before : {S : Type 0} (a b : Option S) (R : S → S → Type 0) (X : Type 0) → Goes a b R → IfSome b (λ _. X) → IfSome a (λ _. X)
 told_before None b R X step is = tt
 told_before (Some s) None R X step is = absurd step
 told_before (Some s) (Some t) R X step is = is
 
-where_told : {S : Type 0} (a : Option S) (X Y : Type 0) → (X → Y) → IfSome a (λ _. X) → IfSome a (λ _. Y)
+pub where_told : {S : Type 0} (a : Option S) (X Y : Type 0) → (X → Y) → IfSome a (λ _. X) → IfSome a (λ _. Y)
 where_told None X Y f is = tt
 where_told (Some s) X Y f is = f is
 
@@ -217,12 +216,12 @@ pub record Worked (partial : Bool) (number : ℕ) (jobs : List Job) (rows : List
   pub outputs : List Output
   pub started : Goes a.spawner.told b.spawner.told (StartsAll jobs outputs)
   pub events : List Event
-  are_events : All IsEvent events
-  fit : All Fits events
-  of_lanes : All (IsOfLaneBelow (length jobs)) events
+  pub are_events : All IsEvent events
+  pub fit : All Fits events
+  pub of_lanes : All (IsOfLaneBelow (length jobs)) events
   pub of_workers : IfSome a.spawner.told (λ _. AreOfOutputs events outputs)
   pub rows_are : rows ≡ rows_of events
-  kept : Goes a.folder.told b.folder.told (KeepsRunAndCaches number (run_of partial (run_bytes events)))
+  pub kept : Goes a.folder.told b.folder.told (KeepsRunAndCaches number (run_of partial (run_bytes events)))
   input : b.input ≡ a.input
   out : b.out.told ≡ a.out.told
 
@@ -290,11 +289,6 @@ prints_rows partial number filter_tags events report (Some s) None printed new k
 prints_rows partial number filter_tags events report (Some s) (Some t) printed new kept says appends = λ runs shows.
     subst (λ n. Appends printed new (report_of (rows_of events) n filter_tags)) (kept.reads.beside.counts runs shows) (subst (Appends printed new) says.text appends)
 
--- what is so is so where this is told
-so_where_told : {S : Type 0} (a : Option S) (X : Type 0) → X → IfSome a (λ _. X)
-so_where_told None X is = tt
-so_where_told (Some s) X is = is
-
 -- ---- the run theorem
 
 seen_same : {S : Type 0} (a b : Seen S) → b.told ≡ a.told → b.faults ≡ a.faults → b ≡ a
@@ -331,29 +325,33 @@ run_did options a b v runs =
     let workers : IfSome a.spawner.told (λ _. AreOfOutputs work.events work.outputs) = subst (λ (o : Option Spawning). IfSome o (λ _. AreOfOutputs work.events work.outputs)) (λ i. (opened i).spawner.told) workers_here in
     let out : worked.between.out.told ≡ a.out.told = work.out ∙ before.out ∙ (λ i. (opened i).out.told) in
     record {
-      settings = conf.value;
-      conf = conf.done.at.conf;
-      opened = begin;
-      opened_is = opened;
-      opened_files = goes_weaker a.folder.told begin.folder.told Rests KeepsFiles quiet (λ s t rests. rests.files);
-      selected = selected.value;
-      selecting = selected.between;
-      selects = selected.done;
-      jobs = planned.value;
-      few = few;
-      planning = planned.between;
-      plans = planned.done;
-      outputs = work.outputs;
-      started = goes_ends (StartsAll planned.value work.outputs) refl (sym tell.spawner) work.started;
-      events = work.events;
-      are_events = work.are_events;
-      fit = work.fit;
-      of_lanes = work.of_lanes;
-      merged = where_told a.spawner.told (AreOfOutputs work.events work.outputs) _ (λ are. are.merged) workers;
-      in_turn = where_told a.spawner.told (AreOfOutputs work.events work.outputs) _ (λ are. are.in_turn) workers;
+      workers = record {
+        jobs = planned.value;
+        planning = planned.between;
+        planned = record {
+          settings = conf.value;
+          conf = conf.done.at.conf;
+          opened = begin;
+          opened_is = opened;
+          opened_files = goes_weaker a.folder.told begin.folder.told Rests KeepsFiles quiet (λ s t rests. rests.files);
+          selected = selected.value;
+          selecting = selected.between;
+          selects = selected.done;
+          plans = planned.done;
+          few = few;
+        };
+        outputs = work.outputs;
+        started = goes_ends (StartsAll planned.value work.outputs) refl (sym tell.spawner) work.started;
+        events = work.events;
+        are_events = work.are_events;
+        fit = work.fit;
+        of_lanes = work.of_lanes;
+        merged = where_told a.spawner.told (AreOfOutputs work.events work.outputs) _ (λ are. are.merged) workers;
+        in_turn = where_told a.spawner.told (AreOfOutputs work.events work.outputs) _ (λ are. are.in_turn) workers;
+      };
       cached = fresh_through (length kinds) run a.folder.told begin.folder.told b.folder.told quiet at_rest keeps;
       stored = goes_weaker a.folder.told b.folder.told (KeepsRunAndCaches (length kinds) run) (AddsRun partial work.events) stored (adds_run partial (length kinds) work.events);
       printed = prints_rows partial (length kinds) conf.value.filter_tags work.events tell.report a.folder.told b.folder.told a.out.told b.out.told stored says (subst (λ (o : Option (List ℕ)). Appends o b.out.told tell.report.text) out tell.printed);
-      status = so_where_told a.folder.told (verdict_code v ≡ status_of (rows_of work.events)) (ap verdict_code (tell.verdict ∙ says.verdict) ∙ status_is (rows_of work.events));
+      status = ap verdict_code (tell.verdict ∙ says.verdict) ∙ status_is (rows_of work.events);
       input = tell.input ∙ work.input ∙ before.input ∙ (λ i. (opened i).input);
     }

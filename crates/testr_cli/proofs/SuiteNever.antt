@@ -1,6 +1,7 @@
 -- `run` and `list-tests` do not give up without a cause.
-use Rattle.std.proofs.Common.{◌≡◌, ◌⊎◌, inl, inr, ℕ, zero, suc, ◌+◌, ◌<◌, ◌≤◌, nat_lt, pos, Bool, true, false, not, ◌&&◌, ◌||◌, Option, None, Some, is_some, option_map, IsSome, IfSome, IsSomeAnd, IsOk, All, Result, Ok, Err, List, [], ◌∷◌, length, refl, sym, ap, subst, ◌∙◌, arith}
+use Rattle.std.proofs.Common.{◌≡◌, ◌⊎◌, inl, inr, ℕ, zero, suc, ◌+◌, ◌<◌, ◌≤◌, pos, Bool, true, false, not, Option, None, Some, IfSome, IsSomeAnd, IsOk, All, Result, Ok, Err, List, [], ◌∷◌, length, refl, sym, ap, subst, ◌∙◌, arith}
 use Rattle.std.specs.Bool.{⊤}
+use Rattle.std.specs.FinMap as fin
 use Rattle.std.specs.Option.{unwrap_or}
 use Rattle.edge_io.specs.Children.{Output}
 use Rattle.edge_io.specs.Disk.{Files, Folder}
@@ -9,15 +10,17 @@ use Rattle.edge_io.specs.Spawners.{Spawning}
 use Rattle.edge_io.specs.Steps.{Goes, Stays}
 use Rattle.edge_io.specs.declared.child.Finish.TheVariants.{Exit}
 use Rattle.edge_io.specs.declared.job.Job.{Job}
+use Rattle.edge_io.proofs.Going.{goes_weaker}
 use Rattle.outcome_fold.specs.declared.row.Row.{Row}
 use Rattle.run_shelf.specs.Repository.{most_runs}
 use Rattle.partition_times.specs.Patterns.{IsPattern}
 use Rattle.suite_plan.specs.Calling.{TellsNumber, TellsNone, StartsCounting, HasCallCause, CallsOut, called}
 use Rattle.suite_plan.specs.Children.{IsBroken}
-use Rattle.suite_plan.specs.Choosing.{Ids, base_ids, chosen_ids}
+use Rattle.suite_plan.specs.Choosing.{Ids}
 use Rattle.suite_plan.specs.LaneJobs.{job_before, jobs_from, lane_jobs}
 use Rattle.suite_plan.specs.LoadList.{IsLoadList, HasListCause, ReadsLoadList}
-use Rattle.suite_plan.specs.Processors.{HasTableCause, CountsProcessors, table_name}
+use Rattle.suite_plan.specs.Processors.{IsInRange, HasTableCause, CountsProcessors, table_name}
+use Rattle.suite_plan.specs.Sharing.{shares_for}
 use Rattle.suite_plan.specs.Texts.{most_text}
 use Rattle.suite_plan.specs.declared.calling.CallRefusal.{CallRefusal}
 use Rattle.suite_plan.specs.declared.calling.CallRefusal.TheVariants as call
@@ -39,10 +42,11 @@ use Rattle.testr_conf.specs.declared.ids.IdsFault.TheVariants.{NotText}
 use Rattle.testr_cli.specs.Outside.{Work}
 use Rattle.testr_cli.specs.Perhaps.{when, Perhaps, not_asked, did, refused}
 use Rattle.testr_cli.specs.RunSuite.{Works, TellsRun, RunsBy, RunsSuite}
-use Rattle.testr_cli.specs.Runs.{HasRuns}
-use Rattle.testr_cli.specs.Selecting.{UsesCalled, UsesAsked, CountsWorkers, needs_listing, Selects, MakesJobs, Plans}
+use Rattle.testr_cli.specs.Prospects.{MayCount, MaySelect}
+use Rattle.testr_cli.specs.Runs.{HasRuns, KeepsFiles}
+use Rattle.testr_cli.specs.Selecting.{Times, UsesCalled, UsesAsked, CountsWorkers, needs_listing, Selects, shares_of_ids, MakesJobs, Plans}
 use Rattle.testr_cli.specs.Steps.{Step, stops, goes_on}
-use Rattle.testr_cli.specs.SuiteProgram.{calls_by, calls_of, EndsWell, CountIsTold, CallsOutNone, may_list, may_hand, CanRun}
+use Rattle.testr_cli.specs.SuiteProgram.{calls_by, calls_of, EndsWell, CountIsTold, CallsOutNone, CanHand, CanRun}
 use Rattle.testr_cli.specs.SuiteTexts.{list_code, table_code, job_code, start_code, lanes_code}
 use Rattle.testr_cli.specs.Suites.{RunOptions}
 use Rattle.testr_cli.specs.Told.{tell_code}
@@ -51,8 +55,12 @@ use Rattle.testr_cli.specs.declared.answer.Refusal.TheVariants as refusal
 use Rattle.testr_cli.specs.declared.selecting.Selected.{Selected}
 use Rattle.testr_cli.specs.declared.told.TellFault.{TellFault}
 use Rattle.testr_cli.specs.declared.told.TellFault.TheVariants as tell_fault
-use Rattle.testr_cli.proofs.FolderLemmas.{none_or_some, takes_in_repository, not_full}
+use Rattle.testr_cli.proofs.FolderLemmas.{takes_in_repository, not_full}
 use Rattle.testr_cli.proofs.ChainLemmas.{then_did, gives_not}
+use Rattle.testr_cli.proofs.LeftIds.{no_shares}
+use Rattle.testr_cli.proofs.Resting.{Rests}
+use Rattle.testr_cli.proofs.StepLaws.{open_quiet}
+use Rattle.testr_cli.proofs.SuiteJobs.{selected_range}
 use Rattle.testr_cli.proofs.CauseLaws.{open_never, runs_are}
 use Rattle.testr_cli.proofs.SuiteCauses.{NoCause, same_cause, moved, from_both, from_told, not_too_much, same_text, conf_never, same_settings, pattern_never, ends_behind, broken_never, listing_never}
 
@@ -79,17 +87,6 @@ module _ {W X A E : Type 0} {asked : Option X} {step : X → Step W A E} (a b : 
   perhaps_asked fault (refused x why is_asked is done) =
       let same : why ≡ fault = cc in
       (x, is_asked, subst (λ (e : E). step x a b (Err e)) same done)
-
-  perhaps_some : (value : Option A) → Perhaps asked step a b (Ok value) → IsSome value → IsSome asked
-  perhaps_some value (not_asked none is same) some =
-      let no_value : value ≡ None = cc in
-      absurd (none_or_some value no_value some)
-  perhaps_some value (did x given is_asked is done) some = subst IsSome (sym is_asked) refl
-  perhaps_some value (refused x why is_asked is done) some = cc
-
-when_some : (asked : Bool) → IsSome (when asked) → asked ≡ true
-when_some false some = cc
-when_some true some = refl
 
 asked_when : (asked : Bool) (x : Unit {0}) → when asked ≡ Some x → asked ≡ true
 asked_when false x is = cc
@@ -260,27 +257,6 @@ workers_ends : (settings : Settings) (parallel : Bool) (asked : ℕ) (a b : Work
 workers_ends settings false asked a b n counts ends = subst (EndsAt 0) (sym (λ i. (counts.same i).spawner.told)) ends
 workers_ends settings true asked a b n counts ends = asked_ends settings asked a b n counts ends
 
--- ---- where tests are listed
-
-same_number : (n m : ℕ) → ◌≡◌ {A = Result ℕ Refusal} (Ok n) (Ok m) → n ≡ m
-same_number n m is = cc
-
--- there are several workers only where the tests run side by side
-several_parallel : (settings : Settings) (parallel : Bool) (asked : ℕ) (a b : Work) (n : ℕ) → CountsWorkers settings parallel asked a b (Ok n) → nat_lt 1 n ≡ true → parallel ≡ true
-several_parallel settings false asked a b n counts several =
-    let one : nat_lt 1 1 ≡ true = subst (λ (k : ℕ). nat_lt 1 k ≡ true) (same_number n 1 counts.answer) several in
-    cc
-several_parallel settings true asked a b n counts several = refl
-
-wider : (failing file pattern parallel several : Bool) → (several ≡ true → parallel ≡ true) → (not failing && not file && (pattern || several)) ≡ true → (not failing && not file && (pattern || parallel)) ≡ true
-wider true file pattern parallel several only needs = cc
-wider false true pattern parallel several only needs = cc
-wider false false true parallel several only needs = refl
-wider false false false parallel several only needs = only needs
-
-may_list_of : (options : RunOptions) (workers : ℕ) → (nat_lt 1 workers ≡ true → options.parallel ≡ true) → needs_listing options workers ≡ true → may_list options ≡ true
-may_list_of options workers only needs = wider options.failing (is_some options.load_list) (nat_lt 0 (length options.patterns)) options.parallel (nat_lt 1 workers) only needs
-
 -- ---- which tests
 
 -- what the steps behind the opening of the folder need of the files and the children
@@ -288,8 +264,8 @@ record CanSelect (options : RunOptions) (settings : Settings) (site : Option Fil
   load_list : IfSome options.load_list (λ name. IsSomeAnd site (HasList name))
   table : Counts settings options.parallel options.concurrency children site
   count : IsSomeAnd children (CountIsTold (calls_of options settings))
-  job : may_list options ≡ true → IsOk (list_job_of settings)
-  ends : may_list options ≡ true → EndsAt (calls_of options settings) children
+  job : (workers : ℕ) → MayCount settings options site children workers → needs_listing options workers ≡ true → IsOk (list_job_of settings)
+  ends : (workers : ℕ) → MayCount settings options site children workers → needs_listing options workers ≡ true → EndsAt (calls_of options settings) children
 
 select_never : (settings : Settings) (options : RunOptions) (a b : Work) (r : Refusal) → Selects settings options a b (Err r) → CanSelect options settings a.site.told a.spawner.told → NoCause r
 select_never settings options a b r (stops fault is step) can =
@@ -302,56 +278,17 @@ select_never settings options a b r (goes_on listed m read (goes_on failing m2 f
     let on_site : Counts settings options.parallel options.concurrency a.spawner.told m2.site.told = subst (Counts settings options.parallel options.concurrency a.spawner.told) site can.table in
     let short : Counts settings options.parallel options.concurrency m2.spawner.told m2.site.told = subst (λ (o : Option Spawning). Counts settings options.parallel options.concurrency o m2.site.told) children on_site in
     let tells : IsSomeAnd m2.spawner.told (CountIsTold (calls_of options settings)) = subst (λ (o : Option Spawning). IsSomeAnd o (CountIsTold (calls_of options settings))) children can.count in
-    let ends : may_list options ≡ true → EndsAt (calls_of options settings) m2.spawner.told = λ may. subst (EndsAt (calls_of options settings)) children (can.ends may) in
     elim next [
       | stops fault is step ↦ same_cause fault r is (workers_never settings options.parallel options.concurrency m2 b fault step short tells)
       | goes_on workers m3 counted (stops fault is step) ↦
           let asked = perhaps_asked m3.spawner b.spawner fault step.at in
-          let may : may_list options ≡ true = may_list_of options workers (several_parallel settings options.parallel options.concurrency m2 m3 workers counted) (asked_when (needs_listing options workers) asked.0 asked.1) in
-          same_cause (refusal.Listing fault) r is (listing_never settings m3.spawner b.spawner fault (can.job may) (workers_ends settings options.parallel options.concurrency m2 m3 workers counted (ends may)) asked.2)
+          let needs : needs_listing options workers ≡ true = asked_when (needs_listing options workers) asked.0 asked.1 in
+          let may : MayCount settings options a.site.told a.spawner.told workers = record { start = m2; site_is = sym site; children_are = sym children; counted = m3; counts = counted } in
+          let ends : EndsAt (calls_of options settings) m2.spawner.told = subst (EndsAt (calls_of options settings)) children (can.ends workers may needs) in
+          same_cause (refusal.Listing fault) r is (listing_never settings m3.spawner b.spawner fault (can.job workers may needs) (workers_ends settings options.parallel options.concurrency m2 m3 workers counted ends) asked.2)
       | goes_on workers m3 counted (goes_on listing m4 asked (stops fault is step)) ↦ same_cause (refusal.Memory fault) r is ((λ three. omega arith), (λ child. child))
       | goes_on workers m3 counted (goes_on listing m4 asked (goes_on ids m5 chosen gives)) ↦ absurd (gives_not m5 b r gives)
     ]
-
--- ---- where ids are given
-
-or_left : (x y : Bool) → x ≡ true → (x || y) ≡ true
-or_left true y is = refl
-or_left false y is = cc
-
-or_right : (x y : Bool) → y ≡ true → (x || y) ≡ true
-or_right true y is = refl
-or_right false y is = is
-
--- the ids of a run are those of one of these
-chosen_from : {X : Type 0} (patterns : Ids) (failing listed listing : Option Ids) → (IsSome failing → X) → (IsSome listed → X) → (IsSome listing → X) → IsSome (chosen_ids patterns (base_ids failing listed listing)) → X
-chosen_from patterns (Some ids) listed listing by_failing by_listed by_listing some = by_failing refl
-chosen_from patterns None (Some ids) listing by_failing by_listed by_listing some = by_listed refl
-chosen_from patterns None None (Some ids) by_failing by_listed by_listing some = by_listing refl
-chosen_from patterns None None None by_failing by_listed by_listing some = cc
-
-same_selected : (one other : Selected) → ◌≡◌ {A = Result Selected Refusal} (Ok one) (Ok other) → one ≡ other
-same_selected one other is = cc
-
-select_hands : (settings : Settings) (options : RunOptions) (a b : Work) (selected : Selected) → Selects settings options a b (Ok selected) → IsSome selected.ids → may_hand options ≡ true
-select_hands settings options a b selected selects some =
-    let listed = then_did selected selects in
-    let failing = then_did selected listed.next in
-    let counted = then_did selected failing.next in
-    let listing = then_did selected counted.next in
-    let chosen = then_did selected listing.next in
-    let behind : Bool = is_some options.load_list || may_list options in
-    let ids : selected.ids ≡ chosen_ids options.patterns (base_ids failing.value listed.value listing.value) = ap (λ (x : Selected). x.ids) (same_selected _ _ chosen.next.answer) ∙ chosen.done.says.chosen in
-    let by_failing : IsSome failing.value → may_hand options ≡ true = λ found. or_left options.failing behind (when_some options.failing (perhaps_some listed.between.folder failing.between.folder failing.value failing.done.at found)) in
-    let by_listed : IsSome listed.value → may_hand options ≡ true = λ found. or_right options.failing behind (or_left (is_some options.load_list) (may_list options) (perhaps_some a.site listed.between.site listed.value listed.done.at found)) in
-    let by_listing : IsSome listing.value → may_hand options ≡ true = λ found.
-    let needs : needs_listing options counted.value ≡ true = when_some (needs_listing options counted.value) (perhaps_some counted.between.spawner listing.between.spawner listing.value listing.done.at found) in
-    or_right options.failing behind (or_right (is_some options.load_list) (may_list options) (may_list_of options counted.value (several_parallel settings options.parallel options.concurrency failing.between counted.between counted.value counted.done) needs)) in
-    chosen_from options.patterns failing.value listed.value listing.value by_failing by_listed by_listing (subst IsSome ids some)
-
-mapped_some : {A B : Type 0} (f : A → B) (o : Option A) → IsSome (option_map f o) → IsSome o
-mapped_some f None some = cc
-mapped_some f (Some value) some = refl
 
 -- ---- the jobs
 
@@ -368,11 +305,16 @@ jobs_ok : (settings : Settings) (lane : ℕ) (shares : List Ids) (fault : JobFau
 jobs_ok settings lane [] fault handed is = cc
 jobs_ok settings lane (share ∷ shares) fault handed is = before_ok (run_job_of settings (Some share) lane) (jobs_from settings (lane + 1) shares) fault (handed share lane) (jobs_ok settings (lane + 1) shares fault handed) is
 
-lanes_ok : (settings : Settings) (shares : Option (List Ids)) (fault : JobFault) → (IsSome shares → Hands settings) → lane_jobs settings shares ≡ Err fault → ⊥
-lanes_ok settings None fault handed is = cc
-lanes_ok settings (Some shares) fault handed is = jobs_ok settings 0 shares fault (handed refl) is
+-- where there is a share, ids can be handed to a worker
+abbrev HandsShares : Settings → Option (List Ids) → Type 0
+HandsShares settings shares = IfSome shares (λ list. (list ≡ [] → ⊥) → Hands settings)
 
-job_never : (settings : Settings) (shares : Option (List Ids)) (fault : JobFault) → (IsSome shares → Hands settings) → MakesJobs settings shares (Err fault) → NoCause (refusal.Job fault)
+lanes_ok : (settings : Settings) (shares : Option (List Ids)) (fault : JobFault) → HandsShares settings shares → lane_jobs settings shares ≡ Err fault → ⊥
+lanes_ok settings None fault handed is = cc
+lanes_ok settings (Some []) fault handed is = cc
+lanes_ok settings (Some (share ∷ shares)) fault handed is = jobs_ok settings 0 (share ∷ shares) fault (handed (λ none. cc)) is
+
+job_never : (settings : Settings) (shares : Option (List Ids)) (fault : JobFault) → HandsShares settings shares → MakesJobs settings shares (Err fault) → NoCause (refusal.Job fault)
 job_never settings shares fault handed makes = ((λ three. by makes.refused three), (λ child. child))
   where
     by : (lane_jobs settings shares ≡ Err fault) ⊎ (fault ≡ job_fault.NoMemory) → job_code fault ≡ 3 → ⊥
@@ -381,13 +323,21 @@ job_never settings shares fault handed makes = ((λ three. by makes.refused thre
         let five : job_code fault ≡ 5 = ap job_code is in
         omega (arith, five, three)
 
-plan_never : (settings : Settings) (selected : Selected) (a b : Work) (r : Refusal) → Plans settings selected a b (Err r) → (IsSome selected.ids → Hands settings) → NoCause r
-plan_never settings selected a b r (stops fault is step) handed = same_cause (refusal.Tell fault) r is ((λ three. tell_never fault three), (λ child. child))
-plan_never settings selected a b r (goes_on times m found (stops fault is step)) handed = same_cause (refusal.Memory fault) r is ((λ three. omega arith), (λ child. child))
-plan_never settings selected a b r (goes_on times m found (goes_on shares m2 dealt (stops fault is step))) handed =
-    let given : IsSome shares → Hands settings = λ some. handed (mapped_some _ selected.ids (subst IsSome dealt.says.shares some)) in
-    same_cause (refusal.Job fault) r is (job_never settings shares fault given step.says)
-plan_never settings selected a b r (goes_on times m found (goes_on shares m2 dealt (goes_on jobs m3 made gives))) handed = absurd (gives_not m3 b r gives)
+-- a share has ids
+handed_shares : (settings : Settings) (times : Option Times) (selected : Selected) → IsInRange selected.workers → IfSome selected.ids (CanHand settings) → HandsShares settings (shares_of_ids settings.group_regex times selected)
+handed_shares settings times selected range handed = by selected.ids handed
+  where
+    by : (ids : Option Ids) → IfSome ids (CanHand settings) → HandsShares settings (shares_of_ids settings.group_regex times (record { workers = selected.workers; ids = ids }))
+    by None handed = tt
+    by (Some ids) handed = λ some. handed (λ none.
+        some (ap (λ (l : Ids). shares_for (fin.get (unwrap_or times fin.empty)) settings.group_regex l selected.workers) none ∙ no_shares (fin.get (unwrap_or times fin.empty)) settings.group_regex selected.workers (omega (arith, range.0))))
+
+plan_never : (settings : Settings) (selected : Selected) (a b : Work) (r : Refusal) → Plans settings selected a b (Err r) → IsInRange selected.workers → IfSome selected.ids (CanHand settings) → NoCause r
+plan_never settings selected a b r (stops fault is step) range handed = same_cause (refusal.Tell fault) r is ((λ three. tell_never fault three), (λ child. child))
+plan_never settings selected a b r (goes_on times m found (stops fault is step)) range handed = same_cause (refusal.Memory fault) r is ((λ three. omega arith), (λ child. child))
+plan_never settings selected a b r (goes_on times m found (goes_on shares m2 dealt (stops fault is step))) range handed =
+    same_cause (refusal.Job fault) r is (job_never settings shares fault (subst (HandsShares settings) (sym dealt.says.shares) (handed_shares settings times selected range handed)) step.says)
+plan_never settings selected a b r (goes_on times m found (goes_on shares m2 dealt (goes_on jobs m3 made gives))) range handed = absurd (gives_not m3 b r gives)
 
 -- ---- the workers, and what is told of the run
 
@@ -412,7 +362,7 @@ record CanRunBy (options : RunOptions) (settings : Settings) (w : Work) : Type 0
   good : All IsPattern options.patterns
   good_regex : IfSome settings.group_regex IsPattern
   select : CanSelect options settings w.site.told w.spawner.told
-  handed : may_hand options ≡ true → Hands settings
+  handed : (selected : Selected) → MaySelect settings options w selected → IfSome selected.ids (CanHand settings)
 
 run_by_never : (options : RunOptions) (settings : Settings) (a b : Work) (r : Refusal) → RunsBy options settings a b (Err r) → CanRunBy options settings a → NoCause r
 run_by_never options settings a b r (stops fault is step) can = same_cause (refusal.Open fault) r is (
@@ -426,7 +376,19 @@ run_by_never options settings a b r (goes_on found m opened (goes_on _ m2 took (
     let children : a.spawner.told ≡ m3.spawner.told = sym ((λ i. (compiled.same i).spawner.told) ∙ (λ i. (took.same i).spawner.told) ∙ (λ i. (opened.rest i).spawner.told)) in
     let on_site : CanSelect options settings m3.site.told a.spawner.told = subst (λ (o : Option Files). CanSelect options settings o a.spawner.told) site can.select in
     same_cause fault r is (select_never settings options m3 b fault step (subst (CanSelect options settings m3.site.told) children on_site))
-run_by_never options settings a b r (goes_on found m opened (goes_on _ m2 took (goes_on _ m3 compiled (goes_on selected m4 selects (stops fault is step))))) can = same_cause fault r is (plan_never settings selected m4 b fault step (λ some. can.handed (select_hands settings options m3 m4 selected selects some)))
+run_by_never options settings a b r (goes_on found m opened (goes_on _ m2 took (goes_on _ m3 compiled (goes_on selected m4 selects (stops fault is step))))) can =
+    let calm : m3 ≡ m = compiled.same ∙ took.same in
+    let files : Goes a.folder.told m3.folder.told KeepsFiles =
+    subst (λ (w : Work). Goes a.folder.told w.folder.told KeepsFiles) (sym calm) (goes_weaker a.folder.told m.folder.told Rests KeepsFiles (open_quiet a m (Ok found) opened.at) (λ s t rests. rests.files)) in
+    let may : MaySelect settings options a selected = record {
+      start = m3;
+      folder = files;
+      site_is = (λ i. (calm i).site.told) ∙ (λ i. (opened.rest i).site.told);
+      children_are = (λ i. (calm i).spawner.told) ∙ (λ i. (opened.rest i).spawner.told);
+      selecting = m4;
+      selects = selects;
+    } in
+    same_cause fault r is (plan_never settings selected m4 b fault step (selected_range settings options m3 m4 selected selects) (can.handed selected may))
 run_by_never options settings a b r (goes_on found m opened (goes_on _ m2 took (goes_on _ m3 compiled (goes_on selected m4 selects (goes_on jobs m5 planned (stops fault is step)))))) can = same_cause fault r is (work_never _ _ jobs m5 b fault step)
 run_by_never options settings a b r (goes_on found m opened (goes_on _ m2 took (goes_on _ m3 compiled (goes_on selected m4 selects (goes_on jobs m5 planned (goes_on rows m6 worked tells)))))) can = told_never _ settings.filter_tags rows m6 b r tells
 
@@ -448,7 +410,14 @@ read_then options settings a m folder site children can =
       good = can.good;
       good_regex = can.good_regex;
       select = subst (CanSelect options settings m.site.told) (sym children) on_site;
-      handed = can.handed;
+      handed = λ selected may. can.handed selected (record {
+        start = may.start;
+        folder = subst (λ (o : Option Folder). Goes o may.start.folder.told KeepsFiles) folder may.folder;
+        site_is = may.site_is ∙ site;
+        children_are = may.children_are ∙ children;
+        selecting = may.selecting;
+        selects = may.selects;
+      });
     }
 
 pub run_never : (options : RunOptions) (a b : Work) (r : Refusal) → RunsSuite options a b (Err r) → CanRun options a → NoCause r

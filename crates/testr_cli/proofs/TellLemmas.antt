@@ -11,14 +11,16 @@ use Rattle.run_ledger.specs.Outcomes.{LedgerCloses, ledger_failed}
 use Rattle.run_shelf.specs.Repository.{Run, run_at}
 use Rattle.outcome_fold.specs.declared.row.Row.{Row}
 use Rattle.run_ledger.specs.Reading.{AreRowsOf}
-use Rattle.run_ledger.specs.Cached.{ReadsSound}
-use Rattle.run_ledger.specs.Ledger.{HasRowsAt}
-use Rattle.sub_text.specs.Texts.{report_of}
+use Rattle.run_ledger.specs.Cached.{SaysItsFailing, SaysItsTimes}
+use Rattle.run_ledger.specs.Ledger.{HasRowsAt, IsFailingSet}
+use Rattle.sub_text.specs.Texts.{report_of, failing_text_of}
 use Rattle.testr_cli.specs.Verdicts.{verdict_of}
-use Rattle.testr_cli.specs.Says.{Says, SaysReport, SaysFailing, SoundFor, OfBytes}
+use Rattle.testr_cli.specs.Says.{Says, SaysReport, SaysFailing, SoundFor, OfBytes, verdict_of_failing}
+use Rattle.testr_cli.specs.Runs.{HasRuns}
+use Rattle.testr_cli.specs.Trusted.{SoundFailing, SoundTimes}
 use Rattle.testr_cli.specs.Told.{TellsSo, IsAnswer, fault_fails, fault_of_ledger}
 use Rattle.testr_cli.specs.declared.command.Question.{Question}
-use Rattle.testr_cli.specs.declared.command.Question.TheVariants.{Last, Failing}
+use Rattle.testr_cli.specs.declared.command.Question.TheVariants.{Last}
 use Rattle.testr_cli.specs.declared.told.Told.{Told}
 use Rattle.testr_cli.specs.declared.told.TellFault.{TellFault}
 
@@ -41,11 +43,23 @@ if_ok_then : {A E : Type 0} (P Q : A → Type 0) (r : Result A E) → IfOk r P �
 if_ok_then P Q (Ok a) holds each = each a holds
 if_ok_then P Q (Err e) holds each = tt
 
--- what is told of a folder, if it is sound, is told of a sound folder
-pub where_sound : {T E : Type 0} (P : T → Folder → Type 0) (state : Option Folder) (r : Result T E) → (IfSome state ReadsSound → IfOk r (λ told. IfSome state (P told))) → IfOk r (λ told. IfSome state (λ s. ReadsSound s → P told s))
-where_sound P None (Ok told) says = tt
-where_sound P (Some s) (Ok told) says = says
-where_sound P state (Err fault) says = tt
+-- what is told of a folder, if it is so, is told of a folder that is so
+pub where_so : {T E : Type 0} (Is So : Folder → Type 0) (P : T → Folder → Type 0) (kinds : List Bool) → ((s : Folder) → FitsFolder kinds s → Is s → So s) → (state : Option Folder) (r : Result T E) → IfSome state (FitsFolder kinds) → (IfSome state So → IfOk r (λ told. IfSome state (P told))) → IfOk r (λ told. IfSome state (λ s. Is s → P told s))
+where_so Is So P kinds each None (Ok told) fits says = tt
+where_so Is So P kinds each (Some s) (Ok told) fits says = λ is. says (each s fits is)
+where_so Is So P kinds each state (Err fault) fits says = tt
+
+-- a folder that fits these runs has so many
+runs_of : (kinds : List Bool) (s : Folder) → FitsFolder kinds s → HasRuns (length kinds) s
+runs_of kinds s fits = record { repository = fits.repository; kinds = kinds; kinds_are = fits.kinds_are; count = refl }
+
+module _ {T E : Type 0} (kinds : List Bool) (state : Option Folder) (r : Result T E) (fits : IfSome state (FitsFolder kinds)) (P : T → Folder → Type 0) where
+  -- what is told where the cache of so many runs says its failing set, and where it says its times
+  pub failing_where : (IfSome state (SaysItsFailing (length kinds)) → IfOk r (λ told. IfSome state (P told))) → IfOk r (λ told. IfSome state (λ s. SoundFailing s → P told s))
+  failing_where says = where_so SoundFailing (SaysItsFailing (length kinds)) P kinds (λ s has sound. sound (length kinds) (runs_of kinds s has)) state r fits says
+
+  pub times_where : (IfSome state (SaysItsTimes (length kinds)) → IfOk r (λ told. IfSome state (P told))) → IfOk r (λ told. IfSome state (λ s. SoundTimes s → P told s))
+  times_where says = where_so SoundTimes (SaysItsTimes (length kinds)) P kinds (λ s has sound. sound (length kinds) (runs_of kinds s has)) state r fits says
 
 abbrev TellsWhereSound : Question → Told → Folder → Type 0
 TellsWhereSound question told s = SoundFor question s → TellsSo (Says question) told s
@@ -69,9 +83,10 @@ pub answers_so : {E : Type 0} (question asked : Question) (kinds : List Bool) (s
 answers_so question asked kinds state r is fits says =
     answers_where question asked kinds state r is fits (if_ok_then (λ told. IfSome state (TellsSo (Says question) told)) (λ told. IfSome state (TellsWhereSound question told)) r says (λ told. some_anyway question told state))
 
--- the failing set, if the folder is sound
-pub failing_so : {E : Type 0} (list : Bool) (asked : Question) (kinds : List Bool) (state : Option Folder) (r : Result Told E) → asked ≡ Failing list → IfSome state (FitsFolder kinds) → (IfSome state ReadsSound → IfOk r (λ told. IfSome state (TellsSo (SaysFailing list) told))) → IfOk r (λ told. IfSome state (IsAnswer asked told))
-failing_so list asked kinds state r is fits says = answers_where (Failing list) asked kinds state r is fits (where_sound (TellsSo (SaysFailing list)) state r says)
+-- the failing set, where its cache is sound
+pub failing_said : (list : Bool) (ids : List (List ℕ)) (told : Told) (state : Option Folder) → IfSome state (λ s. SoundFailing s → IsFailingSet ids s) → told.text.items ≡ failing_text_of ids list → told.verdict ≡ verdict_of_failing ids → IfSome state (λ s. SoundFailing s → TellsSo (SaysFailing list) told s)
+failing_said list ids told None set text verdict = tt
+failing_said list ids told (Some s) set text verdict = λ sound. record { ids = ids; set = set sound; text_is = text; verdict_is = verdict }
 
 -- where the last run's bytes are not asked for, its report is
 pub is_report : (question : Question) (subunit : Bool) → question ≡ Last subunit → (OfBytes question → ⊥) → question ≡ Last false

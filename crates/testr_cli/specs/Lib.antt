@@ -4,6 +4,7 @@ pub mod Suites
 pub mod Drawings
 pub mod Tasks
 pub mod Words
+pub mod Workers
 pub mod Runs
 pub mod Verdicts
 pub mod Says
@@ -13,6 +14,7 @@ pub mod Files
 pub mod Reporting
 pub mod Printing
 pub mod Told
+pub mod Trusted
 pub mod Copying
 pub mod Perhaps
 pub mod Asking
@@ -31,5 +33,6 @@ pub mod SuiteStops
 pub mod Stops
 pub mod SuiteProgram
 pub mod Program
+pub mod Prospects
 pub mod Exact
 pub mod ExactSuite

@@ -3,6 +3,7 @@ use Rattle.std.specs.Prelude.{◌≡◌, ◌⊎◌, ⊤, ℕ, ◌≤◌, ◌<◌
 use Rattle.std.specs.Io.KnownBytes.{Appends, IsAtEnd}
 use Rattle.edge_io.specs.Bytes.{AppendsPrefix}
 use Rattle.edge_io.specs.Causes.{Rose}
+use Rattle.edge_io.specs.Disk.{Folder}
 use Rattle.edge_io.specs.Seen.{Seen}
 use Rattle.edge_io.specs.Steps.{Goes}
 use Rattle.sub_number.specs.declared.memory.NoMemory.{NoMemory}
@@ -25,7 +26,7 @@ use Rattle.testr_cli.specs.Outside.{Outside, LeavesOutside, Work, work_of, work_
 use Rattle.testr_cli.specs.Recording.{most_bytes}
 use Rattle.testr_cli.specs.Refreshing.{BringsCaches}
 use Rattle.testr_cli.specs.RunSuite.{ListsSuite, RunsSuite}
-use Rattle.testr_cli.specs.Runs.{HasRuns, KeepsFiles, KeepsRuns, AddsRun}
+use Rattle.testr_cli.specs.Runs.{HasRuns, KeepsFiles, KeepsRepository, KeepsRuns, AddsRun}
 use Rattle.testr_cli.specs.Says.{SaysOfFolder, OfLastRun}
 use Rattle.testr_cli.specs.SelfTest.{TestsItself, SumsUpAll}
 use Rattle.testr_cli.specs.Steps.{Step, At}
@@ -36,6 +37,7 @@ use Rattle.testr_cli.specs.Verdicts.{verdict_code}
 use Rattle.testr_cli.specs.Words.{testr_word, asked_by}
 use Rattle.testr_cli.specs.declared.answer.Refusal.{Refusal}
 use Rattle.testr_cli.specs.declared.answer.Refusal.TheVariants.{Usage, Memory}
+use Rattle.testr_cli.specs.Workers.{LeavesRun}
 use Rattle.testr_cli.specs.declared.answer.Verdict.{Verdict}
 use Rattle.testr_cli.specs.declared.command.Question.{Question}
 use Rattle.testr_cli.specs.declared.words.UsageFault.TheVariants.{Words}
@@ -152,12 +154,17 @@ CanPerform (Some (list patterns)) before = CanList patterns before
 CanPerform (Some (run options)) before = CanRun options before
 CanPerform (Some (selftest drawing)) before = ⊤
 
--- what stays as it was at every exit
+-- what stays as it was at every exit; of a run, what it has started and printed by then
 abbrev pub Leaves : Option Task → Outside → Outside → Type 0
 Leaves (Some (list patterns)) before after = ⊤
-Leaves (Some (run options)) before after = ⊤
+Leaves (Some (run options)) before after = LeavesRun options (work_of before) (work_of after)
 Leaves (Some (selftest drawing)) before after = LeavesOutside before after
 Leaves asked before after = after.spawner ≡ before.spawner
+
+-- what it keeps of a folder where it keeps no run: the files, and `init`, which may put `format` beside them, the runs
+abbrev pub Keeps : Option Task → Folder → Folder → Type 0
+Keeps (Some init) = KeepsRuns
+Keeps asked = KeepsFiles
 
 -- it starts programs, so a fault may be that of one of them, of which there is no count
 abbrev pub StartsPrograms : Option Task → Type 0
@@ -202,11 +209,12 @@ pub record Promises (reading : Bool) (asked : Option Task) (before after : Outsi
   -- a part that is touched failed; or, where programs are started, one of them
   pub fault : answer ≡ 4 → SomeFailed asked (work_of before) (work_of after) ⊎ (StartsPrograms asked × IsChildFault answers.outcome)
   pub leaves : Leaves asked before after
-  -- the runs that the folder showed it shows, and no other, unless a run was kept, or the call failed from its naming on
-  pub kept : may_have_kept asked answers.outcome ≡ false → Goes before.folder.told after.folder.told KeepsRuns
+  -- reads give the files that they gave, whatever these are, unless a run was kept, or the call failed from its naming on
+  pub kept : may_have_kept asked answers.outcome ≡ false → Goes before.folder.told after.folder.told (Keeps asked)
+  pub repository : Goes before.folder.told after.folder.told KeepsRepository
   -- a stop at each moment leaves what one before the call might have left, or the files as reads gave them before the
   -- call with all that the task adds
-  pub any_moment : Goes before.folder.told after.folder.told (PassesTask asked (work_of before))
+  pub any_moment : Goes before.folder.told after.folder.told (PassesTask asked (work_of before) (work_of after))
   -- where all that a stop before the call might have left is sound, so is what one at each moment of it leaves
   pub sound : Goes before.folder.told after.folder.told KeepsSound
   pub did : answer ≤ 1 → Does asked (work_of before) (work_of after) answer

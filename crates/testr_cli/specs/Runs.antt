@@ -30,6 +30,10 @@ pub record HasRunAndCaches (files : Files) (number : ℕ) (run : Run) (image : F
 abbrev pub KeepsFiles : Folder → Folder → Type 0
 KeepsFiles s t = t.disk.published ≡ s.disk.published
 
+-- a repository stays one
+abbrev pub KeepsRepository : Folder → Folder → Type 0
+KeepsRepository s t = IsRepository s.disk.published → IsRepository t.disk.published
+
 -- the runs shown before are shown after
 abbrev pub KeepsRuns : Folder → Folder → Type 0
 KeepsRuns s t = (runs : List Run) → Shows s.disk.published runs → Shows t.disk.published runs

@@ -5,11 +5,11 @@ use Rattle.edge_io.specs.Disk.{Folder}
 use Rattle.outcome_fold.specs.declared.row.Row.{Row}
 use Rattle.run_shelf.specs.Repository.{Run, run_at, IsRepository}
 use Rattle.run_ledger.specs.Reading.{AreRowsOf}
-use Rattle.run_ledger.specs.Cached.{ReadsSound}
 use Rattle.run_ledger.specs.Ledger.{IsFailingSet}
 use Rattle.sub_text.specs.Texts.{report_of, slowest_of, failing_text_of}
 use Rattle.testr_cli.specs.Verdicts.{verdict_of}
 use Rattle.testr_cli.specs.Runs.{HasRuns}
+use Rattle.testr_cli.specs.Trusted.{SoundFailing}
 use Rattle.testr_cli.specs.declared.command.Question.{Question}
 use Rattle.testr_cli.specs.declared.command.Question.TheVariants.{Last, Failing, Slowest, Stats}
 use Rattle.testr_cli.specs.declared.answer.Verdict.{Verdict}
@@ -77,10 +77,10 @@ Says (Failing list) = SaysFailing list
 Says (Slowest all) = SaysSlowest all
 Says Stats = SaysStats
 
--- What a folder must be so that the question is answered of its runs. The failing set is told with the help of its cache, so
--- the folder must be sound; the other questions are answered from the runs alone.
+-- What a folder must be so that the question is answered of its runs. The failing set is told with the help of its cache,
+-- which must be sound; the other questions are answered from the runs alone.
 abbrev pub SoundFor : Question → Folder → Type 0
-SoundFor (Failing list) s = ReadsSound s
+SoundFor (Failing list) s = SoundFailing s
 SoundFor question s = ⊤
 
 -- so it is where the folder is sound for it, and the folder is a repository

@@ -10,7 +10,6 @@ use Rattle.run_shelf.specs.Repository.{run_of}
 use Rattle.run_shelf.specs.Images.{PassesOld, PassesFormat}
 use Rattle.testr_cli.specs.Runs.{run_bytes, HasRunAndCaches}
 use Rattle.testr_cli.specs.Outside.{Work}
-use Rattle.testr_cli.specs.Suites.{is_partial}
 use Rattle.testr_cli.specs.SuiteStops.{PassesSuiteRun}
 use Rattle.testr_cli.specs.Tasks.{Task, init, load, ask, run}
 
@@ -30,10 +29,10 @@ pub record HasLoadedRun (partial : Bool) (names : List (List ℕ)) (told : Optio
 abbrev pub PassesLoad : Bool → List (List ℕ) → Option Files → Option (List ℕ) → Folder → Folder → Type 0
 PassesLoad partial names told left s t = Passes (λ image. IsImage s.disk image ⊎ HasLoadedRun partial names told left s.disk.published image) s t
 
--- what a stop at each moment of what was asked for leaves, from this on
-abbrev pub PassesTask : Option Task → Work → Folder → Folder → Type 0
-PassesTask (Some init) before = PassesFormat
-PassesTask (Some (load partial names)) before = PassesLoad partial names before.site.told before.input.told
-PassesTask (Some (ask question)) before = PassesOld
-PassesTask (Some (run options)) before = PassesSuiteRun (is_partial options) before.spawner.told
-PassesTask asked before = Stays
+-- what a stop at each moment of what was asked for leaves, from the one outside to the other
+abbrev pub PassesTask : Option Task → (before after : Work) → Folder → Folder → Type 0
+PassesTask (Some init) before after = PassesFormat
+PassesTask (Some (load partial names)) before after = PassesLoad partial names before.site.told before.input.told
+PassesTask (Some (ask question)) before after = PassesOld
+PassesTask (Some (run options)) before after = PassesSuiteRun options before after
+PassesTask asked before after = Stays

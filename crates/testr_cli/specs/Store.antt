@@ -93,6 +93,8 @@ pub record Keeps (partial : Bool) (number : ℕ) (before after : Seen Folder) (r
   pub kept : OnOk result (Goes before.told after.told (OfDraft (λ bytes. KeepsRun number (run_of partial bytes))))
   pub failed : IfErr result (λ fault. Goes before.told after.told (OfDraft (λ bytes. PlaceFails (run_name number partial) bytes fault.call)))
   pub any_moment : Goes before.told after.told (OfDraft (λ bytes. PassesRun number (run_of partial bytes)))
+  -- what reads give after is what a stop may leave then
+  pub reads : IfSome after.told (λ s. IsImage s.disk s.disk.published)
   pub count : HasCause before.faults after.faults result
 
 abbrev pub keep_text : List ℕ

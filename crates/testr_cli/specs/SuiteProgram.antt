@@ -1,6 +1,5 @@
 -- What `list-tests` and `run` do, and what they need to be done. The promise of a run is the run theorem.
-use Rattle.std.specs.Prelude.{◌≡◌, ⊤, ℕ, zero, suc, ◌≤◌, ◌<◌, nat_lt, pos, Bool, true, false, not, ◌&&◌, ◌||◌, is_some, Option, Some, None, IfSome, IsSomeAnd, All, List, ◌∷◌, ◌++◌, length, Ok, IsOk}
-use Rattle.std.specs.List.{AllByRecursion}
+use Rattle.std.specs.Prelude.{◌≡◌, ⊤, ℕ, zero, suc, ◌≤◌, ◌<◌, pos, Bool, true, Option, Some, None, IfSome, IsSomeAnd, All, List, [], ◌∷◌, ◌++◌, length, IsOk}
 use Rattle.std.specs.Io.KnownBytes.{Appends}
 use Rattle.edge_io.specs.Children.{Output}
 use Rattle.edge_io.specs.Spawners.{Spawning}
@@ -8,11 +7,7 @@ use Rattle.edge_io.specs.Steps.{Goes}
 use Rattle.edge_io.specs.declared.child.Finish.TheVariants.{Exit}
 use Rattle.edge_io.specs.declared.job.Job.{Job}
 use Rattle.outcome_fold.specs.Answers.{status_of}
-use Rattle.outcome_fold.specs.Routes.{SaySame}
 use Rattle.outcome_fold.specs.Rows.{rows_of}
-use Rattle.packet_codec.specs.Canonical.{IsEvent, Fits}
-use Rattle.packet_codec.specs.Lanes.{IsOfLaneBelow, IsMerge, joined}
-use Rattle.packet_codec.specs.declared.event.Event.{Event}
 use Rattle.partition_times.specs.Patterns.{IsPattern}
 use Rattle.run_shelf.specs.Repository.{Run, Shows, most_runs}
 use Rattle.sub_text.specs.Texts.{report_of}
@@ -23,15 +18,15 @@ use Rattle.suite_plan.specs.Listing.{ListsSo}
 use Rattle.suite_plan.specs.LoadList.{IsLoadList}
 use Rattle.suite_plan.specs.Processors.{table_name}
 use Rattle.suite_plan.specs.Texts.{most_text}
-use Rattle.suite_run.specs.Starting.{StartsAll}
 use Rattle.testr_conf.specs.Jobs.{count_job_of, list_job_of, run_job_of, id_lines}
 use Rattle.testr_conf.specs.Settings.{Settings}
-use Rattle.worker_mux.specs.Outputs.{IsOutput, lists_from}
-use Rattle.testr_cli.specs.Outside.{Work, work_folder}
+use Rattle.testr_cli.specs.Outside.{Work}
 use Rattle.testr_cli.specs.Refreshing.{BringsCaches}
-use Rattle.testr_cli.specs.Runs.{HasRuns, KeepsFiles, AddsRun}
-use Rattle.testr_cli.specs.Selecting.{Selects, Plans}
+use Rattle.testr_cli.specs.Runs.{HasRuns, AddsRun}
+use Rattle.testr_cli.specs.Prospects.{MayCount, MaySelect}
+use Rattle.testr_cli.specs.Selecting.{needs_listing}
 use Rattle.testr_cli.specs.Suites.{RunOptions, is_partial}
+use Rattle.testr_cli.specs.Workers.{RunsWorkers}
 use Rattle.testr_cli.specs.declared.selecting.Selected.{Selected}
 
 -- ---- `list-tests`
@@ -57,35 +52,11 @@ pub record ListsAll (patterns : Ids) (before after : Work) (answer : ℕ) : Type
 -- was printed and the status is theirs; both are those of the workers read one after another. Where the files were sound,
 -- the caches are those of all runs.
 pub record RunsAll (options : RunOptions) (before after : Work) (answer : ℕ) : Type 0 where
-  pub settings : Settings
-  pub conf : IfSome before.site.told (GivesSettings settings)
-  -- the folder was opened, and reads give the files as before
-  pub opened : Work
-  pub opened_is : opened ≡ work_folder.put before opened.folder
-  pub opened_files : Goes before.folder.told opened.folder.told KeepsFiles
-  -- the tests and the number of workers were selected
-  pub selected : Selected
-  pub selecting : Work
-  pub selects : Selects settings options opened selecting (Ok selected)
-  -- the jobs were made
-  pub jobs : List Job
-  pub few : length jobs ≤ 64
-  pub planning : Work
-  pub plans : Plans settings selected selecting planning (Ok jobs)
-  -- the workers
-  pub outputs : List Output
-  pub started : Goes planning.spawner.told after.spawner.told (StartsAll jobs outputs)
-  pub events : List Event
-  pub are_events : All IsEvent events
-  pub fit : All Fits events
-  pub of_lanes : All (IsOfLaneBelow (length jobs)) events
-  pub merged : IfSome before.spawner.told (λ _. AllByRecursion IsOutput outputs → IsMerge events (lists_from 0 outputs))
-  pub in_turn : IfSome before.spawner.told (λ _. AllByRecursion IsOutput outputs → SaySame events (joined (lists_from 0 outputs)))
-  -- the run, the report and the status
-  pub stored : Goes before.folder.told after.folder.told (AddsRun (is_partial options) events)
+  pub workers : RunsWorkers options before after
+  pub stored : Goes before.folder.told after.folder.told (AddsRun (is_partial options) workers.events)
   pub cached : Goes before.folder.told after.folder.told BringsCaches
-  pub printed : IfSome before.folder.told (λ s. (runs : List Run) → Shows s.disk.published runs → Appends before.out.told after.out.told (report_of (rows_of events) (length runs) settings.filter_tags))
-  pub status : IfSome before.folder.told (λ _. answer ≡ status_of (rows_of events))
+  pub printed : IfSome before.folder.told (λ s. (runs : List Run) → Shows s.disk.published runs → Appends before.out.told after.out.told (report_of (rows_of workers.events) (length runs) workers.planned.settings.filter_tags))
+  pub status : answer ≡ status_of (rows_of workers.events)
   pub input : after.input ≡ before.input
 
 -- ---- completeness
@@ -113,14 +84,9 @@ abbrev pub CallsOutNone : (count_job : Option Job) → Spawning → Type 0
 CallsOutNone None s = ⊤
 CallsOutNone (Some job) s = (output : Output) × (later : List Output) × (s.outputs ≡ output ∷ later) × TellsNumber 0 output
 
--- The tests may be listed: neither the failing set nor a file gives ids, and a pattern or, it may be, several workers want
--- them.
-abbrev pub may_list : RunOptions → Bool
-may_list options = not options.failing && not (is_some options.load_list) && (nat_lt 0 (length options.patterns) || options.parallel)
-
--- the workers may be given ids
-abbrev pub may_hand : RunOptions → Bool
-may_hand options = options.failing || (is_some options.load_list || may_list options)
+-- where there is some id, ids can be handed to a worker of each lane
+abbrev pub CanHand : Settings → Ids → Type 0
+CanHand settings ids = (ids ≡ [] → ⊥) → (share : Ids) (lane : ℕ) → IsOk (run_job_of settings (Some share) lane)
 
 -- the configuration is there, its patterns are good, it has a listing, and the listing ends with 0
 pub record CanList (patterns : Ids) (before : Work) : Type 0 where
@@ -130,9 +96,9 @@ pub record CanList (patterns : Ids) (before : Work) : Type 0 where
   pub job : IsOk (list_job_of settings)
   pub ends : IsSomeAnd before.spawner.told (EndsWell 0)
 
--- The same of a run, whose tests need a listing only where they may be listed: there is room for one, the list of ids can be
--- read, so can the table of processors where the number of workers is neither said nor called out, and ids can be handed to
--- the workers where they may be given some.
+-- The same of a run. There is room for one, the list of ids can be read, so can the table of processors where the number of
+-- workers is neither said nor called out. Where the tests are listed, by the number of workers that was found, there is a
+-- listing, and it ends with 0. Where ids are left to run, they can be handed to a worker.
 pub record CanRun (options : RunOptions) (before : Work) : Type 0 where
   pub settings : Settings
   pub conf : IsSomeAnd before.site.told (GivesSettings settings)
@@ -142,6 +108,6 @@ pub record CanRun (options : RunOptions) (before : Work) : Type 0 where
   pub load_list : IfSome options.load_list (λ name. IsSomeAnd before.site.told (λ files. (ids : Ids) × IsLoadList name ids files))
   pub table : options.parallel ≡ true → options.concurrency ≡ 0 → IsSomeAnd before.spawner.told (CallsOutNone (count_job_of settings)) → IsSomeAnd before.site.told (λ files. IfSome (files table_name) (λ text. length text ≤ most_text))
   pub count : IsSomeAnd before.spawner.told (CountIsTold (calls_of options settings))
-  pub job : may_list options ≡ true → IsOk (list_job_of settings)
-  pub ends : may_list options ≡ true → IsSomeAnd before.spawner.told (EndsWell (calls_of options settings))
-  pub handed : may_hand options ≡ true → (ids : Ids) (lane : ℕ) → IsOk (run_job_of settings (Some ids) lane)
+  pub job : (workers : ℕ) → MayCount settings options before.site.told before.spawner.told workers → needs_listing options workers ≡ true → IsOk (list_job_of settings)
+  pub ends : (workers : ℕ) → MayCount settings options before.site.told before.spawner.told workers → needs_listing options workers ≡ true → IsSomeAnd before.spawner.told (EndsWell (calls_of options settings))
+  pub handed : (selected : Selected) → MaySelect settings options before selected → IfSome selected.ids (CanHand settings)

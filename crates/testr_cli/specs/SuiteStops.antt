@@ -1,38 +1,24 @@
 -- What a stop at each moment of `run` leaves (docs/DISK.md, the shelf).
-use Rattle.std.specs.Prelude.{◌≡◌, ◌⊎◌, ℕ, ◌≤◌, Bool, Option, IfSome, List, ◌++◌, length}
-use Rattle.std.specs.List.{All, AllByRecursion}
-use Rattle.edge_io.specs.Children.{Output}
+use Rattle.std.specs.Prelude.{◌⊎◌, ℕ, Bool, List}
 use Rattle.edge_io.specs.Disk.{Files, Folder, IsImage}
 use Rattle.edge_io.specs.Moments.{Passes}
-use Rattle.edge_io.specs.Spawners.{Spawning}
 use Rattle.packet_codec.specs.declared.event.Event.{Event}
-use Rattle.packet_codec.specs.Lanes.{IsOfLaneBelow, IsMerge}
+use Rattle.run_shelf.specs.Images.{PassesOld}
 use Rattle.run_shelf.specs.Repository.{run_of}
-use Rattle.worker_mux.specs.Outputs.{IsOutput, lists_from}
+use Rattle.testr_cli.specs.Outside.{Work}
 use Rattle.testr_cli.specs.Runs.{run_bytes, HasRunAndCaches}
+use Rattle.testr_cli.specs.Suites.{RunOptions, is_partial}
+use Rattle.testr_cli.specs.Workers.{RunsWorkers}
 
--- Of the children to come, the first two at most are asked for the number of workers and for the tests, and those behind
--- them are the workers. The events are a merge of the workers': of each all, once and in order, and no others. A status
--- has 32 bits.
-pub record AreOfWorkers (events : List Event) (s : Spawning) : Type 0 where
-  pub asked : List Output
-  pub workers : List Output
-  pub later : List Output
-  pub outputs_are : s.outputs ≡ asked ++ workers ++ later
-  pub few_asked : length asked ≤ 2
-  pub few : length workers ≤ 64
-  pub merge : AllByRecursion IsOutput workers → IsMerge events (lists_from 0 workers)
-
--- The files and one run more, whole: its packets are those of events that are each under one of the lanes, and where the
--- children are told they are the workers'. Of other files only those of the caches may differ.
-pub record HasSuiteRun (partial : Bool) (told : Option Spawning) (files image : Files) : Type 0 where
+-- The files and one run more, whole, of these events. Of other files only those of the caches may differ.
+pub record HasSuiteRun (partial : Bool) (events : List Event) (files image : Files) : Type 0 where
   pub number : ℕ
-  pub events : List Event
-  pub of_lanes : All (IsOfLaneBelow 64) events
-  pub of_workers : IfSome told (AreOfWorkers events)
   pub beside : HasRunAndCaches files number (run_of partial (run_bytes events)) image
 
--- a stop at each moment leaves what one before the command might have left, or these files with the new run, whatever the
--- caches are
-abbrev pub PassesSuiteRun : Bool → Option Spawning → Folder → Folder → Type 0
-PassesSuiteRun partial told s t = Passes (λ image. IsImage s.disk image ⊎ HasSuiteRun partial told s.disk.published image) s t
+-- A stop at each moment leaves what one before the command might have left. Or the workers were started, all of them, and
+-- then it leaves that or these files with the run of all that is recorded of them, whatever the caches are: the same run at
+-- each moment. `after` is the outside at the exit, so that no other child was started, and no other output was to come.
+abbrev pub PassesSuiteRun : RunOptions → (before after : Work) → Folder → Folder → Type 0
+PassesSuiteRun options before after s t =
+    PassesOld s t
+    ⊎ ((workers : RunsWorkers options before after) × Passes (λ image. IsImage s.disk image ⊎ HasSuiteRun (is_partial options) workers.events s.disk.published image) s t)

@@ -3,12 +3,12 @@
 ghost use Rattle.std.specs.Prelude.{◌≡◌, None, IfOk, IfSome};
 ghost use Rattle.edge_io.specs.Steps.{Goes, Stays};
 ghost use Rattle.edge_io.specs.Causes.{RisesExactlyIf};
-ghost use Rattle.run_ledger.specs.Cached.{ReadsSound};
 ghost use Rattle.run_ledger.specs.Ledger.{IsFailingSet, AreTimes};
 ghost use Rattle.run_shelf.specs.Holds.{kinds_of, FitsWhereTold};
 ghost use Rattle.run_shelf.specs.Stores.{store_kinds, store_fault, FitsUnlessBroken};
 ghost use Rattle.testr_cli.specs.Asking.{FindsFailing, FindsTimes};
 ghost use Rattle.testr_cli.specs.Told.{tell_failed};
+ghost use Rattle.testr_cli.specs.Trusted.{SoundFailing, SoundTimes};
 
 use crate::told::{TellFault, hand_back, ledger_refusal};
 use edge_io::Shelf;
@@ -39,7 +39,7 @@ fn failing_of<H: Shelf>(alloc: Global, store: &mut Store<'_, H>) -> Result<IdLis
     requires unbroken { store_fault store.old ≡ None }
     requires fits { FitsUnlessBroken (store_kinds store.old) (store_fault store.old) (H.seen store.old.shelf.now).told }
     ensures same_reference { store.new.shelf.ghost_name ≡ store.old.shelf.ghost_name }
-    ensures ids { IfSome (H.seen store.old.shelf.now).told ReadsSound → IfOk result (λ ids. IfSome (H.seen store.old.shelf.now).told (IsFailingSet ids)) }
+    ensures ids { IfOk result (λ ids. IfSome (H.seen store.old.shelf.now).told (λ s. SoundFailing s → IsFailingSet ids s)) }
     ensures count { RisesExactlyIf (H.seen store.old.shelf.now).faults (H.seen store.new.shelf.now).faults (tell_failed result) }
     ensures same { Goes (H.seen store.old.shelf.now).told (H.seen store.new.shelf.now).told Stays }
 {
@@ -71,7 +71,7 @@ fn times_of<H: Shelf>(alloc: Global, store: &mut Store<'_, H>) -> Result<TimeMap
     requires unbroken { store_fault store.old ≡ None }
     requires fits { FitsUnlessBroken (store_kinds store.old) (store_fault store.old) (H.seen store.old.shelf.now).told }
     ensures same_reference { store.new.shelf.ghost_name ≡ store.old.shelf.ghost_name }
-    ensures times { IfSome (H.seen store.old.shelf.now).told ReadsSound → IfOk result (λ times. IfSome (H.seen store.old.shelf.now).told (AreTimes times)) }
+    ensures times { IfOk result (λ times. IfSome (H.seen store.old.shelf.now).told (λ s. SoundTimes s → AreTimes times s)) }
     ensures count { RisesExactlyIf (H.seen store.old.shelf.now).faults (H.seen store.new.shelf.now).faults (tell_failed result) }
     ensures same { Goes (H.seen store.old.shelf.now).told (H.seen store.new.shelf.now).told Stays }
 {

@@ -5,12 +5,12 @@ ghost use Rattle.edge_io.specs.Steps.{Goes, Stays};
 ghost use Rattle.edge_io.specs.Causes.{RisesExactlyIf};
 ghost use Rattle.run_shelf.specs.Holds.{kinds_of, FitsWhereTold};
 ghost use Rattle.run_shelf.specs.Stores.{store_kinds, store_fault, FitsUnlessBroken};
-ghost use Rattle.run_ledger.specs.Cached.{ReadsSound};
 ghost use Rattle.run_ledger.specs.Ledger.{HasRowsAt};
 ghost use Rattle.testr_cli.specs.Says.{OfBytes, OfLastRun, SaysReport, SaysSlowest, SaysFailing, SaysStats, stats_of, verdict_of_failing};
 ghost use Rattle.testr_cli.specs.Sparing.{SparesFor, SparesRuns};
 ghost use Rattle.testr_cli.specs.Telling.{line_text};
 ghost use Rattle.testr_cli.specs.Told.{Finds, IsAnswer, TellsSo, tell_failed, fault_of_ledger, tell_code, tell_text};
+ghost use Rattle.testr_cli.specs.Trusted.{SoundFailing};
 
 use crate::Verdict;
 use crate::command::Question;
@@ -193,7 +193,7 @@ fn tell_failing<H: Shelf>(
     requires open { store_fault store.old ≡ None }
     requires fits { FitsUnlessBroken (store_kinds store.old) (store_fault store.old) (H.seen store.old.shelf.now).told }
     ensures same_reference { store.new.shelf.ghost_name ≡ store.old.shelf.ghost_name }
-    ensures told { IfSome (H.seen store.old.shelf.now).told ReadsSound → IfOk result (λ told. IfSome (H.seen store.old.shelf.now).told (TellsSo (SaysFailing list) told)) }
+    ensures told { IfOk result (λ told. IfSome (H.seen store.old.shelf.now).told (λ s. SoundFailing s → TellsSo (SaysFailing list) told s)) }
     ensures spares { SparesRuns 2 (H.seen store.old.shelf.now).told (H.clock store.old.shelf.now) (H.clock store.new.shelf.now) }
     ensures count { RisesExactlyIf (H.seen store.old.shelf.now).faults (H.seen store.new.shelf.now).faults (tell_failed result) }
     ensures same { Goes (H.seen store.old.shelf.now).told (H.seen store.new.shelf.now).told Stays }

@@ -1,6 +1,4 @@
 use Rattle.std.proofs.Common.{◌∙◌, sym}
-use Rattle.run_ledger.specs.Ledger.{IsFailingSet}
-use Rattle.testr_cli.proofs.TellLemmas.{where_sound}
 use Rattle.testr_cli.proofs.asking.find_failing.Goals as goal
 
 pub returns : goal.returns
@@ -8,7 +6,7 @@ returns g c =
     let name = sym (c.into_shelf.ensures.same_reference ∙ c.failing_of-ids.ensures.same_reference ∙ c.attach-store.ensures.same_reference) in
     let tie = sym (c.shelf-1.given.1 name ∙ c.hand_back.ensures ∙ c.into_shelf.ensures.same) in
     record {
-      ids = where_sound IsFailingSet _ _ (rw c.attach-store.ensures.same at c.failing_of-ids.ensures.ids);
+      ids = rw c.attach-store.ensures.same at c.failing_of-ids.ensures.ids;
       same = rw tie at (rw c.attach-store.ensures.same at c.failing_of-ids.ensures.same);
       count = rw tie at (rw c.attach-store.ensures.same at c.failing_of-ids.ensures.count);
     }

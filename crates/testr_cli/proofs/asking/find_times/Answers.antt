@@ -1,6 +1,4 @@
 use Rattle.std.proofs.Common.{◌∙◌, sym}
-use Rattle.run_ledger.specs.Ledger.{AreTimes}
-use Rattle.testr_cli.proofs.TellLemmas.{where_sound}
 use Rattle.testr_cli.proofs.asking.find_times.Goals as goal
 
 pub returns : goal.returns
@@ -8,7 +6,7 @@ returns g c =
     let name = sym (c.into_shelf.ensures.same_reference ∙ c.times_of-times.ensures.same_reference ∙ c.attach-store.ensures.same_reference) in
     let tie = sym (c.shelf-1.given.1 name ∙ c.hand_back.ensures ∙ c.into_shelf.ensures.same) in
     record {
-      times = where_sound AreTimes _ _ (rw c.attach-store.ensures.same at c.times_of-times.ensures.times);
+      times = rw c.attach-store.ensures.same at c.times_of-times.ensures.times;
       same = rw tie at (rw c.attach-store.ensures.same at c.times_of-times.ensures.same);
       count = rw tie at (rw c.attach-store.ensures.same at c.times_of-times.ensures.count);
     }

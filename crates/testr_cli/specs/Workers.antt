@@ -1,0 +1,92 @@
+-- The workers of a run: why their jobs are these, which of them were started, what is recorded of their outputs, and what
+-- was printed of that.
+use Rattle.std.specs.Prelude.{◌≡◌, ◌⊎◌, ℕ, ◌≤◌, IfSome, All, List, ◌++◌, length, Ok}
+use Rattle.std.specs.List.{AllByRecursion}
+use Rattle.edge_io.specs.Bytes.{AppendsPrefix}
+use Rattle.edge_io.specs.Children.{Output}
+use Rattle.edge_io.specs.Spawners.{Spawning}
+use Rattle.edge_io.specs.Steps.{Goes}
+use Rattle.edge_io.specs.declared.job.Job.{Job}
+use Rattle.outcome_fold.specs.Routes.{SaySame}
+use Rattle.outcome_fold.specs.Rows.{rows_of}
+use Rattle.packet_codec.specs.Canonical.{IsEvent, Fits}
+use Rattle.packet_codec.specs.Lanes.{IsOfLaneBelow, IsMerge, joined}
+use Rattle.packet_codec.specs.declared.event.Event.{Event}
+use Rattle.run_shelf.specs.Repository.{Run, Shows}
+use Rattle.sub_text.specs.Texts.{report_of}
+use Rattle.suite_plan.specs.ConfFile.{GivesSettings}
+use Rattle.suite_run.specs.Starting.{StartsAll}
+use Rattle.testr_conf.specs.Settings.{Settings}
+use Rattle.worker_mux.specs.Outputs.{IsOutput, lists_from}
+use Rattle.testr_cli.specs.Outside.{Work, work_folder}
+use Rattle.testr_cli.specs.Runs.{KeepsFiles}
+use Rattle.testr_cli.specs.Selecting.{Selects, Plans}
+use Rattle.testr_cli.specs.Suites.{RunOptions}
+use Rattle.testr_cli.specs.declared.selecting.Selected.{Selected}
+
+-- The jobs of a run: by the project's configuration tests and a number of workers were selected, and a job was made for each
+-- worker.
+pub record HasPlanned (options : RunOptions) (before planning : Work) (jobs : List Job) : Type 0 where
+  pub settings : Settings
+  pub conf : IfSome before.site.told (GivesSettings settings)
+  -- the folder was opened, and reads give the files as before
+  pub opened : Work
+  pub opened_is : opened ≡ work_folder.put before opened.folder
+  pub opened_files : Goes before.folder.told opened.folder.told KeepsFiles
+  -- the tests and the number of workers were selected
+  pub selected : Selected
+  pub selecting : Work
+  pub selects : Selects settings options opened selecting (Ok selected)
+  -- the jobs were made
+  pub plans : Plans settings selected selecting planning (Ok jobs)
+  pub few : length jobs ≤ 64
+
+-- These jobs were started, in this order, and no others behind the choice of the tests; the first outputs to come then are
+-- the workers', and what comes later is left. There are events, each under one of the lanes; where the outputs are told they
+-- are a merge of what is recorded of each: all of it, once and in order under its lane, and nothing else.
+pub record RunsWorkers (options : RunOptions) (before after : Work) : Type 0 where
+  pub jobs : List Job
+  pub planning : Work
+  pub planned : HasPlanned options before planning jobs
+  pub outputs : List Output
+  pub started : Goes planning.spawner.told after.spawner.told (StartsAll jobs outputs)
+  pub events : List Event
+  pub are_events : All IsEvent events
+  pub fit : All Fits events
+  pub of_lanes : All (IsOfLaneBelow (length jobs)) events
+  pub merged : IfSome before.spawner.told (λ _. AllByRecursion IsOutput outputs → IsMerge events (lists_from 0 outputs))
+  -- so they say the same as the events of the outputs one after another
+  pub in_turn : IfSome before.spawner.told (λ _. AllByRecursion IsOutput outputs → SaySame events (joined (lists_from 0 outputs)))
+
+-- ---- at every exit
+
+-- no worker was started, and of others so many at most
+pub record AsksFew (most : ℕ) (s t : Spawning) : Type 0 where
+  pub asked : List Job
+  pub few : length asked ≤ most
+  pub started : t.started ≡ s.started ++ asked
+
+-- workers were started for some first jobs, in their order
+pub record StartsFirst (options : RunOptions) (before after : Work) : Type 0 where
+  pub jobs : List Job
+  pub planning : Work
+  pub planned : HasPlanned options before planning jobs
+  pub done : List Job
+  pub more : List Job
+  pub jobs_are : jobs ≡ done ++ more
+  pub outputs : List Output
+  pub started : Goes planning.spawner.told after.spawner.told (StartsAll done outputs)
+
+-- Before the workers two may be started: the one that tells how many there are, and the one that lists the tests.
+abbrev pub StartsInOrder : RunOptions → Work → Work → Type 0
+StartsInOrder options before after = Goes before.spawner.told after.spawner.told (AsksFew 2) ⊎ StartsFirst options before after
+
+-- the output took a first part of the report of the workers' run
+pub record PrintsFirst (options : RunOptions) (before after : Work) : Type 0 where
+  pub workers : RunsWorkers options before after
+  pub printed : IfSome before.folder.told (λ s. (runs : List Run) → Shows s.disk.published runs → AppendsPrefix before.out.told after.out.told (report_of (rows_of workers.events) (length runs) workers.planned.settings.filter_tags))
+
+-- What a run has started and printed at each exit.
+pub record LeavesRun (options : RunOptions) (before after : Work) : Type 0 where
+  pub started : StartsInOrder options before after
+  pub printed : (after.out.told ≡ before.out.told) ⊎ PrintsFirst options before after
