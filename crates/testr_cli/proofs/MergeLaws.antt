@@ -1,7 +1,7 @@
 -- What is recorded of workers that tell their outputs, by the events that were added.
 use Rattle.std.proofs.Common.{◌≡◌, ℕ, suc, ◌≤◌, Option, None, Some, IfSome, List, [], ◌∷◌, map, length, refl, ap, arith}
 use Rattle.std.specs.List.{AllByRecursion}
-use Rattle.edge_io.specs.Children.{Output}
+use Rattle.edge_io.specs.Children.{IsOutput, Output}
 use Rattle.edge_io.specs.Disk.{Folder}
 use Rattle.edge_io.specs.Spawners.{Spawning}
 use Rattle.edge_io.specs.Steps.{Goes}
@@ -12,7 +12,7 @@ use Rattle.packet_codec.specs.Lanes.{IsMerge, joined}
 use Rattle.packet_codec.specs.declared.event.Event.{Event}
 use Rattle.suite_run.specs.Starting.{HasStarted, StartsAll}
 use Rattle.worker_lane.specs.declared.lot.Lot.{Lot}
-use Rattle.worker_mux.specs.Outputs.{IsOutput, lots_from, lists_from}
+use Rattle.worker_mux.specs.Outputs.{lots_from, lists_from}
 use Rattle.worker_mux.specs.Runs.{AddsMerge}
 use Rattle.worker_mux.proofs.OutputLemmas.{merge_of_outputs}
 
@@ -22,12 +22,13 @@ pub record HaveOutputs (jobs : List Job) (rests : List (Option (List Lot))) (a b
   pub all : Goes a b (StartsAll jobs outputs)
   pub count : IfSome a (λ _. length outputs ≡ length jobs)
   pub rests_are : IfSome a (λ _. rests ≡ lots_from 0 (map Some outputs))
+  pub are_outputs : IfSome a (λ _. AllByRecursion IsOutput outputs)
 
 pub have_outputs : (jobs : List Job) (rests : List (Option (List Lot))) (a b : Option Spawning) → Goes a b (HasStarted jobs rests) → HaveOutputs jobs rests a b
-have_outputs jobs rests None None started = record { outputs = []; all = tt; count = tt; rests_are = tt }
+have_outputs jobs rests None None started = record { outputs = []; all = tt; count = tt; rests_are = tt; are_outputs = tt }
 have_outputs jobs rests None (Some t) started = absurd started
 have_outputs jobs rests (Some s) None started = absurd started
-have_outputs jobs rests (Some s) (Some t) started = record { outputs = started.outputs; all = started.all; count = started.all.count; rests_are = started.rests_are }
+have_outputs jobs rests (Some s) (Some t) started = record { outputs = started.outputs; all = started.all; count = started.all.count; rests_are = started.rests_are; are_outputs = started.are_outputs }
 
 lists_count : (lane : ℕ) (outputs : List Output) → length (lists_from lane outputs) ≡ length outputs
 lists_count lane [] = refl
@@ -35,16 +36,16 @@ lists_count lane (output ∷ outputs) = ap suc (lists_count (suc lane) outputs)
 
 -- the events are those of the outputs, merged, and their rows are those of the outputs one after another
 pub record AreOfOutputs (events : List Event) (outputs : List Output) : Type 0 where
-  pub merged : AllByRecursion IsOutput outputs → IsMerge events (lists_from 0 outputs)
-  pub in_turn : AllByRecursion IsOutput outputs → SaySame events (joined (lists_from 0 outputs))
+  pub merged : IsMerge events (lists_from 0 outputs)
+  pub in_turn : SaySame events (joined (lists_from 0 outputs))
 
 -- so they are of the workers, where these tell
-pub of_outputs : (jobs : List Job) (rests : List (Option (List Lot))) (outputs : List Output) (told : Option Spawning) (old new : Option Folder) → (adds : AddsMerge rests old new) → length jobs ≤ 64 → IfSome told (λ _. length outputs ≡ length jobs) → IfSome told (λ _. rests ≡ lots_from 0 (map Some outputs))
+pub of_outputs : (jobs : List Job) (rests : List (Option (List Lot))) (outputs : List Output) (told : Option Spawning) (old new : Option Folder) → (adds : AddsMerge rests old new) → length jobs ≤ 64 → IfSome told (λ _. length outputs ≡ length jobs) → IfSome told (λ _. rests ≡ lots_from 0 (map Some outputs)) → IfSome told (λ _. AllByRecursion IsOutput outputs)
     → IfSome told (λ _. AreOfOutputs adds.events outputs)
-of_outputs jobs rests outputs None old new adds few count rests_are = tt
-of_outputs jobs rests outputs (Some s) old new adds few count rests_are =
-    let merged : AllByRecursion IsOutput outputs → IsMerge adds.events (lists_from 0 outputs) = merge_of_outputs rests outputs old new (omega (arith, few, count)) rests_are adds in
+of_outputs jobs rests outputs None old new adds few count rests_are are = tt
+of_outputs jobs rests outputs (Some s) old new adds few count rests_are are =
+    let merged : IsMerge adds.events (lists_from 0 outputs) = merge_of_outputs rests outputs old new (omega (arith, few, count)) rests_are adds are in
     record {
       merged = merged;
-      in_turn = λ are. merge_says_same adds.events (lists_from 0 outputs) (omega (arith, few, count, lists_count 0 outputs)) (merged are);
+      in_turn = merge_says_same adds.events (lists_from 0 outputs) (omega (arith, few, count, lists_count 0 outputs)) merged;
     }

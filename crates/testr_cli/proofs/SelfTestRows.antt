@@ -1,10 +1,9 @@
 -- The rows of drawn workers.
-use Rattle.std.proofs.Common.{◌≡◌, ℕ, zero, suc, ◌+◌, ◌*◌, ◌<◌, ◌≤◌, true, false, ◌&&◌, Option, None, Some, IfSome, Result, Ok, Err, List, [], ◌∷◌, ◌++◌, map, length, refl, sym, ap, subst, ◌∙◌, arith, add-one, append-nil, lit<, w32}
-use Rattle.std.specs.Prelude.{All, IfOk, nat_le, pos}
-use Rattle.std.specs.List.{AllByRecursion, flat_map, range_with_len}
+use Rattle.std.proofs.Common.{◌≡◌, ℕ, zero, suc, ◌+◌, ◌*◌, ◌<◌, ◌≤◌, true, false, ◌&&◌, Option, None, Some, IfSome, Result, Ok, Err, List, [], ◌∷◌, ◌++◌, map, length, refl, sym, ap, subst, ◌∙◌, arith, add-one, append-nil}
+use Rattle.std.specs.Prelude.{All, IfOk, nat_le}
+use Rattle.std.specs.List.{flat_map, range_with_len}
 use Rattle.std.proofs.lemmas.Bool.{cond-true, le-leb, leb-true, and_parts}
 use Rattle.std.proofs.Math.Nat.{le_refl}
-use Rattle.std.proofs.lemmas.Int.{fits_signed_from_abs}
 use Rattle.std.proofs.lemmas.Nat.{mul-le}
 use Rattle.std.proofs.lemmas.List.{length-append}
 use Rattle.std.proofs.lemmas.List.Elements.{All-head, All-tail, All-weaker}
@@ -33,7 +32,7 @@ use Rattle.suite_run.specs.Starting.{StartsAll}
 use Rattle.suite_run.specs.Summed.{GivesSums}
 use Rattle.worker_lane.specs.Recorded.{recorded_event, recorded_events, stdout_under, pieces_of}
 use Rattle.worker_lane.specs.Rest.{notes_of_stream, notes_are}
-use Rattle.worker_mux.specs.Outputs.{IsOutput, events_for, lists_from}
+use Rattle.worker_mux.specs.Outputs.{events_for, lists_from}
 use Rattle.testr_cli.specs.Drawings.{are_few}
 use Rattle.testr_cli.specs.Outside.{Work, work}
 use Rattle.testr_cli.specs.RunSuite.{Works}
@@ -54,7 +53,7 @@ in_turn jobs outputs events rows (Some s) (Some t) starts are is = record {
   later = t.outputs;
   taken = starts.taken;
   count = starts.count;
-  in_turn = λ all. is ∙ (are.in_turn all).rows;
+  in_turn = is ∙ are.in_turn.rows;
 }
 
 pub works_in_turn : (number : ℕ) (jobs : List Job) (a b : Work) (rows : List Row) → length jobs ≤ 64 → Works false number jobs a b (Ok rows) → IfSome a.spawner.told (λ s. RunsInTurn jobs s rows)
@@ -100,20 +99,10 @@ module _ (drawing : Drawing) (few : drawing.tests ≤ 1000000) where
   have : (lane : ℕ) → lane < 64 → All (HasPacket lane) (events_of drawing.seed drawing.tests lane)
   have lane small = lane_has_packets lane drawing.tests (state_of drawing.seed drawing.tests lane) small few
 
-  is_output : (lane : ℕ) → lane < 64 → IsOutput (output_of drawing.seed drawing.tests lane)
-  is_output lane small = record {
-    bytes = packets_bytes (events_of drawing.seed drawing.tests lane) (of_packets lane (events_of drawing.seed drawing.tests lane) (have lane small)).0;
-    finish = fits_signed_from_abs w32 (pos 0) (lit< tt);
-  }
-
   recorded_of : (lane : ℕ) → lane < 64 → events_for lane (output_of drawing.seed drawing.tests lane) ≡ lane_of drawing lane
   recorded_of lane small = append-nil (recorded_events lane (notes_of_stream (flat_map canonical (events_of drawing.seed drawing.tests lane)))) ∙ recorded_under lane (events_of drawing.seed drawing.tests lane) (have lane small)
 
   -- ---- all of them
-
-  are_outputs : (first count : ℕ) → first + count ≤ 64 → AllByRecursion IsOutput (map (output_of drawing.seed drawing.tests) (range_with_len first count))
-  are_outputs first zero within = tt
-  are_outputs first (suc count) within = (is_output first (omega (arith, within)), are_outputs (first + 1) count (omega (arith, within)))
 
   lists_are : (first count : ℕ) → first + count ≤ 64 → lists_from first (map (output_of drawing.seed drawing.tests) (range_with_len first count)) ≡ map (lane_of drawing) (range_with_len first count)
   lists_are first zero within = refl
@@ -157,7 +146,6 @@ drawn_in_turn drawing jobs s rows are outputs_are count runs =
     let few = few_tests drawing.lanes drawing.tests parts in
     let outputs : List Output = outputs_of drawing.seed drawing.lanes drawing.tests in
     let all : runs.outputs ≡ outputs = all_taken outputs runs.outputs runs.later (sym outputs_are ∙ runs.taken) (runs.count ∙ count ∙ sym (length-map-range_with_len (output_of drawing.seed drawing.tests) 0 drawing.lanes)) in
-    let fit : AllByRecursion IsOutput outputs = are_outputs drawing few 0 drawing.lanes (omega (arith, parts.few)) in
-    runs.in_turn (subst (AllByRecursion IsOutput) (sym all) fit)
+    runs.in_turn
     ∙ ap (λ l. rows_of (joined (lists_from 0 l))) all
     ∙ ap rows_of (joined_are drawing few drawing.lanes parts.few)

@@ -247,7 +247,7 @@ work_did partial number jobs a b rows few works =
       are_events = adds.are_events;
       fit = adds.fit;
       of_lanes = subst (λ (n : ℕ). All (IsOfLaneBelow n) adds.events) started.done.at.count adds.of_lanes;
-      of_workers = subst (λ (o : Option Spawning). IfSome o (λ _. AreOfOutputs adds.events told.outputs)) begin (of_outputs jobs started.value told.outputs begun.between.spawner.told started.between.folder.told recorded.between.folder.told adds few told.count told.rests_are);
+      of_workers = subst (λ (o : Option Spawning). IfSome o (λ _. AreOfOutputs adds.events told.outputs)) begin (of_outputs jobs started.value told.outputs begun.between.spawner.told started.between.folder.told recorded.between.folder.told adds few told.count told.rests_are told.are_outputs);
       rows_are = same_value gives.answer ∙ rows_of_written run adds.events recorded.value (packets_bytes adds.events adds.are_events) adds.are_events adds.fit refl recorded.done.at.recorded.rows_are;
       kept = goes_ends (KeepsRunAndCaches number (run_of partial run)) refl (λ i. (sym gives.same i).folder.told)
           (goes_cached number (run_of partial run) recorded.value a.folder.told kept.between.folder refreshed.between.folder refreshed.done.at recorded.done.at.recorded.rows_are

@@ -145,7 +145,7 @@ module _ (options : RunOptions) (a : Work) (reached : Reached options a) (end : 
     have = have_outputs jobs rests k.spawner.told l.spawner.told started.at.started
 
     are_of : IfSome a.spawner.told (λ _. AreOfOutputs adds.events have.outputs)
-    are_of = of_workers have.outputs (of_outputs jobs rests have.outputs k.spawner.told l.folder.told m.folder.told adds reached.planned.few have.count have.rests_are)
+    are_of = of_workers have.outputs (of_outputs jobs rests have.outputs k.spawner.told l.folder.told m.folder.told adds reached.planned.few have.count have.rests_are have.are_outputs)
 
     abbrev recorded_workers : RunsWorkers options a end
     recorded_workers = record {

@@ -1,7 +1,7 @@
 -- `testr selftest`: what its workers print, and the chain of its steps.
 use Rattle.std.specs.Prelude.{◌≡◌, ℕ, List, [], ◌++◌, length, map, Result, IfOk}
 use Rattle.std.specs.Io.KnownBytes.{Appends}
-use Rattle.std.specs.List.{AllByRecursion, flat_map, range_with_len}
+use Rattle.std.specs.List.{flat_map, range_with_len}
 use Rattle.drawn_lanes.specs.Outputs.{events_of}
 use Rattle.edge_io.specs.Children.{Output}
 use Rattle.edge_io.specs.Spawners.{Spawning}
@@ -14,7 +14,7 @@ use Rattle.packet_codec.specs.Routing.{under}
 use Rattle.packet_codec.specs.declared.event.Event.{Event}
 use Rattle.sub_number.specs.declared.memory.NoMemory.{NoMemory}
 use Rattle.sub_text.specs.Texts.{summary_of}
-use Rattle.worker_mux.specs.Outputs.{IsOutput, lists_from}
+use Rattle.worker_mux.specs.Outputs.{lists_from}
 use Rattle.testr_cli.specs.Outside.{Work, work_out}
 use Rattle.testr_cli.specs.Reporting.{Prints}
 use Rattle.testr_cli.specs.Steps.{Step, Then, Still, Gives, At}
@@ -42,7 +42,7 @@ pub record RunsInTurn (jobs : List Job) (s : Spawning) (rows : List Row) : Type 
   pub later : List Output
   pub taken : s.outputs ≡ outputs ++ later
   pub count : length outputs ≡ length jobs
-  pub in_turn : AllByRecursion IsOutput outputs → rows ≡ rows_of (joined (lists_from 0 outputs))
+  pub in_turn : rows ≡ rows_of (joined (lists_from 0 outputs))
 
 -- the text is the summary of these rows as run 0, and the verdict is theirs
 pub record IsSummary (rows : List Row) (told : Told) : Type 0 where

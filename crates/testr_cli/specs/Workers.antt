@@ -1,7 +1,6 @@
 -- The workers of a run: why their jobs are these, which of them were started, what is recorded of their outputs, and what
 -- was printed of that.
 use Rattle.std.specs.Prelude.{◌≡◌, ◌⊎◌, ℕ, ◌≤◌, IfSome, All, List, ◌++◌, length, Ok}
-use Rattle.std.specs.List.{AllByRecursion}
 use Rattle.edge_io.specs.Bytes.{AppendsPrefix}
 use Rattle.edge_io.specs.Children.{Output}
 use Rattle.edge_io.specs.Spawners.{Spawning}
@@ -17,7 +16,7 @@ use Rattle.sub_text.specs.Texts.{report_of}
 use Rattle.suite_plan.specs.ConfFile.{GivesSettings}
 use Rattle.suite_run.specs.Starting.{StartsAll}
 use Rattle.testr_conf.specs.Settings.{Settings}
-use Rattle.worker_mux.specs.Outputs.{IsOutput, lists_from}
+use Rattle.worker_mux.specs.Outputs.{lists_from}
 use Rattle.testr_cli.specs.Outside.{Work, work_folder}
 use Rattle.testr_cli.specs.Runs.{KeepsFiles}
 use Rattle.testr_cli.specs.Selecting.{Selects, Plans}
@@ -54,9 +53,9 @@ pub record RunsWorkers (options : RunOptions) (before after : Work) : Type 0 whe
   pub are_events : All IsEvent events
   pub fit : All Fits events
   pub of_lanes : All (IsOfLaneBelow (length jobs)) events
-  pub merged : IfSome before.spawner.told (λ _. AllByRecursion IsOutput outputs → IsMerge events (lists_from 0 outputs))
+  pub merged : IfSome before.spawner.told (λ _. IsMerge events (lists_from 0 outputs))
   -- so they say the same as the events of the outputs one after another
-  pub in_turn : IfSome before.spawner.told (λ _. AllByRecursion IsOutput outputs → SaySame events (joined (lists_from 0 outputs)))
+  pub in_turn : IfSome before.spawner.told (λ _. SaySame events (joined (lists_from 0 outputs)))
 
 -- ---- at every exit
 
