@@ -52,6 +52,12 @@ def imports(text):
     return found
 
 
+def ends_contract(line, indent, is_first):
+    """Whether a function's body begins on this line, or it has none."""
+    is_head = is_first or line.startswith(indent + ")")
+    return line == indent + "{" or line.endswith(";") or line.endswith("{}") or is_head and line.endswith(" {")
+
+
 def functions(crate):
     """Each public function: its name in the crate, its clauses, its sentence, and what these cite."""
     public = exported(crate)
@@ -76,7 +82,7 @@ def functions(crate):
                 is_public = own in public and found["public"] if not found["indent"] else block in public and (found["public"] or is_trait)
                 if is_public:
                     # (the clauses end where the body begins)
-                    end = next(it for it in range(at, len(lines)) if lines[it] == found["indent"] + "{" or lines[it].endswith(";") or it > at and lines[it].endswith("{}"))
+                    end = next(it for it in range(at, len(lines)) if ends_contract(lines[it], found["indent"], it == at))
                     contract = "\n".join(lines[at + 1 : end + 1])
                     clauses = [f"[{name or 'one'}]" if kind == "requires" else name or "one" for kind, name in CLAUSE.findall(contract)]
                     cited = [known[it] for it in dict.fromkeys(re.findall(r"[^\s(){}.,λ]+", contract)) if it in known]
