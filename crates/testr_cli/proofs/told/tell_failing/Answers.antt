@@ -1,3 +1,4 @@
+use Rattle.std.proofs.Common.{rules}
 use Rattle.run_ledger.specs.Ledger.{IsFailingSet}
 use Rattle.testr_cli.proofs.TellLemmas.{ledger_fails, failing_where, failing_said}
 use Rattle.testr_cli.proofs.told.tell_failing.Goals as goal
