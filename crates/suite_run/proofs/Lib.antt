@@ -1,3 +1,4 @@
+pub mod HalfLemmas
 pub mod HeardLemmas
 pub mod RunLemmas
 pub mod StartLemmas

@@ -2,3 +2,4 @@ pub mod Outputs
 pub mod Recording
 pub mod Starting
 pub mod Summed
+pub mod Halves

@@ -9,12 +9,15 @@
 //! - `starting`: a child for each job, as the lane of its place
 //! - `recording`: the lanes, read to their ends and added to the run, and what is kept of the rows of what was added
 //! - `laws`: what is added where the children tell their output
+//! - `half_laws`: the rows of what is recorded of a stream, where events stand in two halves
 #![tactic(auto)]
 
+mod half_laws;
 mod laws;
 mod recording;
 mod starting;
 
+pub use half_laws::recorded_rows;
 pub use laws::outputs_are_recorded;
 pub use recording::{LanesRefusal, record_lanes};
 pub use starting::{StartRefusal, start_lanes};

@@ -2,7 +2,7 @@
 use Rattle.std.proofs.Common.{◌≡◌, ℕ, zero, suc, ◌+◌, ◌*◌, ◌<◌, ◌≤◌, true, false, ◌&&◌, Option, None, Some, IfSome, Result, Ok, Err, List, [], ◌∷◌, ◌++◌, map, length, refl, sym, ap, subst, ◌∙◌, arith, add-one, append-nil}
 use Rattle.std.specs.Prelude.{All, IfOk, nat_le}
 use Rattle.std.specs.List.{flat_map, range_with_len}
-use Rattle.std.proofs.lemmas.Bool.{cond-true, le-leb, leb-true, and_parts}
+use Rattle.std.proofs.lemmas.Bool.{leb-true, and_parts}
 use Rattle.std.proofs.Math.Nat.{le_refl}
 use Rattle.std.proofs.lemmas.Nat.{mul-le}
 use Rattle.std.proofs.lemmas.List.{length-append}
@@ -21,7 +21,7 @@ use Rattle.outcome_fold.specs.Rows.{rows_of}
 use Rattle.outcome_fold.specs.Summed.{Sums}
 use Rattle.outcome_fold.specs.declared.row.Row.{Row}
 use Rattle.outcome_fold.specs.declared.summary.Summary.{Summary}
-use Rattle.packet_codec.specs.Canonical.{canonical, canonical_size, largest_packet, IsEvent, Fits}
+use Rattle.packet_codec.specs.Canonical.{canonical, IsEvent, Fits}
 use Rattle.packet_codec.specs.Lanes.{joined}
 use Rattle.packet_codec.specs.Routing.{under}
 use Rattle.packet_codec.specs.declared.event.Event.{Event}
@@ -30,7 +30,8 @@ use Rattle.stream_reader.proofs.NotesLemmas.{packets_of, notes_of_packets, cut_o
 use Rattle.stream_reader.proofs.TurnLemmas.{one_notes}
 use Rattle.suite_run.specs.Starting.{StartsAll}
 use Rattle.suite_run.specs.Summed.{GivesSums}
-use Rattle.worker_lane.specs.Recorded.{recorded_event, recorded_events, stdout_under, pieces_of}
+use Rattle.worker_lane.specs.Recorded.{recorded_event, recorded_events}
+use Rattle.worker_lane.proofs.NoteLemmas.{recorded_whole}
 use Rattle.worker_lane.specs.Rest.{notes_of_stream, notes_are}
 use Rattle.worker_mux.specs.Outputs.{events_for, lists_from}
 use Rattle.testr_cli.specs.Drawings.{are_few}
@@ -79,7 +80,7 @@ of_packets : (lane : ℕ) (events : List Event) → All (HasPacket lane) events 
 of_packets lane events have = (All-weaker (HasPacket lane) IsEvent (λ e has. has.is_event) events have, All-weaker (HasPacket lane) Fits (λ e has. has.fits) events have)
 
 event_under : (lane : ℕ) (e : Event) → HasPacket lane e → recorded_event lane e ≡ under lane e ∷ []
-event_under lane e has = cond-true (nat_le (canonical_size (under lane e)) largest_packet) (under lane e ∷ []) (map (stdout_under lane) (pieces_of (canonical e))) (le-leb (canonical_size (under lane e)) largest_packet has.fits_under.size)
+event_under lane e has = recorded_whole lane e has.fits_under.size
 
 events_under : (lane : ℕ) (events : List Event) → All (HasPacket lane) events → recorded_events lane (map note.Event events) ≡ map (under lane) events
 events_under lane [] have = refl

@@ -1,0 +1,21 @@
+-- What the rows of a recorded stream say (docs/FORMATS.md, "What is recorded of a stream").
+use Rattle.std.specs.Prelude.{◌≡◌, ℕ, true, List, ◌++◌, map}
+use Rattle.std.specs.List.{All}
+use Rattle.packet_codec.specs.Canonical.{Fits}
+use Rattle.packet_codec.specs.Halves.{has_halves}
+use Rattle.packet_codec.specs.Routing.{under}
+use Rattle.packet_codec.specs.declared.event.Event.{Event}
+use Rattle.worker_lane.specs.Endings.{ending_events}
+use Rattle.worker_lane.specs.declared.lot.Ending.{Ending}
+
+-- where the event does not fit under the lane, it may be cut in two
+abbrev pub FitsOrIsCut : (lane : ℕ) → Event → Type 0
+FitsOrIsCut lane e = (Fits (under lane e) → ⊥) → has_halves e ≡ true
+
+-- so it is of each of the events
+abbrev pub FitOrAreCut : (lane : ℕ) → List Event → Type 0
+FitOrAreCut lane events = All (FitsOrIsCut lane) events
+
+-- the events under the lane, of whatever size, and what is recorded of the end
+abbrev pub whole_under : (lane : ℕ) → List Event → Ending → List Event
+whole_under lane events how = map (under lane) events ++ ending_events lane how
