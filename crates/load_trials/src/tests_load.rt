@@ -8,7 +8,8 @@ use std::test::Fail;
 use std::thread::Threads;
 use trial_calls::{
     FAIL, FAIL_KEPT, FOO, FOO_KEPT, NOTHING, PASSED_AS_0, PASSED_AS_1, SHELF_FAULT, call,
-    call_over, has_file, loads, repository, source, tells_and_leaves, tells_of,
+    call_over, has_at, has_file, has_two, largest_packet, loads, long_log, repository, source,
+    tells_and_leaves, tells_of,
 };
 
 const NO_TESTS: &[u8] = b"Ran 0 tests\nPASSED (id=0)\n";
@@ -198,26 +199,20 @@ fn the_caches_cover_the_runs_behind_each_load(rt: HostRuntime) -> Result<(), Fai
     caches_cover(&rt, &mut shelf)
 }
 
-// The largest packet: a file of zeros, and the checksum that zlib gives for it.
-fn largest_packet(alloc: Global) -> Result<Vec<u8>, Fail> {
-    let mut packet = Vec::new(alloc);
-    packet.extend_from_slice(b"\xb3\x20\x40\xbf\xff\xff\x00\xbf\xff\xf1")?;
-    packet.resize(4_194_299, 0)?;
-    packet.extend_from_slice(b"\x0e\xfe\xc9\x4e")?;
-    Ok(packet)
+// A test passed whose id has 4,194,290 letters. The checksum is the one that zlib gives for it, here and below.
+fn long_id(alloc: Global) -> Result<Vec<u8>, Fail> {
+    let front = b"\xb3\x29\x03\xbf\xff\xff\xbf\xff\xf2";
+    largest_packet(alloc, front, b'a', b"\x73\x8d\x4f\x8d")
 }
 
-// Whether the file `0` has this piece of the file `stdout` from this place on: around its bytes stand 6 of header, the
-// name in 7, the count in 3, the route in 2, and 4 of checksum.
-fn begins_piece(shelf: &mut MemShelf, place: u64, head: &[u8]) -> Result<bool, Fail> {
-    let mut buf = [0u8; 16];
-    if shelf.length("0")?.is_none() {
-        return Ok(false);
-    }
-    let count = shelf.read_at("0", place, &mut buf)?;
-    Ok(&buf[..count] == head)
+// `foo` failed, with a text of 4,194,271 letters.
+fn long_text(alloc: Global) -> Result<Vec<u8>, Fail> {
+    let front = b"\xb3\x29\x66\xbf\xff\xff\x03foo\x0atext/plain\x03log\xbf\xff\xdf";
+    largest_packet(alloc, front, b'x', b"\x99\xe3\x9c\x42")
 }
 
+// Whether the file `0` has 64 pieces of the file `stdout`. Around the bytes of each stand 6 of header, the name in 7, the
+// count in 3, the route in 2, and 4 of checksum.
 fn has_pieces<R: Threads + Wait + Sync + AllocGlobal + Abort>(
     rt: &R,
     shelf: &mut MemShelf,
@@ -225,12 +220,12 @@ fn has_pieces<R: Threads + Wait + Sync + AllocGlobal + Abort>(
     let whole = b"\xb3\x25\x40\x81\x00\x16\x06stdout\x81\x00\x00";
     for number in 0..63 {
         assert!(rt;
-            begins_piece(shelf, number * 65_558, whole)?,
+            has_at(shelf, "0", number * 65_558, whole)?,
             "piece {number}"
         );
     }
     let last = b"\xb3\x25\x40\x81\x00\x15\x06stdout\x80\xff\xff";
-    assert!(rt; begins_piece(shelf, 63 * 65_558, last)?);
+    assert!(rt; has_at(shelf, "0", 63 * 65_558, last)?);
     Ok(())
 }
 
@@ -239,18 +234,53 @@ fn load_largest<R: Threads + Wait + Sync + AllocGlobal + Abort>(
     rt: &R,
     shelf: &mut MemShelf,
 ) -> Result<(), Fail> {
-    let packet = largest_packet(rt.alloc())?;
+    let packet = long_id(rt.alloc())?;
     assert_eq!(rt; packet.len(), 4_194_303);
     assert!(rt; loads(rt, shelf, &packet, (0, NO_TESTS, NOTHING))?);
     Ok(())
 }
 
 #[test]
-fn the_largest_packet_is_kept_in_64_pieces(rt: HostRuntime) -> Result<(), Fail> {
+fn the_largest_packet_without_a_file_is_kept_in_64_pieces(rt: HostRuntime) -> Result<(), Fail> {
     let mut shelf = repository(rt.alloc(), &[])?;
     load_largest(&rt, &mut shelf)?;
     assert_eq!(rt; shelf.length("0")?, Some(63 * 65_558 + 65_557));
     has_pieces(&rt, &mut shelf)
+}
+
+// Each half has 2,097,141 bytes of the file.
+#[test]
+fn the_largest_packet_of_a_test_is_kept_in_two_halves(rt: HostRuntime) -> Result<(), Fail> {
+    let mut shelf = repository(rt.alloc(), &[])?;
+    let packet = long_log(rt.alloc())?;
+    assert!(rt; loads(&rt, &mut shelf, &packet, (0, PASSED_AS_0, NOTHING))?);
+    let front = b"\xb3\x2d\x40\xa0\x00\x0c\x03foo\x03log\x9f\xff";
+    let behind = b"\xb3\x2d\x43\xa0\x00\x0c\x03foo\x03log\x9f\xff";
+    assert!(rt; has_two(&mut shelf, "0", 2_097_164, front, behind)?);
+    Ok(())
+}
+
+const TEXT_FRONT: &[u8] =
+    b"======================================================================\nFAIL: foo\n----------------------------------------------------------------------\n";
+
+const TEXT_END: &[u8] = b"\nRan 1 tests\nFAILED (id=0, failures=1)\n";
+
+// The first 65,536 letters of the text, once.
+fn text_report(alloc: Global) -> Result<Vec<u8>, Fail> {
+    let mut report = Vec::new(alloc);
+    report.extend_from_slice(TEXT_FRONT)?;
+    report.resize(TEXT_FRONT.len() + 65_536, b'x')?;
+    report.extend_from_slice(TEXT_END)?;
+    Ok(report)
+}
+
+#[test]
+fn a_text_in_two_halves_is_told_once(rt: HostRuntime) -> Result<(), Fail> {
+    let mut shelf = repository(rt.alloc(), &[])?;
+    let packet = long_text(rt.alloc())?;
+    let report = text_report(rt.alloc())?;
+    assert!(rt; loads(&rt, &mut shelf, &packet, (1, &report, NOTHING))?);
+    Ok(())
 }
 
 // Whether a load of these bytes tells this, into a folder of which this call fails.
@@ -266,7 +296,7 @@ fn loads_where<R: Threads + Wait + Sync + AllocGlobal>(
 
 #[test]
 fn packets_of_a_piece_or_more_are_added_one_by_one(rt: HostRuntime) -> Result<(), Fail> {
-    let packet = largest_packet(rt.alloc())?;
+    let packet = long_id(rt.alloc())?;
     // Five calls up to the draft, one for each of the 64 pieces, and the sync, the publish and the barrier.
     assert!(rt; loads_where(&rt, &packet, 71, (4, NOTHING, SHELF_FAULT))?);
     // Eleven calls more bring up the caches.

@@ -1,7 +1,7 @@
 ghost use Rattle.std.specs.Prelude.{◌≡◌, false};
 
 use edge_io::{Child, Failed, Finish, PlanChild};
-use packet_codec::Event;
+use packet_codec::{Event, FilePart, Status};
 use std::alloc::Global;
 use std::process::Abort;
 use std::sync::Arc;
@@ -9,7 +9,7 @@ use std::sync::atomic::{AtomicBool, Ordering};
 use std::test::Fail;
 use stream_reader::{Note, ROOM, notes_of_pieces};
 use sub_number::Bytes;
-use trial_events::{file_event, repeated, spelled};
+use trial_events::{at, repeated, says, spelled, tagged, text};
 use worker_lane::{Ending, Lane, Lot, Scribe, recorded_of_pieces, take_packets};
 
 // `foo` passed: as it comes, and as it is recorded under lane 0.
@@ -207,15 +207,31 @@ fn packets_are_appended_one_by_one(rt: HostRuntime) -> Result<(), Fail> {
     appends_both(&rt, &mut scribe, &mut out)
 }
 
-// An event without route whose file has so many zeros.
-fn long_event(alloc: Global, count: usize) -> Option<Event> {
-    let zeros = repeated(alloc, b"\0", count)?;
-    file_event(alloc, b"", &zeros)
+// The packet of a test under the route whose id has so many letters, and which has no file.
+fn id_packet(alloc: Global, route: &[u8], letters: usize) -> Option<Vec<u8>> {
+    let id = repeated(alloc, b"a", letters)?;
+    let event = says(alloc, route, &id, Status::Success);
+    spelled(alloc, &event)
 }
 
-// Its packet.
-fn long_packet(alloc: Global, count: usize) -> Option<Vec<u8>> {
-    let event = long_event(alloc, count)?;
+// The event with these bytes of a file `log`.
+fn with_log(alloc: Global, mut event: Event, log: &[u8]) -> Option<Event> {
+    let name = text(alloc, b"log")?;
+    let bytes = Bytes::new(alloc, log).ok()?;
+    event.file = Some(FilePart { name, bytes });
+    Some(event)
+}
+
+// The packet of a test under the route whose id has so many letters, with these bytes of a file `log`.
+fn log_packet(
+    alloc: Global,
+    route: &[u8],
+    letters: usize,
+    status: Status,
+    log: &[u8],
+) -> Option<Vec<u8>> {
+    let id = repeated(alloc, b"a", letters)?;
+    let event = with_log(alloc, says(alloc, route, &id, status), log)?;
     spelled(alloc, &event)
 }
 
@@ -270,38 +286,146 @@ fn is_recorded_in_64_pieces<R: AllocGlobal + Abort>(rt: &R, packet: &[u8]) -> Re
 }
 
 #[test]
-fn the_largest_packet_is_recorded_in_64_pieces(rt: HostRuntime) -> Result<(), Fail> {
-    let packet = long_packet(rt.alloc(), 4_194_289).ok_or("no packet")?;
+fn the_largest_packet_without_a_file_is_recorded_in_64_pieces(rt: HostRuntime) -> Result<(), Fail> {
+    let packet = id_packet(rt.alloc(), b"", 4_194_290).ok_or("no packet")?;
     is_recorded_in_64_pieces(&rt, &packet)
 }
 
-// Whether what is recorded under lane 10 is several packets.
-fn are_several<R: Abort>(rt: &R, many: &[u8]) {
-    // Around each piece stand 23 bytes: 6 of header, the name in 7, the count in 3, the route in 3, and 4 of checksum.
-    assert!(rt;
-        many.starts_with(b"\xb3\x25\x40\x81\x00\x17\x06stdout\x81\x00\x00\xb3\x20\x40\xbf\xff\xfd")
-    );
-    assert_eq!(rt; many.len(), 63 * (65_536 + 23) + 65_533 + 23);
-}
-
-fn just_fits<R: AllocGlobal + Abort>(rt: &R, packet: &[u8]) -> Result<(), Fail> {
-    let one = recorded(rt.alloc(), 9, packet, 65_536).ok_or("no memory")?;
-    assert_eq!(rt; one.len(), 4_194_303);
-    Ok(())
-}
-
-fn does_not_fit<R: AllocGlobal + Abort>(rt: &R, packet: &[u8]) -> Result<(), Fail> {
-    let many = recorded(rt.alloc(), 10, packet, 65_536).ok_or("no memory")?;
-    are_several(rt, &many);
-    Ok(())
-}
-
-// The route takes two bytes under lane 9, and three under lane 10.
+// A file of seven bytes is not cut in two.
 #[test]
-fn an_event_that_just_fits_is_one_packet(rt: HostRuntime) -> Result<(), Fail> {
-    let packet = long_packet(rt.alloc(), 4_194_287).ok_or("no packet")?;
-    just_fits(&rt, &packet)?;
-    does_not_fit(&rt, &packet)
+fn the_largest_packet_with_a_short_file_is_recorded_in_64_pieces(
+    rt: HostRuntime,
+) -> Result<(), Fail> {
+    let packet = log_packet(rt.alloc(), b"", 4_194_278, Status::Success, b"abcdefg").ok_or(
+        "no packet",
+    )?;
+    is_recorded_in_64_pieces(&rt, &packet)
+}
+
+// Of a test that passed: the letters of its id, its file, the lane and its route, and the two halves of the file.
+type Halved = (
+    usize,
+    &'static [u8],
+    u32,
+    &'static [u8],
+    &'static [u8],
+    &'static [u8],
+);
+
+const HALVED: [Halved; 4] = [
+    (4_194_277, b"abcdefgh", 0, b"0", b"abcd", b"efgh"),
+    (4_194_276, b"abcdefghi", 0, b"0", b"abcd", b"efghi"),
+    (4_194_276, b"abcdefgh", 9, b"9", b"abcd", b"efgh"),
+    (4_194_275, b"abcdefgh", 10, b"10", b"abcd", b"efgh"),
+];
+
+// The two packets, one after the other.
+fn joined(alloc: Global, front: Option<Vec<u8>>, behind: Option<Vec<u8>>) -> Option<Vec<u8>> {
+    let mut both = Vec::new(alloc);
+    both.extend_from_slice(&front?).ok()?;
+    both.extend_from_slice(&behind?).ok()?;
+    Some(both)
+}
+
+// The packets of its halves. The status stands on the second one.
+fn halves_of(alloc: Global, row: &Halved) -> Option<Vec<u8>> {
+    let (letters, _, _, route, front, behind) = *row;
+    let front = log_packet(alloc, route, letters, Status::Unset, front);
+    let behind = log_packet(alloc, route, letters, Status::Success, behind);
+    joined(alloc, front, behind)
+}
+
+// Its packet, as it comes.
+fn packet_to_halve(alloc: Global, row: &Halved) -> Option<Vec<u8>> {
+    let (letters, log, _, _, _, _) = *row;
+    log_packet(alloc, b"", letters, Status::Success, log)
+}
+
+fn is_recorded_in_halves<R: AllocGlobal + Abort>(rt: &R, row: &Halved) -> Result<(), Fail> {
+    let packet = packet_to_halve(rt.alloc(), row).ok_or("no packet")?;
+    let halves = halves_of(rt.alloc(), row).ok_or("no halves")?;
+    assert!(rt; is_recorded(rt.alloc(), row.2, &packet, 65_536, &halves));
+    Ok(())
+}
+
+// The route takes two bytes under lanes 0 and 9, and three under lane 10.
+#[test]
+fn a_packet_too_long_for_its_route_is_recorded_in_halves(rt: HostRuntime) -> Result<(), Fail> {
+    for row in &HALVED {
+        is_recorded_in_halves(&rt, row)?;
+    }
+    Ok(())
+}
+
+// With one letter less than the last one but one it fits under lane 9.
+fn just_fits<R: AllocGlobal + Abort>(rt: &R) -> Option<bool> {
+    let alloc = rt.alloc();
+    let packet = log_packet(alloc, b"", 4_194_275, Status::Success, b"abcdefgh")?;
+    let wanted = log_packet(alloc, b"9", 4_194_275, Status::Success, b"abcdefgh")?;
+    Some(is_recorded(alloc, 9, &packet, 65_536, &wanted) && wanted.len() == 4_194_303)
+}
+
+#[test]
+fn a_packet_that_just_fits_is_recorded_whole(rt: HostRuntime) {
+    assert_eq!(rt; just_fits(&rt), Some(true));
+}
+
+// A test `t` at a time, with a file of text.
+fn text_event(alloc: Global, route: &[u8], status: Status, log: &[u8], eof: bool) -> Option<Event> {
+    let event = at(says(alloc, route, b"t", status), 1, 0);
+    let mut event = with_log(alloc, event, log)?;
+    event.mime = Some(text(alloc, b"text/plain")?);
+    event.eof = eof;
+    Some(event)
+}
+
+// The packet of such a test that failed, has a tag, and whose file ends.
+fn failed_packet(alloc: Global, route: &[u8], log: &[u8]) -> Option<Vec<u8>> {
+    let event = text_event(alloc, route, Status::Fail, log, true)?;
+    spelled(alloc, &tagged(alloc, event, b"q")?)
+}
+
+// The packet of such a test of which no more is said.
+fn begun_packet(alloc: Global, route: &[u8], log: &[u8]) -> Option<Vec<u8>> {
+    spelled(alloc, &text_event(alloc, route, Status::Unset, log, false)?)
+}
+
+// Whether status, tags and the end of the file are on the second half alone, and all else on both.
+fn is_halved(alloc: Global, log: &[u8]) -> Option<bool> {
+    let (front, behind) = log.split_at(log.len() / 2);
+    let packet = failed_packet(alloc, b"r", log)?;
+    let halves = joined(
+        alloc,
+        begun_packet(alloc, b"12/r", front),
+        failed_packet(alloc, b"12/r", behind),
+    )?;
+    Some(packet.len() == 4_194_303 && is_recorded(alloc, 12, &packet, 65_536, &halves))
+}
+
+#[test]
+fn the_second_half_has_the_status_the_tags_and_the_end(rt: HostRuntime) -> Result<(), Fail> {
+    let log = repeated(rt.alloc(), b"x", 4_194_263).ok_or("no memory")?;
+    assert_eq!(rt; is_halved(rt.alloc(), &log), Some(true));
+    Ok(())
+}
+
+// Whether a scribe to which nothing was fed gives the halves of the packet, one at a time.
+fn gives_halves(scribe: &mut Scribe, packet: &[u8], halves: &[u8]) -> Result<bool, Fail>
+    requires { scribe.old.held.ended ≡ false }
+{
+    fed(scribe, packet).ok_or("no room")?;
+    let (front, behind) = halves.split_at(halves.len() / 2);
+    let given = gives_packet(scribe, front)? && scribe.held() == 0;
+    Ok(given && gives_packet(scribe, behind)? && scribe.next()?.is_none())
+}
+
+#[test]
+fn each_half_is_given_as_it_is_asked_for(rt: HostRuntime) -> Result<(), Fail> {
+    let packet = packet_to_halve(rt.alloc(), &HALVED[0]).ok_or("no packet")?;
+    let halves = halves_of(rt.alloc(), &HALVED[0]).ok_or("no halves")?;
+    let mut scribe = Scribe::new(rt.alloc(), 0)?;
+    assert!(rt; gives_halves(&mut scribe, &packet, &halves)?);
+    Ok(())
 }
 
 // The packets that tell of an end.

@@ -1,6 +1,7 @@
 //! The workers of `testr run`: how many there are, which tests each one is told, and what comes of the order in which they
 //! give their packets.
 
+use crate::configured::project_beside;
 use edge_io::{Child, Failed, Finish, Job, MapSite, Spawner};
 use std::alloc::Global;
 use std::sync::atomic::{AtomicU32, Ordering};
@@ -10,8 +11,8 @@ use std::thread;
 use std::thread::Threads;
 use sub_number::{Bytes, Text};
 use trial_calls::{
-    FOO, NOTHING, NamedFiles, Scene, call_in, call_with, has_file, has_started, play, project_of,
-    put_file, repository,
+    FOO, NOTHING, NamedFiles, PASSED_AS_0, Project, Scene, call_in, call_with, has_file, has_started,
+    has_two, long_log, play, project_of, put_file, repository, shows,
 };
 
 const GOOD: &[u8] = b"[DEFAULT]\ntest_command=run\n";
@@ -394,5 +395,33 @@ fn workers_before_a_start_that_fails_are_stopped_and_waited_for(
         assert_eq!(rt; spawner.ended.load(Ordering::SeqCst), before);
         assert_eq!(rt; spawner.started, failing);
     }
+    Ok(())
+}
+
+// Twelve programs, of which the last one gives this.
+fn last_of_twelve(output: &[u8]) -> [(&[u8], Finish); 12] {
+    let mut outputs = [(NOTHING, ENDED); 12];
+    outputs[11] = (output, ENDED);
+    outputs
+}
+
+// A project whose load list has twelve ids, and whose last program gives this.
+fn project_of_twelve(alloc: Global, output: &[u8]) -> Result<Project, Fail> {
+    let ids = many_ids(alloc, 12)?;
+    project_beside(alloc, GOOD, &last_of_twelve(output), b"l", &ids)
+}
+
+// The last worker's packet is too long for its route, which takes three bytes.
+#[test]
+fn the_last_of_twelve_workers_may_give_a_test_in_two_halves(rt: HostRuntime) -> Result<(), Fail> {
+    let alloc = rt.alloc();
+    let packet = long_log(alloc)?;
+    let mut project = project_of_twelve(alloc, &packet)?;
+    let mut shelf = repository(alloc, &[])?;
+    let wanted = (0, PASSED_AS_0, NOTHING);
+    assert!(rt; shows(&rt, &ASKING, &mut shelf, &mut project, wanted)?);
+    let first = b"\xb3\x2d\x40\xa0\x00\x0d\x03foo\x03log\x9f\xff";
+    let second = b"\xb3\x2d\x43\xa0\x00\x0d\x03foo\x03log\x9f\xff";
+    assert!(rt; has_two(&mut shelf, "0.part", 2_097_165, first, second)?);
     Ok(())
 }

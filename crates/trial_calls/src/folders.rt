@@ -36,3 +36,27 @@ pub fn has_file(shelf: &mut MemShelf, name: &str, wanted: &[u8]) -> Result<bool,
     let count = shelf.read_at(name, 0, &mut buf)?;
     Ok(size == wanted.len() as u64 && &buf[..count] == wanted)
 }
+
+/// Whether the file of this name has these bytes from this place on, of which there are at most 16.
+pub fn has_at(shelf: &mut MemShelf, name: &str, place: u64, wanted: &[u8]) -> Result<bool, Fail> {
+    let mut buf = [0u8; 16];
+    if shelf.length(name)?.is_none() {
+        return Ok(false);
+    }
+    let count = shelf.read_at(name, place, &mut buf)?;
+    Ok(buf[..count].starts_with(wanted))
+}
+
+/// Whether the file of this name has two packets of this size, which begin so.
+pub fn has_two(
+    shelf: &mut MemShelf,
+    name: &str,
+    size: u32,
+    first: &[u8],
+    second: &[u8],
+) -> Result<bool, Fail> {
+    let size = u64::from(size);
+    Ok(shelf.length(name)? == Some(2 * size)
+        && has_at(shelf, name, 0, first)?
+        && has_at(shelf, name, size, second)?)
+}

@@ -1,5 +1,8 @@
 //! Streams, runs, reports and lines that the tests of several commands share.
 
+use std::alloc::Global;
+use std::test::Fail;
+
 /// Nothing.
 pub const NOTHING: &[u8] = b"";
 
@@ -26,3 +29,19 @@ pub const SHELF_FAULT: &[u8] = b"testr: fault of the repository folder\n";
 
 /// The line of words that are no command.
 pub const WRONG_USAGE: &[u8] = b"testr: wrong usage\n";
+
+/// A packet of the largest size: what stands before a byte that comes again and again, that byte, and the checksum.
+pub fn largest_packet(alloc: Global, front: &[u8], byte: u8, sum: &[u8]) -> Result<Vec<u8>, Fail> {
+    let mut packet = Vec::new(alloc);
+    packet.extend_from_slice(front)?;
+    packet.resize(4_194_299, byte)?;
+    packet.extend_from_slice(sum)?;
+    Ok(packet)
+}
+
+/// `foo` passed, with a file `log` of 4,194,282 zeros, in a packet of the largest size. The checksum is the one that zlib
+/// gives for it.
+pub fn long_log(alloc: Global) -> Result<Vec<u8>, Fail> {
+    let front = b"\xb3\x29\x43\xbf\xff\xff\x03foo\x03log\xbf\xff\xea";
+    largest_packet(alloc, front, 0, b"\xe4\xf4\x45\xc1")
+}
