@@ -1,4 +1,5 @@
-//! Tests of what became of the tests of a stream: rows, filters of events, and printed texts. No program uses it.
+//! Tests of what became of the tests of a stream: rows, filters of events, printed texts, and records; and of events from
+//! words. No program uses it.
 //!
 //! They use the public names of the rooms alone, and stand above them, so that the proofs of a room are not made once more for
 //! its tests. Each file has the room in its name.
@@ -16,5 +17,7 @@ mod tests_outcome_fold;
 mod tests_outcome_fold_hearing;
 #[cfg(test)]
 mod tests_outcome_fold_summing;
+#[cfg(test)]
+mod tests_sub_export;
 #[cfg(test)]
 mod tests_sub_text;

@@ -1,0 +1,3 @@
+pub mod JobLemmas
+pub mod ReadLemmas
+mod RowChecks

@@ -1,0 +1,210 @@
+-- Events from words (docs/FORMATS.md, "Events from words").
+use Rattle.std.specs.Prelude.{ℕ, ◌+◌, ◌-◌, ◌*◌, ◌/◌, Bool, true, false, ◌&&◌, ◌||◌, not, ◌==◌, nat_le, min, Option, Some, None, is_none, is_some, List, [], ◌∷◌, ◌++◌, length, map, take, drop, replicate, codes, if◌then◌else◌}
+use Rattle.std.specs.List.{list_any, flat_map, fold, range_with_len}
+use Rattle.std.specs.Option.{option_map, option_and_then, option_to_list, unwrap_or}
+use Rattle.std.specs.Str.{bytes_eq}
+use Rattle.command_words.specs.Items.{Item, flag, valued, name, items_of}
+use Rattle.command_words.specs.declared.table.Kind.{Kind}
+use Rattle.command_words.specs.declared.table.Kind.TheVariants.{Valued}
+use Rattle.std.proofs.Common.{arith}
+use Rattle.instants.specs.Instants.{Moment, instant_of}
+use Rattle.packet_codec.specs.declared.event.Event.{Event}
+use Rattle.packet_codec.specs.declared.stamp.Stamp.{Stamp}
+use Rattle.packet_codec.specs.declared.status.Status.{Status}
+use Rattle.packet_codec.specs.declared.status.Status.TheVariants as status
+use Rattle.packet_codec.specs.Canonical.{canonical_size, largest_packet}
+use Rattle.packet_codec.specs.Retagging.{if_any}
+use Rattle.sub_export.specs.declared.job.Job.{Job}
+use Rattle.sub_export.specs.declared.job.Attachment.{Attachment}
+
+-- ---- the events of a job
+
+-- the most bytes of a piece
+abbrev pub piece_size : ℕ
+piece_size = 65536
+
+-- a piece of the attached file
+abbrev pub piece_of : Option Stamp → Option (List ℕ) → Attachment → List ℕ → Event
+piece_of stamp id attachment bytes = record {
+  stamp = stamp;
+  id = id;
+  tags = None;
+  runnable = true;
+  status = status.Unset;
+  mime = attachment.mime;
+  file = Some (record { name = attachment.name; bytes = bytes });
+  eof = false;
+  route = None;
+}
+
+-- the same, where the job attaches a file
+abbrev pub piece_event : Job → List ℕ → Option Event
+piece_event job bytes = option_map (λ attachment. piece_of job.stamp job.id attachment bytes) job.attachment
+
+-- the last event
+abbrev pub last_event : Job → Event
+last_event job = record {
+  stamp = job.stamp;
+  id = job.id;
+  tags = if_any job.tags;
+  runnable = true;
+  status = job.status;
+  mime = None;
+  file = None;
+  eof = is_some job.attachment;
+  route = None;
+}
+
+-- as many bytes as a piece may have
+unfoldable pub longest_bytes : List ℕ
+longest_bytes = replicate piece_size 0
+
+-- the pieces of the bytes, of which the last may be shorter
+abbrev pub pieces_of : List ℕ → List (List ℕ)
+pieces_of bytes = map (λ k. take piece_size (drop (piece_size * k) bytes)) (range_with_len 0 ((length bytes + (piece_size - 1)) / piece_size))
+
+-- all events of a job where these bytes are read
+abbrev pub output_events : Job → List ℕ → List Event
+output_events job bytes = flat_map (λ piece. option_to_list (piece_event job piece)) (pieces_of bytes) ++ last_event job ∷ []
+
+-- ---- the job that words ask for
+
+-- the status that the option of this name gives its test
+abbrev pub status_named : List ℕ → Option Status
+status_named option =
+    if bytes_eq option (codes "--exists") then Some status.Exists
+    else (if bytes_eq option (codes "--inprogress") then Some status.InProgress
+    else (if bytes_eq option (codes "--success") then Some status.Success
+    else (if bytes_eq option (codes "--uxsuccess") then Some status.UxSuccess
+    else (if bytes_eq option (codes "--skip") then Some status.Skip
+    else (if bytes_eq option (codes "--fail") then Some status.Fail
+    else (if bytes_eq option (codes "--xfail") then Some status.XFail
+    else None))))))
+
+-- an option that gives no status
+abbrev pub is_other_option : List ℕ → Bool
+is_other_option option =
+    bytes_eq option (codes "--attach-file")
+    || (bytes_eq option (codes "--file-name")
+    || (bytes_eq option (codes "--mimetype")
+    || (bytes_eq option (codes "--timestamp")
+    || bytes_eq option (codes "--tag"))))
+
+-- each option has a value
+abbrev pub output_kind : List ℕ → Option Kind
+output_kind option = if is_some (status_named option) || is_other_option option then Some Valued else None
+
+-- what an option says that gives a status
+pub record Verdict : Type 0 where
+  pub status : Status
+  pub id : List ℕ
+
+abbrev pub verdict_in : Item → Option Verdict
+verdict_in (flag given) = None
+verdict_in (valued option value) = option_map (λ s. record { status = s; id = value }) (status_named option)
+verdict_in (name word) = None
+
+abbrev pub verdicts_in : List Item → List Verdict
+verdicts_in items = flat_map (λ item. option_to_list (verdict_in item)) items
+
+-- the value of an option of this name
+abbrev pub value_in : List ℕ → Item → Option (List ℕ)
+value_in option (flag given) = None
+value_in option (valued given value) = if bytes_eq given option then Some value else None
+value_in option (name word) = None
+
+abbrev pub values_in : List ℕ → List Item → List (List ℕ)
+values_in option items = flat_map (λ item. option_to_list (value_in option item)) items
+
+-- the last value of the option stands
+abbrev pub last_value : Option (List ℕ) → List (List ℕ) → Option (List ℕ)
+last_value before values = fold (λ before now. Some now) before values
+
+abbrev pub value_of : List ℕ → List Item → Option (List ℕ)
+value_of option items = last_value None (values_in option items)
+
+-- The stamp of a moment. A moment that is read has fewer than 1,000,000,000 nanoseconds, so none is lost.
+abbrev pub stamp_at : Moment → Stamp
+stamp_at moment = record { seconds = moment.seconds; nanos = min moment.nanos 1073741823; nanos_fit = omega arith }
+
+-- the stamp of the time that a word tells
+unfoldable pub stamp_of : List ℕ → Option Stamp
+stamp_of time = option_map stamp_at (instant_of time)
+
+-- a time that is none
+abbrev pub is_no_time : (option value : List ℕ) → Bool
+is_no_time option value = bytes_eq option (codes "--timestamp") && is_none (stamp_of value)
+
+-- a word that is no option, or a time that is none
+abbrev pub is_refused : Item → Bool
+is_refused (flag given) = false
+is_refused (valued option value) = is_no_time option value
+is_refused (name word) = true
+
+-- what the items say in all: at most one status, the tags, and the values of the other options
+pub record Told : Type 0 where
+  pub verdict : Option Verdict
+  pub tags : List (List ℕ)
+  pub attached : Option (List ℕ)
+  pub name : Option (List ℕ)
+  pub mime : Option (List ℕ)
+  pub time : Option (List ℕ)
+
+-- only standard input is attached
+abbrev pub is_standard : Option (List ℕ) → Bool
+is_standard None = true
+is_standard (Some file) = bytes_eq file (codes "-")
+
+-- A status or a file is told. Tags stand beside a status, a name and a type beside a file.
+abbrev pub agrees : Told → Bool
+agrees t =
+    (is_some t.verdict || is_some t.attached)
+    && ((is_some t.verdict || length t.tags == 0)
+    && ((is_some t.attached || not (is_some t.name || is_some t.mime))
+    && is_standard t.attached))
+
+abbrev pub job_with : Told → Job
+job_with t = record {
+  stamp = option_and_then stamp_of t.time;
+  id = option_map (λ v. v.id) t.verdict;
+  status = unwrap_or (option_map (λ v. v.status) t.verdict) status.Unset;
+  tags = t.tags;
+  attachment = option_map (λ file. record { name = unwrap_or t.name (codes "stdin"); mime = t.mime }) t.attached;
+}
+
+abbrev pub has_packet : Event → Bool
+has_packet e = nat_le (canonical_size e) largest_packet
+
+abbrev pub longest_piece_fits : Option Stamp → Option (List ℕ) → Option Attachment → Bool
+longest_piece_fits stamp id None = true
+longest_piece_fits stamp id (Some attachment) = has_packet (piece_of stamp id attachment longest_bytes)
+
+-- each event of the job has a packet, also that of the longest piece
+abbrev pub job_fits : Job → Bool
+job_fits job = has_packet (last_event job) && longest_piece_fits job.stamp job.id job.attachment
+
+abbrev pub told_by : List Item → Option Verdict → Told
+told_by items verdict = record {
+  verdict = verdict;
+  tags = values_in (codes "--tag") items;
+  attached = value_of (codes "--attach-file") items;
+  name = value_of (codes "--file-name") items;
+  mime = value_of (codes "--mimetype") items;
+  time = value_of (codes "--timestamp") items;
+}
+
+abbrev pub job_if : Told → Option Job
+job_if t = if agrees t && job_fits (job_with t) then Some (job_with t) else None
+
+-- at most one status is told
+abbrev pub job_by : List Item → List Verdict → Option Job
+job_by items [] = job_if (told_by items None)
+job_by items (v ∷ []) = job_if (told_by items (Some v))
+job_by items (v ∷ w ∷ more) = None
+
+abbrev pub job_behind : List Item → Option Job
+job_behind items = if list_any is_refused items then None else job_by items (verdicts_in items)
+
+-- the job that the words behind the filter's name ask for, where they are a command
+abbrev pub job_of : List (List ℕ) → Option Job
+job_of words = option_and_then job_behind (items_of output_kind words)

@@ -1,0 +1,33 @@
+-- How the code keeps what items say.
+use Rattle.std.specs.Prelude.{◌≡◌, ⊤, List, [], ◌∷◌}
+use Rattle.sub_export.specs.declared.told.Said.{Said}
+use Rattle.sub_export.specs.declared.told.Verdicts.{Verdicts}
+use Rattle.sub_export.specs.declared.told.Verdicts.TheVariants as said
+use Rattle.std.specs.Option.{option_map}
+use Rattle.sub_export.specs.declared.job.Told as code
+use Rattle.sub_export.specs.Output.{Verdict, Told}
+
+abbrev pub verdict_meant : Said → Verdict
+verdict_meant v = record { status = v.status; id = v.id.now }
+
+-- these are the verdicts, where there is at most one
+abbrev pub AreVerdicts : Verdicts → List Verdict → Type 0
+AreVerdicts said.Nothing [] = ⊤
+AreVerdicts said.Nothing (v ∷ vs) = ⊥
+AreVerdicts (said.Once s) [] = ⊥
+AreVerdicts (said.Once s) (v ∷ []) = v ≡ verdict_meant s
+AreVerdicts (said.Once s) (v ∷ w ∷ more) = ⊥
+AreVerdicts said.Several [] = ⊥
+AreVerdicts said.Several (v ∷ []) = ⊥
+AreVerdicts said.Several (v ∷ w ∷ more) = ⊤
+
+-- what is told
+abbrev pub told_meant : code.Told → Told
+told_meant t = record {
+  verdict = option_map verdict_meant t.verdict;
+  tags = t.tags;
+  attached = option_map (λ word. word.now) t.attached;
+  name = option_map (λ word. word.now) t.name;
+  mime = option_map (λ word. word.now) t.mime;
+  time = option_map (λ word. word.now) t.time;
+}
