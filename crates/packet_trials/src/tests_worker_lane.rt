@@ -611,6 +611,8 @@ impl Child for Broken {
     }
 
     ghost are_bytes = { λ s. tt };
+
+    ghost has_finish = { λ s. tt };
 }
 
 fn ends_with_a_fault<R: Abort>(rt: &R, lane: &mut Lane<Broken>) {
