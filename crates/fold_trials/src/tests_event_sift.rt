@@ -336,7 +336,8 @@ fn part_by_part(alloc: Global) -> Option<bool> {
     let mut sift = Sift::new(alloc, &rules, predicate);
     let begun = releases(alloc, &mut sift, Status::InProgress, &[]);
     let again = releases(alloc, &mut sift, Status::Unset, &[]);
-    Some(begun && again && closes_with(sift, &[*b"-f", *b"-f"]))
+    let ended = closes_with(sift, &[*b"-f", *b"-f"]);
+    Some(begun && again && ended)
 }
 
 #[test]
