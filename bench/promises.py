@@ -1,10 +1,11 @@
 """Looks that what docs/PROMISES.md names is there.
 
-A table whose head has `Definition` names definitions, each of which stands in the specs/ of the crate that its row names.
-A table whose head has `Contract` and `Clause` or `Clauses` names functions and the clauses of one crate: that of the row,
-or of the row before where a row names none.
+A line that begins with `Carried by` names functions, each as crate::function, and behind a colon clauses: each is one of the
+functions before it, and what stands behind its point is a field of a record of that crate. Behind `Defined in` it names
+files of specs/, as crate/File, and behind a colon definitions, which stand in that file. In all other lines each word that
+begins with a crate and `::` is a function, a type or a module of it.
 
-docs/CLAUSES.md, where it is there, is compared with the table that clauses.py makes; `--write` writes it anew.
+docs/CLAUSES.md is compared with the table that clauses.py makes; `--write` writes it anew.
 
 Looks the same of docs/GLOSSARY.md: each word in backticks stands in the file of its row, as a definition, a type or a member.
 """
@@ -23,6 +24,7 @@ def text_of(crate, folder, ending):
 
 
 SPECS = {name: text_of(name, "specs", ".antt") if (p / "specs").is_dir() else "" for name, p in CRATES.items()}
+CLAUSES = {crate: {name: {it.strip("[]") for it in its} for name, its, _, _ in clauses.functions(crate)} for crate in CRATES}
 CODE = {name: text_of(name, "src", ".rt") for name, p in CRATES.items()}
 
 
@@ -30,18 +32,17 @@ def ticked(cell):
     return re.findall(r"`([^`]+)`", cell)
 
 
-def is_defined(crate, word):
-    return re.search(r"(?m)^\s*(abbrev |unfoldable )?(pub )?(record |data )?(pub )?" + re.escape(word) + r"(\s|$|:)", SPECS[crate]) is not None
+def is_defined(text, word):
+    return re.search(r"(?m)^(abbrev |unfoldable |opaque |pub |record |data )+" + re.escape(word) + r"(\s|$|:)", text) is not None
 
 
 def has_function(crate, word):
     name = word.split("::")[-1]
-    return re.search(r"\b(fn|struct|enum|trait|const|ghost) " + re.escape(name) + r"\b", CODE[crate]) is not None
+    return re.search(r"\b(fn|struct|enum|trait|const|ghost|mod) " + re.escape(name) + r"\b", CODE[crate]) is not None
 
 
-def has_clause(crate, word):
-    places = CODE[crate] + SPECS[crate]
-    return re.search(r"(ensures\*?|requires) " + re.escape(word) + r" \{|ghost " + re.escape(word) + r"\b|pub " + re.escape(word) + r" :", places) is not None
+def has_field(crate, word):
+    return re.search(r"(?m)^\s+pub " + re.escape(word) + r" :", SPECS[crate]) is not None
 
 
 def rows_of(page):
@@ -57,25 +58,48 @@ def rows_of(page):
             yield head, cells
 
 
+def carried(text):
+    """What a line of contracts names and is not there."""
+    for item in text.split("; "):
+        names, _, clauses = item.partition(": ")
+        crate, known = None, set()
+        for name in ticked(names):
+            crate, _, word = name.partition("::")
+            if crate not in CRATES or not has_function(crate, word):
+                yield f"function {name}"
+            else:
+                known |= CLAUSES[crate].get(word, set())
+        for clause in ticked(clauses):
+            first, _, field = clause.partition(".")
+            if first not in known or field and not has_field(crate, field):
+                yield f"clause {clause} of {names}"
+
+
+def defined(text):
+    """What a line of definitions names and is not there."""
+    for item in text.split("; "):
+        file, _, words = item.partition(": ")
+        crate, _, path = ticked(file)[0].partition("/")
+        place = ROOT / "crates" / crate / "specs" / (path + ".antt")
+        if not place.is_file():
+            yield f"file {crate}/specs/{path}.antt"
+            continue
+        for word in ticked(words):
+            if not is_defined(place.read_text(), word):
+                yield f"definition {word} in {crate}/specs/{path}.antt"
+
+
 def missing(page):
-    crate = None
-    for head, cells in rows_of(page):
-        if head[0] == "Definition":
-            named = [word for word in ticked(cells[1]) if word in CRATES]
-            crate = named[0] if named else crate
-            for word in ticked(cells[0]):
-                if crate is None or not is_defined(crate, word):
-                    yield f"definition {word} of {crate}"
-        elif head[0] == "Contract":
-            for word in ticked(cells[0]):
-                first = word.split("::")[0]
-                crate = first if first in CRATES else crate
-                if crate is None or (word not in CRATES and not has_function(crate, word)):
-                    yield f"function {word} of {crate}"
-            if len(head) > 1 and head[1] in ("Clause", "Clauses"):
-                for word in ticked(cells[1]):
-                    if re.fullmatch(r"[a-z_.]+", word) and not has_function(crate, word) and not has_clause(crate, word.split(".")[-1]):
-                        yield f"clause {word} of {cells[0]}"
+    for line in page.splitlines():
+        if line.startswith("Carried by "):
+            contracts, _, definitions = line.removeprefix("Carried by ").removesuffix(".").partition(". Defined in ")
+            yield from carried(contracts)
+            if definitions:
+                yield from defined(definitions)
+        for word in ticked(line):
+            crate, mark, name = word.partition("::")
+            if mark and crate in CRATES and not has_function(crate, name):
+                yield f"function {word}"
 
 
 def unfound(page):
@@ -96,7 +120,7 @@ TABLE = ROOT / "docs" / "CLAUSES.md"
 if sys.argv[1:] == ["--write"]:
     TABLE.write_text(clauses.table())
 lost = sorted(set(missing((ROOT / "docs" / "PROMISES.md").read_text())) | set(unfound((ROOT / "docs" / "GLOSSARY.md").read_text())))
-if TABLE.is_file() and TABLE.read_text() != clauses.table():
+if not TABLE.is_file() or TABLE.read_text() != clauses.table():
     lost.append("docs/CLAUSES.md is not that of the sources: bench/promises.sh --write")
 for line in lost:
     print("missing:", line)
