@@ -1,9 +1,10 @@
 """Looks that what docs/PROMISES.md names is there.
 
-A line that begins with `Carried by` names functions, each as crate::function, and behind a colon clauses: each is one of the
-functions before it, and what stands behind its point is a field of a record of that crate. Behind `Defined in` it names
-files of specs/, as crate/File, and behind a colon definitions, which stand in that file. In all other lines each word that
-begins with a crate and `::` is a function, a type or a module of it.
+A line that begins with `Carried by` names functions, each as crate::function, or as function where its crate is that of the
+one before. Behind a colon it names clauses: each is one of the functions before it, and what stands behind its point is a
+field of a record of that crate. Behind `Defined in` it names files of specs/, as crate/File or File, and behind a colon
+definitions, which stand in that file. In all other lines each word that begins with a crate and `::` is a function, a type or
+a module of it.
 
 docs/CLAUSES.md is compared with the table that clauses.py makes; `--write` writes it anew.
 
@@ -41,6 +42,10 @@ def has_function(crate, word):
     return re.search(r"\b(fn|struct|enum|trait|const|ghost|mod) " + re.escape(name) + r"\b", CODE[crate]) is not None
 
 
+def is_type(crate, word):
+    return re.search(r"\b(struct|enum|trait) " + re.escape(word) + r"\b", CODE[crate]) is not None
+
+
 def has_field(crate, word):
     return re.search(r"(?m)^\s+pub " + re.escape(word) + r" :", SPECS[crate]) is not None
 
@@ -60,13 +65,15 @@ def rows_of(page):
 
 def carried(text):
     """What a line of contracts names and is not there."""
+    crate = None
     for item in text.split("; "):
         names, _, clauses = item.partition(": ")
-        crate, known = None, set()
+        known = set()
         for name in ticked(names):
-            crate, _, word = name.partition("::")
-            if crate not in CRATES or not has_function(crate, word):
-                yield f"function {name}"
+            first, _, word = name.partition("::")
+            crate, word = (first, word) if first in CRATES else (crate, name)
+            if crate is None or word not in CLAUSES[crate] and not is_type(crate, word):
+                yield f"function {name} of {crate}"
             else:
                 known |= CLAUSES[crate].get(word, set())
         for clause in ticked(clauses):
@@ -77,9 +84,11 @@ def carried(text):
 
 def defined(text):
     """What a line of definitions names and is not there."""
+    crate = None
     for item in text.split("; "):
         file, _, words = item.partition(": ")
-        crate, _, path = ticked(file)[0].partition("/")
+        first, mark, path = ticked(file)[0].partition("/")
+        crate, path = (first, path) if mark else (crate, first)
         place = ROOT / "crates" / crate / "specs" / (path + ".antt")
         if not place.is_file():
             yield f"file {crate}/specs/{path}.antt"
