@@ -1,5 +1,6 @@
 """Makes the table of clauses and definitions from the sources: for each crate of the product its public functions with the
-names of their clauses, and the definitions that these clauses cite, each with the sentence that stands above it."""
+names of their clauses, and the definitions that these clauses cite or docs/PROMISES.md names, each with the sentence that
+stands above it and, of a record, the names of its fields."""
 import collections
 import pathlib
 import re
@@ -9,11 +10,12 @@ HEAD = """# Clauses and definitions
 
 Made by `bench/promises.sh --write` from the sources, and compared by `bench/promises.sh`: change those, and not this page. docs/PROMISES.md says what is promised, and docs/GLOSSARY.md what the words mean.
 
-For each crate: its public functions, with the names of their clauses, conditions in brackets, and the first sentence of what they say; and the definitions that these clauses cite, with theirs. A function of a trait stands under the trait.
+For each crate: its public functions, with the names of their clauses, conditions in brackets, and the first sentence of what they say; and the definitions that these clauses cite or docs/PROMISES.md names, with theirs and, of a record, its fields. A function of a trait stands under the trait.
 """
 FUNCTION = re.compile(r"^(?P<indent> *)(?P<public>pub )?(?:const )?(?:unsafe )?fn (?P<name>\w+)")
 BLOCK = re.compile(r"^(?:pub )?(?:impl(?:<[^>]*>)? (?:(?P<of>[\w:]+)(?:<.*>)? for )?&?(?:'\w+ )?(?P<type>\w+)|trait (?P<trait>\w+))")
 CLAUSE = re.compile(r"(?m)^ *(requires|ensures)\*? ?(\w+)? ?\{")
+FIELD = re.compile(r"^  pub ([^\s:]+) :")
 DEFINITION = re.compile(r"^\s*(?:(?:abbrev|unfoldable|opaque|pub|data|record)\s+)+([^\s:({]+)")
 
 
@@ -92,18 +94,36 @@ def functions(crate):
 
 
 def definitions(crate, path):
-    """The sentences of a file's definitions, by their names."""
+    """The sentences of a file's definitions, by their names, and with the fields of records."""
     file = ROOT / "crates" / crate / "specs" / (path.replace(".", "/") + ".antt")
-    found, above = {}, []
+    found, above, fields, last = {}, [], {}, None
     for line in file.read_text().split("\n") if file.is_file() else ():
         named = DEFINITION.match(line)
         if line.strip().startswith("--"):
             above.append(line.strip()[2:].strip())
         else:
-            if named:
+            field = FIELD.match(line)
+            if field and last:
+                fields.setdefault(last, []).append(f"`{field[1]}`")
+            elif named:
+                last = named[1] if "record " in line.partition(":")[0] else None
                 found.setdefault(named[1], sentence(above))
             above = []
-    return found
+    return {name: f"{said}. Fields: {', '.join(fields[name])}".removeprefix(". ") if name in fields else said for name, said in found.items()}
+
+
+def promised():
+    """The definitions that docs/PROMISES.md names: the crate, the file and the name of each."""
+    page = ROOT / "docs" / "PROMISES.md"
+    for line in page.read_text().splitlines() if page.is_file() else ():
+        if line.startswith("Carried by "):
+            crate = None
+            for item in filter(None, line.removesuffix(".").partition(". Defined in ")[2].split("; ")):
+                file, _, words = item.partition(": ")
+                first, mark, path = file.strip("`").partition("/")
+                crate, path = (first, path) if mark else (crate, first)
+                for name in re.findall(r"`([^`]+)`", words):
+                    yield crate, path, name
 
 
 def table():
@@ -113,6 +133,8 @@ def table():
         for _, _, _, names in of:
             for crate, path, name in names:
                 cited[crate][path, name] = None
+    for crate, path, name in promised():
+        cited[crate][path, name] = None
     for crate, of in rows.items():
         if of or cited[crate]:
             texts.append(f"\n## {crate}\n")
