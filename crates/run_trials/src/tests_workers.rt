@@ -11,8 +11,8 @@ use std::thread;
 use std::thread::Threads;
 use sub_number::{Bytes, Text};
 use trial_calls::{
-    FOO, NOTHING, NamedFiles, PASSED_AS_0, Project, Scene, call_in, call_with, has_file, has_started,
-    has_two, long_log, play, project_of, put_file, repository, shows,
+    FOO, NOTHING, NamedFiles, PASSED_AS_0, Project, Scene, call_in, call_with, has_file,
+    has_started, has_two, long_log, play, project_of, put_file, repository, shows,
 };
 
 const GOOD: &[u8] = b"[DEFAULT]\ntest_command=run\n";

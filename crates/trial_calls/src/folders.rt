@@ -56,7 +56,9 @@ pub fn has_two(
     second: &[u8],
 ) -> Result<bool, Fail> {
     let size = u64::from(size);
-    Ok(shelf.length(name)? == Some(2 * size)
-        && has_at(shelf, name, 0, first)?
-        && has_at(shelf, name, size, second)?)
+    Ok(
+        shelf.length(name)? == Some(2 * size)
+            && has_at(shelf, name, 0, first)?
+            && has_at(shelf, name, size, second)?,
+    )
 }
