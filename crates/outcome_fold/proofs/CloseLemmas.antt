@@ -16,6 +16,8 @@ use Rattle.outcome_fold.specs.Order.{test_cmp, table}
 use Rattle.outcome_fold.specs.Rows.{open_rows, open_tests}
 use Rattle.outcome_fold.specs.Started.{started_of, open_table}
 use Rattle.outcome_fold.specs.Folded.{row_at}
+use Rattle.outcome_fold.specs.declared.part.EndedPart.{EndedPart}
+use Rattle.outcome_fold.specs.EndedParts.{part_of_open, open_parts}
 use Rattle.outcome_fold.proofs.OrderLemmas.{tests_total, exact_tests}
 use Rattle.outcome_fold.proofs.TableLemmas.{none_of_length, entries_in_order}
 use Rattle.outcome_fold.proofs.FoldLemmas.{part_at}
@@ -48,12 +50,23 @@ map_map : {A B C : Type 0} (g : B → C) (f : A → B) (xs : List A) → map g (
 map_map g f [] = refl
 map_map g f (x ∷ xs) = ap (λ l. g (f x) ∷ l) (map_map g f xs)
 
+-- the entries that are kept at the end, in order, give what is made of each open test and what its part says
+values_at_end : {W : Type 0} (h : TestKey → Started → W) (seen : List Event) (es : List (TestKey × Started)) → IsStrictlySortedBy test_cmp (map (λ e. e.0) es) → fin.from_entries {R = test_cmp} es ≡ open_table seen → map (λ (e : TestKey × Started). h e.0 e.1) es ≡ fin.values (table {R = test_cmp} (λ test. h test (started_of (part_at seen test))) (open_tests seen))
+values_at_end h seen es ordered is =
+    ap (map (λ (e : TestKey × Started). h e.0 e.1)) (sym (entries_in_order tests_total es ordered) ∙ ap fin.entries is)
+    ∙ sym (ap (map (λ e. e.1)) (table_with exact_tests h tests_total (λ test. started_of (part_at seen test)) (open_tests seen))
+    ∙ map_map (λ e. e.1) (λ (e : TestKey × Started). (e.0, h e.0 e.1)) (fin.entries (open_table seen)))
+
 abbrev pub row_of_open : TestKey × Started → Row
 row_of_open e = row_at e.0 how.Open None e.1
 
--- the entries that are kept at the end, in order, give the open rows
+-- their rows
 pub rows_at_end : (seen : List Event) (es : List (TestKey × Started)) → IsStrictlySortedBy test_cmp (map (λ e. e.0) es) → fin.from_entries {R = test_cmp} es ≡ open_table seen → map row_of_open es ≡ open_rows seen
-rows_at_end seen es ordered is =
-    ap (map row_of_open) (sym (entries_in_order tests_total es ordered) ∙ ap fin.entries is)
-    ∙ sym (ap (map (λ e. e.1)) (table_with exact_tests (λ test s. row_at test how.Open None s) tests_total (λ test. started_of (part_at seen test)) (open_tests seen))
-    ∙ map_map (λ e. e.1) (λ (e : TestKey × Started). (e.0, row_of_open e)) (fin.entries (open_table seen)))
+rows_at_end seen es ordered is = values_at_end (λ test s. row_at test how.Open None s) seen es ordered is
+
+abbrev pub part_of_entry : TestKey × Started → EndedPart
+part_of_entry e = part_of_open e.0 e.1
+
+-- their parts
+pub parts_at_end : (seen : List Event) (es : List (TestKey × Started)) → IsStrictlySortedBy test_cmp (map (λ e. e.0) es) → fin.from_entries {R = test_cmp} es ≡ open_table seen → map part_of_entry es ≡ open_parts seen
+parts_at_end seen es ordered is = values_at_end part_of_open seen es ordered is

@@ -8,18 +8,19 @@ use Rattle.std.specs.Cmp.{eq_by_cmp_equiv}
 use Rattle.std.specs.Option.{option_map}
 use Rattle.packet_codec.specs.declared.event.Event.{Event}
 use Rattle.outcome_fold.specs.declared.row.Ended.{Ended}
-use Rattle.outcome_fold.specs.declared.row.Row.{Row}
 use Rattle.outcome_fold.specs.declared.test_key.TestKey.{TestKey}
 use Rattle.outcome_fold.specs.declared.part.Started.{Started}
+use Rattle.outcome_fold.specs.declared.part.EndedPart.{EndedPart}
 use Rattle.outcome_fold.specs.declared.fold.Held.{Held}
 use Rattle.outcome_fold.specs.Order.{test_cmp}
-use Rattle.outcome_fold.specs.Parts.{test_of, ended_by, instant, elapsed}
-use Rattle.outcome_fold.specs.Rows.{completed_row}
+use Rattle.outcome_fold.specs.Parts.{test_of, ended_by, instant}
+use Rattle.outcome_fold.specs.EndedParts.{completed_part}
 use Rattle.outcome_fold.specs.Started.{after, open_table}
-use Rattle.outcome_fold.specs.Folded.{extended, row_at, with_held}
+use Rattle.outcome_fold.specs.Folded.{extended, with_held}
 use Rattle.outcome_fold.proofs.OrderLemmas.{tests_total, exact_tests}
 use Rattle.outcome_fold.proofs.OpenLemmas.{remove_insert}
-use Rattle.outcome_fold.proofs.AddLemmas.{Kept, goes_on, is_closed, is_row}
+use Rattle.outcome_fold.proofs.AddLemmas.{Kept, goes_on, is_closed}
+use Rattle.outcome_fold.proofs.EndedLemmas.{is_part}
 
 -- where none is held, the others are all
 pub alone : (held : Option Held) (others : Kept) → held ≡ None → with_held held others ≡ others
@@ -60,11 +61,11 @@ module _ (seen : List Event) (e : Event) (held : Option Held) (others : Kept) (h
       (gone ∙ (λ i. fin.remove (with_held (more i) (same i)) h.key) ∙ remove_insert others h.key (after h.part e)
       ∙ sym (remove_insert others h.key h.part) ∙ ap (λ (o : Option Held). fin.remove (with_held o others) h.key) (sym is))
 
-  pub held_row : (how : Ended) (now : Held) (end nanos : Option ℕ) (row : Row) → Some how ≡ ended_by e.status → Some now ≡ Some (one_more h e) → end ≡ option_map instant e.stamp → nanos ≡ elapsed now.part.start end → row ≡ row_at now.key how nanos now.part → Some row ≡ completed_row seen e
-  held_row how now end nanos row some more at time gives =
+  pub held_gives : (how : Ended) (now : Held) (end : Option ℕ) → Some how ≡ ended_by e.status → Some now ≡ Some (one_more h e) → end ≡ option_map instant e.stamp → ◌≡◌ {A = Option EndedPart} (Some (record { key = now.key; ended = how; started = now.part; end = end })) (completed_part seen e)
+  held_gives how now end some more at =
       let same : now ≡ one_more h e = cc in
-      is_row seen e (with_held held others) h.key how (after h.part e) end nanos row has (sym test) some part_more at
-      (time ∙ ap (λ (h : Held). elapsed h.part.start end) same) (gives ∙ ap (λ (h : Held). row_at h.key how nanos h.part) same)
+      (λ i. Some (record { key = (same i).key; ended = how; started = (same i).part; end = end }))
+      ∙ is_part seen e (with_held held others) h.key how (after h.part e) end has (sym test) some part_more at
 
 -- a test that is held is found, and let go of
 pub never_gone : (now : Option Held) (h : Held) (e : Event) → None ≡ now → now ≡ Some (one_more h e) → ⊥

@@ -23,3 +23,4 @@ pub mod SummingLemmas
 pub mod ChangedLemmas
 pub mod RoutedLemmas
 mod SaidLemmas
+pub mod EndedLemmas

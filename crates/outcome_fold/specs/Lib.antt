@@ -8,3 +8,4 @@ pub mod Grouped
 pub mod Outcome
 pub mod Summed
 pub mod Routes
+pub mod EndedParts

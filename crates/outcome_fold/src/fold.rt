@@ -2,6 +2,7 @@
 
 ghost use Rattle.outcome_fold.specs.Rows as rows_are;
 ghost use Rattle.std.specs.FinMap as map;
+ghost use Rattle.std.specs.Option.{option_map};
 ghost use Rattle.std.specs.Prelude.{◌≡◌, List, [], ◌∷◌, ◌++◌, Option, None, Some, false, IsTrue, IsSomeAnd, IfOk, OnOk, OnErr, is_some, if◌then◌else◌};
 ghost use Rattle.packet_codec.specs.Packet.{SpellsEvent};
 ghost use Rattle.packet_codec.specs.declared.event.Event.{Event as AnEvent};
@@ -11,8 +12,9 @@ ghost use Rattle.outcome_fold.specs.Started.{after};
 ghost use Rattle.outcome_fold.specs.declared.fold.Held.{Held as AHeld};
 ghost use Rattle.outcome_fold.specs.Folded.{HasSeen, Speaks, open_in, others_in, extended_by, with_extended, row_at};
 ghost use Rattle.outcome_fold.specs.Outcome.{HasFolded};
+ghost use Rattle.outcome_fold.specs.EndedParts.{completed_part, open_parts, part_of_open as part_of_an_open, row_of_part as row_of_a_part};
 
-use crate::part::{KeptText, Said, Started, elapsed, instant_in, said_by, said_in};
+use crate::part::{EndedPart, KeptText, Said, Started, elapsed, instant_in, said_by, said_in};
 use crate::row::{Ended, Row, ended_by};
 use crate::rows::{Rows, by_route};
 use crate::test_key::{TestKey, key_in, key_of};
@@ -134,24 +136,28 @@ impl Fold {
         }
     }
 
-    // Takes what an event says of this test, which it ends so, or not.
+    // Takes what an event says of this test, which it ends so, or not, and gives the part that it completes.
     fn tell(
         &mut self,
         key: TestKey,
         ended: Option<Ended>,
         said: Said<'_>,
-    ) -> Result<Option<Row>, NoMemory>
-        ensures row { (seen : List AnEvent) (e : AnEvent) → HasSeen self.old seen → Speaks e key ended said.entry → IfOk result (λ row. row ≡ completed_row seen e) }
+    ) -> Result<Option<EndedPart>, NoMemory>
+        ensures part { (seen : List AnEvent) (e : AnEvent) → HasSeen self.old seen → Speaks e key ended said.entry → IfOk result (λ part. part ≡ completed_part seen e) }
         ensures ok { (seen : List AnEvent) (e : AnEvent) → HasSeen self.old seen → Speaks e key ended said.entry → OnOk result (HasSeen self.new (seen ++ e ∷ [])) }
         ensures err { OnErr result (open_in self.new ≡ open_in self.old) }
     {
         self.put_down()?;
-        let instant = said.instant;
+        let end = said.instant;
         match ended {
             Some(ended) => {
                 let started = self.finish(&key, said)?;
-                let nanos = elapsed(started.start, instant);
-                Ok(Some(row_of(self.alloc, key, ended, nanos, started)))
+                Ok(Some(EndedPart {
+                    key,
+                    ended,
+                    started,
+                    end,
+                }))
             }
             None => {
                 self.go_on(key, said)?;
@@ -216,8 +222,8 @@ impl Fold {
         &mut self,
         packet: &Packet<'_>,
         ended: Option<Ended>,
-    ) -> Result<Option<Row>, NoMemory>
-        ensures row { (seen : List AnEvent) (e : AnEvent) (held : AHeld) → SpellsEvent packet.now e → HasSeen self.old seen → self.old.held ≡ Some held → parts.test_of e ≡ Some held.key → ended ≡ parts.ended_by e.status → IfOk result (λ row. row ≡ completed_row seen e) }
+    ) -> Result<Option<EndedPart>, NoMemory>
+        ensures part { (seen : List AnEvent) (e : AnEvent) (held : AHeld) → SpellsEvent packet.now e → HasSeen self.old seen → self.old.held ≡ Some held → parts.test_of e ≡ Some held.key → ended ≡ parts.ended_by e.status → IfOk result (λ part. part ≡ completed_part seen e) }
         ensures ok { (seen : List AnEvent) (e : AnEvent) (held : AHeld) → SpellsEvent packet.now e → HasSeen self.old seen → self.old.held ≡ Some held → parts.test_of e ≡ Some held.key → ended ≡ parts.ended_by e.status → OnOk result (HasSeen self.new (seen ++ e ∷ [])) }
         ensures err { OnErr result (open_in self.new ≡ open_in self.old) }
     {
@@ -228,14 +234,19 @@ impl Fold {
         let Some(Held { key, part }) = self.let_go() else {
             return Ok(None);
         };
-        let nanos = elapsed(part.start, instant_in(packet));
-        Ok(Some(row_of(self.alloc, key, ended, nanos, part)))
+        let end = instant_in(packet);
+        Ok(Some(EndedPart {
+            key,
+            ended,
+            started: part,
+            end,
+        }))
     }
 
     // Takes the packet's event, whatever test it speaks of.
     #[inline(never)]
-    fn hear_other(&mut self, packet: &Packet<'_>) -> Result<Option<Row>, NoMemory>
-        ensures row { (seen : List AnEvent) (e : AnEvent) → SpellsEvent packet.now e → HasSeen self.old seen → IfOk result (λ row. row ≡ completed_row seen e) }
+    fn hear_other(&mut self, packet: &Packet<'_>) -> Result<Option<EndedPart>, NoMemory>
+        ensures part { (seen : List AnEvent) (e : AnEvent) → SpellsEvent packet.now e → HasSeen self.old seen → IfOk result (λ part. part ≡ completed_part seen e) }
         ensures ok { (seen : List AnEvent) (e : AnEvent) → SpellsEvent packet.now e → HasSeen self.old seen → OnOk result (HasSeen self.new (seen ++ e ∷ [])) }
         ensures err { OnErr result (open_in self.new ≡ open_in self.old) }
     {
@@ -248,10 +259,10 @@ impl Fold {
 }
 
 impl Fold {
-    /// Takes the event, and gives the row of the part of its test that it completes. `None` comes exactly where it
-    /// completes none.
-    pub fn add(&mut self, event: &Event) -> Result<Option<Row>, NoMemory>
-        ensures row { (seen : List AnEvent) → HasSeen self.old seen → IfOk result (λ row. row ≡ completed_row seen event.now) }
+    /// Takes the event, and gives the part of its test that it completes, with all that the part's events say. `None`
+    /// comes exactly where it completes none.
+    pub fn add_part(&mut self, event: &Event) -> Result<Option<EndedPart>, NoMemory>
+        ensures part { (seen : List AnEvent) → HasSeen self.old seen → IfOk result (λ part. part ≡ completed_part seen event.now) }
         ensures ok { (seen : List AnEvent) → HasSeen self.old seen → OnOk result (HasSeen self.new (seen ++ event.now ∷ [])) }
         ensures err { OnErr result (open_in self.new ≡ open_in self.old) }
     {
@@ -262,10 +273,21 @@ impl Fold {
         self.tell(key, ended_by(event.status), said)
     }
 
-    /// The same of the event that the packet spells, which is not made: what is needed of it is copied from where it
-    /// stands.
-    pub fn hear(&mut self, packet: &Packet<'_>) -> Result<Option<Row>, NoMemory>
-        ensures row { (seen : List AnEvent) (e : AnEvent) → SpellsEvent packet.now e → HasSeen self.old seen → IfOk result (λ row. row ≡ completed_row seen e) }
+    /// Takes the event, and gives the row of the part that it completes, as `add_part` gives the part.
+    pub fn add(&mut self, event: &Event) -> Result<Option<Row>, NoMemory>
+        ensures row { (seen : List AnEvent) → HasSeen self.old seen → IfOk result (λ row. row ≡ completed_row seen event.now) }
+        ensures ok { (seen : List AnEvent) → HasSeen self.old seen → OnOk result (HasSeen self.new (seen ++ event.now ∷ [])) }
+        ensures err { OnErr result (open_in self.new ≡ open_in self.old) }
+    {
+        let part = self.add_part(event)?;
+        Ok(row_told(self.alloc, part))
+    }
+
+    /// The same as `add_part` of the event that the packet spells, which is not made: what is needed of it is copied from
+    /// where it stands.
+    #[inline(always)]
+    pub fn hear_part(&mut self, packet: &Packet<'_>) -> Result<Option<EndedPart>, NoMemory>
+        ensures part { (seen : List AnEvent) (e : AnEvent) → SpellsEvent packet.now e → HasSeen self.old seen → IfOk result (λ part. part ≡ completed_part seen e) }
         ensures ok { (seen : List AnEvent) (e : AnEvent) → SpellsEvent packet.now e → HasSeen self.old seen → OnOk result (HasSeen self.new (seen ++ e ∷ [])) }
         ensures err { OnErr result (open_in self.new ≡ open_in self.old) }
     {
@@ -273,6 +295,29 @@ impl Fold {
             return self.hear_held(packet, ended_by(packet.status()));
         }
         self.hear_other(packet)
+    }
+
+    /// The same as `add` of the event that the packet spells, which is not made.
+    pub fn hear(&mut self, packet: &Packet<'_>) -> Result<Option<Row>, NoMemory>
+        ensures row { (seen : List AnEvent) (e : AnEvent) → SpellsEvent packet.now e → HasSeen self.old seen → IfOk result (λ row. row ≡ completed_row seen e) }
+        ensures ok { (seen : List AnEvent) (e : AnEvent) → SpellsEvent packet.now e → HasSeen self.old seen → OnOk result (HasSeen self.new (seen ++ e ∷ [])) }
+        ensures err { OnErr result (open_in self.new ≡ open_in self.old) }
+    {
+        let part = self.hear_part(packet)?;
+        Ok(row_told(self.alloc, part))
+    }
+
+    /// Ends the fold, and gives the part of each open test, by route, no route first, and then by id.
+    pub fn close_parts(self) -> Result<Vec<EndedPart>, NoMemory>
+        ensures { (seen : List AnEvent) → HasSeen self seen → IfOk result (λ parts. parts.items ≡ open_parts seen) }
+    {
+        let mut fold = self;
+        fold.put_down()?;
+        let mut parts = Vec::new(fold.alloc);
+        for (key, started) in fold.others {
+            parts.push(part_of_open(key, started))?;
+        }
+        Ok(parts)
     }
 
     /// Ends the fold, and gives a row for each open test, by route, no route first, and then by id.
@@ -297,6 +342,42 @@ fn row_text(alloc: Global, ended: Ended, text: KeptText) -> Bytes
         text.into_bytes()
     } else {
         Bytes::from_vec(Vec::new(alloc))
+    }
+}
+
+// The part of a test that is open at the end.
+fn part_of_open(key: TestKey, started: Started) -> EndedPart
+    ensures { result ≡ part_of_an_open key started }
+{
+    EndedPart {
+        key,
+        ended: Ended::Open,
+        started,
+        end: None,
+    }
+}
+
+// The row of a part. It takes no memory.
+fn row_of_part(alloc: Global, part: EndedPart) -> Row
+    ensures { result ≡ row_of_a_part part }
+{
+    let EndedPart {
+        key,
+        ended,
+        started,
+        end,
+    } = part;
+    let nanos = elapsed(started.start, end);
+    row_of(alloc, key, ended, nanos, started)
+}
+
+// The row of a part, where there is one. It takes no memory.
+fn row_told(alloc: Global, part: Option<EndedPart>) -> Option<Row>
+    ensures { result ≡ option_map row_of_a_part part }
+{
+    match part {
+        Some(part) => Some(row_of_part(alloc, part)),
+        None => None,
     }
 }
 

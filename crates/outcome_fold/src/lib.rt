@@ -30,7 +30,9 @@ mod text_set;
 pub use fold::{Fold, Outcomes};
 pub use half_laws::halves_say_the_same;
 pub use laws::{orders_of_maps, rows_are_by_route, rows_of_events};
-pub use part::{KeptText, elapsed, instant_in, instant_of, text_heard, text_in};
+pub use part::{
+    EndedPart, KeptText, Started, elapsed, instant_in, instant_of, text_heard, text_in,
+};
 pub use row::{Counts, Ended, Row, ended_by};
 pub use rows::Rows;
 pub use summary::{Summary, Timed};

@@ -9,6 +9,8 @@ ghost use Rattle.packet_codec.specs.Packet.{SpellsEvent};
 ghost use Rattle.packet_codec.specs.Shapes.{bytes_of};
 ghost use Rattle.packet_codec.specs.declared.event.Event.{Event as AnEvent};
 
+use crate::row::Ended;
+use crate::test_key::TestKey;
 use crate::text_set::copies_of;
 use packet_codec::{Event, Packet, Stamp, Tags};
 use std::alloc::Global;
@@ -71,6 +73,19 @@ pub struct Started {
     pub tags: Tags,
     /// The first bytes of the files of text, joined.
     pub text: KeptText,
+}
+
+/// A part of a test that has ended, or is open at the end, and what its events say.
+#[derive(Drop)]
+pub struct EndedPart {
+    /// The test.
+    pub key: TestKey,
+    /// How it ended.
+    pub ended: Ended,
+    /// What the part's events say together.
+    pub started: Started,
+    /// The instant of the completing event, in nanoseconds since 1970 in UTC, where there is one and it has one.
+    pub end: Option<u64>,
 }
 
 /// The instant of an event, in nanoseconds since 1970 in UTC, where it has a stamp.

@@ -1,6 +1,5 @@
-use Rattle.std.proofs.Common.{refl, sym, ◌∙◌}
-use Rattle.outcome_fold.proofs.AddLemmas.{stays_open}
+use Rattle.outcome_fold.proofs.EndedLemmas.{row_is}
 use Rattle.outcome_fold.proofs.fold.Fold.add.Goals as goal
 
-pub returns-in_default-clause-ok : goal.returns-in_default-clause-ok
-returns-in_default-clause-ok c seen has = stays_open seen _ _ has (sym c.in_default.is ∙ c.in_ok-key.ensures)
+pub returns-clause-row : goal.returns-clause-row
+returns-clause-row c seen has = row_is seen c.args.event.now _ _ (c.in_ok-part.ensures.part seen has) c.row_told.ensures

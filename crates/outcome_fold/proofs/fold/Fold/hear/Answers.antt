@@ -1,14 +1,5 @@
-use Rattle.std.proofs.Common.{sym, ◌∙◌, ap, refl}
-use Rattle.outcome_fold.specs.Parts.{ended_by}
-use Rattle.outcome_fold.proofs.HeldLemmas.{the_held}
+use Rattle.outcome_fold.proofs.EndedLemmas.{row_is}
 use Rattle.outcome_fold.proofs.fold.Fold.hear.Goals as goal
 
-pub returns-then-holds-clause-row : goal.returns-then-holds-clause-row
-returns-then-holds-clause-row c = λ seen e s has.
-    let held = the_held c.args.self.now.held e (c.holds.ensures e s c.if-holds.true) in
-    c.hear_held.ensures.row seen e held.0 s has held.1 held.2 (c.ended_by.ensures ∙ ap ended_by (c.status.ensures e s))
-
-pub returns-then-holds-clause-ok : goal.returns-then-holds-clause-ok
-returns-then-holds-clause-ok c = λ seen e s has.
-    let held = the_held c.args.self.now.held e (c.holds.ensures e s c.if-holds.true) in
-    c.hear_held.ensures.ok seen e held.0 s has held.1 held.2 (c.ended_by.ensures ∙ ap ended_by (c.status.ensures e s))
+pub returns-clause-row : goal.returns-clause-row
+returns-clause-row c = λ seen e s has. row_is seen e _ _ (c.in_ok-part.ensures.part seen e s has) c.row_told.ensures

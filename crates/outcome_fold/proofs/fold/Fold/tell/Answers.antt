@@ -1,17 +1,21 @@
 use Rattle.std.proofs.Common.{sym, ◌∙◌}
 use Rattle.std.specs.FinMap as map
 use Rattle.outcome_fold.specs.Folded.{others_in, extended_by}
-use Rattle.outcome_fold.proofs.AddLemmas.{goes_on, is_closed, is_row}
+use Rattle.outcome_fold.proofs.AddLemmas.{goes_on, is_closed}
+use Rattle.outcome_fold.proofs.EndedLemmas.{is_part, no_end}
 use Rattle.outcome_fold.proofs.SaidLemmas.{extended_is}
 use Rattle.outcome_fold.proofs.fold.Fold.tell.Goals as goal
 
-pub returns-in_ok-started-in-Some-clause-row : goal.returns-in_ok-started-in-Some-clause-row
-returns-in_ok-started-in-Some-clause-row c = λ seen e has sp.
-    is_row seen e (others_in c.put_down.new.self) c.args.key c.in-Some.ended c.in_ok-started-in-Some.started _ _ _ (c.in_ok-put_down.ensures.ok.1 ∙ has) sp.test_is (sym c.in-Some.is ∙ sp.how_is) (c.in_ok-started-in-Some.ensures.part ∙ extended_is (map.get (others_in c.put_down.new.self) c.args.key) c.args.said e sp.says) sp.says.instant c.elapsed-nanos.ensures c.row_of.ensures
+pub returns-in_ok-started-in-Some-clause-part : goal.returns-in_ok-started-in-Some-clause-part
+returns-in_ok-started-in-Some-clause-part c = λ seen e has sp.
+    is_part seen e (others_in c.put_down.new.self) c.args.key c.in-Some.ended c.in_ok-started-in-Some.started _ (c.in_ok-put_down.ensures.ok.1 ∙ has) sp.test_is (sym c.in-Some.is ∙ sp.how_is) (c.in_ok-started-in-Some.ensures.part ∙ extended_is (map.get (others_in c.put_down.new.self) c.args.key) c.args.said e sp.says) sp.says.instant
 
 pub returns-in_ok-started-in-Some-clause-ok : goal.returns-in_ok-started-in-Some-clause-ok
 returns-in_ok-started-in-Some-clause-ok c = λ seen e has sp.
     is_closed seen e (others_in c.put_down.new.self) _ c.args.key c.in-Some.ended (c.in_ok-put_down.ensures.ok.1 ∙ has) sp.test_is (sym c.in-Some.is ∙ sp.how_is) c.in_ok-started-in-Some.ensures.ok
+
+pub returns-in_ok-go_on-in-None-clause-part : goal.returns-in_ok-go_on-in-None-clause-part
+returns-in_ok-go_on-in-None-clause-part c = λ seen e has sp. no_end seen e c.args.key sp.test_is (sym c.in-None.is ∙ sp.how_is)
 
 pub returns-in_ok-go_on-in-None-clause-ok : goal.returns-in_ok-go_on-in-None-clause-ok
 returns-in_ok-go_on-in-None-clause-ok c = λ seen e has sp.
