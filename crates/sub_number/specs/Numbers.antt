@@ -1,5 +1,5 @@
 -- The number encoding of the Subunit README, version 2: one to four bytes, the greatest first.
-use Rattle.std.specs.Prelude.{◌≡◌, ℕ, ◌+◌, ◌-◌, ◌*◌, ◌^◌, ◌<◌, ◌≤◌, List, length, take, drop, nat_lt, if◌then◌else◌}
+use Rattle.std.specs.Prelude.{◌≡◌, ℕ, ◌+◌, ◌-◌, ◌*◌, ◌^◌, ◌<◌, ◌≤◌, min, List, length, take, drop, nat_lt, if◌then◌else◌}
 use Rattle.std.specs.Int.{w32, to_be_bytes}
 use Rattle.std.specs.Int.Digits.{number_from_digits}
 
@@ -37,3 +37,7 @@ shortest_number value = let size = shortest_size value in drop (4 - size) (to_be
 pub record IsShortest (bytes : List ℕ) (value : ℕ) : Type 0 where
   pub spells : SpellsNumber bytes value
   pub least : (others : List ℕ) → SpellsNumber others value → length bytes ≤ length others
+
+-- one more, up to the last value that a counter of 64 bits has
+abbrev pub one_more : ℕ → ℕ
+one_more n = min (n + 1) (2 ^ 64 - 1)

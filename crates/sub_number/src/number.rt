@@ -1,4 +1,4 @@
-//! Numbers of one to four bytes, by the number encoding of the Subunit README: the top two bits of the first byte say
+//! Numbers of one to four bytes, by the number encoding of the Subunit README. The top two bits of the first byte say
 //! how many bytes follow it, and the rest is the value, the greatest byte first.
 
 ghost use Rattle.std.specs.Prelude.{◌≡◌, ◌<◌, ◌^◌, ◌++◌, length, IfSome, IfNone, OnOk, OnErr};

@@ -6,8 +6,8 @@ ghost use Rattle.std.specs.String.{string_bytes};
 ghost use Rattle.sub_number.specs.Texts.{IsText, IsShortText, BeginsWithText, BeginsWithNoText};
 
 use crate::NoMemory;
+use crate::ascii::are_plain;
 use crate::number::{Width, read_number};
-use crate::plain::are_plain;
 use std::alloc::{AllocError, Global};
 use std::cmp::Ordering;
 use std::marker::Model;

@@ -1,6 +1,6 @@
 use Rattle.std.proofs.Common.{◌-◌}
 use Rattle.sub_number.specs.Texts.{ArePlain}
-use Rattle.sub_number.proofs.plain.are_plain_by_sixteen.Given as goal
+use Rattle.sub_number.proofs.ascii.are_plain_by_sixteen.Given as goal
 
 abbrev pub invariant-loop-start : goal.invariant-loop-start
 invariant-loop-start l = ArePlain l.bytes 0 l.start
