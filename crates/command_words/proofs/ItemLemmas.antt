@@ -1,7 +1,7 @@
 -- Items, word by word.
 use Rattle.std.proofs.Common.{◌≡◌, ℕ, true, false, cond, Option, None, Some, option_map, List, [], ◌∷◌, ◌++◌, refl, sym, ap, ◌∙◌, append_assoc, append-nil, is_some, Bor}
 use Rattle.command_words.specs.declared.table.Kind.{Kind}
-use Rattle.command_words.specs.Items.{Item, valued, refused, is_item, asks, is_text, meaning_of, and_then, items_behind}
+use Rattle.command_words.specs.Items.{Item, valued, refused, is_item, asks, is_text, meaning_of, with_rest, items_behind}
 use Rattle.command_words.specs.Code.{meaning_behind}
 
 -- what the words are, behind these items
@@ -14,8 +14,8 @@ front_again done item (Some rest) = ap Some (sym (append_assoc done (item ∷ []
 
 pub one_item : (kinds : List ℕ → Option Kind) (done : List Item) (asked : Option (List ℕ)) (word : List ℕ) (words : List (List ℕ)) (item : Item) → is_text word ≡ true → meaning_behind kinds asked word ≡ is_item item → behind kinds done asked (word ∷ words) ≡ behind kinds (done ++ item ∷ []) None words
 one_item kinds done None word words item text means =
-    ap (λ b. option_map (λ rest. done ++ rest) (cond b (and_then (meaning_of kinds word) (λ key. items_behind kinds (Some key) words) (items_behind kinds None words)) None)) text
-    ∙ ap (λ m. option_map (λ rest. done ++ rest) (and_then m (λ key. items_behind kinds (Some key) words) (items_behind kinds None words))) means
+    ap (λ b. option_map (λ rest. done ++ rest) (cond b (with_rest (meaning_of kinds word) (λ key. items_behind kinds (Some key) words) (items_behind kinds None words)) None)) text
+    ∙ ap (λ m. option_map (λ rest. done ++ rest) (with_rest m (λ key. items_behind kinds (Some key) words) (items_behind kinds None words))) means
     ∙ front_again done item (items_behind kinds None words)
 one_item kinds done (Some key) word words item text means =
     let same : valued key word ≡ item = cc in
@@ -25,18 +25,18 @@ one_item kinds done (Some key) word words item text means =
 
 pub one_asked : (kinds : List ℕ → Option Kind) (done : List Item) (asked : Option (List ℕ)) (word : List ℕ) (words : List (List ℕ)) (key : List ℕ) → is_text word ≡ true → meaning_behind kinds asked word ≡ asks key → behind kinds done asked (word ∷ words) ≡ behind kinds done (Some key) words
 one_asked kinds done None word words key text means =
-    ap (λ b. option_map (λ rest. done ++ rest) (cond b (and_then (meaning_of kinds word) (λ key. items_behind kinds (Some key) words) (items_behind kinds None words)) None)) text
-    ∙ ap (λ m. option_map (λ rest. done ++ rest) (and_then m (λ key. items_behind kinds (Some key) words) (items_behind kinds None words))) means
+    ap (λ b. option_map (λ rest. done ++ rest) (cond b (with_rest (meaning_of kinds word) (λ key. items_behind kinds (Some key) words) (items_behind kinds None words)) None)) text
+    ∙ ap (λ m. option_map (λ rest. done ++ rest) (with_rest m (λ key. items_behind kinds (Some key) words) (items_behind kinds None words))) means
 one_asked kinds done (Some other) word words key text means = absurd (cc)
 
 pub no_text : (kinds : List ℕ → Option Kind) (done : List Item) (asked : Option (List ℕ)) (word : List ℕ) (words : List (List ℕ)) → is_text word ≡ false → behind kinds done asked (word ∷ words) ≡ None
-no_text kinds done None word words text = ap (λ b. option_map (λ rest. done ++ rest) (cond b (and_then (meaning_of kinds word) (λ key. items_behind kinds (Some key) words) (items_behind kinds None words)) None)) text
+no_text kinds done None word words text = ap (λ b. option_map (λ rest. done ++ rest) (cond b (with_rest (meaning_of kinds word) (λ key. items_behind kinds (Some key) words) (items_behind kinds None words)) None)) text
 no_text kinds done (Some key) word words text = ap (λ b. option_map (λ rest. done ++ rest) (cond b (option_map (λ items. valued key word ∷ items) (items_behind kinds None words)) None)) text
 
 pub is_refused : (kinds : List ℕ → Option Kind) (done : List Item) (asked : Option (List ℕ)) (word : List ℕ) (words : List (List ℕ)) → is_text word ≡ true → meaning_behind kinds asked word ≡ refused → behind kinds done asked (word ∷ words) ≡ None
 is_refused kinds done None word words text means =
-    ap (λ b. option_map (λ rest. done ++ rest) (cond b (and_then (meaning_of kinds word) (λ key. items_behind kinds (Some key) words) (items_behind kinds None words)) None)) text
-    ∙ ap (λ m. option_map (λ rest. done ++ rest) (and_then m (λ key. items_behind kinds (Some key) words) (items_behind kinds None words))) means
+    ap (λ b. option_map (λ rest. done ++ rest) (cond b (with_rest (meaning_of kinds word) (λ key. items_behind kinds (Some key) words) (items_behind kinds None words)) None)) text
+    ∙ ap (λ m. option_map (λ rest. done ++ rest) (with_rest m (λ key. items_behind kinds (Some key) words) (items_behind kinds None words))) means
 is_refused kinds done (Some key) word words text means = absurd (cc)
 
 module _ (kinds : List ℕ → Option Kind) (done : List Item) where

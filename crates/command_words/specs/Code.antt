@@ -3,15 +3,17 @@ use Rattle.std.specs.Prelude.{ℕ, Option, Some, None, List}
 use Rattle.command_words.specs.declared.table.Kind.{Kind}
 use Rattle.command_words.specs.declared.item.Item as code
 use Rattle.command_words.specs.declared.item.Item.TheVariants as code_item
-use Rattle.command_words.specs.declared.reading.Meaning as code_meaning
-use Rattle.command_words.specs.declared.reading.Meaning.TheVariants as meant
+use Rattle.command_words.specs.declared.item_reader.Meaning as code_meaning
+use Rattle.command_words.specs.declared.item_reader.Meaning.TheVariants as meant
 use Rattle.command_words.specs.Items.{Item, flag, valued, name, Meaning, refused, is_item, asks, meaning_of}
 
+-- the item that the code's item stands for
 abbrev pub shown : code.Item → Item
 shown (code_item.Flag key) = flag key.now
 shown (code_item.Valued key value) = valued key.now value.now
 shown (code_item.Name word) = name word.now
 
+-- the meaning that the code's meaning stands for
 abbrev pub shown_meaning : code_meaning.Meaning → Meaning
 shown_meaning meant.Refused = refused
 shown_meaning (meant.Is item) = is_item (shown item)

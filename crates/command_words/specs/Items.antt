@@ -6,6 +6,7 @@ use Rattle.std.specs.declared.alloc.Global.{Global}
 use Rattle.command_words.specs.declared.table.Kind.{Kind}
 use Rattle.command_words.specs.declared.table.Kind.TheVariants.{Flag, Valued}
 
+-- the words as lists of bytes
 abbrev pub texts : List (String Global) → List (List ℕ)
 texts words = map string_bytes words
 
@@ -29,16 +30,17 @@ pub data Meaning : Type 0 where
   -- an option whose value is the next word
   asks : List ℕ → Meaning
 
+-- the byte that parts an option's name from its value
 abbrev pub equals_sign : ℕ → Bool
 equals_sign byte = byte == 61
 
 -- an option's name, up to the first equals sign
-abbrev pub key_of : List ℕ → List ℕ
-key_of word = before_first equals_sign word
+abbrev pub option_name : List ℕ → List ℕ
+option_name word = before_first equals_sign word
 
 -- what stands behind the first equals sign, where there is one
-abbrev pub value_of : List ℕ → Option (List ℕ)
-value_of word = if nat_lt (position_or_len equals_sign word) (length word) then Some (after_first equals_sign word) else None
+abbrev pub option_value : List ℕ → Option (List ℕ)
+option_value word = if nat_lt (position_or_len equals_sign word) (length word) then Some (after_first equals_sign word) else None
 
 -- A flag has no value. Where an option with a value has none in its word, the next word is its value.
 abbrev pub option_meaning : Option Kind → List ℕ → Option (List ℕ) → Meaning
@@ -51,21 +53,21 @@ option_meaning (Some Valued) key (Some value) = is_item (valued key value)
 -- two dashes begin an option, and one dash is a name alone
 abbrev pub meaning_of : (List ℕ → Option Kind) → List ℕ → Meaning
 meaning_of kinds word =
-    if starts_with nat_eq word (codes "--") then option_meaning (kinds (key_of word)) (key_of word) (value_of word)
+    if starts_with nat_eq word (codes "--") then option_meaning (kinds (option_name word)) (option_name word) (option_value word)
     else (if starts_with nat_eq word (codes "-") && nat_lt 1 (length word) then refused
     else is_item (name word))
 
 -- the rest of the items, as the meaning of a word says: behind the option that asks for a value, or behind none
-abbrev pub and_then : Meaning → (List ℕ → Option (List Item)) → Option (List Item) → Option (List Item)
-and_then refused behind rest = None
-and_then (is_item item) behind rest = option_map (λ items. item ∷ items) rest
-and_then (asks key) behind rest = behind key
+abbrev pub with_rest : Meaning → (List ℕ → Option (List Item)) → Option (List Item) → Option (List Item)
+with_rest refused behind rest = None
+with_rest (is_item item) behind rest = option_map (λ items. item ∷ items) rest
+with_rest (asks key) behind rest = behind key
 
 -- what the words are behind the option that asks for its value, where there is one; none where one of them is refused
 abbrev pub items_behind : (List ℕ → Option Kind) → Option (List ℕ) → List (List ℕ) → Option (List Item)
 items_behind kinds None [] = Some []
 items_behind kinds (Some key) [] = None
-items_behind kinds None (word ∷ words) = if is_text word then and_then (meaning_of kinds word) (λ key. items_behind kinds (Some key) words) (items_behind kinds None words) else None
+items_behind kinds None (word ∷ words) = if is_text word then with_rest (meaning_of kinds word) (λ key. items_behind kinds (Some key) words) (items_behind kinds None words) else None
 items_behind kinds (Some key) (word ∷ words) = if is_text word then option_map (λ items. valued key word ∷ items) (items_behind kinds None words) else None
 
 -- what the words are, in their order

@@ -8,16 +8,16 @@
 //!
 //! - `table`: which options a command has
 //! - `item`: what words are
-//! - `reading`: reads the words
+//! - `item_reader`: reads the words
 //! - `text`: words as texts
 #![tactic(auto)]
 
 mod item;
-mod reading;
+mod item_reader;
 mod table;
 mod text;
 
 pub use item::Item;
-pub use reading::read_items;
+pub use item_reader::read_items;
 pub use table::{Kind, OptionTable};
 pub use text::text_of;

@@ -3,8 +3,8 @@ use Rattle.std.proofs.lemmas.List.{at_drop_more, at_drop_all, map-append}
 use Rattle.command_words.specs.Items.{texts, is_text}
 use Rattle.command_words.specs.Code.{shown}
 use Rattle.command_words.proofs.ItemLemmas.{behind, one_item, one_asked, no_text, is_refused, all_asked, all_read}
-use Rattle.command_words.proofs.reading.read_items.Goals.{in-Is+in_ok-push-in-Is, in-Asks}
-use Rattle.command_words.proofs.reading.read_items.Goals as goal
+use Rattle.command_words.proofs.item_reader.read_items.Goals.{in-Is+in_ok-push-in-Is, in-Asks}
+use Rattle.command_words.proofs.item_reader.read_items.Goals as goal
 
 pub loop-word-preserved : goal.loop-word-preserved
 loop-word-preserved g c =

@@ -1,7 +1,7 @@
 //! Reads words.
 
 ghost use Rattle.std.specs.Prelude.{◌≡◌, option_map, map, IfOk};
-ghost use Rattle.command_words.specs.Items.{texts, items_of, meaning_of, option_meaning, key_of, value_of};
+ghost use Rattle.command_words.specs.Items.{texts, items_of, meaning_of, option_meaning, option_name, option_value};
 ghost use Rattle.command_words.specs.Code.{shown, shown_meaning, meaning_behind};
 
 use crate::item::Item;
@@ -20,9 +20,9 @@ enum Meaning<'a> {
     Asks(&'a str),
 }
 
-/// What the words are, in their order. None comes exactly where one of them is refused: an option that the command does
-/// not have, or with a value where it has none, or without one where it needs one; one dash and more than that; what is
-/// no text.
+/// What the words are, in their order. None comes exactly where one of them is refused. Refused is an option that the
+/// command does not have, or with a value where it has none, or without one where it needs one. So are one dash and
+/// more than that, and what is no text.
 pub fn read_items<'a, T: OptionTable>(
     alloc: Global,
     table: &T,
@@ -58,11 +58,12 @@ fn take_word<'a, T: OptionTable>(table: &T, asked: Option<&'a str>, word: &'a st
 {
     match asked {
         Some(name) => Meaning::Is(Item::Valued(name, word)),
-        None => alone(table, word),
+        None => meaning_of_word(table, word),
     }
 }
 
-fn alone<'a, T: OptionTable>(table: &T, word: &'a str) -> Meaning<'a>
+// What the word is that stands behind no option which asks for a value.
+fn meaning_of_word<'a, T: OptionTable>(table: &T, word: &'a str) -> Meaning<'a>
     ensures { shown_meaning result ≡ meaning_of (T.kinds table.now) word.now }
 {
     if word.starts_with("--") {
@@ -76,7 +77,7 @@ fn alone<'a, T: OptionTable>(table: &T, word: &'a str) -> Meaning<'a>
 
 // What a word that begins with two dashes is.
 fn meaning_of_option<'a, T: OptionTable>(table: &T, word: &'a str) -> Meaning<'a>
-    ensures { shown_meaning result ≡ option_meaning (T.kinds table.now (key_of word.now)) (key_of word.now) (value_of word.now) }
+    ensures { shown_meaning result ≡ option_meaning (T.kinds table.now (option_name word.now)) (option_name word.now) (option_value word.now) }
 {
     match word.split_once('=') {
         Some((key, value)) => meaning_with(table.kind(key), key, Some(value)),

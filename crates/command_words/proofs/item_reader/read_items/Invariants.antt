@@ -2,7 +2,7 @@ use Rattle.std.proofs.Common.{◌≡◌, option_map, map, drop}
 use Rattle.command_words.specs.Items.{texts, items_of}
 use Rattle.command_words.specs.Code.{shown}
 use Rattle.command_words.proofs.ItemLemmas.{behind}
-use Rattle.command_words.proofs.reading.read_items.Given as goal
+use Rattle.command_words.proofs.item_reader.read_items.Given as goal
 
 abbrev pub invariant-loop-word : goal.invariant-loop-word
 invariant-loop-word g l =
