@@ -11,18 +11,18 @@ abbrev pub room : ℕ
 room = 5373952
 
 -- what is kept: the number of bytes, the register behind them, and the register at every place that is a multiple of the stride
-pub record Kept : Type 0 where
+pub record KeptRegisters : Type 0 where
   pub count : ℕ
   pub last : ℕ
   pub marks : List ℕ
 
 -- The registers are those along the bytes, where `before` came before them.
-pub record AreAlong (prefixes : Kept) (before : List ℕ) (bytes : List ℕ) : Type 0 where
+pub record AreAlong (prefixes : KeptRegisters) (before : List ℕ) (bytes : List ℕ) : Type 0 where
   pub in_room : length bytes ≤ room
   pub count : prefixes.count ≡ length bytes
   pub last : prefixes.last ≡ crc_register (before ++ bytes)
   pub marks : (i : ℕ) → stride * i ≤ length bytes → get_or prefixes.marks i 0 ≡ crc_register (before ++ take (stride * i) bytes)
 
 -- so they are, whatever came before
-abbrev pub HasPrefixes : Kept → List ℕ → Type 0
+abbrev pub HasPrefixes : KeptRegisters → List ℕ → Type 0
 HasPrefixes prefixes bytes = (before : List ℕ) × AreAlong prefixes before bytes

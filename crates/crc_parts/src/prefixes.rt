@@ -33,9 +33,9 @@ pub struct Prefixes {
 
 impl Model for Prefixes {
     ghost use Rattle.std.specs.Prelude.{◌≡◌, ◌≤◌, length};
-    ghost use Rattle.crc_parts.specs.Prefixes.{room, Kept};
+    ghost use Rattle.crc_parts.specs.Prefixes.{room, KeptRegisters};
 
-    ghost Value = { Kept };
+    ghost Value = { KeptRegisters };
 
     ghost view = { λ p. record { count = p.count; last = p.last; marks = p.marks.items } };
 

@@ -15,7 +15,7 @@ use Rattle.packet_codec.specs.Flags.{first_flags, second_flags}
 use Rattle.packet_codec.specs.Fields.{SpellsOptional, SpellsStamp, SpellsTexts, SpellsTags, SpellsFile, SpellsFields}
 use Rattle.packet_codec.specs.Packet.{signature, SpellsEvent, IsPacket}
 use Rattle.packet_codec.specs.Grammar.{Found, NotFound, Flagged}
-use Rattle.packet_codec.specs.Shapes.{Run, Runs, CountedRuns, NamedRun, bit, Contents, FieldShapes, HeaderShape, HeaderStands, AreTexts, AreShortTexts, status_from, file_from, event_from, contents_of, fields_at, ShowsParts}
+use Rattle.packet_codec.specs.Shapes.{ByteRun, ByteRuns, CountedRuns, NamedRun, bit, Contents, FieldShapes, HeaderShape, HeaderStands, AreTexts, AreShortTexts, status_from, file_from, event_from, contents_of, fields_at, ShowsParts}
 use Rattle.packet_codec.specs.Told.{IsTold}
 use Rattle.packet_codec.specs.Grammar as grammar
 use Rattle.std.proofs.lemmas.List.{get_or_default}
@@ -27,13 +27,13 @@ use Rattle.packet_codec.proofs.HeaderLemmas.{header_free}
 
 -- ---- texts and runs
 
-run_from_text : (bytes text : List ℕ) → SpellsText bytes text → Run bytes text
+run_from_text : (bytes text : List ℕ) → SpellsText bytes text → ByteRun bytes text
 run_from_text bytes text s = record { number = s.number; content = text; parts = s.parts; number_spelled = s.length_spelled; content_spelled = refl }
 
-text_from_run : (bytes text : List ℕ) → Run bytes text → IsText text → SpellsText bytes text
+text_from_run : (bytes text : List ℕ) → ByteRun bytes text → IsText text → SpellsText bytes text
 text_from_run bytes text s is = record { number = s.number; parts = s.parts ∙ ap (λ (l : List ℕ). s.number ++ l) s.content_spelled; length_spelled = s.number_spelled; is_text = is }
 
-runs_from_texts : (bytes : List ℕ) (texts : List (List ℕ)) → SpellsTexts bytes texts → Runs bytes texts
+runs_from_texts : (bytes : List ℕ) (texts : List (List ℕ)) → SpellsTexts bytes texts → ByteRuns bytes texts
 runs_from_texts bytes [] s = s
 runs_from_texts bytes (text ∷ texts) (front, rest, parts, first, others) = (front, rest, parts, run_from_text front text first, runs_from_texts rest texts others)
 
@@ -41,7 +41,7 @@ are_texts : (bytes : List ℕ) (texts : List (List ℕ)) → SpellsTexts bytes t
 are_texts bytes [] s = All-nil IsText
 are_texts bytes (text ∷ texts) (front, rest, parts, first, others) = All-cons IsText text texts first.is_text (are_texts rest texts others)
 
-texts_from_runs : (bytes : List ℕ) (texts : List (List ℕ)) → Runs bytes texts → All IsText texts → SpellsTexts bytes texts
+texts_from_runs : (bytes : List ℕ) (texts : List (List ℕ)) → ByteRuns bytes texts → All IsText texts → SpellsTexts bytes texts
 texts_from_runs bytes [] s all = s
 texts_from_runs bytes (text ∷ texts) (front, rest, parts, first, others) all =
     (front, rest, parts, text_from_run front text first (All-head IsText text texts all), texts_from_runs rest texts others (All-tail IsText text texts all))
@@ -144,7 +144,7 @@ fields_shape bytes e s =
         first = s.id;
         second = s.tags ++ (s.mime ++ (s.file ++ s.route));
         parts = refl;
-        first_spelled = optional_shape SpellsText Run run_from_text _ s.id e.id first.id_bit s.id_spelled;
+        first_spelled = optional_shape SpellsText ByteRun run_from_text _ s.id e.id first.id_bit s.id_spelled;
         second_spelled = record {
           first = s.tags;
           second = s.mime ++ (s.file ++ s.route);
@@ -154,13 +154,13 @@ fields_shape bytes e s =
             first = s.mime;
             second = s.file ++ s.route;
             parts = refl;
-            first_spelled = optional_shape SpellsText Run run_from_text _ s.mime e.mime second.mime_bit s.mime_spelled;
+            first_spelled = optional_shape SpellsText ByteRun run_from_text _ s.mime e.mime second.mime_bit s.mime_spelled;
             second_spelled = record {
               first = s.file;
               second = s.route;
               parts = refl;
               first_spelled = optional_file_shape _ s.file e.file second.file_bit s.file_spelled;
-              second_spelled = optional_shape SpellsText Run run_from_text _ s.route e.route first.route_bit s.route_spelled;
+              second_spelled = optional_shape SpellsText ByteRun run_from_text _ s.route e.route first.route_bit s.route_spelled;
             };
           };
         };
@@ -215,11 +215,11 @@ fields_from_shape first second bytes c s good =
       route = from_file.second;
       parts = s.parts ∙ ap (λ (l : List ℕ). s.first ++ l) (from_id.parts ∙ ap (λ (l : List ℕ). from_id.first ++ l) (from_tags.parts ∙ ap (λ (l : List ℕ). from_tags.first ++ l) (from_mime.parts ∙ ap (λ (l : List ℕ). from_mime.first ++ l) from_file.parts))) ∙ sym (regroup_all s.first from_id.first from_tags.first from_mime.first from_file.first from_file.second);
       stamp_spelled = optional_from_shape SpellsStamp SpellsStamp (λ _. Unit {0}) (λ bytes a h _. h) _ s.first c.0 s.first_spelled (if_some_any c.0);
-      id_spelled = optional_from_shape SpellsText Run IsText text_from_run _ from_id.first c.1.0 from_id.first_spelled good.id;
+      id_spelled = optional_from_shape SpellsText ByteRun IsText text_from_run _ from_id.first c.1.0 from_id.first_spelled good.id;
       tags_spelled = optional_from_shape SpellsTags CountedRuns (All IsText) tags_from_shape _ from_tags.first c.1.1.0 from_tags.first_spelled good.tags;
-      mime_spelled = optional_from_shape SpellsText Run IsText text_from_run _ from_mime.first c.1.1.1.0 from_mime.first_spelled good.mime;
+      mime_spelled = optional_from_shape SpellsText ByteRun IsText text_from_run _ from_mime.first c.1.1.1.0 from_mime.first_spelled good.mime;
       file_spelled = optional_file_from_shape _ from_file.first c.1.1.1.1.0 from_file.first_spelled good.file;
-      route_spelled = optional_from_shape SpellsText Run IsText text_from_run _ from_file.second c.1.1.1.1.1 from_file.second_spelled good.route;
+      route_spelled = optional_from_shape SpellsText ByteRun IsText text_from_run _ from_file.second c.1.1.1.1.1 from_file.second_spelled good.route;
     }
   where
     if_some_any : {A : Type 0} (o : Option A) → IfSome o (λ _. Unit {0})
@@ -230,15 +230,15 @@ fields_from_shape first second bytes c s good =
 first_again : (first second : ℕ) (bytes : List ℕ) (c : Contents) → first / 16 ≡ 2 → FieldShapes first second bytes c → first_flags (event_from first second c) ≡ first
 first_again first second bytes c version s =
     let stamp = flagged_is SpellsStamp (bit first 2) _ c.0 s.first_spelled in
-    let id = flagged_is Run (bit first 8) _ c.1.0 s.second_spelled.first_spelled in
-    let route = flagged_is Run (bit first 4) _ c.1.1.1.1.1 s.second_spelled.second_spelled.second_spelled.second_spelled.second_spelled in
+    let id = flagged_is ByteRun (bit first 8) _ c.1.0 s.second_spelled.first_spelled in
+    let route = flagged_is ByteRun (bit first 4) _ c.1.1.1.1.1 s.second_spelled.second_spelled.second_spelled.second_spelled.second_spelled in
     rw (stamp, id, route) (sym (first_from_bits first version))
 
 second_again : (first second : ℕ) (bytes : List ℕ) (c : Contents) → second < 256 → second / 8 % 2 ≡ 0 → FieldShapes first second bytes c → second_flags (event_from first second c) ≡ second
 second_again first second bytes c byte zero_bit s =
     let from_tags = s.second_spelled.second_spelled in
     let tags = flagged_is CountedRuns (bit second 128) _ c.1.1.0 from_tags.first_spelled in
-    let mime = flagged_is Run (bit second 32) _ c.1.1.1.0 from_tags.second_spelled.first_spelled in
+    let mime = flagged_is ByteRun (bit second 32) _ c.1.1.1.0 from_tags.second_spelled.first_spelled in
     let file = file_there c.1.1.1.1.0 ∙ flagged_is NamedRun (bit second 64) _ c.1.1.1.1.0 from_tags.second_spelled.second_spelled.first_spelled in
     let status = number_of_status (second % 8) (omega arith) in
     rw (tags, mime, file, status) (sym (second_from_bits second byte zero_bit))

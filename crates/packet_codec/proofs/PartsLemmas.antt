@@ -5,7 +5,7 @@ use Rattle.sub_number.proofs.NumberLemmas.{AreBytes}
 use Rattle.packet_codec.specs.declared.stamp.Stamp.{Stamp}
 use Rattle.packet_codec.specs.Grammar.{Found, NotFound}
 use Rattle.packet_codec.specs.Fields.{SpellsStamp}
-use Rattle.packet_codec.specs.Shapes.{Run, CountedRuns, NamedRun, ShowsOptional, bit, Contents, StampShape, IdShape, TagsShape, MimeShape, FileShape, RouteShape, FromFile, FromMime, FromTags, FromId, FieldShapes}
+use Rattle.packet_codec.specs.Shapes.{ByteRun, CountedRuns, NamedRun, ShowsOptional, bit, Contents, StampShape, IdShape, TagsShape, MimeShape, FileShape, RouteShape, FromFile, FromMime, FromTags, FromId, FieldShapes}
 use Rattle.packet_codec.proofs.GrammarLemmas.{IsPrefixFree, pair_free, flagged_free, found_same, found_are, found_pair, not_first, not_second}
 use Rattle.packet_codec.proofs.ShapeLemmas.{run_free, named_run_free, counted_runs_free, stamp_free}
 
@@ -21,19 +21,19 @@ module _ (first second : ℕ) where
   stamp_shape_free = flagged_free (bit first 2) SpellsStamp stamp_free
 
   pub id_shape_free : IsPrefixFree (IdShape first)
-  id_shape_free = flagged_free (bit first 8) Run run_free
+  id_shape_free = flagged_free (bit first 8) ByteRun run_free
 
   pub tags_shape_free : IsPrefixFree (TagsShape second)
   tags_shape_free = flagged_free (bit second 128) CountedRuns counted_runs_free
 
   pub mime_shape_free : IsPrefixFree (MimeShape second)
-  mime_shape_free = flagged_free (bit second 32) Run run_free
+  mime_shape_free = flagged_free (bit second 32) ByteRun run_free
 
   pub file_shape_free : IsPrefixFree (FileShape second)
   file_shape_free = flagged_free (bit second 64) NamedRun named_run_free
 
   pub route_shape_free : IsPrefixFree (RouteShape first)
-  route_shape_free = flagged_free (bit first 4) Run run_free
+  route_shape_free = flagged_free (bit first 4) ByteRun run_free
 
   -- two lists of all fields are one
   pub fields_free : IsPrefixFree (FieldShapes first second)

@@ -9,16 +9,16 @@ use Rattle.sub_number.proofs.NumberLemmas.{AreBytes, are_bytes_take}
 use Rattle.packet_codec.specs.declared.stamp.Stamp.{Stamp}
 use Rattle.packet_codec.specs.Grammar.{Found, NotFound}
 use Rattle.packet_codec.specs.Fields.{SpellsStamp}
-use Rattle.packet_codec.specs.Shapes.{Run, Runs, CountedRuns, NamedRun, BeginsWithRuns}
+use Rattle.packet_codec.specs.Shapes.{ByteRun, ByteRuns, CountedRuns, NamedRun, BeginsWithRuns}
 use Rattle.packet_codec.proofs.GrammarLemmas.{are_front, are_rest, joined, regroup, same_front, IsPrefixFree, IsPrefixFreeBySize, number_free, pair_free, counted_free, exactly_free, found_same, found_are, found_counted, not_content}
 
-pub run_free : IsPrefixFree Run
+pub run_free : IsPrefixFree ByteRun
 run_free = counted_free length (λ bytes run. bytes ≡ run) exactly_free
 
 pub named_run_free : IsPrefixFree NamedRun
-named_run_free = pair_free Run Run run_free run_free
+named_run_free = pair_free ByteRun ByteRun run_free run_free
 
-pub runs_free : IsPrefixFreeBySize length Runs
+pub runs_free : IsPrefixFreeBySize length ByteRuns
 runs_free f r f' r' [] [] len are are' e s s' = record { front = s ∙ sym s'; rest = rw (s, s') at e; value = refl }
 runs_free f r f' r' [] (a' ∷ left') len are are' e s s' = absurd (omega arith)
 runs_free f r f' r' (a ∷ left) [] len are are' e s s' = absurd (omega arith)
@@ -31,7 +31,7 @@ runs_free f r f' r' (a ∷ left) (a' ∷ left') len are are' e (g, t, p, q, u) (
     record { front = joined f f' g t g' t' p p' one.front two.front; rest = two.rest; value = let heads = one.value in let tails = two.value in cc }
 
 pub counted_runs_free : IsPrefixFree CountedRuns
-counted_runs_free = counted_free length Runs runs_free
+counted_runs_free = counted_free length ByteRuns runs_free
 
 stamp_of : (seconds nanos : ℕ) → nanos < 2 ^ 30 → Stamp
 stamp_of seconds nanos fit = record { seconds = seconds; nanos = nanos; nanos_fit = fit }
@@ -60,11 +60,11 @@ no_number_found bytes none value rest s =
     let len : length bytes ≡ length s.front + length rest = ap length s.parts ∙ length-append s.front rest in
     none value (length s.front) (record { in_range = omega arith; narrow = s.spelled.few; spells = rw front s.spelled })
 
-pub run_past_end : (bytes middle : List ℕ) (n : ℕ) → AreBytes bytes → Found SpellsNumber bytes n middle → length middle < n → NotFound Run bytes
+pub run_past_end : (bytes middle : List ℕ) (n : ℕ) → AreBytes bytes → Found SpellsNumber bytes n middle → length middle < n → NotFound ByteRun bytes
 run_past_end bytes middle n are found short = not_content length (λ bytes run. bytes ≡ run) bytes middle n are found (λ a rest size s.
     omega (arith, ap length s.parts, ap length s.spelled, length-append s.front rest))
 
-pub run_found : (bytes middle a rest : List ℕ) (n : ℕ) → Found SpellsNumber bytes n middle → n ≤ length middle → a ≡ take n middle → rest ≡ drop n middle → Found Run bytes a rest
+pub run_found : (bytes middle a rest : List ℕ) (n : ℕ) → Found SpellsNumber bytes n middle → n ≤ length middle → a ≡ take n middle → rest ≡ drop n middle → Found ByteRun bytes a rest
 run_found bytes middle a rest n s fits a-is rest-is =
     found_counted length (λ bytes run. bytes ≡ run) bytes middle rest n a (rw a-is (length-take-le n middle fits)) s (record { front = a; parts = rw (a-is, rest-is) (sym (take-append-drop n middle)); spelled = refl })
 
@@ -101,11 +101,11 @@ no_stamp_number bytes middle middle-is never stamp rest s = never stamp.nanos re
 pub no_runs : (bytes : List ℕ) → BeginsWithRuns bytes 0 [] bytes
 no_runs bytes = record { size = refl; found = record { front = []; parts = refl; spelled = refl } }
 
-runs_append : (f g : List ℕ) (runs : List (List ℕ)) (run : List ℕ) → Runs f runs → Run g run → Runs (f ++ g) (runs ++ run ∷ [])
+runs_append : (f g : List ℕ) (runs : List (List ℕ)) (run : List ℕ) → ByteRuns f runs → ByteRun g run → ByteRuns (f ++ g) (runs ++ run ∷ [])
 runs_append f g [] run s t = (g, [], rw s (sym (append-nil g)), t, refl)
 runs_append f g (a ∷ left) run (h, u, p, q, v) t = (h, u ++ g, ap (λ (l : List ℕ). l ++ g) p ∙ append_assoc h u g, q, runs_append u g left run v t)
 
-pub runs_more : (bytes middle rest : List ℕ) (i : ℕ) (runs : List (List ℕ)) (run : List ℕ) → BeginsWithRuns bytes i runs middle → Found Run middle run rest → BeginsWithRuns bytes (i + 1) (runs ++ run ∷ []) rest
+pub runs_more : (bytes middle rest : List ℕ) (i : ℕ) (runs : List (List ℕ)) (run : List ℕ) → BeginsWithRuns bytes i runs middle → Found ByteRun middle run rest → BeginsWithRuns bytes (i + 1) (runs ++ run ∷ []) rest
 runs_more bytes middle rest i runs run s t = record {
   size = omega (arith, s.size, length-append runs (run ∷ []));
   found = record {
@@ -116,29 +116,29 @@ runs_more bytes middle rest i runs run s t = record {
 }
 
 -- where there are more runs than were read, there is a next one
-next_run : (f g bytes rest rest' : List ℕ) (runs others : List (List ℕ)) → AreBytes bytes → bytes ≡ f ++ rest → bytes ≡ g ++ rest' → length runs < length others → Runs f runs → Runs g others → (run : List ℕ) × (after : List ℕ) × Found Run rest run after
+next_run : (f g bytes rest rest' : List ℕ) (runs others : List (List ℕ)) → AreBytes bytes → bytes ≡ f ++ rest → bytes ≡ g ++ rest' → length runs < length others → ByteRuns f runs → ByteRuns g others → (run : List ℕ) × (after : List ℕ) × Found ByteRun rest run after
 next_run f g bytes rest rest' [] [] are e e' less s t = absurd (omega arith)
 next_run f g bytes rest rest' (a ∷ left) [] are e e' less s t = absurd (omega arith)
 next_run f g bytes rest rest' [] (b ∷ bs) are e e' less s (h, u, p, q, v) =
     let whole : rest ≡ h ++ (u ++ rest') = rw s at (sym e) ∙ regroup g h u rest' bytes p e' in
     (b, u ++ rest', record { front = h; parts = whole; spelled = q })
 next_run f g bytes rest rest' (a ∷ left) (b ∷ bs) are e e' less (h, u, p, q, v) (h', u', p', q', v') =
-    let one : Found Run bytes a (u ++ rest) = record { front = h; parts = regroup f h u rest bytes p e; spelled = q } in
-    let two : Found Run bytes b (u' ++ rest') = record { front = h'; parts = regroup g h' u' rest' bytes p' e'; spelled = q' } in
-    let same = found_same Run run_free bytes (u ++ rest) (u' ++ rest') a b are one two in
-    next_run u u' (u ++ rest) rest rest' left bs (found_are Run bytes (u ++ rest) a are one) refl same.rest (omega arith) v v'
+    let one : Found ByteRun bytes a (u ++ rest) = record { front = h; parts = regroup f h u rest bytes p e; spelled = q } in
+    let two : Found ByteRun bytes b (u' ++ rest') = record { front = h'; parts = regroup g h' u' rest' bytes p' e'; spelled = q' } in
+    let same = found_same ByteRun run_free bytes (u ++ rest) (u' ++ rest') a b are one two in
+    next_run u u' (u ++ rest) rest rest' left bs (found_are ByteRun bytes (u ++ rest) a are one) refl same.rest (omega arith) v v'
 
-pub runs_stop : (bytes middle : List ℕ) (i count : ℕ) (runs : List (List ℕ)) → AreBytes bytes → i < count → BeginsWithRuns bytes i runs middle → NotFound Run middle → (others : List (List ℕ)) (rest : List ℕ) → BeginsWithRuns bytes count others rest → ⊥
+pub runs_stop : (bytes middle : List ℕ) (i count : ℕ) (runs : List (List ℕ)) → AreBytes bytes → i < count → BeginsWithRuns bytes i runs middle → NotFound ByteRun middle → (others : List (List ℕ)) (rest : List ℕ) → BeginsWithRuns bytes count others rest → ⊥
 runs_stop bytes middle i count runs are less s never others rest t =
     let next = next_run s.found.front t.found.front bytes middle rest runs others are s.found.parts t.found.parts (omega (arith, s.size, t.size)) s.found.spelled t.found.spelled in
     never next.0 next.1 next.2
 
 pub no_counted_runs : (bytes middle : List ℕ) (count : ℕ) → AreBytes bytes → Found SpellsNumber bytes count middle → ((runs : List (List ℕ)) (rest : List ℕ) → BeginsWithRuns middle count runs rest → ⊥) → NotFound CountedRuns bytes
 no_counted_runs bytes middle count are found never =
-    not_content length Runs bytes middle count are found (λ runs rest size s. never runs rest (record { size = size; found = s }))
+    not_content length ByteRuns bytes middle count are found (λ runs rest size s. never runs rest (record { size = size; found = s }))
 
 pub counted_runs_found : (bytes middle rest : List ℕ) (count : ℕ) (runs : List (List ℕ)) → Found SpellsNumber bytes count middle → BeginsWithRuns middle count runs rest → Found CountedRuns bytes runs rest
-counted_runs_found bytes middle rest count runs s t = found_counted length Runs bytes middle rest count runs t.size s t.found
+counted_runs_found bytes middle rest count runs s t = found_counted length ByteRuns bytes middle rest count runs t.size s t.found
 
 -- any number is below 2 ^ 30
 pub number_below : (bytes : List ℕ) (value : ℕ) → SpellsNumber bytes value → value < 2 ^ 30

@@ -11,19 +11,24 @@ use Rattle.packet_codec.specs.declared.event.Event.{Event}
 use Rattle.packet_codec.specs.Flags.{first_flags, second_flags}
 use Rattle.packet_codec.specs.Packet.{signature, SpellsEvent}
 
+-- the spelling of a value, nothing where there is none
 abbrev pub canonical_optional : {A : Type 0} → (A → List ℕ) → Option A → List ℕ
 canonical_optional spelling None = []
 canonical_optional spelling (Some value) = spelling value
 
+-- a text behind its length
 abbrev pub canonical_text : List ℕ → List ℕ
 canonical_text text = shortest_number (length text) ++ text
 
+-- four bytes of seconds, and the nanoseconds behind them
 abbrev pub canonical_stamp : Stamp → List ℕ
 canonical_stamp stamp = to_be_bytes w32 stamp.seconds ++ shortest_number stamp.nanos
 
+-- the tags behind their number
 abbrev pub canonical_tags : List (List ℕ) → List ℕ
 canonical_tags tags = shortest_number (length tags) ++ flat_map canonical_text tags
 
+-- a file's name, and its bytes behind their length
 abbrev pub canonical_file : FilePart → List ℕ
 canonical_file file = canonical_text file.name ++ shortest_number (length file.bytes) ++ file.bytes
 
@@ -36,11 +41,12 @@ canonical_fields e = canonical_optional canonical_stamp e.stamp
     ++ canonical_optional canonical_file e.file
     ++ canonical_optional canonical_text e.route
 
--- The size of a packet whose fields have n bytes: the signature and the flags, the length in the least of one to three
--- bytes that has room for the whole size (or in three, where none has), the fields and the checksum.
+-- The size of a packet whose fields have n bytes: of the signature and the flags, the length, the fields and the
+-- checksum. The length has the least of one to three bytes that has room for the whole size, or three, where none has.
 abbrev pub packet_size : ℕ → ℕ
 packet_size n = if nat_lt (3 + 1 + n + 4) (2 ^ 6) then 3 + 1 + n + 4 else (if nat_lt (3 + 2 + n + 4) (2 ^ 14) then 3 + 2 + n + 4 else 3 + 3 + n + 4)
 
+-- how many bytes the event's packet has
 abbrev pub canonical_size : Event → ℕ
 canonical_size e = packet_size (length (canonical_fields e))
 

@@ -4,6 +4,7 @@ use Rattle.packet_codec.specs.declared.status.Status.{Status}
 use Rattle.packet_codec.specs.declared.status.Status.TheVariants.{Unset, Exists, InProgress, Success, UxSuccess, Skip, Fail, XFail}
 use Rattle.packet_codec.specs.declared.event.Event.{Event}
 
+-- the number that stands for a status in the flags
 abbrev pub status_number : Status → ℕ
 status_number Unset = 0
 status_number Exists = 1

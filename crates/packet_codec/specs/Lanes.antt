@@ -15,6 +15,7 @@ abbrev pub is_in_lane : (lane : ℕ) → Option (List ℕ) → Bool
 is_in_lane lane None = false
 is_in_lane lane (Some route) = pointwise nat_eq (lane_name route) (decimal lane)
 
+-- the event came from this lane, as its route says
 abbrev pub is_of_lane : (lane : ℕ) → Event → Bool
 is_of_lane lane e = is_in_lane lane e.route
 

@@ -1,11 +1,12 @@
 -- Pieces of files.
-use Rattle.std.specs.Prelude.{ℕ, Some, None, List, true, false}
+use Rattle.std.specs.Prelude.{ℕ, ◌+◌, ◌-◌, ◌*◌, ◌/◌, Some, None, List, true, false, length, take, drop, map}
+use Rattle.std.specs.List.{range_with_len}
 use Rattle.packet_codec.specs.declared.status.Status.TheVariants.{Unset}
 use Rattle.packet_codec.specs.declared.event.Event.{Event}
 
 -- an event with a piece of the file of this name, and nothing else
-abbrev pub piece_of : (name bytes : List ℕ) → Event
-piece_of name bytes = record {
+abbrev pub event_of_piece : (name bytes : List ℕ) → Event
+event_of_piece name bytes = record {
   stamp = None;
   id = None;
   tags = None;
@@ -16,3 +17,11 @@ piece_of name bytes = record {
   eof = false;
   route = None;
 }
+
+-- the most bytes of one piece
+abbrev pub longest_piece : ℕ
+longest_piece = 65536
+
+-- the bytes cut every 65,536 bytes from their front; the last piece may be shorter
+abbrev pub pieces_of : List ℕ → List (List ℕ)
+pieces_of bytes = map (λ k. take longest_piece (drop (longest_piece * k) bytes)) (range_with_len 0 ((length bytes + (longest_piece - 1)) / longest_piece))

@@ -22,6 +22,7 @@ route_after Nothing own = own
 route_after (Lane lane) own = Some (route_under lane own)
 route_after (Tags tags) own = own
 
+-- the event with the tags and the route that the change gives it
 abbrev pub changed : Change → Event → Event
 changed change e = record e { tags = tags_after change e.tags; route = route_after change e.route }
 

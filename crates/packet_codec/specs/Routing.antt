@@ -8,5 +8,6 @@ abbrev pub route_under : ℕ → Option (List ℕ) → List ℕ
 route_under lane None = decimal lane
 route_under lane (Some route) = decimal lane ++ codes "/" ++ route
 
+-- the event under this lane
 abbrev pub under : ℕ → Event → Event
 under lane e = record e { route = Some (route_under lane e.route) }

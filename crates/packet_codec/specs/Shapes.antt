@@ -17,21 +17,21 @@ use Rattle.packet_codec.specs.declared.event.FilePart.{FilePart}
 use Rattle.packet_codec.specs.declared.event.Event.{Event}
 
 -- so many bytes
-abbrev pub Run : List ℕ → List ℕ → Type 0
-Run = Counted length (λ bytes run. bytes ≡ run)
+abbrev pub ByteRun : List ℕ → List ℕ → Type 0
+ByteRun = Counted length (λ bytes run. bytes ≡ run)
 
 -- the runs, one after another
-abbrev pub Runs : List ℕ → List (List ℕ) → Type 0
-Runs bytes [] = bytes ≡ []
-Runs bytes (run ∷ runs) = (front : List ℕ) × (rest : List ℕ) × (bytes ≡ front ++ rest) × Run front run × Runs rest runs
+abbrev pub ByteRuns : List ℕ → List (List ℕ) → Type 0
+ByteRuns bytes [] = bytes ≡ []
+ByteRuns bytes (run ∷ runs) = (front : List ℕ) × (rest : List ℕ) × (bytes ≡ front ++ rest) × ByteRun front run × ByteRuns rest runs
 
 -- so many runs
 abbrev pub CountedRuns : List ℕ → List (List ℕ) → Type 0
-CountedRuns = Counted length Runs
+CountedRuns = Counted length ByteRuns
 
 -- a name and some bytes
 abbrev pub NamedRun : List ℕ → (List ℕ × List ℕ) → Type 0
-NamedRun = Pair Run Run
+NamedRun = Pair ByteRun ByteRun
 
 -- whether the flag of this weight is set
 abbrev pub bit : ℕ → ℕ → Bool
@@ -45,18 +45,23 @@ Contents = Option Stamp × (Option (List ℕ) × (Option (List (List ℕ)) × (O
 abbrev pub the_stamp : Contents → Option Stamp
 the_stamp (stamp, (id, (tags, (mime, (file, route))))) = stamp
 
+-- the id among the values
 abbrev pub the_id : Contents → Option (List ℕ)
 the_id (stamp, (id, (tags, (mime, (file, route))))) = id
 
+-- the tags among the values
 abbrev pub the_tags : Contents → Option (List (List ℕ))
 the_tags (stamp, (id, (tags, (mime, (file, route))))) = tags
 
+-- the type of the file's bytes among the values
 abbrev pub the_mime : Contents → Option (List ℕ)
 the_mime (stamp, (id, (tags, (mime, (file, route))))) = mime
 
+-- the file among the values, its name and its bytes
 abbrev pub the_file : Contents → Option (List ℕ × List ℕ)
 the_file (stamp, (id, (tags, (mime, (file, route))))) = file
 
+-- the route among the values
 abbrev pub the_route : Contents → Option (List ℕ)
 the_route (stamp, (id, (tags, (mime, (file, route))))) = route
 
@@ -64,31 +69,39 @@ the_route (stamp, (id, (tags, (mime, (file, route))))) = route
 abbrev pub StampShape : ℕ → List ℕ → Option Stamp → Type 0
 StampShape first = Flagged (bit first 2) SpellsStamp
 
+-- an id, where its flag is set
 abbrev pub IdShape : ℕ → List ℕ → Option (List ℕ) → Type 0
-IdShape first = Flagged (bit first 8) Run
+IdShape first = Flagged (bit first 8) ByteRun
 
+-- tags, where their flag is set
 abbrev pub TagsShape : ℕ → List ℕ → Option (List (List ℕ)) → Type 0
 TagsShape second = Flagged (bit second 128) CountedRuns
 
+-- the type of the file's bytes, where its flag is set
 abbrev pub MimeShape : ℕ → List ℕ → Option (List ℕ) → Type 0
-MimeShape second = Flagged (bit second 32) Run
+MimeShape second = Flagged (bit second 32) ByteRun
 
+-- a file's name and bytes, where their flag is set
 abbrev pub FileShape : ℕ → List ℕ → Option (List ℕ × List ℕ) → Type 0
 FileShape second = Flagged (bit second 64) NamedRun
 
+-- a route, where its flag is set
 abbrev pub RouteShape : ℕ → List ℕ → Option (List ℕ) → Type 0
-RouteShape first = Flagged (bit first 4) Run
+RouteShape first = Flagged (bit first 4) ByteRun
 
 -- the fields from one on, in the order of a packet
 abbrev pub FromFile : ℕ → ℕ → List ℕ → (Option (List ℕ × List ℕ) × Option (List ℕ)) → Type 0
 FromFile first second = Pair (FileShape second) (RouteShape first)
 
+-- the fields from the type of the file's bytes on
 abbrev pub FromMime : ℕ → ℕ → List ℕ → (Option (List ℕ) × (Option (List ℕ × List ℕ) × Option (List ℕ))) → Type 0
 FromMime first second = Pair (MimeShape second) (FromFile first second)
 
+-- the fields from the tags on
 abbrev pub FromTags : ℕ → ℕ → List ℕ → (Option (List (List ℕ)) × (Option (List ℕ) × (Option (List ℕ × List ℕ) × Option (List ℕ)))) → Type 0
 FromTags first second = Pair (TagsShape second) (FromMime first second)
 
+-- the fields from the id on
 abbrev pub FromId : ℕ → ℕ → List ℕ → (Option (List ℕ) × (Option (List (List ℕ)) × (Option (List ℕ) × (Option (List ℕ × List ℕ) × Option (List ℕ))))) → Type 0
 FromId first second = Pair (IdShape first) (FromTags first second)
 
@@ -99,7 +112,7 @@ FieldShapes first second = Pair (StampShape first) (FromId first second)
 -- the bytes begin with so many runs
 pub record BeginsWithRuns (bytes : List ℕ) (count : ℕ) (runs : List (List ℕ)) (rest : List ℕ) : Type 0 where
   pub size : length runs ≡ count
-  pub found : Found Runs bytes runs rest
+  pub found : Found ByteRuns bytes runs rest
 
 -- the runs that stand there
 abbrev pub ShowsRuns : ℕ → List ℕ → List (List ℕ) → Type 0
@@ -112,6 +125,7 @@ ShowsOptional Shows None (Some value) = ⊥
 ShowsOptional Shows (Some shown) None = ⊥
 ShowsOptional Shows (Some shown) (Some value) = Shows shown value
 
+-- the bytes that were found are these tags, where there are tags
 abbrev pub ShowsTags : Option RunList → Option (List (List ℕ)) → Type 0
 ShowsTags = ShowsOptional (λ list tags. ShowsRuns list.count list.bytes.now tags)
 
@@ -119,6 +133,7 @@ ShowsTags = ShowsOptional (λ list tags. ShowsRuns list.count list.bytes.now tag
 abbrev pub bytes_of : Option (Bor (List ℕ)) → Option (List ℕ)
 bytes_of run = option_map (λ bytes. bytes.now) run
 
+-- the name and the bytes of a file that was found
 abbrev pub file_of : Option FileBytes → Option (List ℕ × List ℕ)
 file_of file = option_map (λ part. (part.name.now, part.bytes.now)) file
 

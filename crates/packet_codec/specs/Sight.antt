@@ -1,8 +1,8 @@
 -- What stands at the front of some bytes, with the bytes of the packet itself.
 use Rattle.std.specs.Prelude.{◌≡◌, ℕ, List, length, take}
 use Rattle.packet_codec.specs.Header.{BeginsWithPacket, NeedsMore}
-use Rattle.packet_codec.specs.declared.looking.Sight.{Sight}
-use Rattle.packet_codec.specs.declared.looking.Sight.TheVariants.{Packet, More, No}
+use Rattle.packet_codec.specs.declared.sight.Sight.{Sight}
+use Rattle.packet_codec.specs.declared.sight.Sight.TheVariants.{Packet, More, No}
 
 -- the bytes begin with this packet
 pub record BeginsWithThis (bytes packet : List ℕ) : Type 0 where

@@ -17,3 +17,9 @@ pub fn packets_are_one_event()
 pub fn fronts_are_one()
     ensures { (bytes : List ℕ) (one other : Front) → AreBytes bytes → LooksLike bytes one → LooksLike bytes other → one ≡ other }
 {}
+
+/// What holds of the bytes of each slice, since their type tells it: each of them is below 256.
+#[inline(always)]
+pub fn are_bytes(bytes: &[u8])
+    ensures { AreBytes bytes.now }
+{}

@@ -7,15 +7,15 @@
 //! before, where it does not say otherwise.
 //!
 //! - `event`, `stamp`, `status`, `tags`: an event and its parts
-//! - `looking`, `front`: whether some bytes begin with a packet, and what their front is
+//! - `sight`, `front`: whether some bytes begin with a packet, and what their front is
 //! - `packet`: a packet of which all is tested; it stands on `header` and `parts`, which read from the front
 //! - `decoding`: the event of a packet
 //! - `fields`: the fields of a packet, each on its own
-//! - `known`: the event of a packet that is known to stand at the front of some bytes
+//! - `standing_packet`: the event of a packet that is known to stand at the front of some bytes
 //! - `sizes`, `encoding`: the shortest spelling and its size
 //! - `routing`: an event under a lane's route
 //! - `piece`: a piece of a file as a packet under a lane's route
-//! - `respelling`: a packet written from its parts, as it is or with a `change`; it stands on `respelled_size` and
+//! - `respelled_packet`: a packet written from its parts, as it is or with a `change`; it stands on `respelled_size` and
 //!   `respelled_bytes`
 //! - `halves`: the two halves of a packet's event, each written under a lane's route
 //! - `laws`, `canonical_law`: what holds of all spellings
@@ -32,19 +32,19 @@ mod front;
 mod half_laws;
 mod halves;
 mod header;
-mod known;
 mod lane_laws;
 mod laws;
-mod looking;
 mod packet;
 mod parts;
 mod piece;
 mod respelled_bytes;
+mod respelled_packet;
 mod respelled_size;
-mod respelling;
 mod routing;
+mod sight;
 mod sizes;
 mod stamp;
+mod standing_packet;
 mod status;
 mod tags;
 
@@ -55,14 +55,14 @@ pub use event::{Event, FilePart};
 pub use front::Front;
 pub use half_laws::halves_fit;
 pub use header::{Header, SIGNATURE};
-pub use known::front_packet;
 pub use lane_laws::lanes_are_apart;
-pub use laws::{fronts_are_one, packets_are_one_event};
-pub use looking::{Heading, Sight, head_of, look, look_by, see, see_by};
+pub use laws::{are_bytes, fronts_are_one, packets_are_one_event};
 pub use packet::{Packet, known_packet};
 pub use piece::put_piece_under;
 pub use routing::reroute;
+pub use sight::{Heading, Sight, head_of, look, look_by, see, see_by};
 pub use sizes::{fits, routed_size, size};
 pub use stamp::Stamp;
+pub use standing_packet::front_packet;
 pub use status::Status;
 pub use tags::Tags;

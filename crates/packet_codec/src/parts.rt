@@ -34,7 +34,7 @@ ghost use Rattle.sub_number.specs.Numbers.{SpellsNumber};
 ghost use Rattle.packet_codec.specs.Grammar.{Found, NotFound, Flagged};
 ghost use Rattle.packet_codec.specs.Fields.{SpellsStamp};
 ghost use Rattle.packet_codec.specs.declared.stamp.Stamp.{Stamp};
-ghost use Rattle.packet_codec.specs.Shapes.{Run, CountedRuns, NamedRun, BeginsWithRuns, ShowsRuns, ShowsOptional, Form, ShowsParts, FieldShapes, Contents};
+ghost use Rattle.packet_codec.specs.Shapes.{ByteRun, CountedRuns, NamedRun, BeginsWithRuns, ShowsRuns, ShowsOptional, Form, ShowsParts, FieldShapes, Contents};
 
 /// A number, and the bytes behind it.
 #[inline(always)]
@@ -49,8 +49,8 @@ fn number_at(bytes: &[u8]) -> Option<(u32, &[u8])>
 /// The run of bytes behind its length, and the bytes behind it.
 #[inline(always)]
 pub fn run_at(bytes: &[u8]) -> Option<(&[u8], &[u8])>
-    ensures found { IfSome result (λ r. Found Run bytes.now r.0.now r.1.now) }
-    ensures none { IfNone result (NotFound Run bytes.now) }
+    ensures found { IfSome result (λ r. Found ByteRun bytes.now r.0.now r.1.now) }
+    ensures none { IfNone result (NotFound ByteRun bytes.now) }
 {
     let (len, rest) = number_at(bytes)?;
     let len = len as usize;
@@ -103,7 +103,7 @@ impl<'a> Field<'a> for Stamp {
 
 /// A run of bytes behind its length.
 impl<'a> Field<'a> for &'a [u8] {
-    ghost form = { record { Told = List ℕ; spells = Run; shows = λ run told. run.now ≡ told } };
+    ghost form = { record { Told = List ℕ; spells = ByteRun; shows = λ run told. run.now ≡ told } };
 
     #[inline(always)]
     fn read_at(bytes: &'a [u8]) -> Option<(&'a [u8], &'a [u8])> {

@@ -3,7 +3,7 @@
 ghost use Rattle.std.specs.Prelude.{◌≡◌, ◌<◌, ◌++◌, List, ℕ, OnOk, OnErr};
 ghost use Rattle.packet_codec.specs.Canonical.{canonical, Fits};
 ghost use Rattle.packet_codec.specs.Flags.{first_flags, second_flags};
-ghost use Rattle.packet_codec.specs.Pieces.{piece_of};
+ghost use Rattle.packet_codec.specs.Pieces.{event_of_piece};
 ghost use Rattle.packet_codec.specs.Routing.{under};
 ghost use Rattle.packet_codec.specs.Shapes.{ShowsParts, contents_of};
 
@@ -24,8 +24,8 @@ pub fn put_piece_under(
     out: &mut Vec<u8>,
 ) -> Result<(), NoMemory>
     requires lane { lane < 64 }
-    requires fits { Fits (under lane (piece_of name.now bytes.now)) }
-    ensures ok { OnOk result (out.new.items ≡ out.old.items ++ canonical (under lane (piece_of name.now bytes.now))) }
+    requires fits { Fits (under lane (event_of_piece name.now bytes.now)) }
+    ensures ok { OnOk result (out.new.items ≡ out.old.items ++ canonical (under lane (event_of_piece name.now bytes.now))) }
     ensures err { OnErr result (out.new.items ≡ out.old.items) }
 {
     let parts = piece_parts(name, bytes);
@@ -37,7 +37,7 @@ pub fn put_piece_under(
 // The flag bytes of a runnable event that has a file. Nothing else of a header matters where a packet is written.
 #[inline(always)]
 fn piece_header() -> Header
-    ensures { (name bytes : List ℕ) → (result.first ≡ first_flags (piece_of name bytes)) × (result.second ≡ second_flags (piece_of name bytes)) }
+    ensures { (name bytes : List ℕ) → (result.first ≡ first_flags (event_of_piece name bytes)) × (result.second ≡ second_flags (event_of_piece name bytes)) }
 {
     Header {
         first: 0x21,
@@ -49,7 +49,7 @@ fn piece_header() -> Header
 
 #[inline(always)]
 fn piece_parts<'a>(name: &'a [u8], bytes: &'a [u8]) -> Parts<'a>
-    ensures { ShowsParts result (contents_of (piece_of name.now bytes.now)) }
+    ensures { ShowsParts result (contents_of (event_of_piece name.now bytes.now)) }
 {
     Parts {
         stamp: None,

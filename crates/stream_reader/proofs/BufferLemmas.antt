@@ -4,13 +4,13 @@ use Rattle.std.proofs.lemmas.List.{take-append-drop, take-append-le, take_all, l
 use Rattle.std.proofs.lemmas.List.{take_at}
 use Rattle.std.proofs.lemmas.List.Edits.{paste_all}
 use Rattle.std.specs.List.{copy_within}
-use Rattle.crc_parts.specs.Prefixes.{Kept, HasPrefixes}
+use Rattle.crc_parts.specs.Prefixes.{KeptRegisters, HasPrefixes}
 
-pub all_along : (kept : Kept) (count : ℕ) (items : List ℕ) → HasPrefixes kept (take count items ++ drop count items) → HasPrefixes kept items
+pub all_along : (kept : KeptRegisters) (count : ℕ) (items : List ℕ) → HasPrefixes kept (take count items ++ drop count items) → HasPrefixes kept items
 all_along kept count items along = rw (take-append-drop count items) at along
 
 -- where they stand along all bytes
-pub whole_along : (kept : Kept) (items : List ℕ) → HasPrefixes kept items → (kept.count ≤ length items) × HasPrefixes kept (take kept.count items)
+pub whole_along : (kept : KeptRegisters) (items : List ℕ) → HasPrefixes kept items → (kept.count ≤ length items) × HasPrefixes kept (take kept.count items)
 whole_along kept items along =
     let count : kept.count ≡ length items = along.1.count in
     let all : take kept.count items ≡ items = take_all kept.count items (omega (arith, count)) in
@@ -37,7 +37,7 @@ moved_is items copied moved gone in_range copied-is moved-is =
     moved-is ∙ ap (take (length items - gone)) whole ∙ ap (λ (k : ℕ). take k (drop gone items ++ rest)) size ∙ take_at (drop gone items) rest (length (drop gone items)) refl
 
 -- bytes at the front were let go of, and others appended
-pub moved_along : (kept : Kept) (count gone : ℕ) (items moved new piece : List ℕ) → count ≤ length items → moved ≡ drop gone items → new ≡ moved ++ piece → HasPrefixes kept (drop gone (take count items)) → (kept.count ≤ length new) × HasPrefixes kept (take kept.count new)
+pub moved_along : (kept : KeptRegisters) (count gone : ℕ) (items moved new piece : List ℕ) → count ≤ length items → moved ≡ drop gone items → new ≡ moved ++ piece → HasPrefixes kept (drop gone (take count items)) → (kept.count ≤ length new) × HasPrefixes kept (take kept.count new)
 moved_along kept count gone items moved new piece in_range moved-is new-is along =
     let front : drop gone (take count items) ≡ take (count - gone) moved = drop_of_take gone count items ∙ ap (take (count - gone)) (sym moved-is) in
     let long : count - gone ≤ length moved = omega (arith, ap length moved-is, length-drop gone items, in_range) in

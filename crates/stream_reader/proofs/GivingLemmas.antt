@@ -13,7 +13,7 @@ use Rattle.stream_reader.specs.declared.note.Note.{Note}
 use Rattle.stream_reader.specs.declared.note.Note.TheVariants as note
 use Rattle.stream_reader.specs.Cut.{Piece, packet, foreign, BeginsWithPacketOf, IsCut, IsOpenCut}
 use Rattle.stream_reader.specs.Notes.{foreign_note, notes_behind, notes_of}
-use Rattle.stream_reader.specs.Stream.{Held, BeginsWithNotes, EndsWithNotes, Gives, IsSpent, GivesNote}
+use Rattle.stream_reader.specs.Stream.{Held, BeginsWithNotes, EndsWithNotes, HasGiven, IsSpent, GivesNote}
 use Rattle.stream_reader.specs.Run.{AreForeign, StopsBy, IsRun}
 use Rattle.stream_reader.specs.declared.first.First.{First}
 use Rattle.stream_reader.specs.declared.first.First.TheVariants as found
@@ -117,7 +117,7 @@ last_ends run rest empty some short is = record {
 
 -- ---- the first note
 
-pub gives_event : (ended : Bool) (b rest : List ℕ) (e : Event) → BeginsWithPacketOf b e rest → Gives ended b (note.Event e ∷ []) rest
+pub gives_event : (ended : Bool) (b rest : List ℕ) (e : Event) → BeginsWithPacketOf b e rest → HasGiven ended b (note.Event e ∷ []) rest
 gives_event false b rest e f = event_begins b rest e f
 gives_event true b rest e f = event_ends b rest e f
 
@@ -127,7 +127,7 @@ RunStops ended run rest (Packet size) = BeginsWithPacket rest size
 RunStops ended run rest More = ⊥
 RunStops ended run rest No = (length run ≡ 65536) ⊎ ((ended ≡ true) × (rest ≡ []))
 
-gives_run : (front : Front) (ended : Bool) (run rest : List ℕ) → AreBytes rest → 0 < length run → length run ≤ 65536 → IsRunOf ended run rest → RunStops ended run rest front → Gives ended (run ++ rest) (note.Foreign run ∷ []) rest
+gives_run : (front : Front) (ended : Bool) (run rest : List ℕ) → AreBytes rest → 0 < length run → length run ≤ 65536 → IsRunOf ended run rest → RunStops ended run rest front → HasGiven ended (run ++ rest) (note.Foreign run ∷ []) rest
 gives_run (Packet size) false run rest are some short is p = run_begins run rest (drop size rest) p.packet.0 are some short is (begins_found rest size p)
 gives_run (Packet size) true run rest are some short is p = run_ends run rest (drop size rest) p.packet.0 some short is (begins_found rest size p)
 gives_run More ended run rest are some short is stop = absurd stop
@@ -156,7 +156,7 @@ first_is_event ended b size e in_range spells = record {
 pub first_is_run : (ended : Bool) (b : List ℕ) (count : ℕ) (front : Front) → AreBytes b → 0 < count → (front ≡ More → ⊥) → IsRun ended b count front → IsFirst ended b (note.Foreign (take count b)) count
 first_is_run ended b count front are some closed run =
     let len : length (take count b) ≡ count = length-take-le count b run.in_range in
-    let gives : Gives ended (take count b ++ drop count b) (note.Foreign (take count b) ∷ []) (drop count b) =
+    let gives : HasGiven ended (take count b ++ drop count b) (note.Foreign (take count b) ∷ []) (drop count b) =
     gives_run front ended (take count b) (drop count b) (are_dropped count b are) (omega arith) (omega (arith, run.short)) (run_of count b ended run.in_range run.are_foreign) (run_stops front ended b count run closed) in
     record { some = some; in_range = run.in_range; made = refl; gives = rw (take-append-drop count b) at gives }
 

@@ -10,8 +10,8 @@ use Rattle.packet_codec.specs.declared.front.Front.TheVariants.{More, No}
 use Rattle.packet_codec.specs.Shapes.{HeaderStands}
 use Rattle.packet_codec.specs.Sight.{IsSeen}
 use Rattle.packet_codec.specs.declared.header.Header.{Header}
-use Rattle.packet_codec.specs.declared.looking.Sight.{Sight}
-use Rattle.packet_codec.specs.declared.looking.Sight.TheVariants as sight
+use Rattle.packet_codec.specs.declared.sight.Sight.{Sight}
+use Rattle.packet_codec.specs.declared.sight.Sight.TheVariants as sight
 use Rattle.packet_codec.proofs.GrammarLemmas.{fits_from_are}
 use Rattle.packet_codec.proofs.SpelledLemmas.{read_packet}
 use Rattle.packet_codec.proofs.LookLemmas.{front_of_none, header_begins, is_no_packet}

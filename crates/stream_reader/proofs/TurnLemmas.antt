@@ -7,7 +7,7 @@ use Rattle.std.proofs.lemmas.List.Elements.{All-nil}
 use Rattle.packet_codec.specs.Grammar.{AreBytes}
 use Rattle.stream_reader.specs.declared.note.Note.{Note}
 use Rattle.stream_reader.specs.Notes.{notes_of, decided_of, HasNotes, HasDecided}
-use Rattle.stream_reader.specs.Stream.{Held, BeginsWithNotes, EndsWithNotes, Gives, GivesNote, GivesNotes, IsSpent}
+use Rattle.stream_reader.specs.Stream.{Held, BeginsWithNotes, EndsWithNotes, HasGiven, GivesNote, GivesNotes, IsSpent}
 use Rattle.stream_reader.proofs.FrontLemmas.{are_both}
 use Rattle.stream_reader.proofs.CutLemmas.{one_cut, one_open_cut}
 use Rattle.stream_reader.proofs.ExistLemmas.{some_notes, some_decided}
@@ -67,11 +67,11 @@ given_decided bytes rest more given others are are_rest are' first h =
 
 -- ---- several notes
 
-pub gives_none : (ended : Bool) (bytes : List ℕ) → Gives ended bytes [] bytes
+pub gives_none : (ended : Bool) (bytes : List ℕ) → HasGiven ended bytes [] bytes
 gives_none false bytes = record { notes = λ more others are h. h; decided = λ more others are h. h }
 gives_none true bytes = record { notes = λ others h. h }
 
-pub gives_then : (ended : Bool) (bytes rest left : List ℕ) (given others : List Note) → Gives ended bytes given rest → Gives ended rest others left → Gives ended bytes (given ++ others) left
+pub gives_then : (ended : Bool) (bytes rest left : List ℕ) (given others : List Note) → HasGiven ended bytes given rest → HasGiven ended rest others left → HasGiven ended bytes (given ++ others) left
 gives_then false bytes rest left given others first second = begin_then bytes rest left given others first second
 gives_then true bytes rest left given others first second = end_then bytes rest left given others first second
 
@@ -80,7 +80,7 @@ notes_none held old = record { given = []; new_is = sym (append-nil old); first 
 
 pub notes_more : (before held after : Held) (old new : List Note) (next : Note) → GivesNotes before old held new → GivesNote held next after → after.ended ≡ held.ended → GivesNotes before old after (new ++ next ∷ [])
 notes_more before held after old new next first second same =
-    let step : Gives before.ended held.bytes (next ∷ []) after.bytes = rw (first.ended) at second.first in
+    let step : HasGiven before.ended held.bytes (next ∷ []) after.bytes = rw (first.ended) at second.first in
     record {
       given = first.given ++ next ∷ [];
       new_is = ap (λ (l : List Note). l ++ next ∷ []) first.new_is ∙ append_assoc old first.given (next ∷ []);
@@ -95,7 +95,7 @@ note_is_shorter held after next step = omega (arith, step.some, ap length step.p
 
 pub begin_more : (bytes piece rest : List ℕ) (notes new : List Note) (held after : Held) → AreBytes piece → BeginsWithNotes bytes notes rest → held ≡ record { bytes = rest ++ piece; ended = false } → GivesNotes held notes after new → BeginsWithNotes (bytes ++ piece) new after.bytes
 begin_more bytes piece rest notes new held after are before held-is step =
-    let first : Gives false (rest ++ piece) step.given after.bytes = rw held-is at step.first in
+    let first : HasGiven false (rest ++ piece) step.given after.bytes = rw held-is at step.first in
     rw (step.new_is) (begin_then (bytes ++ piece) (rest ++ piece) after.bytes notes step.given (begin_fed bytes rest piece notes are before) first)
 
 pub split_parts : (left part behind : List ℕ) (n : ℕ) → part ≡ take n left → behind ≡ drop n left → left ≡ part ++ behind
@@ -127,7 +127,7 @@ pub whole_at_end : (bytes rest : List ℕ) (notes new : List Note) (held after :
 whole_at_end bytes rest notes new held after before held-is step spent =
     let end : after.ended ≡ true = step.ended ∙ ap (λ (h : Held). h.ended) held-is in
     let none : after.bytes ≡ [] = rw end at spent in
-    let last : Gives true rest step.given after.bytes = rw held-is at step.first in
+    let last : HasGiven true rest step.given after.bytes = rw held-is at step.first in
     let last' : EndsWithNotes rest step.given [] = rw none at last in
     rw (step.new_is) (end_whole bytes (notes ++ step.given) (end_then bytes rest [] notes step.given (begin_ended bytes rest notes before) last'))
 

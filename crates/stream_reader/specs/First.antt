@@ -16,14 +16,14 @@ use Rattle.stream_reader.specs.declared.first.Made.TheVariants as made
 use Rattle.stream_reader.specs.declared.first.Seen.{Seen}
 use Rattle.stream_reader.specs.declared.first.Seen.TheVariants.{Candidate, Told}
 use Rattle.stream_reader.specs.Run.{IsRun, IsForeign}
-use Rattle.stream_reader.specs.Stream.{Gives, IsMadeOf, IsSpent}
+use Rattle.stream_reader.specs.Stream.{HasGiven, IsMadeOf, IsSpent}
 
 -- the first note, and how many bytes at the front it is made of
 pub record IsFirst (ended : Bool) (bytes : List ℕ) (first : Note) (size : ℕ) : Type 0 where
   pub some : 0 < size
   pub in_range : size ≤ length bytes
   pub made : IsMadeOf first (take size bytes)
-  pub gives : Gives ended bytes (first ∷ []) (drop size bytes)
+  pub gives : HasGiven ended bytes (first ∷ []) (drop size bytes)
 
 -- what was seen behind a run of foreign bytes: a packet, or why the run is no longer
 abbrev pub front_behind : Option ℕ → Front

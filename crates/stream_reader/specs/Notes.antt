@@ -64,6 +64,7 @@ abbrev pub event_of : Note → Event
 event_of (note.Event event) = event
 event_of (note.Foreign bytes) = stdout_event bytes
 
+-- the events of the notes, foreign bytes among them as pieces of a file
 abbrev pub events_of : List Note → List Event
 events_of notes = map event_of notes
 
@@ -71,6 +72,7 @@ events_of notes = map event_of notes
 abbrev pub HasEvents : List ℕ → List Event → Type 0
 HasEvents bytes events = (notes : List Note) × HasNotes bytes notes × (events ≡ events_of notes)
 
+-- the first of the notes is of foreign bytes
 abbrev pub BeginsForeign : List Note → Type 0
 BeginsForeign [] = ⊥
 BeginsForeign (note.Event event ∷ notes) = ⊥

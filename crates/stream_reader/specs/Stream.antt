@@ -21,9 +21,10 @@ pub record BeginsWithNotes (bytes : List ℕ) (given : List Note) (rest : List �
 pub record EndsWithNotes (bytes : List ℕ) (given : List Note) (rest : List ℕ) : Type 0 where
   pub notes : (others : List Note) → HasNotes rest others → HasNotes bytes (given ++ others)
 
-abbrev pub Gives : Bool → List ℕ → List Note → List ℕ → Type 0
-Gives false = BeginsWithNotes
-Gives true = EndsWithNotes
+-- the notes that the bytes give, and what is left of them, of a stream that has ended or goes on
+abbrev pub HasGiven : Bool → List ℕ → List Note → List ℕ → Type 0
+HasGiven false = BeginsWithNotes
+HasGiven true = EndsWithNotes
 
 -- the note is made of these bytes
 abbrev pub IsMadeOf : Note → List ℕ → Type 0
@@ -41,7 +42,7 @@ pub record GivesNote (before : Held) (given : Note) (after : Held) : Type 0 wher
   pub parts : before.bytes ≡ front ++ after.bytes
   pub some : 0 < length front
   pub made : IsMadeOf given front
-  pub first : Gives before.ended before.bytes (given ∷ []) after.bytes
+  pub first : HasGiven before.ended before.bytes (given ∷ []) after.bytes
 
 -- no further note can be told: none is decided yet, or the stream has ended and no bytes are left
 abbrev pub IsSpent : Bool → List ℕ → Type 0
@@ -52,5 +53,5 @@ IsSpent true bytes = bytes ≡ []
 pub record GivesNotes (before : Held) (old : List Note) (after : Held) (new : List Note) : Type 0 where
   pub given : List Note
   pub new_is : new ≡ old ++ given
-  pub first : Gives before.ended before.bytes given after.bytes
+  pub first : HasGiven before.ended before.bytes given after.bytes
   pub ended : after.ended ≡ before.ended

@@ -9,22 +9,22 @@
 //! - `note`: an event, or foreign bytes
 //! - `reader`: the bytes fed, and the notes that they decide; it stands on `buffer`, the bytes held
 //! - `first`: what the first note is made of, before it is let go of
-//! - `run`: the foreign bytes at the front of what is held
-//! - `whole`: the notes of a whole stream
+//! - `foreign_bytes`: the foreign bytes at the front of what is held
+//! - `whole_stream`: the notes of a whole stream
 //! - `laws`: what holds of the notes of all streams
 #![tactic(auto)]
 
 mod buffer;
 mod first;
+mod foreign_bytes;
 mod laws;
 mod note;
 mod reader;
-mod run;
-mod whole;
+mod whole_stream;
 
 pub use buffer::{MOST_HELD, ROOM};
 pub use first::{First, Seen};
 pub use laws::{notes_in_turn, notes_of_streams};
 pub use note::{Note, stdout_event};
 pub use reader::Reader;
-pub use whole::notes_of_pieces;
+pub use whole_stream::notes_of_pieces;

@@ -13,9 +13,11 @@ ghost use Rattle.stream_reader.specs.Stream.{GivesNote, IsSpent};
 
 use crate::buffer::Buffer;
 use crate::first::{First, Made, Seen};
+use crate::foreign_bytes::foreign_run;
 use crate::note::Note;
-use crate::run::{are_bytes, foreign_run};
-use packet_codec::{Front, Header, Heading, Packet, Sight, head_of, known_packet, see_by};
+use packet_codec::{
+    Front, Header, Heading, Packet, Sight, are_bytes, head_of, known_packet, see_by,
+};
 use std::alloc::Global;
 use std::marker::Model;
 use sub_number::{Bytes, NoMemory};
@@ -24,7 +26,7 @@ use sub_number::{Bytes, NoMemory};
 /// of the whole stream. Contracts see the bytes fed that belong to no note given, and whether the stream has ended.
 ///
 /// Each note is given as soon as the bytes fed decide it, whatever may follow. The bytes of notes that were given are
-/// let go of. The reader takes its room when it is made, and holds 4,325,376 bytes at most: whoever takes all notes
+/// let go of. The reader takes its room when it is made, and holds 4,325,376 bytes at most. So whoever takes all notes
 /// that can be told before the next piece may feed pieces of 65,536 bytes.
 #[derive(Drop)]
 pub struct Reader {

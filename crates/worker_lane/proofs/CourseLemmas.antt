@@ -21,7 +21,7 @@ use Rattle.worker_lane.specs.Waiting.{IsShortNote}
 use Rattle.worker_lane.specs.Scribing.{Scribing, holding, TakesNote, IsAsBefore, GivesEvent, GivesPacket, HasNone}
 use Rattle.worker_lane.specs.Endings.{ending_of, ending_events, IsPacketOf}
 use Rattle.edge_io.specs.Children.{Output}
-use Rattle.worker_lane.specs.Rest.{AppendsNext, Coursing, lots_of, events_left, lots, IsEventOf, IsSoundScribe, IsAtStage, IsMarked}
+use Rattle.worker_lane.specs.Rest.{AppendsNext, Coursing, lots_to_give, events_left, lots, IsEventOf, IsSoundScribe, IsAtStage, IsMarked}
 use Rattle.worker_lane.specs.declared.lot.Ending.{Ending}
 use Rattle.worker_lane.specs.declared.lot.Lot.TheVariants.{Packet, End}
 use Rattle.worker_lane.specs.declared.stage.Stage.{Stage}
@@ -141,13 +141,13 @@ into_stays (Err e) before after old new gives without refused = stays_as_before 
 
 -- ---- the lots
 
-packet_first : (lane other : ℕ) (event : Event) (events : List Event) (packet : List ℕ) (how : Ending) → other ≡ lane → packet ≡ canonical event → lots_of lane (event ∷ events) how ≡ Packet packet ∷ lots_of other events how
+packet_first : (lane other : ℕ) (event : Event) (events : List Event) (packet : List ℕ) (how : Ending) → other ≡ lane → packet ≡ canonical event → lots_to_give lane (event ∷ events) how ≡ Packet packet ∷ lots_to_give other events how
 packet_first lane other event events packet how same made =
-    ap (λ (p : List ℕ). Packet p ∷ lots_of lane events how) (sym made) ∙ ap (λ (n : ℕ). Packet packet ∷ lots_of n events how) (sym same)
+    ap (λ (p : List ℕ). Packet p ∷ lots_to_give lane events how) (sym made) ∙ ap (λ (n : ℕ). Packet packet ∷ lots_to_give n events how) (sym same)
 
-pub given_lots : (before after : Scribing) (packet more : List ℕ) (how : Ending) → GivesPacket before [] after packet → IsSoundScribe before → AreBytes more → (before.held.ended ≡ true → more ≡ []) → lots_of before.lane (events_left before more) how ≡ Packet packet ∷ lots_of after.lane (events_left after more) how
+pub given_lots : (before after : Scribing) (packet more : List ℕ) (how : Ending) → GivesPacket before [] after packet → IsSoundScribe before → AreBytes more → (before.held.ended ≡ true → more ≡ []) → lots_to_give before.lane (events_left before more) how ≡ Packet packet ∷ lots_to_give after.lane (events_left after more) how
 given_lots before after packet more how g s are none =
-    ap (λ (events : List Event). lots_of before.lane events how) (given_left before after g.event more g.given s.are_bytes are none)
+    ap (λ (events : List Event). lots_to_give before.lane events how) (given_left before after g.event more g.given s.are_bytes are none)
     ∙ packet_first before.lane after.lane g.event (events_left after more) packet how (given_lane before after g.event g.given) g.new_is
 
 not_ended : (ended : Bool) (more : List ℕ) → ended ≡ false → ended ≡ true → more ≡ []
@@ -194,15 +194,15 @@ into_none given before after stage failed old new without so = (ap (λ (s : Scri
 pub feed_left : (before after : Scribing) (piece : List ℕ) (stage : Stage) (failed : Bool) → stage ≡ Reading → after ≡ holding before (before.held.bytes ++ piece) false
     → (more : List ℕ) (finish : Finish) → lots (record { scribe = before; stage = stage; failed = failed }) (record { bytes = piece ++ more; finish = finish }) ≡ lots (record { scribe = after; stage = stage; failed = failed }) (record { bytes = more; finish = finish })
 feed_left before after piece stage failed reading is = rw reading (λ more finish.
-    ap (λ (events : List Event). lots_of before.lane events (ending_of finish)) (fed_left before piece more false) ∙ ap (λ (s : Scribing). lots_of s.lane (events_left s more) (ending_of finish)) (sym is))
+    ap (λ (events : List Event). lots_to_give before.lane events (ending_of finish)) (fed_left before piece more false) ∙ ap (λ (s : Scribing). lots_to_give s.lane (events_left s more) (ending_of finish)) (sym is))
 
 -- once the child is not read any more
-pub closing_packet : (before after : Scribing) (packet : List ℕ) (how : Ending) → GivesPacket before [] after packet → IsSoundScribe before → lots_of before.lane (events_left before []) how ≡ Packet packet ∷ lots_of after.lane (events_left after []) how
+pub closing_packet : (before after : Scribing) (packet : List ℕ) (how : Ending) → GivesPacket before [] after packet → IsSoundScribe before → lots_to_give before.lane (events_left before []) how ≡ Packet packet ∷ lots_to_give after.lane (events_left after []) how
 closing_packet before after packet how g s = given_lots before after packet [] how g s (All-nil (λ byte. byte < 256)) (λ ended. refl)
 
-pub closing_ending : (scribe : Scribing) (how : Ending) (answer : Option (List ℕ)) → scribe.held.ended ≡ true → HasNone scribe → option_to_list answer ≡ map canonical (ending_events scribe.lane how) → lots_of scribe.lane (events_left scribe []) how ≡ map Packet (option_to_list answer) ++ End how ∷ []
+pub closing_ending : (scribe : Scribing) (how : Ending) (answer : Option (List ℕ)) → scribe.held.ended ≡ true → HasNone scribe → option_to_list answer ≡ map canonical (ending_events scribe.lane how) → lots_to_give scribe.lane (events_left scribe []) how ≡ map Packet (option_to_list answer) ++ End how ∷ []
 closing_ending scribe how answer ended without is =
-    ap (λ (events : List Event). lots_of scribe.lane events how) (none_left scribe ended without)
+    ap (λ (events : List Event). lots_to_give scribe.lane events how) (none_left scribe ended without)
     ∙ ap (λ (packets : List (List ℕ)). map Packet packets ++ End how ∷ []) (sym is)
 
 pub closing_gives : (before after : Scribing) (stage : Stage) (failed : Bool) (how : Ending) (packet : List ℕ) → stage ≡ Closing how → IsSoundScribe before → GivesPacket before [] after packet

@@ -11,7 +11,7 @@ use Rattle.edge_io.proofs.CausesLemmas.{rose_after, rose_before}
 use Rattle.worker_lane.specs.Endings.{ending_of, EndsSo}
 use Rattle.worker_lane.specs.Rest.{Coursing, lots, lots_for, new_course, Gives, IsOver}
 use Rattle.worker_lane.specs.Courses.{EndsCourse}
-use Rattle.worker_lane.specs.Lanes.{course_rest, Keeps}
+use Rattle.worker_lane.specs.Lanes.{course_rest, KeepsNumber}
 use Rattle.worker_lane.specs.declared.lot.Ending.{Ending}
 use Rattle.worker_lane.specs.declared.lot.Ending.TheVariants.{Fault}
 use Rattle.worker_lane.specs.declared.lot.Lot.{Lot}
@@ -25,10 +25,10 @@ new_rest course lane told is = rw is refl
 
 -- ---- what is kept
 
-pub keeps_same : (course : Coursing) (count : ℕ) → Keeps course course count count
+pub keeps_same : (course : Coursing) (count : ℕ) → KeepsNumber course course count count
 keeps_same course count = record { number = refl; later = omega arith; stays = λ failed. failed; mark = λ failed. inl failed }
 
-pub keeps_then : (a b c : Coursing) (k l m : ℕ) → Keeps a b k l → Keeps b c l m → Keeps a c k m
+pub keeps_then : (a b c : Coursing) (k l m : ℕ) → KeepsNumber a b k l → KeepsNumber b c l m → KeepsNumber a c k m
 keeps_then a b c k l m first second = record {
   number = second.number ∙ first.number;
   later = omega (arith, first.later, second.later);
@@ -44,11 +44,11 @@ keeps_then a b c k l m first second = record {
     before (inl marked) = after (first.mark marked)
     before (inr rose) = inr (rose_after k l m first.later rose)
 
-pub keeps_course : (a b : Coursing) (k l : ℕ) → b.scribe.lane ≡ a.scribe.lane → b.failed ≡ a.failed → k ≤ l → Keeps a b k l
+pub keeps_course : (a b : Coursing) (k l : ℕ) → b.scribe.lane ≡ a.scribe.lane → b.failed ≡ a.failed → k ≤ l → KeepsNumber a b k l
 keeps_course a b k l lane failed later = record { number = lane; later = later; stays = λ marked. failed ∙ marked; mark = λ marked. inl (sym failed ∙ marked) }
 
 -- the course ends, and a fault has its cause
-pub keeps_ended : (a b : Coursing) (how : Ending) (k l : ℕ) → EndsCourse a how b → k ≤ l → (how ≡ Fault → Rose k l) → Keeps a b k l
+pub keeps_ended : (a b : Coursing) (how : Ending) (k l : ℕ) → EndsCourse a how b → k ≤ l → (how ≡ Fault → Rose k l) → KeepsNumber a b k l
 keeps_ended a b how k l ends later cause = record { number = ends.lane; later = later; stays = ends.stays; mark = λ marked. by_cause (ends.mark marked) }
   where
     by_cause : (a.failed ≡ true) ⊎ (how ≡ Fault) → (a.failed ≡ true) ⊎ Rose k l

@@ -16,7 +16,7 @@ use Rattle.packet_codec.proofs.LaneLemmas.{is_event_under}
 use Rattle.stream_reader.specs.declared.note.Note.{Note}
 use Rattle.stream_reader.specs.declared.note.Note.TheVariants as note
 use Rattle.stream_reader.specs.Notes.{HasNotes, AreFullRuns}
-use Rattle.stream_reader.specs.Stream.{Gives, IsMadeOf, AreMadeOf}
+use Rattle.stream_reader.specs.Stream.{HasGiven, IsMadeOf, AreMadeOf}
 use Rattle.stream_reader.specs.declared.first.First.{First}
 use Rattle.stream_reader.specs.declared.first.First.TheVariants as found
 use Rattle.stream_reader.specs.First.{FirstIs}
@@ -37,7 +37,7 @@ run_is_short ended bytes front first size behind is first-is front-is =
     let run : FirstIs ended bytes (found.Foreign size behind) = rw first-is at is in
     omega (arith, run.1.short, ap length front-is, length-take size bytes)
 
-whole_front : (ended : Bool) (bytes rest : List ℕ) (given others : List Note) → Gives ended bytes given rest → HasNotes rest others → (whole : List ℕ) × HasNotes whole (given ++ others)
+whole_front : (ended : Bool) (bytes rest : List ℕ) (given others : List Note) → HasGiven ended bytes given rest → HasNotes rest others → (whole : List ℕ) × HasNotes whole (given ++ others)
 whole_front false bytes rest given others first h = (bytes ++ [], first.notes [] others (All-nil (λ byte. byte < 256)) (rw (append-nil rest) h))
 whole_front true bytes rest given others first h = (bytes, first.notes others h)
 
@@ -48,7 +48,7 @@ short_in_stream : (bytes run : List ℕ) (others : List Note) → HasNotes bytes
 short_in_stream bytes run others h = (are_full_runs bytes (note.Foreign run ∷ others) h).1
 
 -- some list of notes follows it
-pub note_is_short : (ended : Bool) (bytes front rest : List ℕ) (given : Note) → IsMadeOf given front → Gives ended bytes (given ∷ []) rest → IsShortNote given
+pub note_is_short : (ended : Bool) (bytes front rest : List ℕ) (given : Note) → IsMadeOf given front → HasGiven ended bytes (given ∷ []) rest → IsShortNote given
 note_is_short ended bytes front rest (note.Event e) made first = spelled_fits front e made
 note_is_short ended bytes front rest (note.Foreign run) made first =
     let behind = some_notes rest in

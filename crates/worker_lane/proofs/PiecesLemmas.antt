@@ -9,13 +9,13 @@ use Rattle.worker_lane.specs.Recorded.{pieces_of}
 
 -- n pieces, from the a-th on
 abbrev pieces_from : ℕ → ℕ → List ℕ → List (List ℕ)
-pieces_from a n bytes = map (λ i. take 65536 (drop (i * 65536) bytes)) (range_with_len a n)
+pieces_from a n bytes = map (λ i. take 65536 (drop (65536 * i) bytes)) (range_with_len a n)
 
 pieces_behind : (n a : ℕ) (bytes : List ℕ) → pieces_from (a + 1) n bytes ≡ pieces_from a n (drop 65536 bytes)
 pieces_behind zero a bytes = refl
 pieces_behind (suc n) a bytes =
-    let one : drop ((a + 1) * 65536) bytes ≡ drop (a * 65536) (drop 65536 bytes) = ap (λ (k : ℕ). drop k bytes) (omega arith) ∙ sym (drop-drop (a * 65536) 65536 bytes) in
-    ap (λ (p : List ℕ). take 65536 p ∷ pieces_from ((a + 1) + 1) n bytes) one ∙ ap (λ (l : List (List ℕ)). take 65536 (drop (a * 65536) (drop 65536 bytes)) ∷ l) (pieces_behind n (a + 1) bytes)
+    let one : drop (65536 * (a + 1)) bytes ≡ drop (65536 * a) (drop 65536 bytes) = ap (λ (k : ℕ). drop k bytes) (omega arith) ∙ sym (drop-drop (65536 * a) 65536 bytes) in
+    ap (λ (p : List ℕ). take 65536 p ∷ pieces_from ((a + 1) + 1) n bytes) one ∙ ap (λ (l : List (List ℕ)). take 65536 (drop (65536 * a) (drop 65536 bytes)) ∷ l) (pieces_behind n (a + 1) bytes)
 
 pub pieces_first : (bytes : List ℕ) → 0 < length bytes → pieces_of bytes ≡ take 65536 bytes ∷ pieces_of (drop 65536 bytes)
 pieces_first bytes some =

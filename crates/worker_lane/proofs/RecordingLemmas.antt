@@ -11,7 +11,7 @@ use Rattle.packet_codec.specs.Grammar.{AreBytes}
 use Rattle.stream_reader.specs.declared.note.Note.{Note}
 use Rattle.stream_reader.specs.Notes.{HasDecided}
 use Rattle.stream_reader.specs.First.{IsMadeBy}
-use Rattle.stream_reader.specs.Stream.{Held, Gives, GivesNote}
+use Rattle.stream_reader.specs.Stream.{Held, HasGiven, GivesNote}
 use Rattle.stream_reader.specs.declared.first.First.{First}
 use Rattle.stream_reader.proofs.FrontLemmas.{are_both}
 use Rattle.stream_reader.proofs.TurnLemmas.{begin_fed, begin_decided, begin_ended, end_whole, gives_none, gives_then}
@@ -27,7 +27,7 @@ recording_start lane small = record { lane = small; are_bytes = All-nil (λ byte
 
 pub recording_fed : (fed piece written : List ℕ) (before after : Scribing) → AreBytes piece → before.held.ended ≡ false → after ≡ holding before (before.held.bytes ++ piece) false → Recording fed before written → Recording (fed ++ piece) after written
 recording_fed fed piece written before after are going_on after-is r =
-    let taken : Gives false fed r.notes before.held.bytes = rw going_on at r.taken in
+    let taken : HasGiven false fed r.notes before.held.bytes = rw going_on at r.taken in
     rw after-is (record {
       lane = r.lane;
       are_bytes = are_both fed piece r.are_bytes are;
@@ -38,7 +38,7 @@ recording_fed fed piece written before after are going_on after-is r =
       packets = r.packets;
     })
 
-gives_ended : (ended : Bool) (bytes rest : List ℕ) (given : List Note) → Gives ended bytes given rest → Gives true bytes given rest
+gives_ended : (ended : Bool) (bytes rest : List ℕ) (given : List Note) → HasGiven ended bytes given rest → HasGiven true bytes given rest
 gives_ended false bytes rest given first = begin_ended bytes rest given first
 gives_ended true bytes rest given first = first
 
@@ -182,7 +182,7 @@ all_given fed written scribe none r = r.parts ∙ ap (λ (l : List Event). r.eve
 
 pub recording_decided : (fed written : List ℕ) (scribe : Scribing) → scribe.held.ended ≡ false → HasNone scribe → Recording fed scribe written → IsRecordedSoFar scribe.lane fed written
 recording_decided fed written scribe going_on (none, spent) r =
-    let taken : Gives false fed r.notes scribe.held.bytes = rw going_on at r.taken in
+    let taken : HasGiven false fed r.notes scribe.held.bytes = rw going_on at r.taken in
     let rest : HasDecided scribe.held.bytes [] = rw going_on at spent in
     record {
       notes = r.notes;
@@ -192,9 +192,9 @@ recording_decided fed written scribe going_on (none, spent) r =
 
 pub recording_whole : (fed written : List ℕ) (scribe : Scribing) → scribe.held.ended ≡ true → HasNone scribe → Recording fed scribe written → IsRecorded scribe.lane fed written
 recording_whole fed written scribe ended (none, spent) r =
-    let taken : Gives true fed r.notes scribe.held.bytes = rw ended at r.taken in
+    let taken : HasGiven true fed r.notes scribe.held.bytes = rw ended at r.taken in
     let rest : scribe.held.bytes ≡ [] = rw ended at spent in
-    let all : Gives true fed r.notes [] = rw rest at taken in
+    let all : HasGiven true fed r.notes [] = rw rest at taken in
     record {
       events = r.events;
       has = record { notes = r.notes; are_notes = end_whole fed r.notes all; made = sym (all_given fed written scribe none r) };

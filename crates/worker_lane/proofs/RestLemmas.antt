@@ -7,7 +7,7 @@ use Rattle.packet_codec.specs.Grammar.{AreBytes}
 use Rattle.stream_reader.specs.declared.note.Note.{Note}
 use Rattle.stream_reader.specs.Room.{most_held}
 use Rattle.stream_reader.specs.Notes.{notes_of, HasNotes}
-use Rattle.stream_reader.specs.Stream.{Gives as GivesStream}
+use Rattle.stream_reader.specs.Stream.{HasGiven as GivesStream}
 use Rattle.stream_reader.proofs.CutLemmas.{one_cut}
 use Rattle.stream_reader.proofs.FrontLemmas.{are_both}
 use Rattle.stream_reader.proofs.RoomLemmas.{spent_short}

@@ -12,7 +12,7 @@ use Rattle.edge_io.specs.declared.child.Finish.TheVariants as finish
 use Rattle.stream_reader.specs.declared.note.Note.{Note}
 use Rattle.worker_lane.specs.Recorded.{HasRecorded, recorded_events}
 use Rattle.worker_lane.specs.Endings.{ending_of, ending_events}
-use Rattle.worker_lane.specs.Rest.{notes_of_stream, Gives, IsOver, lots_of, lots_for}
+use Rattle.worker_lane.specs.Rest.{notes_of_stream, Gives, IsOver, lots_to_give, lots_for}
 use Rattle.worker_lane.specs.declared.lot.Ending.{Ending}
 use Rattle.worker_lane.specs.declared.lot.Ending.TheVariants.{Exit, Fault, NoMemory}
 use Rattle.worker_lane.specs.declared.lot.Lot.{Lot}
@@ -44,10 +44,10 @@ unfolding told_or
 gives_whole lots given None h over = absurd (grind (arith, h))
 gives_whole lots given (Some others) h over = sym (ap (told_or lots) h ∙ ap (λ (l : List Lot). given ++ l) over ∙ append-nil given)
 
-pub lots_recorded : (lane : ℕ) (output : Output) (events : List Event) → AreBytes output.bytes → HasRecorded lane output.bytes events → lots_for lane output ≡ lots_of lane events (ending_of output.finish)
+pub lots_recorded : (lane : ℕ) (output : Output) (events : List Event) → AreBytes output.bytes → HasRecorded lane output.bytes events → lots_for lane output ≡ lots_to_give lane events (ending_of output.finish)
 lots_recorded lane output events are h =
-    ap (λ (notes : List Note). lots_of lane (recorded_events lane notes) (ending_of output.finish)) (the_notes output.bytes h.notes are h.are_notes)
-    ∙ ap (λ (es : List Event). lots_of lane es (ending_of output.finish)) (sym h.made)
+    ap (λ (notes : List Note). lots_to_give lane (recorded_events lane notes) (ending_of output.finish)) (the_notes output.bytes h.notes are h.are_notes)
+    ∙ ap (λ (es : List Event). lots_to_give lane es (ending_of output.finish)) (sym h.made)
 
 end_of : Ending → Lot → Ending
 end_of other (Packet packet) = other

@@ -23,11 +23,11 @@ use Rattle.stream_reader.specs.declared.first.First.{First}
 use Rattle.stream_reader.specs.declared.first.First.TheVariants as found
 use Rattle.stream_reader.specs.declared.note.Note.{Note}
 use Rattle.stream_reader.specs.declared.note.Note.TheVariants as note
-use Rattle.worker_lane.specs.declared.waiting.Spelling.{Spelling}
-use Rattle.worker_lane.specs.declared.waiting.Waiting.{Waiting}
-use Rattle.worker_lane.specs.declared.waiting.Waiting.TheVariants as waits
+use Rattle.worker_lane.specs.declared.waiting_note.Spelling.{Spelling}
+use Rattle.worker_lane.specs.declared.waiting_note.Waiting.{Waiting}
+use Rattle.worker_lane.specs.declared.waiting_note.Waiting.TheVariants as waits
 use Rattle.worker_lane.specs.Recorded.{pieces_of, stdout_under, recorded_event, recorded_note, HasPacket}
-use Rattle.worker_lane.specs.Waiting.{waiting_events, pieces_left, half_found, half_left, half_left_is, HasPiecesLeft, IsHalved, IsSound, PutsOne, PutsNote}
+use Rattle.worker_lane.specs.Waiting.{waiting_events, pieces_left, half_found, half_left, half_left_is, HasPiecesLeft, IsHalved, HasWaitingEvent, PutsOne, PutsNote}
 use Rattle.worker_lane.proofs.PiecesLemmas.{pieces_first}
 use Rattle.worker_lane.proofs.EventLemmas.{spelled_is_event, canonical_bytes}
 use Rattle.worker_lane.proofs.HalfLemmas.{first_has_packet, second_has_packet}
@@ -178,12 +178,12 @@ some_pieces lane bytes some = omega (arith, length-map (pieces_of bytes) (stdout
 some_recorded : (lane : ℕ) (e : Event) → 0 < length (recorded_event lane e)
 some_recorded lane e = each_way (λ (events : List Event). 0 < length events) lane e (λ fits. omega arith) (λ long. omega arith) (λ long short. some_pieces lane (canonical e) (spelling_some e))
 
-pub waiting_some : (lane : ℕ) (waiting : Waiting) → IsSound waiting → (waiting ≡ waits.Nothing → ⊥) → 0 < length (waiting_events lane waiting)
+pub waiting_some : (lane : ℕ) (waiting : Waiting) → HasWaitingEvent waiting → (waiting ≡ waits.Nothing → ⊥) → 0 < length (waiting_events lane waiting)
 waiting_some lane waits.Nothing sound other = absurd (other refl)
 waiting_some lane (waits.SecondHalf bytes) sound other = omega (arith, ap length (half_waits lane bytes.items sound.event sound.are_bytes sound.spelled))
 waiting_some lane (waits.Pieces spelling) sound other = some_pieces lane (drop spelling.given spelling.bytes.items) (omega (arith, sound, length-drop spelling.given spelling.bytes.items))
 
-pub not_nothing : (lane : ℕ) (waiting : Waiting) (test : Bool) → IsSound waiting → IsTrue test ↔ (waiting ≡ waits.Nothing) → test ≡ false → waiting_events lane waiting ≡ [] → ⊥
+pub not_nothing : (lane : ℕ) (waiting : Waiting) (test : Bool) → HasWaitingEvent waiting → IsTrue test ↔ (waiting ≡ waits.Nothing) → test ≡ false → waiting_events lane waiting ≡ [] → ⊥
 not_nothing lane waiting test sound (to, from) is_false empty =
     let never : IsTrue test → ⊥ = search (rules, is_false) in
     let other : waiting ≡ waits.Nothing → ⊥ = λ is. never (from is) in

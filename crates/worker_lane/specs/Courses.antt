@@ -12,7 +12,7 @@ pub record KeepsCourse (before after : Coursing) : Type 0 where
   pub failed : after.failed ≡ before.failed
 
 -- the lane and the mark stay
-pub record GoesOn (before after : Coursing) : Type 0 where
+pub record KeepsLaneAndMark (before after : Coursing) : Type 0 where
   pub lane : after.scribe.lane ≡ before.scribe.lane
   pub failed : after.failed ≡ before.failed
 

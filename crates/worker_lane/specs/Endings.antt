@@ -19,9 +19,11 @@ ending_of (Exits status) = Exit status
 ending_of ReadFault = Fault
 ending_of WaitFault = Fault
 
+-- the text that tells of a status
 abbrev pub returncode_text : ℤ → List ℕ
 returncode_text status = codes "returncode " ++ signed_decimal status
 
+-- the text that tells of a failed read or wait
 abbrev pub fault_text : List ℕ
 fault_text = codes "read fault"
 
@@ -47,6 +49,7 @@ returncode_event text = record {
   route = None;
 }
 
+-- the event with this text on the lane's end
 abbrev pub returncode_under : (lane : ℕ) → List ℕ → Event
 returncode_under lane text = under lane (returncode_event text)
 

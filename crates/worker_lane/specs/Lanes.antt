@@ -17,7 +17,7 @@ course_rest course told = option_map (lots course) told
 
 -- The lane's number stays, its child's count of faults never falls, and a mark stays, and comes only where that count
 -- rose.
-pub record Keeps (before after : Coursing) (count now : ℕ) : Type 0 where
+pub record KeepsNumber (before after : Coursing) (count now : ℕ) : Type 0 where
   pub number : after.scribe.lane ≡ before.scribe.lane
   pub later : count ≤ now
   pub stays : before.failed ≡ true → after.failed ≡ true
@@ -55,4 +55,4 @@ module _ {C : Type 0} where
     pub left : Gives (rest seen before) (Packet packet ∷ []) (rest seen after)
 
   abbrev pub KeepsLane : (seen : C → Seen Output) → Lane C → Lane C → Type 0
-  KeepsLane seen before after = Keeps before.course after.course (seen before.child).faults (seen after.child).faults
+  KeepsLane seen before after = KeepsNumber before.course after.course (seen before.child).faults (seen after.child).faults

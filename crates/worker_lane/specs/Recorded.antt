@@ -1,21 +1,14 @@
 -- What a stream becomes when it is recorded under a lane (docs/FORMATS.md, "What is recorded of a stream").
-use Rattle.std.specs.Prelude.{◌≡◌, ℕ, ◌+◌, ◌*◌, ◌-◌, ◌/◌, List, [], ◌∷◌, length, take, drop, map, nat_le, if◌then◌else◌}
-use Rattle.std.specs.List.{flat_map, range_with_len}
+use Rattle.std.specs.Prelude.{◌≡◌, ℕ, List, [], ◌∷◌, map, nat_le, if◌then◌else◌}
+use Rattle.std.specs.List.{flat_map}
 use Rattle.packet_codec.specs.declared.event.Event.{Event}
 use Rattle.packet_codec.specs.Canonical.{canonical, canonical_size, largest_packet, IsEvent, Fits}
 use Rattle.packet_codec.specs.Halves.{has_halves, first_half, second_half}
+pub use Rattle.packet_codec.specs.Pieces.{longest_piece, pieces_of}
 use Rattle.packet_codec.specs.Routing.{under}
 use Rattle.stream_reader.specs.declared.note.Note.{Note}
 use Rattle.stream_reader.specs.declared.note.Note.TheVariants as note
 use Rattle.stream_reader.specs.Notes.{HasNotes, stdout_event}
-
--- the most bytes of one piece
-abbrev pub longest_piece : ℕ
-longest_piece = 65536
-
--- the bytes cut every 65,536 bytes from their front
-abbrev pub pieces_of : List ℕ → List (List ℕ)
-pieces_of bytes = map (λ i. take longest_piece (drop (i * longest_piece) bytes)) (range_with_len 0 ((length bytes + (longest_piece - 1)) / longest_piece))
 
 -- these bytes as a piece of the file `stdout`, under the lane
 abbrev pub stdout_under : (lane : ℕ) → (bytes : List ℕ) → Event
@@ -36,6 +29,7 @@ recorded_event lane event =
     if nat_le (canonical_size (under lane event)) largest_packet then under lane event ∷ []
     else (if has_halves event then in_halves lane event else in_pieces lane event)
 
+-- the events that are recorded of a note
 abbrev pub recorded_note : (lane : ℕ) → Note → List Event
 recorded_note lane (note.Event event) = recorded_event lane event
 recorded_note lane (note.Foreign bytes) = stdout_under lane bytes ∷ []

@@ -29,12 +29,12 @@ unfolding notes_of_stream
 notes_are bytes = (some_notes bytes).1
 
 -- the lots of these events: each as its packet, then the packet that tells of the end, where there is one, and the end
-abbrev pub lots_of : (lane : ℕ) → List Event → Ending → List Lot
-lots_of lane events how = map Packet (map canonical (events ++ ending_events lane how)) ++ End how ∷ []
+abbrev pub lots_to_give : (lane : ℕ) → List Event → Ending → List Lot
+lots_to_give lane events how = map Packet (map canonical (events ++ ending_events lane how)) ++ End how ∷ []
 
 -- the lots of a whole output under a lane
 abbrev pub lots_for : (lane : ℕ) → Output → List Lot
-lots_for lane output = lots_of lane (recorded_events lane (notes_of_stream output.bytes)) (ending_of output.finish)
+lots_for lane output = lots_to_give lane (recorded_events lane (notes_of_stream output.bytes)) (ending_of output.finish)
 
 -- the events that a scribe has still to give where these bytes are fed to it, and then the stream ends
 abbrev pub events_left : Scribing → (more : List ℕ) → List Event
@@ -42,8 +42,8 @@ events_left scribe more = scribe.waiting ++ recorded_events scribe.lane (notes_o
 
 -- The lots that are left. While the child is read they hang on what it tells, and after that on what the scribe holds.
 abbrev pub lots_left : Scribing → Stage → Output → List Lot
-lots_left scribe Reading output = lots_of scribe.lane (events_left scribe output.bytes) (ending_of output.finish)
-lots_left scribe (Closing how) output = lots_of scribe.lane (events_left scribe []) how
+lots_left scribe Reading output = lots_to_give scribe.lane (events_left scribe output.bytes) (ending_of output.finish)
+lots_left scribe (Closing how) output = lots_to_give scribe.lane (events_left scribe []) how
 lots_left scribe (Last how) output = End how ∷ []
 lots_left scribe Over output = []
 
@@ -53,6 +53,7 @@ pub record Coursing : Type 0 where
   pub stage : Stage
   pub failed : Bool
 
+-- the lots that the lane has still to give, where its child has still this output
 abbrev pub lots : Coursing → Output → List Lot
 lots course = lots_left course.scribe course.stage
 
@@ -100,6 +101,7 @@ abbrev pub IsEnd : Lot → Type 0
 IsEnd (Packet packet) = ⊥
 IsEnd (End how) = ⊤
 
+-- at the end of a lane the mark says whether a read or a wait failed
 abbrev pub IsMarkedLot : Lot → Bool → Type 0
 IsMarkedLot (Packet packet) failed = ⊤
 IsMarkedLot (End how) failed = IsMarked how failed

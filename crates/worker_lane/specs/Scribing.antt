@@ -7,7 +7,7 @@ use Rattle.packet_codec.specs.Canonical.{canonical}
 use Rattle.packet_codec.specs.Grammar.{AreBytes}
 use Rattle.stream_reader.specs.declared.note.Note.{Note}
 use Rattle.stream_reader.specs.Notes.{HasDecided}
-use Rattle.stream_reader.specs.Stream.{Held, Gives, GivesNote, IsSpent}
+use Rattle.stream_reader.specs.Stream.{Held, HasGiven, GivesNote, IsSpent}
 use Rattle.worker_lane.specs.Recorded.{recorded_note, recorded_events, recorded, HasPacket}
 
 -- The events that are to be given before the next note is taken, and the bytes fed of which no note was taken.
@@ -69,7 +69,7 @@ pub record Recording (fed : List ℕ) (scribe : Scribing) (written : List ℕ) :
   pub lane : scribe.lane < 64
   pub are_bytes : AreBytes fed
   pub notes : List Note
-  pub taken : Gives scribe.held.ended fed notes scribe.held.bytes
+  pub taken : HasGiven scribe.held.ended fed notes scribe.held.bytes
   pub events : List Event
   pub parts : recorded_events scribe.lane notes ≡ events ++ scribe.waiting
   pub packets : written ≡ flat_map canonical events

@@ -13,9 +13,9 @@ use Rattle.stream_reader.specs.declared.first.First.{First}
 use Rattle.stream_reader.specs.declared.note.Note.{Note}
 use Rattle.stream_reader.specs.declared.note.Note.TheVariants as note
 use Rattle.stream_reader.specs.First.{IsMadeBy}
-use Rattle.worker_lane.specs.declared.waiting.Spelling.{Spelling}
-use Rattle.worker_lane.specs.declared.waiting.Waiting.{Waiting}
-use Rattle.worker_lane.specs.declared.waiting.Waiting.TheVariants as waiting
+use Rattle.worker_lane.specs.declared.waiting_note.Spelling.{Spelling}
+use Rattle.worker_lane.specs.declared.waiting_note.Waiting.{Waiting}
+use Rattle.worker_lane.specs.declared.waiting_note.Waiting.TheVariants as waiting
 use Rattle.worker_lane.specs.Recorded.{pieces_of, stdout_under, longest_piece, recorded_note, HasPacket}
 
 -- the pieces of the spelling that were not given yet
@@ -35,6 +35,7 @@ pub half_left_is : (lane : ℕ) (bytes : List ℕ) → half_left lane bytes ≡ 
 unfolding half_left
 half_left_is lane bytes = refl
 
+-- the events that are still to be given of what is waiting
 abbrev pub waiting_events : (lane : ℕ) → Waiting → List Event
 waiting_events lane waiting.Nothing = []
 waiting_events lane (waiting.Pieces spelling) = pieces_left lane spelling
@@ -45,6 +46,7 @@ abbrev pub IsShortNote : Note → Type 0
 IsShortNote (note.Event event) = Fits event
 IsShortNote (note.Foreign bytes) = length bytes ≤ longest_piece
 
+-- some of the bytes were not given yet
 abbrev pub HasPiecesLeft : Spelling → Type 0
 HasPiecesLeft spelling = spelling.given < length spelling.bytes.items
 
@@ -56,10 +58,10 @@ pub record IsHalved (bytes : List ℕ) : Type 0 where
   pub long : has_halves event ≡ true
 
 -- there is an event, unless nothing is waiting
-abbrev pub IsSound : Waiting → Type 0
-IsSound waiting.Nothing = ⊤
-IsSound (waiting.Pieces spelling) = HasPiecesLeft spelling
-IsSound (waiting.SecondHalf bytes) = IsHalved bytes.items
+abbrev pub HasWaitingEvent : Waiting → Type 0
+HasWaitingEvent waiting.Nothing = ⊤
+HasWaitingEvent (waiting.Pieces spelling) = HasPiecesLeft spelling
+HasWaitingEvent (waiting.SecondHalf bytes) = IsHalved bytes.items
 
 -- this event is the first; it was appended as its packet, and the others are waiting
 pub record PutsFirst (event : Event) (events : List Event) (old : List ℕ) (left : List Event) (new : List ℕ) : Type 0 where

@@ -1,6 +1,6 @@
 //! The packet that is recorded of the end of a lane.
 
-ghost use Rattle.std.specs.Prelude.{◌≡◌, ◌<◌, ◌≤◌, ◌↔◌, ℕ, pos, None, length, map, All, IfOk, IfSome};
+ghost use Rattle.std.specs.Prelude.{◌≡◌, ◌<◌, ◌≤◌, ◌↔◌, ℕ, pos, None, length, map, IfOk, IfSome};
 ghost use Rattle.std.specs.Option.{option_to_list};
 ghost use Rattle.packet_codec.specs.Canonical.{IsEvent, Fits};
 ghost use Rattle.worker_lane.specs.declared.lot.Ending.TheVariants.{Exit, NoMemory as without_memory};
@@ -8,7 +8,7 @@ ghost use Rattle.worker_lane.specs.Endings.{returncode_text as text_of, returnco
 
 use crate::lot::Ending;
 use itoa::Buffer;
-use packet_codec::{Event, FilePart, Status, reroute};
+use packet_codec::{Event, FilePart, Status, are_bytes, reroute};
 use std::alloc::Global;
 use sub_number::{Bytes, NoMemory, Text};
 
@@ -70,8 +70,3 @@ fn plain_event(alloc: Global, text: Bytes) -> Result<Event, NoMemory>
         route: None,
     })
 }
-
-// What a slice has are bytes.
-fn are_bytes(bytes: &[u8])
-    ensures { All (λ byte. byte < 256) bytes.now }
-{}

@@ -2,7 +2,7 @@
 
 ghost use Rattle.std.specs.Prelude.{◌≡◌, IfOk, length};
 
-use crate::course::Course;
+use crate::lane_state::Course;
 use crate::lot::{Ending, Lot};
 use crate::process::{stop, wait_for};
 use edge_io::{Child, Failed, PIECE};
@@ -12,9 +12,9 @@ use sub_number::{Bytes, NoMemory};
 /// One worker process, read under a number. It gives what is recorded of the process's output, packet by packet, then
 /// the packet that tells of its end, where there is one, and then its end (docs/FORMATS.md, "What a lane gives").
 ///
-/// Contracts see its number, its *rest*, that is the list of lots that it has still to give, where its child tells; and a
-/// mark, whether a read of the child or the wait for it failed. `lots_in_turn` says what the clauses come to, one step
-/// after another.
+/// Contracts see its number, and its *rest*, that is the list of lots that it has still to give, where its child tells.
+/// They see a mark, too, whether a read of the child or the wait for it failed. `lots_in_turn` says what the clauses
+/// come to, one step after another.
 #[derive(Drop)]
 pub struct Lane<C> {
     course: Course,

@@ -10,8 +10,8 @@ ghost use Rattle.edge_io.specs.Children.{Output};
 ghost use Rattle.edge_io.specs.declared.child.Finish.{Finish};
 ghost use Rattle.edge_io.specs.declared.child.Finish.TheVariants.{ReadFault, WaitFault};
 ghost use Rattle.worker_lane.specs.Endings.{ending_of};
-ghost use Rattle.worker_lane.specs.Rest.{Coursing, Gives, IsOver, lots_of, lots_for};
-ghost use Rattle.worker_lane.specs.Lanes.{Keeps};
+ghost use Rattle.worker_lane.specs.Rest.{Coursing, Gives, IsOver, lots_to_give, lots_for};
+ghost use Rattle.worker_lane.specs.Lanes.{KeepsNumber};
 ghost use Rattle.worker_lane.specs.declared.lot.Ending.{Ending};
 ghost use Rattle.worker_lane.specs.declared.lot.Ending.TheVariants.{Fault, NoMemory};
 ghost use Rattle.worker_lane.specs.declared.lot.Lot.{Lot};
@@ -46,9 +46,9 @@ pub fn recording_in_turn()
     ensures whole { (fed written : List ℕ) (scribe : Scribing) → Recording fed scribe written → scribe.held.ended ≡ true → HasNone scribe → IsRecorded scribe.lane fed written }
 {}
 
-/// Laws of what a lane gives, one step after another. With the clauses of `Lane` they tell that all that it gives, up to
-/// its end, is what is recorded of its child's output and then the output's ending; for want of memory it is the front
-/// of that.
+/// Laws of what a lane gives, one step after another. With the clauses of `Lane` they tell what all that it gives is,
+/// up to its end: what is recorded of its child's output, and then the output's ending. For want of memory it is the
+/// front of that.
 pub fn lots_in_turn()
     ensures none { (rest : Option (List Lot)) → Gives rest [] rest }
     ensures more { (a b c : Option (List Lot)) (given others : List Lot) → Gives a given b → Gives b others c → Gives a (given ++ others) c }
@@ -57,13 +57,13 @@ pub fn lots_in_turn()
     // What was given so far comes first.
     ensures front { (lots given : List Lot) (left : Option (List Lot)) → Gives (Some lots) given left → (others : List Lot) × (lots ≡ given ++ others) }
     // The lots of an output are those of the events that are recorded of it.
-    ensures recorded { (lane : ℕ) (output : Output) (events : List Event) → AreBytes output.bytes → HasRecorded lane output.bytes events → lots_for lane output ≡ lots_of lane events (ending_of output.finish) }
+    ensures recorded { (lane : ℕ) (output : Output) (events : List Event) → AreBytes output.bytes → HasRecorded lane output.bytes events → lots_for lane output ≡ lots_to_give lane events (ending_of output.finish) }
     // Its one end comes last, and tells how the child finished.
     ensures ending { (lane : ℕ) (output : Output) (given others : List Lot) (how : Ending) → lots_for lane output ≡ given ++ End how ∷ others → (how ≡ ending_of output.finish) × (others ≡ []) }
     // A fault is the ending exactly where the reads or the wait fail, and want of memory never is.
     ensures fault { (finish : Finish) → (ending_of finish ≡ Fault) ↔ ((finish ≡ ReadFault) ⊎ (finish ≡ WaitFault)) }
     ensures memory { (finish : Finish) → ending_of finish ≡ NoMemory → ⊥ }
     // The number stays, and a mark comes only where the count of faults rose, in one step or another.
-    ensures keeps_none { (course : Coursing) (count : ℕ) → Keeps course course count count }
-    ensures keeps_more { (a b c : Coursing) (k l m : ℕ) → Keeps a b k l → Keeps b c l m → Keeps a c k m }
+    ensures keeps_none { (course : Coursing) (count : ℕ) → KeepsNumber course course count count }
+    ensures keeps_more { (a b c : Coursing) (k l m : ℕ) → KeepsNumber a b k l → KeepsNumber b c l m → KeepsNumber a c k m }
 {}

@@ -7,32 +7,32 @@
 //! before, where it does not say otherwise.
 //!
 //! - `scribe`: the bytes fed, and the packets that are recorded of them
-//! - `waiting`: what is still to be given of a note
+//! - `waiting_note`: what is still to be given of a note
 //! - `stdout`: bytes as a packet
-//! - `whole`: all packets of a stream
+//! - `whole_stream`: all packets of a stream
 //! - `laws`: what holds of all that is recorded
 //! - `lane_laws`: what holds of several streams that are recorded, each under its lane
 //! - `lane`: one worker process, read under its number
-//! - `course`, `stage`, `process`: what is kept of a lane beside its child, how far it has come, and the child's end
+//! - `lane_state`, `stage`, `process`: what is kept of a lane beside its child, how far it has come, and the child's end
 //! - `lot`, `ending`: what a lane gives, and the packet that tells of its end
 #![tactic(auto)]
 
-mod course;
 mod ending;
 mod lane;
 mod lane_laws;
+mod lane_state;
 mod laws;
 mod lot;
 mod process;
 mod scribe;
 mod stage;
 mod stdout;
-mod waiting;
-mod whole;
+mod waiting_note;
+mod whole_stream;
 
 pub use lane::Lane;
 pub use lane_laws::recorded_lanes;
 pub use laws::{lots_in_turn, recorded_streams, recording_in_turn};
 pub use lot::{Ending, Lot};
 pub use scribe::Scribe;
-pub use whole::{recorded_of_pieces, take_packets};
+pub use whole_stream::{recorded_of_pieces, take_packets};

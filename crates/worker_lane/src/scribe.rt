@@ -13,9 +13,9 @@ ghost use Rattle.worker_lane.specs.Waiting.{PutsNote};
 
 use crate::ending::{ending_text, returncode_event};
 use crate::lot::Ending;
-use crate::stdout::{are_bytes, put_stdout};
-use crate::waiting::{Waiting, is_nothing, put_first, put_packet};
-use packet_codec::{Header, encode};
+use crate::stdout::put_stdout;
+use crate::waiting_note::{Waiting, is_nothing, put_first, put_packet};
+use packet_codec::{Header, are_bytes, encode};
 use std::alloc::Global;
 use std::marker::Model;
 use stream_reader::{First, Reader, Seen};
@@ -38,13 +38,13 @@ pub struct Scribe {
 impl Model for Scribe {
     ghost use Rattle.std.specs.Prelude.{◌<◌};
     ghost use Rattle.worker_lane.specs.Scribing.{Scribing};
-    ghost use Rattle.worker_lane.specs.Waiting.{waiting_events, IsSound};
+    ghost use Rattle.worker_lane.specs.Waiting.{waiting_events, HasWaitingEvent};
 
     ghost Value = { Scribing };
 
     ghost view = { λ s. record { lane = s.lane; waiting = waiting_events s.lane s.waiting; held = s.reader } };
 
-    ghost invariant = { λ s. (s.lane < 64) × IsSound s.waiting };
+    ghost invariant = { λ s. (s.lane < 64) × HasWaitingEvent s.waiting };
 }
 
 impl Scribe {
@@ -89,10 +89,10 @@ impl Scribe {
         self.reader.held()
     }
 
-    /// Appends the next recorded packet, and answers true: under the lane, where it fits there, from the parts that were
-    /// read; else a half of it, where its file may be cut in two, or a piece of the file `stdout`. False comes where no
-    /// note and no half or piece is left: before the end, until more bytes are fed; behind the end, where all were given.
-    /// After false before the end at most 4,259,837 bytes are held.
+    /// Appends the next recorded packet, and answers true. The packet stands under the lane, where it fits there, and
+    /// is made from the parts that were read. Else it is a half, where the file may be cut in two, or a piece of the
+    /// file `stdout`. False comes where no note and no half or piece is left: before the end, until more bytes are fed;
+    /// behind the end, where all were given. After false before the end at most 4,259,837 bytes are held.
     pub fn next_into(&mut self, out: &mut Vec<u8>) -> Result<bool, NoMemory>
         ensures given { IfOk result (λ given. given ≡ true → GivesPacket self.old out.old.items self.new out.new.items) }
         ensures packet { IfOk result (λ given. given ≡ true → GivesOne self.old out.old.items self.new out.new.items) }

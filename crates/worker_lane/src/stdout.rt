@@ -2,17 +2,10 @@
 
 ghost use Rattle.std.specs.Prelude.{◌≡◌, ◌<◌, ◌≤◌, ◌++◌, length, OnOk, OnErr};
 ghost use Rattle.packet_codec.specs.Canonical.{canonical};
-ghost use Rattle.packet_codec.specs.Grammar.{AreBytes};
 ghost use Rattle.worker_lane.specs.Recorded.{longest_piece, stdout_under, HasPacket};
 
-use packet_codec::put_piece_under;
+use packet_codec::{are_bytes, put_piece_under};
 use sub_number::NoMemory;
-
-/// What holds of the bytes of each slice: the type tells it.
-#[inline(always)]
-pub(crate) fn are_bytes(bytes: &[u8])
-    ensures { AreBytes bytes.now }
-{}
 
 /// Appends the packet of the bytes as a piece of the file `stdout`, under the lane.
 #[inline(never)]

@@ -3,7 +3,7 @@ use Rattle.std.proofs.lemmas.List.{append-nil}
 use Rattle.std.proofs.lemmas.Grind.{common_steps}
 use Rattle.std.proofs.lemmas.List.Elements.{All-tail}
 use Rattle.sub_number.specs.Texts.{IsShortText}
-use Rattle.packet_codec.specs.Shapes.{Run}
+use Rattle.packet_codec.specs.Shapes.{ByteRun}
 use Rattle.packet_codec.proofs.GrammarLemmas.{found_are}
 use Rattle.packet_codec.proofs.RunsLeft.{left_start, left_none, left_next, left_end, next_text, copied_next, some_of}
 use Rattle.packet_codec.proofs.decoding.tags_of.Goals as goal
@@ -22,7 +22,7 @@ loop-preserved c =
     let found = rw c.unwrap.ensures at c.run_at.ensures.found in
     let pushed : c.push.new.self ≡ c.loop.tags ++ c.in_ok-from_tested.field-0 ∷ [] = grind (arith, common_steps) in
     record {
-      are_bytes = found_are Run _ _ _ c.loop.invariant.are_bytes found;
+      are_bytes = found_are ByteRun _ _ _ c.loop.invariant.are_bytes found;
       texts = left_next _ _ _ _ _ (All IsShortText) (All IsShortText) c.loop.invariant.are_bytes c.loop-test.true c.loop.invariant.texts found (λ others whole. All-tail IsShortText _ others whole);
       left = λ runs shown. left_next _ _ _ _ _ _ _ c.loop.invariant.are_bytes c.loop-test.true (c.loop.invariant.left runs shown) found (λ others whole. copied_next _ _ others runs _ _ pushed c.in_ok-from_tested.ensures whole);
     }

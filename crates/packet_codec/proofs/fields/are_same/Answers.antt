@@ -1,7 +1,7 @@
 use Rattle.std.proofs.Common.{◌≡◌, ◌<◌, ◌≤◌, All, arith, rules}
 use Rattle.std.proofs.lemmas.List.Elements.{All-tail}
 use Rattle.sub_number.specs.Texts.{IsShortText}
-use Rattle.packet_codec.specs.Shapes.{Run}
+use Rattle.packet_codec.specs.Shapes.{ByteRun}
 use Rattle.packet_codec.proofs.GrammarLemmas.{found_are}
 use Rattle.packet_codec.proofs.RunsLeft.{SameBefore, left_none, left_next, next_text, some_of, same_next, no_same, same_all, answers_no, answers_yes}
 use Rattle.packet_codec.proofs.fields.are_same.Goals as goal
@@ -29,7 +29,7 @@ loop-text-preserved c =
     let same : c.unwrap.result.0.now ≡ c.text-item.result = search rules in
     record {
       size = c.loop-text.invariant.size;
-      are_bytes = found_are Run _ _ _ c.loop-text.invariant.are_bytes found;
+      are_bytes = found_are ByteRun _ _ _ c.loop-text.invariant.are_bytes found;
       texts = left_next _ _ _ _ _ (All IsShortText) (All IsShortText) c.loop-text.invariant.are_bytes less c.loop-text.invariant.texts found (λ others whole. All-tail IsShortText _ others whole);
       left = λ runs shown. left_next _ _ _ _ _ _ (SameBefore c.args.texts.now _ runs) c.loop-text.invariant.are_bytes less (c.loop-text.invariant.left runs shown) found (λ others before. same_next _ runs others _ _ _ c.loop-text-test.true c.text-item.is same before);
     }

@@ -1,7 +1,7 @@
 use Rattle.std.proofs.Common.{rules}
 use Rattle.std.proofs.lemmas.List.Elements.{All-nil}
 use Rattle.sub_number.specs.Texts.{IsText}
-use Rattle.packet_codec.specs.Shapes.{Run}
+use Rattle.packet_codec.specs.Shapes.{ByteRun}
 use Rattle.packet_codec.proofs.GrammarLemmas.{found_are}
 use Rattle.packet_codec.proofs.RunsLeft.{SameTexts, left_start, left_none, left_next, left_end, same_texts_start, same_texts_next, no_texts, answers_no, answers_yes}
 use Rattle.packet_codec.proofs.packet.are_texts.Goals as goal
@@ -13,7 +13,7 @@ pub loop-preserved : goal.loop-preserved
 loop-preserved c =
     let text : IsText c.in-Some.run'.now = search rules in
     record {
-      are_bytes = found_are Run _ _ _ c.loop.invariant.are_bytes c.in-Some.ensures.found;
+      are_bytes = found_are ByteRun _ _ _ c.loop.invariant.are_bytes c.in-Some.ensures.found;
       left = λ runs shown. left_next _ _ _ _ _ (SameTexts runs) (SameTexts runs) c.loop.invariant.are_bytes c.loop-test.true (c.loop.invariant.left runs shown) c.in-Some.ensures.found (λ others same. same_texts_next runs others _ text same);
     }
 

@@ -3,7 +3,7 @@ use Rattle.std.specs.List.{flat_map}
 use Rattle.std.proofs.lemmas.List.{append-nil}
 use Rattle.std.proofs.lemmas.Grind.{common_steps}
 use Rattle.packet_codec.specs.Canonical.{canonical_text}
-use Rattle.packet_codec.specs.Shapes.{Run}
+use Rattle.packet_codec.specs.Shapes.{ByteRun}
 use Rattle.packet_codec.proofs.GrammarLemmas.{found_are}
 use Rattle.packet_codec.proofs.ShapeLemmas.{number_below}
 use Rattle.packet_codec.proofs.WritingLemmas.{kept_twice}
@@ -28,7 +28,7 @@ pub loop-preserved : goal.loop-preserved
 loop-preserved c =
     let found = rw c.unwrap.ensures at c.run_at.ensures.found in
     record {
-      are_bytes = found_are Run _ _ _ c.loop.invariant.are_bytes found;
+      are_bytes = found_are ByteRun _ _ _ c.loop.invariant.are_bytes found;
       kept = kept_twice _ _ _ c.loop.invariant.kept c.in_ok-put_bytes.ensures.kept;
       left = λ runs shown. left_next _ _ _ _ _ _ _ c.loop.invariant.are_bytes c.loop-test.true (c.loop.invariant.left runs shown) found (λ others whole. put_more c.loop.out.items _ c.unwrap.result.0.now _ others c.in_ok-put_bytes.ensures.ok whole);
     }

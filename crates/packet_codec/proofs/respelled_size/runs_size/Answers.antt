@@ -2,7 +2,7 @@ use Rattle.std.proofs.Common.{◌≡◌, ◌+◌, List, ℕ, ◌∷◌, length, 
 use Rattle.std.specs.List.{flat_map}
 use Rattle.std.proofs.lemmas.List.{length-append}
 use Rattle.packet_codec.specs.Canonical.{canonical_text}
-use Rattle.packet_codec.specs.Shapes.{Run}
+use Rattle.packet_codec.specs.Shapes.{ByteRun}
 use Rattle.packet_codec.proofs.GrammarLemmas.{found_are}
 use Rattle.packet_codec.proofs.RunsLeft.{left_start, left_none, left_next, left_end, some_of}
 use Rattle.packet_codec.proofs.respelled_size.runs_size.Goals as goal
@@ -20,7 +20,7 @@ pub loop-preserved : goal.loop-preserved
 loop-preserved c =
     let found = rw c.unwrap.ensures at c.run_at.ensures.found in
     record {
-      are_bytes = found_are Run _ _ _ c.loop.invariant.are_bytes found;
+      are_bytes = found_are ByteRun _ _ _ c.loop.invariant.are_bytes found;
       small = omega arith;
       left = λ runs shown. left_next _ _ _ _ _ _ _ c.loop.invariant.are_bytes c.loop-test.true (c.loop.invariant.left runs shown) found (λ others whole. more _ _ c.unwrap.result.0.now others _ c.bytes_size-sum.ensures.size whole);
     }

@@ -1,0 +1,173 @@
+//! What is kept of a lane beside its child.
+
+ghost use Rattle.std.specs.Prelude.{◌≡◌, ◌⊎◌, ◌<◌, ◌≤◌, ◌+◌, ◌++◌, ◌∷◌, ◌↔◌, IsTrue, ℕ, List, [], true, false, None, IfOk, OnErr, IfSome, IfNone, length};
+ghost use Rattle.std.specs.Option.{option_to_list};
+ghost use Rattle.packet_codec.specs.Grammar.{AreBytes};
+ghost use Rattle.edge_io.specs.declared.child.Finish.{Finish};
+ghost use Rattle.worker_lane.specs.Endings.{ending_of, IsPacketOf, IsLotOf};
+ghost use Rattle.edge_io.specs.Children.{Output};
+ghost use Rattle.stream_reader.specs.Room.{room, most_held};
+ghost use Rattle.worker_lane.specs.Rest.{lots, new_course, AppendsNext, IsMarkedLot, IsEnd};
+ghost use Rattle.worker_lane.specs.Courses.{KeepsCourse, KeepsLaneAndMark, EndsCourse};
+ghost use Rattle.worker_lane.specs.declared.lot.Lot.TheVariants.{Packet};
+ghost use Rattle.worker_lane.specs.declared.lot.Ending.TheVariants.{Fault, NoMemory as without_memory};
+ghost use Rattle.worker_lane.specs.declared.stage.Stage.TheVariants.{Reading, Closing, Over};
+
+use crate::lot::{Ending, Lot};
+use crate::scribe::Scribe;
+use crate::stage::Stage;
+use std::alloc::Global;
+use std::marker::Model;
+use sub_number::{Bytes, NoMemory};
+
+/// What is kept of a lane beside its child.
+#[derive(Drop)]
+pub(crate) struct Course {
+    scribe: Scribe,
+    stage: Stage,
+    // A read of the child or the wait for it failed.
+    failed: bool,
+}
+
+impl Model for Course {
+    ghost use Rattle.worker_lane.specs.Rest.{Coursing, IsSoundScribe, IsAtStage};
+
+    ghost Value = { Coursing };
+
+    ghost view = { λ c. record { scribe = c.scribe; stage = c.stage; failed = c.failed } };
+
+    ghost invariant = { λ c. IsSoundScribe c.scribe × IsAtStage c.stage c.scribe.held.ended c.failed };
+}
+
+impl Course {
+    /// The course of a new lane. The number is below 64.
+    pub(crate) fn new(alloc: Global, number: u32) -> Result<Self, NoMemory>
+        requires { number < 64 }
+        ensures { IfOk result (λ course. course ≡ new_course number) }
+    {
+        Ok(Course {
+            scribe: Scribe::new(alloc, number)?,
+            stage: Stage::Reading,
+            failed: false,
+        })
+    }
+
+    /// How many bytes were given to it of which no note was taken.
+    pub(crate) fn held(&self) -> usize
+        ensures held { result ≡ length self.now.scribe.held.bytes }
+        ensures few { result ≤ room }
+    {
+        self.scribe.held()
+    }
+
+    /// The child is still read.
+    pub(crate) fn is_reading(&self) -> bool
+        ensures { IsTrue result ↔ (self.now.stage ≡ Reading) }
+    {
+        matches!(self.stage, Stage::Reading)
+    }
+
+    /// The next packet, while the child is read. None where more bytes are needed.
+    pub(crate) fn next(&mut self) -> Result<Option<Bytes>, NoMemory>
+        requires { self.old.stage ≡ Reading }
+        ensures keeps { KeepsCourse self.old self.new }
+        ensures gives { IfOk result (λ answer. IfSome answer (λ packet. (output : Output) → AreBytes output.bytes → lots self.old output ≡ Packet packet ∷ lots self.new output)) }
+        ensures under { IfOk result (λ answer. IfSome answer (IsPacketOf self.old.scribe.lane)) }
+        ensures none { IfOk result (λ answer. IfNone answer ((self.new ≡ self.old) × (length self.old.scribe.held.bytes ≤ most_held))) }
+    {
+        self.scribe.next()
+    }
+
+    /// Appends the next packet, while the child is read. False where more bytes are needed, or memory for it, and then
+    /// nothing has changed.
+    pub(crate) fn next_into(&mut self, out: &mut Vec<u8>) -> bool
+        requires { self.old.stage ≡ Reading }
+        ensures keeps { KeepsCourse self.old self.new }
+        ensures appends { result ≡ true → AppendsNext self.old out.old.items self.new out.new.items }
+        ensures none { result ≡ false → (self.new ≡ self.old) × (out.new.items ≡ out.old.items) }
+    {
+        let Ok(given) = self.scribe.next_into(out) else {
+            return false;
+        };
+        given
+    }
+
+    /// What a read of the child gave.
+    pub(crate) fn feed(&mut self, piece: &[u8])
+        requires reading { self.old.stage ≡ Reading }
+        requires few { length self.old.scribe.held.bytes ≤ most_held }
+        requires short { length piece.now ≤ 65536 }
+        ensures keeps { KeepsCourse self.old self.new }
+        ensures left { (more : List ℕ) (finish : Finish) → lots self.old (record { bytes = piece.now ++ more; finish = finish }) ≡ lots self.new (record { bytes = more; finish = finish }) }
+        ensures longer { length self.new.scribe.held.bytes ≡ length self.old.scribe.held.bytes + length piece.now }
+    {
+        self.scribe.feed(piece);
+    }
+
+    /// The child is not read any more, and the lane ends so. A fault is marked.
+    pub(crate) fn close(&mut self, ending: Ending)
+        requires reading { self.old.stage ≡ Reading }
+        requires ending { ending ≡ without_memory → ⊥ }
+        ensures ends { EndsCourse self.old ending self.new }
+        ensures left { (finish : Finish) (output : Output) → ending_of finish ≡ ending → lots self.old (record { bytes = []; finish = finish }) ≡ lots self.new output }
+    {
+        self.scribe.finish();
+        if matches!(ending, Ending::Fault) {
+            self.failed = true;
+        }
+        self.stage = Stage::Closing(ending);
+    }
+
+    /// The next lot, once the child is not read any more. None after the end.
+    pub(crate) fn step(&mut self) -> Result<Option<Lot>, NoMemory>
+        requires { self.old.stage ≡ Reading → ⊥ }
+        ensures goes { KeepsLaneAndMark self.old self.new }
+        ensures gives { IfOk result (λ answer. (output other : Output) → lots self.old output ≡ option_to_list answer ++ lots self.new other) }
+        ensures under { IfOk result (λ answer. IfSome answer (IsLotOf self.old.scribe.lane)) }
+        ensures marked { IfOk result (λ answer. IfSome answer (λ lot. IsMarkedLot lot self.new.failed)) }
+        ensures none { IfOk result (λ answer. (answer ≡ None) ↔ (self.old.stage ≡ Over)) }
+        ensures over { IfOk result (λ answer. IfSome answer (λ lot. IsEnd lot ↔ (self.new.stage ≡ Over))) }
+        ensures stays { IfOk result (λ answer. IfNone answer (self.new.stage ≡ Over)) }
+        ensures err { OnErr result (self.old.stage ≡ Over → ⊥) }
+    {
+        match self.stage {
+            Stage::Closing(ending) => Ok(Some(self.step_closing(ending)?)),
+            Stage::Last(ending) => {
+                self.stage = Stage::Over;
+                Ok(Some(Lot::End(ending)))
+            }
+            Stage::Reading | Stage::Over => Ok(None),
+        }
+    }
+
+    // The next lot, while packets may be left.
+    fn step_closing(&mut self, ending: Ending) -> Result<Lot, NoMemory>
+        requires { self.old.stage ≡ Closing ending }
+        ensures goes { KeepsLaneAndMark self.old self.new }
+        ensures gives { IfOk result (λ lot. (output other : Output) → lots self.old output ≡ lot ∷ lots self.new other) }
+        ensures under { IfOk result (IsLotOf self.old.scribe.lane) }
+        ensures marked { IfOk result (λ lot. IsMarkedLot lot self.new.failed) }
+        ensures over { IfOk result (λ lot. IsEnd lot ↔ (self.new.stage ≡ Over)) }
+    {
+        if let Some(packet) = self.scribe.next()? {
+            return Ok(Lot::Packet(packet));
+        }
+        if let Some(packet) = self.scribe.ending(&ending)? {
+            self.stage = Stage::Last(ending);
+            return Ok(Lot::Packet(packet));
+        }
+        self.stage = Stage::Over;
+        Ok(Lot::End(ending))
+    }
+
+    /// Nothing more is given. The mark is set where a wait failed.
+    pub(crate) fn end(&mut self, failed: bool)
+        ensures lane { self.new.scribe.lane ≡ self.old.scribe.lane }
+        ensures over { self.new.stage ≡ Over }
+        ensures stays { self.old.failed ≡ true → self.new.failed ≡ true }
+        ensures mark { self.new.failed ≡ true → (self.old.failed ≡ true) ⊎ (failed ≡ true) }
+    {
+        self.failed |= failed;
+        self.stage = Stage::Over;
+    }
+}
