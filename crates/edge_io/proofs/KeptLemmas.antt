@@ -10,7 +10,7 @@ use Rattle.edge_io.specs.declared.kept.Mark.{Mark}
 use Rattle.edge_io.specs.Disk.{Files, put, Draft, Folder, IsImage, at_rest}
 use Rattle.edge_io.specs.Steps.{CanPublish, placed, moved}
 use Rattle.edge_io.specs.MemState.{begins_with, image_of}
-use Rattle.edge_io.specs.Kept.{or_else, latest, mark_in_force, first_mark, disk_counts, lookup, nth, disk_with, pending_file, disk_at, IsWithin}
+use Rattle.edge_io.specs.Kept.{or_else, latest, mark_in_force, first_mark, disk_counts, lookup, nth, disk_with, pending_file, disk_at, KnowsFirst}
 
 or_if : (b : Bool) (v : List ℕ) (o other : Option (List ℕ)) → or_else (if b then Some v else o) other ≡ (if b then Some v else or_else o other)
 or_if true v o other = refl
@@ -49,17 +49,17 @@ pending_push : (files : List File) (file : File) (mark : Mark) → mark.publishe
 pending_push files file mark within =
     if_same (nat_lt mark.settled mark.published) _ _ None (λ lt. nth_push_below files file mark.settled (omega (arith, ltb-true mark.settled mark.published lt)))
 
-settled_within : (files : List File) (mark : Mark) → IsWithin (length files) mark → mark.settled ≤ length files
+settled_within : (files : List File) (mark : Mark) → KnowsFirst (length files) mark → mark.settled ≤ length files
 settled_within files mark within = omega (arith, within.first, within.published)
 
-pub disk_at_push : (files : List File) (file : File) (mark : Mark) → IsWithin (length files) mark → disk_at (files ++ file ∷ []) mark ≡ disk_at files mark
+pub disk_at_push : (files : List File) (file : File) (mark : Mark) → KnowsFirst (length files) mark → disk_at (files ++ file ∷ []) mark ≡ disk_at files mark
 disk_at_push files file mark within =
     λ i. disk_with (lookup (take-append-le mark.settled files (file ∷ []) (settled_within files mark within) i)) (pending_push files file mark within.published i) mark.whole
 
-pub past_push : (files : List File) (file : File) (marks : List Mark) → All (IsWithin (length files)) marks → map (disk_at (files ++ file ∷ [])) marks ≡ map (disk_at files) marks
+pub past_push : (files : List File) (file : File) (marks : List Mark) → All (KnowsFirst (length files)) marks → map (disk_at (files ++ file ∷ [])) marks ≡ map (disk_at files) marks
 past_push files file [] within = refl
 past_push files file (m ∷ marks) within =
-    λ i. disk_at_push files file m (All-head (IsWithin (length files)) m marks within) i ∷ past_push files file marks (All-tail (IsWithin (length files)) m marks within) i
+    λ i. disk_at_push files file m (All-head (KnowsFirst (length files)) m marks within) i ∷ past_push files file marks (All-tail (KnowsFirst (length files)) m marks within) i
 
 module _ (files : List File) (i : ℕ) (file : File) (here : file ≡ get_or files i file) (within : i < length files) (q : List ℕ) where
   lookup_more : lookup (take (i + 1) files) q ≡ put (lookup (take i files)) (string_bytes file.name) file.bytes.items q
@@ -123,12 +123,12 @@ known_draft false draft there = cc
 
 -- the disks of the moments before one file more
 moments_later : (files later : List File) (now : Mark) (past marks : List Mark) (file : File)
-    → now.settled ≤ now.published → now.published ≤ now.settled + 1 → now.published ≡ length files → All (IsWithin (length files)) past
+    → now.settled ≤ now.published → now.published ≤ now.settled + 1 → now.published ≡ length files → All (KnowsFirst (length files)) past
     → later ≡ files ++ file ∷ [] → marks ≡ past ++ now ∷ []
     → map (disk_at later) marks ≡ map (disk_at files) past ++ disk_at files now ∷ []
 moments_later files later now past marks file first one all within more longer =
     (λ i. map (disk_at (more i)) (longer i))
-    ∙ past_push files file (past ++ now ∷ []) (All-push (IsWithin (length files)) past now within (record { first = first; one = one; published = omega arith }))
+    ∙ past_push files file (past ++ now ∷ []) (All-push (KnowsFirst (length files)) past now within (record { first = first; one = one; published = omega arith }))
     ∙ map-append (disk_at files) past (now ∷ [])
 
 -- a folder in which all is settled
@@ -139,7 +139,7 @@ at_rest_with files n since count =
 
 -- a publish: one file more, which is pending
 pub publish_step : (files later : List File) (now : Mark) (past marks : List Mark) (drafting : Bool) (draft : Draft) (file : File) (whole : Bool) (since : ℕ)
-    → now.settled ≤ now.published → now.published ≤ now.settled + 1 → now.published ≡ length files → All (IsWithin (length files)) past
+    → now.settled ≤ now.published → now.published ≤ now.settled + 1 → now.published ≡ length files → All (KnowsFirst (length files)) past
     → CanPublish (folder_with files now (if drafting then Some draft else None) past)
     → file.bytes.items ≡ draft.bytes → whole ≡ nat_eq draft.synced (length draft.bytes) → later ≡ files ++ file ∷ [] → marks ≡ past ++ now ∷ []
     → folder_with later (record { settled = now.settled; published = now.settled + 1; whole = whole; since = since }) None marks
@@ -167,7 +167,7 @@ publish_step files later now past marks drafting draft file whole since first on
 
 -- a file put for good: one file more, with nothing pending
 pub put_step : (files later : List File) (now : Mark) (past marks : List Mark) (draft : Option Draft) (file : File) (since : ℕ)
-    → now.settled ≤ now.published → now.published ≤ now.settled + 1 → now.published ≡ length files → All (IsWithin (length files)) past
+    → now.settled ≤ now.published → now.published ≤ now.settled + 1 → now.published ≡ length files → All (KnowsFirst (length files)) past
     → (disk_at files now).pending ≡ None → later ≡ files ++ file ∷ [] → marks ≡ past ++ now ∷ []
     → folder_with later (record { settled = now.settled + 1; published = now.settled + 1; whole = true; since = since }) draft marks
     ≡ moved (folder_with files now draft past) (at_rest (put (disk_at files now).published (string_bytes file.name) file.bytes.items)) draft
@@ -206,24 +206,24 @@ module _ (files later : List File) (now : Mark) (past marks : List Mark) (file :
   pub all_published_later : (disk_at files now).pending ≡ None → now.settled + 1 ≡ length later
   all_published_later none = omega (arith, settled_all files now first one all none, length_later)
 
-  pub past_within_later : All (IsWithin (length files)) past → marks ≡ past ++ now ∷ [] → All (IsWithin (length later)) marks
+  pub past_within_later : All (KnowsFirst (length files)) past → marks ≡ past ++ now ∷ [] → All (KnowsFirst (length later)) marks
   past_within_later within longer =
-      All-same (IsWithin (length later)) marks (past ++ now ∷ []) longer
-      (All-weaker (IsWithin (length files)) (IsWithin (length later)) (λ m w. record { first = w.first; one = w.one; published = omega (arith, w.published, length_later) }) (past ++ now ∷ [])
-      (All-push (IsWithin (length files)) past now within (record { first = first; one = one; published = omega arith })))
+      All-same (KnowsFirst (length later)) marks (past ++ now ∷ []) longer
+      (All-weaker (KnowsFirst (length files)) (KnowsFirst (length later)) (λ m w. record { first = w.first; one = w.one; published = omega (arith, w.published, length_later) }) (past ++ now ∷ [])
+      (All-push (KnowsFirst (length files)) past now within (record { first = first; one = one; published = omega arith })))
 
 pub latest_push : (found mark : Mark) (marks : List Mark) (moment : ℕ) → latest found (marks ++ mark ∷ []) moment ≡ (if nat_le mark.since moment then mark else latest found marks moment)
 latest_push found mark [] moment = refl
 latest_push found mark (m ∷ marks) moment = latest_push (if nat_le m.since moment then m else found) mark marks moment
 
-choose_within : (n : ℕ) (b : Bool) (x y : Mark) → IsWithin n x → IsWithin n y → IsWithin n (if b then x else y)
+choose_within : (n : ℕ) (b : Bool) (x y : Mark) → KnowsFirst n x → KnowsFirst n y → KnowsFirst n (if b then x else y)
 choose_within n true x y p q = p
 choose_within n false x y p q = q
 
-pub latest_within : (n : ℕ) (marks : List Mark) (found : Mark) (moment : ℕ) → IsWithin n found → All (IsWithin n) marks → IsWithin n (latest found marks moment)
+pub latest_within : (n : ℕ) (marks : List Mark) (found : Mark) (moment : ℕ) → KnowsFirst n found → All (KnowsFirst n) marks → KnowsFirst n (latest found marks moment)
 latest_within n [] found moment here within = here
 latest_within n (m ∷ marks) found moment here within =
-    latest_within n marks (if nat_le m.since moment then m else found) moment (choose_within n (nat_le m.since moment) m found (All-head (IsWithin n) m marks within) here) (All-tail (IsWithin n) m marks within)
+    latest_within n marks (if nat_le m.since moment then m else found) moment (choose_within n (nat_le m.since moment) m found (All-head (KnowsFirst n) m marks within) here) (All-tail (KnowsFirst n) m marks within)
 
 module _ (files : List File) (i : ℕ) (file : File) (here : file ≡ get_or files i file) (within : i < length files) (copies : List File) (copy : File) where
   -- one copy more
@@ -241,7 +241,7 @@ latest_more past i d moment found within is =
     ∙ ap (λ (l : List Mark). mark_in_force l moment) (sym (take_more past i d within))
 
 -- a moment's published files are the first ones
-pub published_front : (files : List File) (mark : Mark) → IsWithin (length files) mark → (disk_at files mark).published ≡ lookup (take mark.published files)
+pub published_front : (files : List File) (mark : Mark) → KnowsFirst (length files) mark → (disk_at files mark).published ≡ lookup (take mark.published files)
 published_front files mark within = elim (cases_lt mark.settled mark.published) [
   | inl lt ↦
       let there = nth_there files mark.settled (omega (arith, within.published)) in
@@ -262,7 +262,7 @@ stable_is stable None whole = refl
 stable_is stable (Some file) whole = refl
 
 -- the first files are what either choice leaves
-pub front_is : (files : List File) (mark : Mark) (choice : Bool) → IsWithin (length files) mark → lookup (take (if choice then mark.published else mark.settled) files) ≡ image_of (disk_at files mark) choice
+pub front_is : (files : List File) (mark : Mark) (choice : Bool) → KnowsFirst (length files) mark → lookup (take (if choice then mark.published else mark.settled) files) ≡ image_of (disk_at files mark) choice
 front_is files mark true within = sym (published_front files mark within)
 front_is files mark false within = sym (stable_is (lookup (take mark.settled files)) (pending_file files mark) mark.whole)
 
@@ -271,18 +271,18 @@ pub choice_counts : (stable : Files) (pending : Option File) (whole : Bool) (cho
 choice_counts stable pending whole true = disk_counts stable pending whole
 choice_counts stable pending whole false = inl refl
 
-pub count_within : (n : ℕ) (mark : Mark) (choice : Bool) → IsWithin n mark → (if choice then mark.published else mark.settled) ≤ n
+pub count_within : (n : ℕ) (mark : Mark) (choice : Bool) → KnowsFirst n mark → (if choice then mark.published else mark.settled) ≤ n
 count_within n mark true within = within.published
 count_within n mark false within = omega (arith, within.first, within.published)
 
-first_within : (n : ℕ) → IsWithin n first_mark
+first_within : (n : ℕ) → KnowsFirst n first_mark
 first_within n = record { first = omega arith; one = omega arith; published = omega arith }
 
 -- each moment that a shelf has passed knows only its files
-pub force_within : (files : List File) (past : List Mark) (current : Mark) (moment : ℕ) → current.settled ≤ current.published → current.published ≤ current.settled + 1 → current.published ≡ length files → All (IsWithin (length files)) past → IsWithin (length files) (mark_in_force (past ++ current ∷ []) moment)
+pub force_within : (files : List File) (past : List Mark) (current : Mark) (moment : ℕ) → current.settled ≤ current.published → current.published ≤ current.settled + 1 → current.published ≡ length files → All (KnowsFirst (length files)) past → KnowsFirst (length files) (mark_in_force (past ++ current ∷ []) moment)
 force_within files past current moment first one all within =
     latest_within (length files) (past ++ current ∷ []) first_mark moment (first_within (length files))
-    (All-push (IsWithin (length files)) past current within (record { first = first; one = one; published = omega arith }))
+    (All-push (KnowsFirst (length files)) past current within (record { first = first; one = one; published = omega arith }))
 
 pub latest_all : (past : List Mark) (i : ℕ) (mark : Mark) (moment : ℕ) (found : Mark) → length past ≤ i → found ≡ mark_in_force (take i past) moment → (if nat_le mark.since moment then mark else found) ≡ mark_in_force (past ++ mark ∷ []) moment
 latest_all past i mark moment found all is =
@@ -301,7 +301,7 @@ module _ (files : List File) (past marks : List Mark) (current mark : Mark) (mom
   remembers = ap (disk_at files) forces
 
   pub remembers_more : (later : List File) (file : File) → later ≡ files ++ file ∷ []
-      → current.settled ≤ current.published → current.published ≤ current.settled + 1 → current.published ≡ length files → All (IsWithin (length files)) past
+      → current.settled ≤ current.published → current.published ≤ current.settled + 1 → current.published ≡ length files → All (KnowsFirst (length files)) past
       → disk_at later (mark_in_force (marks ++ mark ∷ []) moment) ≡ disk_at files (mark_in_force (past ++ current ∷ []) moment)
   remembers_more later file more first one all within =
       (λ i. disk_at (more i) (forces i))
@@ -312,13 +312,13 @@ pub forces_now : (files : List File) (past : List Mark) (current : Mark) (moment
 forces_now files past current moment come = ap (disk_at files) (latest_push first_mark current past moment ∙ cond-true _ _ _ (le-leb current.since moment come))
 
 -- what a stop at a moment leaves, as a list of the first files
-module _ (files : List File) (past : List Mark) (current : Mark) (moment : ℕ) (first : current.settled ≤ current.published) (one : current.published ≤ current.settled + 1) (all : current.published ≡ length files) (within : All (IsWithin (length files)) past)
+module _ (files : List File) (past : List Mark) (current : Mark) (moment : ℕ) (first : current.settled ≤ current.published) (one : current.published ≤ current.settled + 1) (all : current.published ≡ length files) (within : All (KnowsFirst (length files)) past)
     (read : List Mark) (is_read : read ≡ past) (mark : Mark) (is_mark : mark ≡ mark_in_force (read ++ current ∷ []) moment) (choice : Bool) (count : ℕ) (is_count : count ≡ (if choice then mark.published else mark.settled)) where
   in_force : mark ≡ mark_in_force (past ++ current ∷ []) moment
   in_force = is_mark ∙ ap (λ (l : List Mark). mark_in_force (l ++ current ∷ []) moment) is_read
 
-  mark_within : IsWithin (length files) mark
-  mark_within = subst (IsWithin (length files)) (sym in_force) (force_within files past current moment first one all within)
+  mark_within : KnowsFirst (length files) mark
+  mark_within = subst (KnowsFirst (length files)) (sym in_force) (force_within files past current moment first one all within)
 
   pub few : count ≤ length files
   few = subst (λ n. n ≤ length files) (sym is_count) (count_within (length files) mark choice mark_within)

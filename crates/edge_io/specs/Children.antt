@@ -34,6 +34,7 @@ pub record EndsExactly {E : Type 0} (s : Output) (result : Result ℕ E) : Type 
   pub ended : (result ≡ Ok 0) ↔ HasEnded s
   pub failed : IsErr result ↔ HasBroken s
 
+-- where the child tells what is left, a read into a buffer with room says exactly where that ends
 abbrev pub ReadsToEnd : {E : Type 0} → Option Output → Result ℕ E → List ℕ → Type 0
 ReadsToEnd told result buf = IfSome told (λ s. 0 < length buf → EndsExactly s result)
 
@@ -43,6 +44,7 @@ Waits (Exit status) result = result ≡ Ok status
 Waits ReadFault result = ⊤
 Waits WaitFault result = IsErr result
 
+-- where the child tells how it finishes, a wait says it so
 abbrev pub WaitsAsTold : {E : Type 0} → Option Output → Result ℤ E → Type 0
 WaitsAsTold told result = IfSome told (λ s. Waits s.finish result)
 

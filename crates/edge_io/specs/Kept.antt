@@ -6,6 +6,7 @@ use Rattle.edge_io.specs.declared.kept.File.{File}
 use Rattle.edge_io.specs.declared.kept.Mark.{Mark}
 use Rattle.edge_io.specs.Disk.{Files, put, put_same, Disk, IsImage, at_rest}
 
+-- the first bytes, and the others where there are none
 abbrev pub or_else : Option (List ℕ) → Option (List ℕ) → Option (List ℕ)
 or_else None other = other
 or_else (Some bytes) other = Some bytes
@@ -15,6 +16,7 @@ abbrev pub lookup : List File → Files
 lookup [] q = None
 lookup (file ∷ files) q = or_else (lookup files q) (if bytes_eq q (string_bytes file.name) then Some file.bytes.items else None)
 
+-- the file in this place of the list, counted from 0
 abbrev pub nth : List File → ℕ → Option File
 nth [] k = None
 nth (file ∷ files) zero = Some file
@@ -29,14 +31,16 @@ disk_with stable (Some file) whole = record {
   pending = Some (record { name = string_bytes file.name; whole = whole });
 }
 
+-- the file that is published at this mark and not settled yet
 abbrev pub pending_file : List File → Mark → Option File
 pending_file files mark = if nat_lt mark.settled mark.published then nth files mark.settled else None
 
+-- the disk at this mark, where the files were published in this order
 abbrev pub disk_at : List File → Mark → Disk
 disk_at files mark = disk_with (lookup (take mark.settled files)) (pending_file files mark) mark.whole
 
 -- the moment knows only the first n files, of which at most one is pending
-pub record IsWithin (n : ℕ) (mark : Mark) : Type 0 where
+pub record KnowsFirst (n : ℕ) (mark : Mark) : Type 0 where
   pub first : mark.settled ≤ mark.published
   pub one : mark.published ≤ mark.settled + 1
   pub published : mark.published ≤ n
@@ -50,6 +54,7 @@ abbrev pub latest : Mark → List Mark → ℕ → Mark
 latest found [] moment = found
 latest found (mark ∷ marks) moment = latest (if nat_le mark.since moment then mark else found) marks moment
 
+-- the mark that stands at this moment: the latest one up to it
 abbrev pub mark_in_force : List Mark → ℕ → Mark
 mark_in_force marks moment = latest first_mark marks moment
 

@@ -17,12 +17,15 @@ folder_of shelf = record {
 pub folder_counts : (shelf : MemShelf) → IsImage (folder_of shelf).disk (folder_of shelf).disk.published
 folder_counts shelf = disk_counts _ _ _
 
+-- which calls of the shelf are to fail, and how many there were
 abbrev pub shelf_course : MemShelf → Course
 shelf_course shelf = course_of shelf.plan
 
+-- how often the shelf was called
 abbrev pub shelf_calls : MemShelf → ℕ
 shelf_calls shelf = shelf.plan.calls
 
+-- how many of its calls failed
 abbrev pub shelf_faults : MemShelf → ℕ
 shelf_faults shelf = shelf.plan.faults
 

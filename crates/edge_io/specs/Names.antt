@@ -24,6 +24,7 @@ pub record ListsInOrder (found : BTreeSet (List ℕ)) (names : List (List ℕ)) 
   pub is : names ≡ found.keys
   pub ordered : IsStrictlySortedBy (slice_cmp nat_cmp) names
 
+-- where the folder is told, these are its published names
 abbrev pub ListsNames : Option Folder → List (List ℕ) → Type 0
 ListsNames state names = IfSome state (λ s. AreNamesOf s.disk.published names)
 

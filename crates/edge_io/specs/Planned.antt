@@ -19,9 +19,11 @@ child_output child = record { bytes = drop child.start child.bytes; finish = chi
 abbrev pub child_piece : PlanChild → ℕ
 child_piece child = child.piece
 
+-- how many calls of the child failed
 abbrev pub child_faults : PlanChild → ℕ
 child_faults child = child.faults
 
+-- the output that a plan gives its child
 abbrev pub planned_output : Plan → Output
 planned_output plan = record { bytes = plan.output; finish = plan.finish }
 
@@ -29,9 +31,11 @@ planned_output plan = record { bytes = plan.output; finish = plan.finish }
 abbrev pub spawning_of : PlanSpawner → Spawning
 spawning_of spawner = record { outputs = map planned_output spawner.plans.items; started = spawner.jobs.items }
 
+-- which starts of the spawner are to fail, and how many calls there were
 abbrev pub spawner_course : PlanSpawner → Course
 spawner_course spawner = course_of spawner.plan
 
+-- how many starts failed
 abbrev pub spawner_faults : PlanSpawner → ℕ
 spawner_faults spawner = spawner.plan.faults
 
@@ -52,8 +56,10 @@ pub record SpawnsAsListed {T E : Type 0} (outputs : List Output) (old new : Cour
 abbrev pub site_files : MapSite → Files
 site_files site = lookup site.files.items
 
+-- which calls of the site are to fail, and how many there were
 abbrev pub site_course : MapSite → Course
 site_course site = course_of site.plan
 
+-- how many calls of the site failed
 abbrev pub site_faults : MapSite → ℕ
 site_faults site = site.plan.faults

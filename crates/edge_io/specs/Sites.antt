@@ -26,5 +26,6 @@ abbrev pub FitsIn : List ℕ → Found → Type 0
 FitsIn buf Absent = ⊤
 FitsIn buf (Read count) = count ≤ length buf
 
+-- of a file that is found no more is given than the buffer holds
 abbrev pub FindsAtMost : {E : Type 0} → Result Found E → List ℕ → Type 0
 FindsAtMost result buf = IfOk result (FitsIn buf)

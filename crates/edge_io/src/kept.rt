@@ -6,6 +6,7 @@ ghost use Rattle.edge_io.specs.Steps.{IsPart};
 
 use std::alloc::{AllocError, Global};
 
+/// A published file: its name and its bytes.
 #[derive(Drop)]
 pub struct File {
     pub name: String,

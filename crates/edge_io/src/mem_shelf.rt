@@ -1,6 +1,6 @@
 // A folder in memory, which keeps each moment that it has passed.
 ghost use Rattle.std.specs.Prelude.{◌≡◌, ◌+◌, ◌≤◌, ℕ, Some, None, [], length, All, OnOk, OnErr, IfOk};
-ghost use Rattle.edge_io.specs.Kept.{IsWithin};
+ghost use Rattle.edge_io.specs.Kept.{KnowsFirst};
 
 use crate::kept::{File, Mark, bytes_of, copied, copy_part, count_at, keep, mark_at};
 use crate::names::names_of;
@@ -25,7 +25,7 @@ pub struct MemShelf {
     ghost settled_first: { current.settled ≤ current.published },
     ghost one_pending: { current.published ≤ current.settled + 1 },
     ghost all_published: { current.published ≡ length files.items },
-    ghost past_within: { All (IsWithin (length files.items)) past.items },
+    ghost past_within: { All (KnowsFirst (length files.items)) past.items },
     ghost since_a_call: { current.since ≤ plan.calls },
 }
 

@@ -37,8 +37,8 @@ pub trait Shelf {
         ensures cause { HasCause (seen self.old).faults (seen self.new).faults result };
 
     /// Moves bytes of the published file of this name, which there must be, into the front of `buf`, which must not be
-    /// empty: from the byte number `place` on as many as are there and fit, and so none at or past the end. It answers how
-    /// many. Nothing else changes.
+    /// empty. They are those from the byte number `place` on, as many as are there and fit, and so none at or past the
+    /// end. It answers how many. Nothing else changes.
     fn read_at(&mut self, name: &str, place: u64, buf: &mut [u8]) -> Result<usize, Failed>
         requires published { HasFile (seen self.old).told name.now }
         requires room { 0 < length buf.old }

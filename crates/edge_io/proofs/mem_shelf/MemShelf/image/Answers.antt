@@ -1,7 +1,7 @@
 use Rattle.std.proofs.Common.{◌∙◌, sym, ap, ◌≤◌, length, take, arith}
 use Rattle.std.proofs.lemmas.List.{length-take-le}
 use Rattle.std.proofs.lemmas.List.Elements.{All-nil, All-same}
-use Rattle.edge_io.specs.Kept.{IsWithin, lookup}
+use Rattle.edge_io.specs.Kept.{KnowsFirst, lookup}
 use Rattle.edge_io.proofs.KeptLemmas.{few, image_folder, choice_counts, forces_now}
 use Rattle.edge_io.proofs.mem_shelf.MemShelf.image.Goals as goal
 
@@ -23,7 +23,7 @@ invariant_of-result c =
       settled_first = omega arith;
       one_pending = omega arith;
       all_published = sym (c.in_ok-files.ensures.length ∙ length-take-le _ _ all);
-      past_within = All-same (IsWithin (length c.in_ok-files.files.items)) _ _ c.new.ensures.items (All-nil _);
+      past_within = All-same (KnowsFirst (length c.in_ok-files.files.items)) _ _ c.new.ensures.items (All-nil _);
       since_a_call = omega arith;
     }
 
