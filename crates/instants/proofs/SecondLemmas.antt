@@ -11,7 +11,7 @@ use Rattle.jiff_core.specs.Calendar.{IsDate, days_from_civil, days_in_month}
 use Rattle.jiff_core.proofs.SignedLemmas.{signed_arith}
 use Rattle.jiff_core.proofs.DateTimeLemmas.{civil_nanos-parts}
 use Rattle.instants.specs.Calendar.{Day}
-use Rattle.instants.specs.Instants.{is_day, is_clock, number_of, day_and_clock, seconds_with}
+use Rattle.instants.specs.Instants.{is_day, is_clock, day_number, day_and_clock, seconds_with}
 use Rattle.instants.specs.Dates.{IsSecondOf}
 use Rattle.instants.proofs.DayLemmas.{not_before}
 
@@ -29,7 +29,7 @@ not_negative (negsuc n) low = absurd (omega (arith, signed_arith, low))
 pub nanos_told : (d : Day) (hour minute second : ℕ) (dt : DateTime) → 1970 ≤ d.year → IsYmd (pos d.year) (pos d.month) (pos d.day) dt.date → IsHms (pos hour) (pos minute) (pos second) (pos 0) dt.time → civil_nanos dt ≡ pos (day_and_clock d hour minute second * 1000000000)
 nanos_told d hour minute second dt from parts clock =
     let one : 1 ≤ d.day = omega (arith, signed_arith, parts.2, dt.date.day_in) in
-    let days : epoch_day dt.date ≡ pos (number_of d) = same_day d dt parts ∙ not_negative _ (not_before d.year d.month d.day from one) in
+    let days : epoch_day dt.date ≡ pos (day_number d) = same_day d dt parts ∙ not_negative _ (not_before d.year d.month d.day from one) in
     let whole = rw days at (civil_nanos-parts dt) in
     omega (arith, signed_arith, whole, clock)
 

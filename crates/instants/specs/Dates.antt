@@ -1,8 +1,8 @@
 -- What the code's parts of an instant mean, and how they stand to those of the library of dates.
 use Rattle.std.specs.Prelude.{◌≡◌, ◌≤◌, ℕ, ◌+◌, ◌*◌, ◌<◌, ◌^◌, ℤ, pos, ◌<ℤ◌, ◌≤ℤ◌}
-use Rattle.instants.specs.declared.reading.Told.{Told}
-use Rattle.instants.specs.declared.reading.Instant.{Instant}
-use Rattle.instants.specs.declared.printing.Date.{Date}
+use Rattle.instants.specs.declared.instant.Told.{Told}
+use Rattle.instants.specs.declared.instant.Instant.{Instant}
+use Rattle.instants.specs.declared.instant_text.Date.{Date}
 use Rattle.jiff_core.specs.declared.civil.date.Date.{Date as LibraryDate}
 use Rattle.instants.specs.Calendar.{Day, day_of}
 use Rattle.instants.specs.Instants.{Moment}

@@ -46,8 +46,8 @@ is_day d =
     nat_le 1970 d.year && (nat_le 1 d.month && (nat_le d.month 12 && (nat_le 1 d.day && nat_le d.day (days_in_month (pos d.year) d.month))))
 
 -- how many days it lies behind 1970-01-01
-abbrev pub number_of : Day → ℕ
-number_of d = unsigned_abs (days_from_civil (pos d.year) d.month d.day)
+abbrev pub day_number : Day → ℕ
+day_number d = unsigned_abs (days_from_civil (pos d.year) d.month d.day)
 
 -- the day that the bytes begin with
 abbrev pub day_at : List ℕ → Day
@@ -63,7 +63,7 @@ clock_seconds hour minute second = hour * 3600 + minute * 60 + second
 
 -- in seconds since 1970-01-01T00:00:00Z
 abbrev pub day_and_clock : Day → (hour minute second : ℕ) → ℕ
-day_and_clock d hour minute second = number_of d * 86400 + clock_seconds hour minute second
+day_and_clock d hour minute second = day_number d * 86400 + clock_seconds hour minute second
 
 -- the same, where the date and the time exist, from 1970 on and below 2^32 seconds
 abbrev pub seconds_with : Day → (hour minute second : ℕ) → Option ℕ
