@@ -15,7 +15,7 @@ use Rattle.std.proofs.lemmas.List.Elements.{All-from_recursion, recursion_from_A
 use Rattle.std.proofs.lemmas.List.Folds.{list_any-append}
 use Rattle.std.proofs.Math.Bool.{or_comm}
 use Rattle.partition_times.specs.Shares.{Ids, Times, Rank, rank_cmp, rank_of, has_time, are_all_known, known_time, timed_groups, untimed_groups}
-use Rattle.partition_times.specs.Ranked.{shown, IsTimed, AreRanked}
+use Rattle.partition_times.specs.Ranked.{plain_rank, IsGroupOfRank, AreRanked}
 use Rattle.partition_times.specs.declared.rank.Rank as code
 use Rattle.partition_times.specs.declared.rank.Ranked.{Ranked}
 use Rattle.partition_times.proofs.OrderLemmas.{any_inserted, all_inserted, sorted_in_order, sorted_by}
@@ -66,13 +66,13 @@ module _ (times : Times) (group : List ℕ → Ids) (names : List (List ℕ)) (n
   }
 
   -- one more group with some known time
-  pub one_more_timed : (old new : Ranked) (rank : code.Rank) (ids : Vec (List ℕ) Global) → has_time times group name ≡ true → shown rank ≡ rank_of times (group name) name → ids.items ≡ group name → rank.time.0 ≤ length ids.items * 2 ^ 64 → new.untimed ≡ old.untimed
-      → new.timed.entries ≡ insert_entry (λ x y. rank_cmp (shown x) (shown y)) old.timed.entries rank ids → AreRanked times group names old → AreRanked times group (names ++ name ∷ []) new
+  pub one_more_timed : (old new : Ranked) (rank : code.Rank) (ids : Vec (List ℕ) Global) → has_time times group name ≡ true → plain_rank rank ≡ rank_of times (group name) name → ids.items ≡ group name → rank.time.0 ≤ length ids.items * 2 ^ 64 → new.untimed ≡ old.untimed
+      → new.timed.entries ≡ insert_entry (λ x y. rank_cmp (plain_rank x) (plain_rank y)) old.timed.entries rank ids → AreRanked times group names old → AreRanked times group (names ++ name ∷ []) new
   one_more_timed old new rank ids has rank_is is small same inserted ranked = record {
-    timed = rw inserted (All-from_recursion _ _ (all_inserted shown rank_total rank_exact (λ r (list : Vec (List ℕ) Global). IsTimed times group r list.items) rank ids
+    timed = rw inserted (All-from_recursion _ _ (all_inserted plain_rank rank_total rank_exact (λ r (list : Vec (List ℕ) Global). IsGroupOfRank times group r list.items) rank ids
         (record { ids_are = is ∙ ap group (sym (ap (λ r. r.name) rank_is)); rank_is = rank_is ∙ ap₂ (rank_of times) (sym is) (sym (ap (λ r. r.name) rank_is)); small = small })
         old.timed.entries (recursion_from_All _ _ ranked.timed)));
-    ranks = λ q. ap (λ es. list_any (eq_by_cmp rank_cmp q) (map shown (keys_of es))) inserted ∙ any_inserted shown rank_total q rank ids old.timed.entries
+    ranks = λ q. ap (λ es. list_any (eq_by_cmp rank_cmp q) (map plain_rank (keys_of es))) inserted ∙ any_inserted plain_rank rank_total q rank ids old.timed.entries
         ∙ ap₂ ◌||◌ (ap (eq_by_cmp rank_cmp q) rank_is) (ranked.ranks q)
         ∙ or_comm (eq_by_cmp rank_cmp q (rank_of times (group name) name)) _
         ∙ sym (ap (λ ns. list_any (eq_by_cmp rank_cmp q) (map (λ n. rank_of times (group n) n) ns)) (more_timed has)
@@ -87,12 +87,12 @@ module _ (times : Times) (group : List ℕ → Ids) (names : List (List ℕ)) (n
       or_false false = refl
 
 -- in the end the entries are the groups with some known time, in the order of their ranks
-pub timed_in_order : (times : Times) (group : List ℕ → Ids) (names : List (List ℕ)) (ranked : Ranked) → AreRanked times group names ranked → IsStrictlySortedBy (λ x y. rank_cmp (shown x) (shown y)) (keys_of ranked.timed.entries) → map (λ e. e.1.items) ranked.timed.entries ≡ timed_groups times group names
+pub timed_in_order : (times : Times) (group : List ℕ → Ids) (names : List (List ℕ)) (ranked : Ranked) → AreRanked times group names ranked → IsStrictlySortedBy (λ x y. rank_cmp (plain_rank x) (plain_rank y)) (keys_of ranked.timed.entries) → map (λ e. e.1.items) ranked.timed.entries ≡ timed_groups times group names
 timed_in_order times group names ranked are sorted =
     by_rank ranked.timed.entries (recursion_from_All _ _ are.timed)
-    ∙ ap (map (λ rank. group rank.name)) (sym (sorted_in_order rank_total rank_exact (map shown (keys_of ranked.timed.entries)) _ (sorted_by shown rank_cmp _ sorted) are.ranks))
+    ∙ ap (map (λ rank. group rank.name)) (sym (sorted_in_order rank_total rank_exact (map plain_rank (keys_of ranked.timed.entries)) _ (sorted_by plain_rank rank_cmp _ sorted) are.ranks))
   where
-    by_rank : (es : List (code.Rank × Vec (List ℕ) Global)) → AllByRecursion (λ e. IsTimed times group (shown e.0) e.1.items) es → map (λ e. e.1.items) es ≡ map (λ rank. group rank.name) (map shown (keys_of es))
+    by_rank : (es : List (code.Rank × Vec (List ℕ) Global)) → AllByRecursion (λ e. IsGroupOfRank times group (plain_rank e.0) e.1.items) es → map (λ e. e.1.items) es ≡ map (λ rank. group rank.name) (map plain_rank (keys_of es))
     by_rank [] all = refl
     by_rank (e ∷ es) all = ap₂ ◌∷◌ all.0.ids_are (by_rank es all.1)
 

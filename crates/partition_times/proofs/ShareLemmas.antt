@@ -17,8 +17,8 @@ use Rattle.std.proofs.lemmas.Map.Text.{is_eq-slice_cmp}
 use Rattle.std.proofs.lemmas.List.{length-set}
 use Rattle.partition_times.specs.Names.{members, group_names}
 use Rattle.partition_times.specs.Shares.{Ids, Times, least_share, given, given_to_least, given_in_turn, dealt}
-use Rattle.partition_times.specs.Gathered.{Lists, AreGathered}
-use Rattle.partition_times.specs.Ranked.{names_in, AreGroups, AreRanked, AreKnown, ids_in, AreNamesInOrder, AreRanksInOrder}
+use Rattle.partition_times.specs.Gathered.{IdsByName, AreGathered}
+use Rattle.partition_times.specs.Ranked.{list_names, AreGroups, AreRanked, AreKnown, ids_by_group, AreNamesInOrder, AreRanksInOrder}
 use Rattle.partition_times.specs.declared.rank.Ranked.{Ranked}
 use Rattle.partition_times.proofs.OrderLemmas.{sorted_in_order, sorted_by}
 use Rattle.partition_times.proofs.RankLemmas.{timed_in_order}
@@ -45,14 +45,14 @@ module _ where
   now_of_keys (e ∷ es) = ap (λ names. e.0.now ∷ names) (now_of_keys es)
 
   -- the gathered lists stand under the names of the groups
-  pub names_of_gathered : (name_of : List ℕ → List ℕ) (ids : Ids) (lists : Lists) → AreGathered name_of ids lists → AreNamesInOrder lists → names_in lists ≡ group_names name_of ids
+  pub names_of_gathered : (name_of : List ℕ → List ℕ) (ids : Ids) (lists : IdsByName) → AreGathered name_of ids lists → AreNamesInOrder lists → list_names lists ≡ group_names name_of ids
   names_of_gathered name_of ids lists gathered sorted =
-      sym (sorted_in_order nat_list_cmp_total (slice_cmp-IsAntisymmetric nat_cmp-IsAntisymmetric) (names_in lists) (map name_of ids)
+      sym (sorted_in_order nat_list_cmp_total (slice_cmp-IsAntisymmetric nat_cmp-IsAntisymmetric) (list_names lists) (map name_of ids)
       (subst (IsStrictlySortedBy (slice_cmp nat_cmp)) (now_of_keys lists.entries) (sorted_by (λ (key : Bor (List ℕ)). key.now) (slice_cmp nat_cmp) (map (λ e. e.0) lists.entries) sorted))
       (λ q. texts q lists.entries ∙ gathered.names q ∙ sym (named name_of q ids)))
 
 -- the groups by the ids of each name
-pub groups_of_gathered : (name_of : List ℕ → List ℕ) (ids : Ids) (lists : Lists) → AreGathered name_of ids lists → AreNamesInOrder lists → AreGroups (members name_of ids) lists
+pub groups_of_gathered : (name_of : List ℕ → List ℕ) (ids : Ids) (lists : IdsByName) → AreGathered name_of ids lists → AreNamesInOrder lists → AreGroups (members name_of ids) lists
 groups_of_gathered name_of ids lists gathered sorted = λ k d below.
     let e = get_or lists.entries k d in
     let place : slice_get lists.entries k ≡ Some e = slice_get-get_or lists.entries k d below in
@@ -66,7 +66,7 @@ known_of_ranked times group names ranked are = λ k d below.
     (ap (λ r. r.time) one.rank_is, one.small)
 
 -- the shares of ranked groups
-pub dealt_of_ranked : (times : Times) (group : List ℕ → Ids) (names : List (List ℕ)) (ranked : Ranked) (workers : ℕ) (start middle end : List Ids) → AreRanked times group names ranked → AreRanksInOrder ranked.timed → start ≡ replicate workers [] → middle ≡ given_to_least times start (ids_in ranked.timed)
+pub dealt_of_ranked : (times : Times) (group : List ℕ → Ids) (names : List (List ℕ)) (ranked : Ranked) (workers : ℕ) (start middle end : List Ids) → AreRanked times group names ranked → AreRanksInOrder ranked.timed → start ≡ replicate workers [] → middle ≡ given_to_least times start (ids_by_group ranked.timed)
     → end ≡ given_in_turn middle 0 (map (λ ids. ids.items) ranked.untimed.items) → end ≡ dealt times group names workers
 dealt_of_ranked times group names ranked workers start middle end are sorted is_start is_middle is_end =
     is_end ∙ ap₂ (λ shares groups. given_in_turn shares 0 groups) (is_middle ∙ ap₂ (given_to_least times) is_start (timed_in_order times group names ranked are sorted)) are.untimed

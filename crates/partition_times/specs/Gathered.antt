@@ -20,17 +20,18 @@ SearchesFor (Some pattern) None = ⊥
 SearchesFor (Some pattern) (Some re) = Searches pattern re
 
 -- by name, the ids of each group
-abbrev pub Lists : Type 0
-Lists = BTreeMap (Bor (List ℕ)) (Vec (List ℕ) Global)
+abbrev pub IdsByName : Type 0
+IdsByName = BTreeMap (Bor (List ℕ)) (Vec (List ℕ) Global)
 
 -- the ids under a name, and whether there are any
-abbrev pub ids_under : Lists → List ℕ → List (List ℕ)
+abbrev pub ids_under : IdsByName → List ℕ → List (List ℕ)
 ids_under lists name = option_map_or (λ list. list.items) (get_by (λ key. slice_cmp nat_cmp name key.now) lists) []
 
-abbrev pub has_name : Lists → List ℕ → Bool
+-- a group of this name is among the lists
+abbrev pub has_name : IdsByName → List ℕ → Bool
 has_name lists name = is_some (get_by (λ key. slice_cmp nat_cmp name key.now) lists)
 
 -- each group that has an id stands under its name
-pub record AreGathered (name_of : List ℕ → List ℕ) (ids : List (List ℕ)) (lists : Lists) : Type 0 where
+pub record AreGathered (name_of : List ℕ → List ℕ) (ids : List (List ℕ)) (lists : IdsByName) : Type 0 where
   pub ids_of : (name : List ℕ) → ids_under lists name ≡ members name_of ids name
   pub names : (name : List ℕ) → has_name lists name ≡ list_any (λ id. bytes_eq name (name_of id)) ids

@@ -23,6 +23,12 @@ pub record IsFirstBad (patterns : List (List ℕ)) (index : ℕ) : Type 0 where
   pub bad : IsBadPattern (slice_index_or patterns index [])
   pub good_before : (k : ℕ) → k < index → IsPattern (slice_index_or patterns k [])
 
+-- the text is the first bad one of the patterns, in their order
+pub record IsFirstBadText (patterns : List (List ℕ)) (text : List ℕ) : Type 0 where
+  pub index : ℕ
+  pub first : IsFirstBad patterns index
+  pub there : text ≡ slice_index_or patterns index []
+
 -- where the first match of what was read begins and ends in the id
 abbrev pub match_of : Option (Nested Re × Names) → List ℕ → Option (ℕ × ℕ)
 match_of None id = None

@@ -7,6 +7,7 @@ use Rattle.std.specs.Cmp.Lexicographic.{slice_cmp}
 use Rattle.partition_times.specs.Order.{in_order}
 use Rattle.partition_times.specs.Names.{members, group_names}
 
+-- ids of tests, in an order
 abbrev pub Ids : Type 0
 Ids = List (List ℕ)
 
@@ -22,6 +23,7 @@ known_time times ids = sum_by (λ id. unwrap_or (times id) 0) ids
 abbrev pub is_some_known : Times → Ids → Bool
 is_some_known times ids = list_any (λ id. is_some (times id)) ids
 
+-- each of the ids has a known time
 abbrev pub are_all_known : Times → Ids → Bool
 are_all_known times ids = list_all (λ id. is_some (times id)) ids
 
@@ -36,6 +38,7 @@ pub record Rank : Type 0 where
 abbrev pub rank_cmp : Rank → Rank → Ordering
 rank_cmp a b = ordering_then (bool_cmp a.partly b.partly) (ordering_then (nat_cmp b.time a.time) (slice_cmp nat_cmp a.name b.name))
 
+-- the rank of a group: whether a time is unknown, the sum of those that are known, and the name
 abbrev pub rank_of : Times → Ids → List ℕ → Rank
 rank_of times ids name = record { partly = not (are_all_known times ids); time = known_time times ids; name = name }
 

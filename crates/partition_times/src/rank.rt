@@ -3,7 +3,7 @@
 ghost use Rattle.std.specs.Prelude.{◌≡◌, ◌*◌, ◌^◌, ◌≤◌, ◌++◌, [], ◌∷◌, length, IfOk, OnOk};
 ghost use Rattle.std.specs.FinMap as fin;
 ghost use Rattle.partition_times.specs.Shares.{Ids, known_time, is_some_known, are_all_known};
-ghost use Rattle.partition_times.specs.Ranked.{AreRanked, AreGroups, AreNamesInOrder, names_in};
+ghost use Rattle.partition_times.specs.Ranked.{AreRanked, AreGroups, AreNamesInOrder, list_names};
 
 use std::alloc::Global;
 use std::cmp::Reverse;
@@ -88,7 +88,7 @@ pub(crate) fn rank_all<'a>(
     times: &TimeMap,
 ) -> Result<Ranked<'a>, NoMemory>
     ensures names { AreNamesInOrder lists.entry }
-    ensures ranked { (group : _) → AreGroups group lists.entry → IfOk result (AreRanked (fin.get times.now) group (names_in lists.entry)) }
+    ensures ranked { (group : _) → AreGroups group lists.entry → IfOk result (AreRanked (fin.get times.now) group (list_names lists.entry)) }
 {
     let mut ranked = Ranked {
         timed: BTreeMap::new(alloc),

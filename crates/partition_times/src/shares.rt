@@ -4,7 +4,7 @@ ghost use Rattle.std.specs.Prelude.{◌≡◌, ◌++◌, ◌*◌, ◌^◌, ◌�
 ghost use Rattle.partition_times.specs.Shares.{Times, known_time, least_share, given, given_to_least, given_in_turn, shares_of};
 ghost use Rattle.std.specs.FinMap as fin;
 ghost use Rattle.partition_times.specs.Loads.{IsQueue};
-ghost use Rattle.partition_times.specs.Ranked.{AreKnown, AreRanksInOrder, ids_in};
+ghost use Rattle.partition_times.specs.Ranked.{AreKnown, AreRanksInOrder, ids_by_group};
 ghost use Rattle.partition_times.specs.Names.{group_of};
 ghost use Rattle.partition_times.specs.Kept.{StandsInOne, StandsAsOften};
 ghost use Rattle.partition_times.specs.Bound.{IsWithinBound, IsNearBest};
@@ -82,7 +82,7 @@ impl Shares {
         requires queue { (times : Times) × IsQueue times self.old.lists.items self.old.queue.keys × AreKnown times groups }
         ensures ranks { AreRanksInOrder groups.entry }
         ensures lists { (times : _) → IsQueue times self.old.lists.items self.old.queue.keys → AreKnown times groups.entry
-            → OnOk result (self.new.lists.items ≡ given_to_least times self.old.lists.items (ids_in groups.entry)) }
+            → OnOk result (self.new.lists.items ≡ given_to_least times self.old.lists.items (ids_by_group groups.entry)) }
     {
         for (rank, ids) in groups {
             self.give_to_least(rank.time.0, ids)?;
@@ -115,8 +115,8 @@ fn append(list: &mut IdList, ids: Vec<Text>) -> Result<(), NoMemory>
     Ok(())
 }
 
-/// Shares the ids out among so many workers, at least one, as docs/FORMATS.md says under "Shares": a list for each
-/// worker, which may be empty, with its ids in the order in which they came to it.
+/// Shares the ids out among so many workers, at least one, as docs/FORMATS.md says under "Shares". It gives a list for
+/// each worker, which may be empty, with its ids in the order in which they came to it.
 ///
 /// Ids of one group stay together, in their order. The groups with the longest known times are given away first, each
 /// to the worker that has least to do by then, and the groups without a known time go round in turn. So the known time

@@ -5,7 +5,7 @@ use Rattle.std.proofs.lemmas.List.{length-replicate}
 use Rattle.std.specs.FinMap as fin
 use Rattle.partition_times.specs.Names.{group_of, members}
 use Rattle.partition_times.specs.Shares.{Ids, dealt, shares_of}
-use Rattle.partition_times.specs.Ranked.{names_in, ids_in}
+use Rattle.partition_times.specs.Ranked.{list_names, ids_by_group}
 use Rattle.partition_times.proofs.ShareLemmas.{length-to_least, names_of_gathered, groups_of_gathered, known_of_ranked, dealt_of_ranked}
 use Rattle.partition_times.proofs.shares.partition.Goals as goal
 
@@ -16,7 +16,7 @@ give_timed-requires-clause-queue c =
     let ids = c.args.ids.now in
     let lists = c.in_ok-lists.lists in
     let ranked = c.in_ok-timed.ensures.ranked (members name_of ids) (groups_of_gathered name_of ids lists c.in_ok-lists.ensures c.rank_all.ensures.names) in
-    (times, c.in_ok-shares.ensures.queue times, known_of_ranked times (members name_of ids) (names_in lists) c.in_ok-timed.field-0 ranked)
+    (times, c.in_ok-shares.ensures.queue times, known_of_ranked times (members name_of ids) (list_names lists) c.in_ok-timed.field-0 ranked)
 
 pub give_in_turn-requires : goal.give_in_turn-requires
 give_in_turn-requires c =
@@ -25,8 +25,8 @@ give_in_turn-requires c =
     let ids = c.args.ids.now in
     let lists = c.in_ok-lists.lists in
     let ranked = c.in_ok-timed.ensures.ranked (members name_of ids) (groups_of_gathered name_of ids lists c.in_ok-lists.ensures c.rank_all.ensures.names) in
-    let given = c.in_ok-give_timed.ensures.lists times (c.in_ok-shares.ensures.queue times) (known_of_ranked times (members name_of ids) (names_in lists) c.in_ok-timed.field-0 ranked) in
-    record { some = omega (arith, c.requires, ap length given, length-to_least times c.in_ok-shares.shares.lists.items (ids_in c.in_ok-timed.field-0.timed), ap length c.in_ok-shares.ensures.lists, length-replicate {A = Ids} c.args.workers []) }
+    let given = c.in_ok-give_timed.ensures.lists times (c.in_ok-shares.ensures.queue times) (known_of_ranked times (members name_of ids) (list_names lists) c.in_ok-timed.field-0 ranked) in
+    record { some = omega (arith, c.requires, ap length given, length-to_least times c.in_ok-shares.shares.lists.items (ids_by_group c.in_ok-timed.field-0.timed), ap length c.in_ok-shares.ensures.lists, length-replicate {A = Ids} c.args.workers []) }
 
 pub returns : goal.returns
 returns c =
@@ -35,9 +35,9 @@ returns c =
     let ids = c.args.ids.now in
     let lists = c.in_ok-lists.lists in
     let ranked = c.in_ok-timed.ensures.ranked (members name_of ids) (groups_of_gathered name_of ids lists c.in_ok-lists.ensures c.rank_all.ensures.names) in
-    let given = c.in_ok-give_timed.ensures.lists times (c.in_ok-shares.ensures.queue times) (known_of_ranked times (members name_of ids) (names_in lists) c.in_ok-timed.field-0 ranked) in
+    let given = c.in_ok-give_timed.ensures.lists times (c.in_ok-shares.ensures.queue times) (known_of_ranked times (members name_of ids) (list_names lists) c.in_ok-timed.field-0 ranked) in
     let is : c.give_in_turn.new.self.lists.items ≡ shares_of times name_of ids c.args.workers =
-    dealt_of_ranked times (members name_of ids) (names_in lists) c.in_ok-timed.field-0 c.args.workers _ _ _ ranked c.give_timed.ensures.ranks c.in_ok-shares.ensures.lists given c.in_ok-give_in_turn.ensures
+    dealt_of_ranked times (members name_of ids) (list_names lists) c.in_ok-timed.field-0 c.args.workers _ _ _ ranked c.give_timed.ensures.ranks c.in_ok-shares.ensures.lists given c.in_ok-give_in_turn.ensures
     ∙ ap (λ names. dealt times (members name_of ids) names c.args.workers) (names_of_gathered name_of ids lists c.in_ok-lists.ensures c.rank_all.ensures.names) in
     record {
       shares = is;
