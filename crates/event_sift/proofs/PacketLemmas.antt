@@ -28,7 +28,7 @@ use Rattle.outcome_fold.proofs.CloseLemmas.{table_with}
 use Rattle.event_sift.specs.declared.held_packets.HeldTest.{HeldTest}
 use Rattle.event_sift.specs.Released.{kept_open, part_at, released, released_at_end, released_with}
 use Rattle.event_sift.specs.Sifted.{open_parts}
-use Rattle.event_sift.specs.PacketSifted.{begun_at, one_more, open_packets, packets_at, packets_if_kept, packets_of, with_last}
+use Rattle.event_sift.specs.PacketSifted.{begun_at, with_packet, open_packets, packets_at, packets_if_kept, packets_of, with_last}
 use Rattle.event_sift.proofs.HeldLemmas as held
 
 abbrev Held : Type 0
@@ -128,7 +128,7 @@ module _ (last : Option HeldTest) (others before : Held) (h : HeldTest) (is : la
   pub packets_of_last : h.packets ≡ packets_at before h.key
   packets_of_last = ap (λ (o : Option (List ℕ)). unwrap_or o []) (sym (get_own others h.key h.packets) ∙ ap (λ (m : Held). fin.get m h.key) all_of_last ∙ get_own before h.key (packets_at before h.key))
 
-  pub last_goes_on : (now : Option HeldTest) (rest : Held) (packet : List ℕ) → now ≡ Some (one_more h packet) → rest ≡ others → with_last now rest ≡ fin.insert before h.key (packets_at before h.key ++ packet)
+  pub last_goes_on : (now : Option HeldTest) (rest : Held) (packet : List ℕ) → now ≡ Some (with_packet h packet) → rest ≡ others → with_last now rest ≡ fin.insert before h.key (packets_at before h.key ++ packet)
   last_goes_on now rest packet more same =
       (λ i. with_last (more i) (same i)) ∙ insert_again others h.key h.packets (h.packets ++ packet)
       ∙ ap (λ (m : Held). fin.insert m h.key (h.packets ++ packet)) all_of_last

@@ -20,6 +20,7 @@ allows rules ended.Fail = rules.failure
 allows rules ended.XFail = rules.xfail
 allows rules ended.Open = rules.failure
 
+-- the row has this tag
 abbrev pub has_tag : Row → List ℕ → Bool
 has_tag row tag = list_any (λ own. pointwise nat_eq own tag) row.tags
 
@@ -31,8 +32,10 @@ keeps_tags rules row = list_all (has_tag row) rules.with_tags && not (has_one_of
 abbrev pub has_wanted : List (List ℕ) → List ℕ → Bool
 has_wanted patterns id = (length patterns == 0) || is_found patterns id
 
+-- the id is one that the rules want
 abbrev pub has_wanted_id : Rules → List ℕ → Bool
 has_wanted_id rules id = has_wanted rules.with_ids id
 
+-- The rules keep the row: by how it ended, by its tags, and by its id.
 abbrev pub keeps : Rules → Row → Bool
 keeps rules row = allows rules row.ended && (keeps_tags rules row && (has_wanted_id rules row.id && not (is_found rules.without_ids row.id)))

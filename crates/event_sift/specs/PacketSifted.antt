@@ -28,12 +28,12 @@ with_last None others = others
 with_last (Some last) others = fin.insert others last.key last.packets
 
 -- the packets that are held, by test, but for those of the test that was heard last
-abbrev pub others_in : HeldPackets → FinMap test_cmp (List ℕ)
-others_in held = fin.from_entries {R = test_cmp} held.others.entries
+abbrev pub other_packets_in : HeldPackets → FinMap test_cmp (List ℕ)
+other_packets_in held = fin.from_entries {R = test_cmp} held.others.entries
 
 -- the packets that are held, by test
 abbrev pub packets_in : HeldPackets → FinMap test_cmp (List ℕ)
-packets_in held = with_last held.last (others_in held)
+packets_in held = with_last held.last (other_packets_in held)
 
 -- the packets of the test, none where it is not there
 abbrev pub packets_at : FinMap test_cmp (List ℕ) → TestKey → List ℕ
@@ -44,8 +44,8 @@ abbrev pub begun_at : FinMap test_cmp (List ℕ) → TestKey → FinMap test_cmp
 begun_at packets test = fin.insert packets test (packets_at packets test)
 
 -- the test with one packet more
-abbrev pub one_more : HeldTest → List ℕ → HeldTest
-one_more last packet = record { key = last.key; packets = last.packets ++ packet }
+abbrev pub with_packet : HeldTest → List ℕ → HeldTest
+with_packet last packet = record { key = last.key; packets = last.packets ++ packet }
 
 -- the packets of the last part of each open test
 abbrev pub open_packets : List Event → FinMap test_cmp (List ℕ)

@@ -31,6 +31,7 @@ released_with kept (Some test) (Some row) seen e = if_kept kept row (part_with t
 abbrev pub released : (Row → Bool) → List Event → Event → List Event
 released kept seen e = released_with kept (test_of e) (completed_row seen e) seen e
 
+-- what some events release, one after another, where others came before them
 abbrev pub released_behind : (Row → Bool) → List Event → List Event → List Event
 released_behind kept seen [] = []
 released_behind kept seen (e ∷ es) = released kept seen e ++ released_behind kept (seen ++ e ∷ []) es

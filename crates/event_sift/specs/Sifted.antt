@@ -36,5 +36,5 @@ abbrev pub predicate_of : {P : Type 0} → Sift P → P
 predicate_of sift = sift.predicate
 
 -- the rules that a predicate by rules goes by
-abbrev pub asked_by : ByRules → Rules
-asked_by predicate = predicate.rules.now
+abbrev pub rules_asked : ByRules → Rules
+rules_asked predicate = predicate.rules.now

@@ -23,5 +23,6 @@ tagged_with add remove e = where_fits (with_tags e (if_any (tags_with add remove
 abbrev pub plain_tags : Tagger → Option (List (List ℕ))
 plain_tags tagger = if_any (tags_with tagger.add tagger.remove None)
 
+-- the event with the tags that the tagger gives it
 abbrev pub tagged : Tagger → Event → Event
 tagged tagger e = tagged_with tagger.add tagger.remove e

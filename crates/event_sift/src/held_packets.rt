@@ -7,7 +7,7 @@ ghost use Rattle.packet_codec.specs.Packet.{SpellsEvent};
 ghost use Rattle.packet_codec.specs.declared.event.Event.{Event as AnEvent};
 ghost use Rattle.outcome_fold.specs.Parts.{test_of};
 ghost use Rattle.event_sift.specs.declared.held_packets.HeldTest.{HeldTest as AHeldTest};
-ghost use Rattle.event_sift.specs.PacketSifted.{begun_at, one_more, others_in, packets_at, packets_in};
+ghost use Rattle.event_sift.specs.PacketSifted.{begun_at, with_packet, other_packets_in, packets_at, packets_in};
 
 use outcome_fold::TestKey;
 use packet_codec::Packet;
@@ -125,7 +125,7 @@ impl HeldPackets {
     ///
     /// With `NoMemory` its packets are lost.
     pub fn put_down(&mut self) -> Result<(), NoMemory>
-        ensures { OnOk result ((self.new.last ≡ None) × (others_in self.new ≡ packets_in self.old)) }
+        ensures { OnOk result ((self.new.last ≡ None) × (other_packets_in self.new ≡ packets_in self.old)) }
     {
         let Some(HeldTest { key, packets }) = self.last.take() else {
             return Ok(());
@@ -145,8 +145,8 @@ impl HeldPackets {
 
     // The packets of the test, moved out of the others, and none where it is not among them.
     fn take(&mut self, key: &TestKey) -> Packets
-        ensures packets { result ≡ packets_at (others_in self.old) key.now }
-        ensures others { others_in self.new ≡ map.remove (others_in self.old) key.now }
+        ensures packets { result ≡ packets_at (other_packets_in self.old) key.now }
+        ensures others { other_packets_in self.new ≡ map.remove (other_packets_in self.old) key.now }
     {
         match self.others.remove(key) {
             Some(packets) => packets,
@@ -172,8 +172,8 @@ impl HeldPackets {
     /// After `NoMemory` nothing is known of the test that was heard last.
     #[inline(always)]
     pub fn go_on(&mut self, packet: &Packet<'_>) -> Result<(), NoMemory>
-        ensures last { (e : AnEvent) (last : AHeldTest) → SpellsEvent packet.now e → self.old.last ≡ Some last → OnOk result (self.new.last ≡ Some (one_more last (canonical e))) }
-        ensures others { others_in self.new ≡ others_in self.old }
+        ensures last { (e : AnEvent) (last : AHeldTest) → SpellsEvent packet.now e → self.old.last ≡ Some last → OnOk result (self.new.last ≡ Some (with_packet last (canonical e))) }
+        ensures others { other_packets_in self.new ≡ other_packets_in self.old }
     {
         if let Some(last) = &mut self.last {
             last.packets.push(packet)?;
@@ -184,7 +184,7 @@ impl HeldPackets {
     // Takes the test out of the others, if it is among them.
     #[inline(always)]
     fn forget(&mut self, key: &TestKey)
-        ensures others { others_in self.new ≡ map.remove (others_in self.old) key.now }
+        ensures others { other_packets_in self.new ≡ map.remove (other_packets_in self.old) key.now }
         ensures last { self.new.last ≡ self.old.last }
     {
         if self.others.is_empty() {
@@ -230,7 +230,7 @@ impl HeldPackets {
     ///
     /// After `NoMemory` nothing is known of what was appended.
     pub fn put(&self, key: &TestKey, out: &mut Vec<u8>) -> Result<(), NoMemory>
-        ensures { OnOk result (out.new.items ≡ out.old.items ++ packets_at (others_in self.now) key.now) }
+        ensures { OnOk result (out.new.items ≡ out.old.items ++ packets_at (other_packets_in self.now) key.now) }
     {
         match self.others.get(key) {
             Some(packets) => packets.put(out),

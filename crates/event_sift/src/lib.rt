@@ -13,10 +13,11 @@
 //! - `sift`: what is released as events come, and at the end
 //! - `held_packets`: the packets of the open tests
 //! - `packet_sift`: what is released as packets come, and at the end
-//! - `whole`: what is released of a whole list of events
+//! - `filtered_list`: what is released of a whole list of events
 //! - `tagger`: the tags of an event; `lent_tags`: lists of tags that are lent
 #![tactic(auto)]
 
+mod filtered_list;
 mod held;
 mod held_packets;
 mod lent_tags;
@@ -27,12 +28,11 @@ mod predicate;
 mod rules;
 mod sift;
 mod tagger;
-mod whole;
 
+pub use filtered_list::filtered_events;
 pub use packet_sift::PacketSift;
 pub use part::Part;
 pub use predicate::Predicate;
 pub use rules::{ByRules, Rules, keep};
 pub use sift::Sift;
 pub use tagger::Tagger;
-pub use whole::filtered_events;

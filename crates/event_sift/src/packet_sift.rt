@@ -9,7 +9,7 @@ ghost use Rattle.event_sift.specs.Released.{released, released_at_end};
 ghost use Rattle.outcome_fold.specs.Folded.{HasSeen};
 ghost use Rattle.outcome_fold.specs.Rows.{completed_row};
 ghost use Rattle.event_sift.specs.declared.held_packets.HeldTest.{HeldTest as AHeldTest};
-ghost use Rattle.event_sift.specs.PacketSifted.{HasSifted, IsNext, open_packets, others_in, packets_if_kept, packets_in, packets_of, predicate_of, rules_of, test_of_row};
+ghost use Rattle.event_sift.specs.PacketSifted.{HasSifted, IsNext, open_packets, other_packets_in, packets_if_kept, packets_in, packets_of, predicate_of, rules_of, test_of_row};
 
 use crate::held_packets::HeldPackets;
 use crate::predicate::Predicate;
@@ -22,7 +22,7 @@ use sub_number::NoMemory;
 /// The tests that are open, with their packets, and a predicate that says which tests are kept. The predicate goes by the
 /// rules.
 ///
-/// It is to packets what a `Sift` is to events: no event is made, a packet is copied where it is held, as the shortest
+/// It is to packets what a `Sift` is to events: no event is made. A packet is copied where it is held, as the shortest
 /// spelling of its event, and once more where its test is kept. After want of memory a sift is given up.
 ///
 /// A sift is not dropped, since what drops a predicate beside other things can't be stated. It ends by `close` or by
@@ -107,8 +107,9 @@ impl<'a, P: Predicate + Drop> PacketSift<'a, P> {
         self.hear_last(packet, row, out)
     }
 
-    /// Takes the event that the packet spells, and appends the packets that are released now: that of an event without an
-    /// id at once, all packets of a test, in order, where this one completes it and it is kept, and else none.
+    /// Takes the event that the packet spells, and appends the packets that are released now. The packet of an event
+    /// without an id is released at once. Where the event completes its test and this is kept, all packets of the test
+    /// are, in order. Else none is.
     ///
     /// After `NoMemory` the sift is given up: its rules are as before, its predicate goes by them, and of the packets
     /// that it held, and of what was appended, nothing is known.
@@ -134,7 +135,7 @@ impl<'a, P: Predicate + Drop> PacketSift<'a, P> {
         out: &mut Vec<u8>,
     ) -> Result<(), NoMemory>
         requires faithful { P.rules (predicate_of self.old) ≡ rules_of self.old }
-        ensures released { OnOk result (out.new.items ≡ out.old.items ++ packets_if_kept (keeps (rules_of self.old)) (others_in held.now) row) }
+        ensures released { OnOk result (out.new.items ≡ out.old.items ++ packets_if_kept (keeps (rules_of self.old)) (other_packets_in held.now) row) }
         ensures rules { rules_of self.new ≡ rules_of self.old }
         ensures predicate { P.rules (predicate_of self.new) ≡ P.rules (predicate_of self.old) }
     {
@@ -153,7 +154,7 @@ impl<'a, P: Predicate + Drop> PacketSift<'a, P> {
         out: &mut Vec<u8>,
     ) -> Result<(), NoMemory>
         requires faithful { P.rules (predicate_of self.old) ≡ rules_of self.old }
-        ensures { OnOk result (out.new.items ≡ out.old.items ++ flat_map (packets_if_kept (keeps (rules_of self.old)) (others_in held.now)) rows.items) }
+        ensures { OnOk result (out.new.items ≡ out.old.items ++ flat_map (packets_if_kept (keeps (rules_of self.old)) (other_packets_in held.now)) rows.items) }
     {
         for row in rows {
             self.release_open(row, held, out)?;

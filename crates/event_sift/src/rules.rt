@@ -88,11 +88,11 @@ pub struct ByRules<'r> {
 }
 
 impl<'r> ByRules<'r> {
-    ghost use Rattle.event_sift.specs.Sifted.{asked_by};
+    ghost use Rattle.event_sift.specs.Sifted.{rules_asked};
 
     /// The predicate that these rules are.
     pub fn new(alloc: Global, rules: &'r Rules) -> Result<Self, NoMemory>
-        ensures { IfOk result (λ predicate. asked_by predicate ≡ rules.now) }
+        ensures { IfOk result (λ predicate. rules_asked predicate ≡ rules.now) }
     {
         let with_ids = rules.with_ids.finder(alloc)?;
         let without_ids = rules.without_ids.finder(alloc)?;
@@ -105,26 +105,26 @@ impl<'r> ByRules<'r> {
 
     // Whether the id is as it must be.
     fn keeps_id(&mut self, id: &Text) -> bool
-        ensures kept { result ≡ (keeping.has_wanted_id (asked_by self.old) id.now && not (is_found (asked_by self.old).without_ids id.now)) }
-        ensures rules { asked_by self.new ≡ asked_by self.old }
+        ensures kept { result ≡ (keeping.has_wanted_id (rules_asked self.old) id.now && not (is_found (rules_asked self.old).without_ids id.now)) }
+        ensures rules { rules_asked self.new ≡ rules_asked self.old }
     {
         has_wanted_id(&mut self.with_ids, id) && !self.without_ids.found(id)
     }
 }
 
 impl<'r> Predicate for ByRules<'r> {
-    ghost use Rattle.event_sift.specs.Sifted.{asked_by};
+    ghost use Rattle.event_sift.specs.Sifted.{rules_asked};
 
-    ghost rules = { asked_by };
+    ghost rules = { rules_asked };
 
     fn is_kept(&mut self, row: &Row) -> Result<bool, NoMemory> {
         Ok(allows(self.rules, row.ended) && keeps_tags(self.rules, row) && self.keeps_id(&row.id))
     }
 }
 
-/// Whether the rules keep the row: how the test ended is allowed, the row has every tag that is asked for and none that
-/// is not wanted, and in its id one of the patterns that are asked for is found, where there are any, and none of the
-/// others. For many rows `ByRules` is quicker.
+/// Whether the rules keep the row. They do where it is allowed how the test ended, and the row has every tag that is
+/// asked for and none that is not wanted. In its id one of the patterns that are asked for must be found, where there
+/// are any, and none of the others. For many rows `ByRules` is quicker.
 pub fn keep(alloc: Global, rules: &Rules, row: &Row) -> Result<bool, NoMemory>
     ensures { IfOk result (λ kept. kept ≡ keeping.keeps rules.now row.now) }
 {

@@ -97,8 +97,8 @@ impl<'a, P: Predicate + Drop> Sift<'a, P> {
         self.if_kept(key, ended, end, part)
     }
 
-    /// Takes the event, and gives the events that are released now: an event without an id at once, all events of a
-    /// test, in order, where this one completes it and it is kept, and else none.
+    /// Takes the event, and gives the events that are released now. An event without an id is released at once. Where
+    /// the event completes its test and this is kept, all events of the test are, in order. Else none is.
     ///
     /// After `NoMemory` the sift is given up: its rules are as before, its predicate goes by them, and of the events
     /// that it held nothing is known.
@@ -147,8 +147,8 @@ impl<'a, P: Predicate + Drop> Sift<'a, P> {
         Ok(parts)
     }
 
-    /// Ends the sift as `close` does, and gives the events of each open test apart, by route, no route first, and then by
-    /// id: all events of its last part where it is kept, and else none.
+    /// Ends the sift as `close` does, and gives the events of each open test apart, by route, no route first, and then
+    /// by id. They are all events of its last part where it is kept, and else none.
     ///
     /// After `NoMemory` the sift is given up too.
     pub fn close_parts(self) -> Result<Vec<Part>, NoMemory>

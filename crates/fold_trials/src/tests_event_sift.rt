@@ -1,7 +1,7 @@
 //! Rows that are kept, events that are released, and tags that are given.
 
 ghost use Rattle.std.specs.Prelude.{◌≡◌};
-ghost use Rattle.event_sift.specs.Sifted.{asked_by, predicate_of, rules_of};
+ghost use Rattle.event_sift.specs.Sifted.{rules_asked, predicate_of, rules_of};
 
 use crate::tests_event_sift_events::{Told, default_rules, rules_by_patterns, says};
 use event_sift::{ByRules, Rules, Sift, Tagger, filtered_events, keep};
@@ -289,8 +289,8 @@ fn releases(
     status: Status,
     wanted: &[[u8; 2]],
 ) -> bool
-    requires { asked_by (predicate_of sift.old) ≡ rules_of sift.old }
-    ensures { asked_by (predicate_of sift.new) ≡ rules_of sift.new }
+    requires { rules_asked (predicate_of sift.old) ≡ rules_of sift.old }
+    ensures { rules_asked (predicate_of sift.new) ≡ rules_of sift.new }
 {
     match sift.add(says(alloc, b'-', b"f", status)) {
         Ok(events) => are(&events, wanted),
@@ -319,7 +319,7 @@ fn a_sift_holds_events_until_their_test_ends(rt: HostRuntime) -> Result<(), Fail
 
 // Whether the one part of the sift's open tests that is kept has these events.
 fn closes_with(sift: Sift<'_, ByRules<'_>>, wanted: &[[u8; 2]]) -> bool
-    requires { asked_by (predicate_of sift) ≡ rules_of sift }
+    requires { rules_asked (predicate_of sift) ≡ rules_of sift }
 {
     match sift.close_parts() {
         Ok(parts) => match parts.as_slice() {

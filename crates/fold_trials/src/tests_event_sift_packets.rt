@@ -1,7 +1,7 @@
 //! Packets that are held until their test completes.
 
 ghost use Rattle.std.specs.Prelude.{◌≡◌};
-ghost use Rattle.event_sift.specs.Sifted.{asked_by};
+ghost use Rattle.event_sift.specs.Sifted.{rules_asked};
 ghost use Rattle.event_sift.specs.PacketSifted.{predicate_of, rules_of};
 
 use crate::tests_event_sift_events::{Told, default_rules, says};
@@ -19,8 +19,8 @@ fn packet_of(alloc: Global, told: &Told) -> Option<Vec<u8>> {
 
 // Whether the packet was taken.
 fn hears_packet(sift: &mut PacketSift<'_, ByRules<'_>>, bytes: &[u8], out: &mut Vec<u8>) -> bool
-    requires { asked_by (predicate_of sift.old) ≡ rules_of sift.old }
-    ensures { asked_by (predicate_of sift.new) ≡ rules_of sift.new }
+    requires { rules_asked (predicate_of sift.old) ≡ rules_of sift.old }
+    ensures { rules_asked (predicate_of sift.new) ≡ rules_of sift.new }
 {
     match see(bytes) {
         Sight::Packet(packet) => sift.hear(&packet, out).is_ok(),
@@ -34,8 +34,8 @@ fn hears(
     told: &Told,
     out: &mut Vec<u8>,
 ) -> bool
-    requires { asked_by (predicate_of sift.old) ≡ rules_of sift.old }
-    ensures { asked_by (predicate_of sift.new) ≡ rules_of sift.new }
+    requires { rules_asked (predicate_of sift.old) ≡ rules_of sift.old }
+    ensures { rules_asked (predicate_of sift.new) ≡ rules_of sift.new }
 {
     match packet_of(alloc, told) {
         Some(bytes) => hears_packet(sift, &bytes, out),
@@ -60,8 +60,8 @@ const FAILED: Told = (b'0', b"f", Status::Fail);
 
 // Whether the first four were taken.
 fn hears_first(alloc: Global, sift: &mut PacketSift<'_, ByRules<'_>>, out: &mut Vec<u8>) -> bool
-    requires { asked_by (predicate_of sift.old) ≡ rules_of sift.old }
-    ensures { asked_by (predicate_of sift.new) ≡ rules_of sift.new }
+    requires { rules_asked (predicate_of sift.old) ≡ rules_of sift.old }
+    ensures { rules_asked (predicate_of sift.new) ≡ rules_of sift.new }
 {
     hears(alloc, sift, &BEGUN, out)
         && hears(alloc, sift, &OTHER, out)
@@ -71,8 +71,8 @@ fn hears_first(alloc: Global, sift: &mut PacketSift<'_, ByRules<'_>>, out: &mut 
 
 // Whether all of them were taken.
 fn hears_all(alloc: Global, sift: &mut PacketSift<'_, ByRules<'_>>, out: &mut Vec<u8>) -> bool
-    requires { asked_by (predicate_of sift.old) ≡ rules_of sift.old }
-    ensures { asked_by (predicate_of sift.new) ≡ rules_of sift.new }
+    requires { rules_asked (predicate_of sift.old) ≡ rules_of sift.old }
+    ensures { rules_asked (predicate_of sift.new) ≡ rules_of sift.new }
 {
     hears_first(alloc, sift, out)
         && hears(alloc, sift, &PASSED, out)
@@ -82,7 +82,7 @@ fn hears_all(alloc: Global, sift: &mut PacketSift<'_, ByRules<'_>>, out: &mut Ve
 
 // Whether all were taken, and the rest is released then.
 fn hears_and_closes(alloc: Global, mut sift: PacketSift<'_, ByRules<'_>>, out: &mut Vec<u8>) -> bool
-    requires { asked_by (predicate_of sift) ≡ rules_of sift }
+    requires { rules_asked (predicate_of sift) ≡ rules_of sift }
 {
     let heard = hears_all(alloc, &mut sift, out);
     let closed = sift.close(out).is_ok();

@@ -2,7 +2,7 @@ use Rattle.std.proofs.Common.{sym, ap, ◌∙◌, ◌++◌}
 use Rattle.event_sift.specs.Keeping.{keeps}
 use Rattle.event_sift.specs.Released.{released_by}
 use Rattle.event_sift.proofs.SiftLemmas.{released_push}
-use Rattle.event_sift.proofs.whole.take.Goals as goal
+use Rattle.event_sift.proofs.filtered_list.take.Goals as goal
 
 pub returns-clause-released : goal.returns-clause-released
 returns-clause-released g c seen has before =

@@ -2,7 +2,7 @@ use Rattle.std.proofs.Common.{◌≡◌}
 use Rattle.event_sift.specs.Keeping.{keeps}
 use Rattle.event_sift.specs.Released.{released_by}
 use Rattle.event_sift.specs.Sifted.{Holds}
-use Rattle.event_sift.proofs.whole.take_all.Given as goal
+use Rattle.event_sift.proofs.filtered_list.take_all.Given as goal
 
 abbrev pub invariant-loop-event : goal.invariant-loop-event
 invariant-loop-event g l = record {
