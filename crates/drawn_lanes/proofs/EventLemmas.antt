@@ -20,15 +20,15 @@ use Rattle.packet_codec.specs.declared.status.Status.{Status}
 use Rattle.packet_codec.specs.declared.status.Status.TheVariants.{InProgress}
 use Rattle.packet_codec.proofs.ShortestLemmas.{length_shortest_number, shortest_size_range}
 use Rattle.packet_codec.proofs.WritingLemmas.{length_canonical_fields}
-use Rattle.drawn_lanes.specs.Outputs.{test_id, status_of, nanos_of, nanos_fit, none_fit, first_second, stamp_of, test_event, HasPacket}
+use Rattle.drawn_lanes.specs.Outputs.{test_id, drawn_status, drawn_nanos, nanos_fit, none_fit, first_second, drawn_stamp, drawn_event, HasPacket}
 
 -- ---- as they are made
 
-pub begun_same : (lane test : ℕ) (id : List ℕ) (stamp : Stamp) (event : Event) → id ≡ test_id lane test → stamp ≡ stamp_of test 0 none_fit → event ≡ record (test_event lane test InProgress 0 none_fit) { stamp = Some stamp; id = Some id } → event ≡ test_event lane test InProgress 0 none_fit
-begun_same lane test id stamp event named timed is = is ∙ (λ i. record (test_event lane test InProgress 0 none_fit) { stamp = Some (timed i); id = Some (named i) })
+pub begun_same : (lane test : ℕ) (id : List ℕ) (stamp : Stamp) (event : Event) → id ≡ test_id lane test → stamp ≡ drawn_stamp test 0 none_fit → event ≡ record (drawn_event lane test InProgress 0 none_fit) { stamp = Some stamp; id = Some id } → event ≡ drawn_event lane test InProgress 0 none_fit
+begun_same lane test id stamp event named timed is = is ∙ (λ i. record (drawn_event lane test InProgress 0 none_fit) { stamp = Some (timed i); id = Some (named i) })
 
-pub ended_same : (lane test number : ℕ) (event : Event) (stamp : Stamp) (status : Status) → event ≡ test_event lane test InProgress 0 none_fit → stamp ≡ stamp_of test (nanos_of number) (nanos_fit number) → status ≡ status_of number
-    → record event { stamp = Some stamp; status = status } ≡ test_event lane test (status_of number) (nanos_of number) (nanos_fit number)
+pub ended_same : (lane test number : ℕ) (event : Event) (stamp : Stamp) (status : Status) → event ≡ drawn_event lane test InProgress 0 none_fit → stamp ≡ drawn_stamp test (drawn_nanos number) (nanos_fit number) → status ≡ drawn_status number
+    → record event { stamp = Some stamp; status = status } ≡ drawn_event lane test (drawn_status number) (drawn_nanos number) (nanos_fit number)
 ended_same lane test number event stamp status is timed ended = λ i. record (is i) { stamp = Some (timed i); status = ended i }
 
 -- ---- their ids are texts
@@ -101,7 +101,7 @@ length_counted bytes = omega (arith, length-append (shortest_number (length byte
 
 module _ (lane test : ℕ) (status : Status) (nanos : ℕ) (fit : nanos < 2 ^ 30) (small : lane < 64) (few : test < 1000000) where
   abbrev event : Event
-  event = test_event lane test status nanos fit
+  event = drawn_event lane test status nanos fit
 
   pub test_fits : Fits event
   test_fits = record {
@@ -140,8 +140,8 @@ module _ (lane test : ℕ) (status : Status) (nanos : ℕ) (fit : nanos < 2 ^ 30
     fits_under = test_fits_under;
   }
 
-pub begun_fits : (event : Event) (lane test : ℕ) → event ≡ test_event lane test InProgress 0 none_fit → lane < 64 → test < 1000000 → Fits event
+pub begun_fits : (event : Event) (lane test : ℕ) → event ≡ drawn_event lane test InProgress 0 none_fit → lane < 64 → test < 1000000 → Fits event
 begun_fits event lane test is small few = rw is (test_fits lane test InProgress 0 none_fit small few)
 
-pub ended_fits : (event : Event) (lane test number : ℕ) → event ≡ test_event lane test (status_of number) (nanos_of number) (nanos_fit number) → lane < 64 → test < 1000000 → Fits event
-ended_fits event lane test number is small few = rw is (test_fits lane test (status_of number) (nanos_of number) (nanos_fit number) small few)
+pub ended_fits : (event : Event) (lane test number : ℕ) → event ≡ drawn_event lane test (drawn_status number) (drawn_nanos number) (nanos_fit number) → lane < 64 → test < 1000000 → Fits event
+ended_fits event lane test number is small few = rw is (test_fits lane test (drawn_status number) (drawn_nanos number) (nanos_fit number) small few)

@@ -12,8 +12,8 @@ use Rattle.edge_io.specs.Children.{Output}
 use Rattle.edge_io.specs.Planned.{planned_output}
 use Rattle.edge_io.specs.declared.child.Finish.TheVariants.{Exit}
 use Rattle.edge_io.specs.declared.plan_spawner.Plan.{Plan}
-use Rattle.drawn_lanes.specs.Draws.{begun, next_state, number_of, after, drawn}
-use Rattle.drawn_lanes.specs.Outputs.{status_of, nanos_of, nanos_fit, none_fit, test_event, test_events, lane_events, output_of, HasPacket}
+use Rattle.drawn_lanes.specs.Draws.{begun, next_state, drawn_number, state_after, drawn}
+use Rattle.drawn_lanes.specs.Outputs.{drawn_status, drawn_nanos, nanos_fit, none_fit, drawn_event, test_events, lane_events, output_of, HasPacket}
 use Rattle.drawn_lanes.proofs.EventLemmas.{test_has_packet}
 
 -- ---- draws
@@ -24,15 +24,15 @@ none_more n = omega arith
 suc_more : (m n : ℕ) → suc m + n ≡ suc (m + n)
 suc_more m n = omega arith
 
-pub after_more : (more draws state : ℕ) → after (more + draws) state ≡ after more (after draws state)
-after_more zero draws state = ap (λ n. after n state) (none_more draws)
-after_more (suc more) draws state = ap (λ n. after n state) (suc_more more draws) ∙ ap next_state (after_more more draws state)
+pub after_more : (more draws state : ℕ) → state_after (more + draws) state ≡ state_after more (state_after draws state)
+after_more zero draws state = ap (λ n. state_after n state) (none_more draws)
+after_more (suc more) draws state = ap (λ n. state_after n state) (suc_more more draws) ∙ ap next_state (after_more more draws state)
 
 next_is : (lane tests next : ℕ) → next ≡ (lane + 1) * tests → tests + lane * tests ≡ next
 next_is lane tests next is = grind (arith, is)
 
-pub lane_behind : (lane tests next state : ℕ) → next ≡ (lane + 1) * tests → after tests (after (lane * tests) state) ≡ after next state
-lane_behind lane tests next state is = sym (after_more tests (lane * tests) state) ∙ ap (λ n. after n state) (next_is lane tests next is)
+pub lane_behind : (lane tests next state : ℕ) → next ≡ (lane + 1) * tests → state_after tests (state_after (lane * tests) state) ≡ state_after next state
+lane_behind lane tests next state is = sym (after_more tests (lane * tests) state) ∙ ap (λ n. state_after n state) (next_is lane tests next is)
 
 -- ---- tests and lanes
 
@@ -55,12 +55,12 @@ packets_more lane tests state old new is more =
     ∙ sym (flat_map-append canonical (lane_events lane tests state) (test_events lane tests (drawn tests state)))
     ∙ ap (flat_map canonical) (sym (test_more lane tests state))
 
-pub state_drawn : (tests state before next : ℕ) → before ≡ after tests state → next ≡ next_state before → next ≡ after (tests + 1) state
-state_drawn tests state before next is one = one ∙ ap next_state is ∙ ap (λ n. after n state) (sym (add-one tests))
+pub state_drawn : (tests state before next : ℕ) → before ≡ state_after tests state → next ≡ next_state before → next ≡ state_after (tests + 1) state
+state_drawn tests state before next is one = one ∙ ap next_state is ∙ ap (λ n. state_after n state) (sym (add-one tests))
 
-pub packets_drawn : (lane tests state before next number : ℕ) (old new : List ℕ) → old ≡ flat_map canonical (lane_events lane tests state) → before ≡ after tests state → next ≡ next_state before → number ≡ number_of next → new ≡ old ++ flat_map canonical (test_events lane tests number) → new ≡ flat_map canonical (lane_events lane (tests + 1) state)
+pub packets_drawn : (lane tests state before next number : ℕ) (old new : List ℕ) → old ≡ flat_map canonical (lane_events lane tests state) → before ≡ state_after tests state → next ≡ next_state before → number ≡ drawn_number next → new ≡ old ++ flat_map canonical (test_events lane tests number) → new ≡ flat_map canonical (lane_events lane (tests + 1) state)
 packets_drawn lane tests state before next number old new is stood one drew more =
-    let number_is : number ≡ drawn tests state = drew ∙ ap number_of (one ∙ ap next_state stood) in
+    let number_is : number ≡ drawn tests state = drew ∙ ap drawn_number (one ∙ ap next_state stood) in
     packets_more lane tests state old new is (more ∙ ap (λ n. old ++ flat_map canonical (test_events lane tests n)) number_is)
 
 pub outputs_more : (seed tests lane : ℕ) (old : List Output) (output : Output) → old ≡ map (output_of seed tests) (range_with_len 0 lane) → output ≡ output_of seed tests lane → old ++ output ∷ [] ≡ map (output_of seed tests) (range_with_len 0 (lane + 1))
@@ -69,7 +69,7 @@ outputs_more seed tests lane old output is one =
     ∙ sym (map-append (output_of seed tests) (range_with_len 0 lane) (lane ∷ []))
     ∙ ap (map (output_of seed tests)) (sym (one_more lane))
 
-pub plans_more : (seed tests lane state : ℕ) (old new : List Plan) (plan : Plan) → new ≡ old ++ plan ∷ [] → map planned_output old ≡ map (output_of seed tests) (range_with_len 0 lane) → state ≡ after (lane * tests) (begun seed) → planned_output plan ≡ record { bytes = flat_map canonical (lane_events lane tests state); finish = Exit (pos 0) }
+pub plans_more : (seed tests lane state : ℕ) (old new : List Plan) (plan : Plan) → new ≡ old ++ plan ∷ [] → map planned_output old ≡ map (output_of seed tests) (range_with_len 0 lane) → state ≡ state_after (lane * tests) (begun seed) → planned_output plan ≡ record { bytes = flat_map canonical (lane_events lane tests state); finish = Exit (pos 0) }
     → map planned_output new ≡ map (output_of seed tests) (range_with_len 0 (lane + 1))
 plans_more seed tests lane state old new plan more is stood planned =
     ap (map planned_output) more ∙ map-append planned_output old (plan ∷ [])
@@ -78,16 +78,16 @@ plans_more seed tests lane state old new plan more is stood planned =
 pub pieces_more : (old new : List Plan) (plan : Plan) → new ≡ old ++ plan ∷ [] → All (λ plan. plan.piece ≡ 65536) old → plan.piece ≡ 65536 → All (λ plan. plan.piece ≡ 65536) new
 pieces_more old new plan more are one = subst (All (λ plan. plan.piece ≡ 65536)) (sym more) (All-append (λ plan. plan.piece ≡ 65536) old (plan ∷ []) are (All-cons (λ plan. plan.piece ≡ 65536) plan [] one (All-nil (λ plan. plan.piece ≡ 65536))))
 
-pub state_behind : (seed tests lane before next : ℕ) → before ≡ after (lane * tests) (begun seed) → next ≡ after tests before → next ≡ after ((lane + 1) * tests) (begun seed)
-state_behind seed tests lane before next stood drew = drew ∙ ap (after tests) stood ∙ lane_behind lane tests ((lane + 1) * tests) (begun seed) refl
+pub state_behind : (seed tests lane before next : ℕ) → before ≡ state_after (lane * tests) (begun seed) → next ≡ state_after tests before → next ≡ state_after ((lane + 1) * tests) (begun seed)
+state_behind seed tests lane before next stood drew = drew ∙ ap (state_after tests) stood ∙ lane_behind lane tests ((lane + 1) * tests) (begun seed) refl
 
 -- ---- packets
 
 test_packets : (lane test number : ℕ) → lane < 64 → test < 1000000 → All (HasPacket lane) (test_events lane test number)
 test_packets lane test number small few =
-    let begun : Event = test_event lane test InProgress 0 none_fit in
-    let ended : Event = test_event lane test (status_of number) (nanos_of number) (nanos_fit number) in
-    let last = All-cons (HasPacket lane) ended [] (test_has_packet lane test (status_of number) (nanos_of number) (nanos_fit number) small few) (All-nil (HasPacket lane)) in
+    let begun : Event = drawn_event lane test InProgress 0 none_fit in
+    let ended : Event = drawn_event lane test (drawn_status number) (drawn_nanos number) (nanos_fit number) in
+    let last = All-cons (HasPacket lane) ended [] (test_has_packet lane test (drawn_status number) (drawn_nanos number) (nanos_fit number) small few) (All-nil (HasPacket lane)) in
     All-cons (HasPacket lane) begun (ended ∷ []) (test_has_packet lane test InProgress 0 none_fit small few) last
 
 pub lane_has_packets : (lane tests state : ℕ) → lane < 64 → tests ≤ 1000000 → All (HasPacket lane) (lane_events lane tests state)

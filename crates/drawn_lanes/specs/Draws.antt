@@ -10,14 +10,14 @@ abbrev pub next_state : ℕ → ℕ
 next_state state = (state * 1103515245 + 12345) % 2 ^ 31
 
 -- and gives this number, of the state that it leaves
-abbrev pub number_of : ℕ → ℕ
-number_of state = state / 65536
+abbrev pub drawn_number : ℕ → ℕ
+drawn_number state = state / 65536
 
 -- the state after so many draws
-abbrev pub after : (draws : ℕ) → ℕ → ℕ
-after zero state = state
-after (suc draws) state = next_state (after draws state)
+abbrev pub state_after : (draws : ℕ) → ℕ → ℕ
+state_after zero state = state
+state_after (suc draws) state = next_state (state_after draws state)
 
 -- the number of the draw before which there were so many
 abbrev pub drawn : (before : ℕ) → ℕ → ℕ
-drawn before state = number_of (after (suc before) state)
+drawn before state = drawn_number (state_after (suc before) state)

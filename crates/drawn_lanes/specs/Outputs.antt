@@ -13,26 +13,27 @@ use Rattle.packet_codec.specs.declared.event.Event.{Event}
 use Rattle.packet_codec.specs.declared.stamp.Stamp.{Stamp}
 use Rattle.packet_codec.specs.declared.status.Status.{Status}
 use Rattle.packet_codec.specs.declared.status.Status.TheVariants.{InProgress, Success, Skip, Fail}
-use Rattle.drawn_lanes.specs.Draws.{begun, after, drawn}
+use Rattle.drawn_lanes.specs.Draws.{begun, state_after, drawn}
 
 -- ---- one test
 
+-- the id of a test of a lane, each by its number
 abbrev pub test_id : (lane test : ℕ) → List ℕ
 test_id lane test = codes "lane." ++ decimal lane ++ codes ".test." ++ decimal test
 
 -- how the test ends for which this number was drawn
-abbrev pub status_of : (number : ℕ) → Status
-status_of number =
+abbrev pub drawn_status : (number : ℕ) → Status
+drawn_status number =
     if number % 7 == 0 then Fail
     else (if number % 7 == 1 then Skip
     else Success)
 
 -- how many nanoseconds it takes: so many thousandths of a second, less than a second
-abbrev pub nanos_of : (number : ℕ) → ℕ
-nanos_of number = number % 1000 * 1000000
+abbrev pub drawn_nanos : (number : ℕ) → ℕ
+drawn_nanos number = number % 1000 * 1000000
 
 -- a stamp has room for them
-pub nanos_fit : (number : ℕ) → nanos_of number < 2 ^ 30
+pub nanos_fit : (number : ℕ) → drawn_nanos number < 2 ^ 30
 nanos_fit number = lt_of_le_of_lt (mul-le (number % 1000) 1000000 1000 1000000 (le_of_lt (mod_below number 1000 (lit< tt))) (le_refl 1000000)) (lit< tt)
 
 -- and for none
@@ -44,13 +45,13 @@ abbrev pub first_second : ℕ
 first_second = 1500000000
 
 -- so many nanoseconds into the second of the test of this number
-abbrev pub stamp_of : (test nanos : ℕ) → nanos < 2 ^ 30 → Stamp
-stamp_of test nanos fit = record { seconds = first_second + test; nanos = nanos; nanos_fit = fit }
+abbrev pub drawn_stamp : (test nanos : ℕ) → nanos < 2 ^ 30 → Stamp
+drawn_stamp test nanos fit = record { seconds = first_second + test; nanos = nanos; nanos_fit = fit }
 
 -- an event of a test, at that time
-abbrev pub test_event : (lane test : ℕ) → Status → (nanos : ℕ) → nanos < 2 ^ 30 → Event
-test_event lane test status nanos fit = record {
-  stamp = Some (stamp_of test nanos fit);
+abbrev pub drawn_event : (lane test : ℕ) → Status → (nanos : ℕ) → nanos < 2 ^ 30 → Event
+drawn_event lane test status nanos fit = record {
+  stamp = Some (drawn_stamp test nanos fit);
   id = Some (test_id lane test);
   tags = None;
   runnable = true;
@@ -64,8 +65,8 @@ test_event lane test status nanos fit = record {
 -- a test begins with its second, and ends as the number that is drawn for it says
 abbrev pub test_events : (lane test number : ℕ) → List Event
 test_events lane test number =
-    test_event lane test InProgress 0 none_fit
-    ∷ test_event lane test (status_of number) (nanos_of number) (nanos_fit number)
+    drawn_event lane test InProgress 0 none_fit
+    ∷ drawn_event lane test (drawn_status number) (drawn_nanos number) (nanos_fit number)
     ∷ []
 
 -- ---- one lane
@@ -78,7 +79,7 @@ lane_events lane tests state = flat_map (λ test. test_events lane test (drawn t
 
 -- The draws of a lane come behind those of the lanes before it: one for each test, in the order of the tests.
 abbrev pub state_of : (seed tests lane : ℕ) → ℕ
-state_of seed tests lane = after (lane * tests) (begun seed)
+state_of seed tests lane = state_after (lane * tests) (begun seed)
 
 -- the events of a lane, so many of whose tests there are
 abbrev pub events_of : (seed tests lane : ℕ) → List Event

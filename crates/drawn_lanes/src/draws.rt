@@ -1,7 +1,7 @@
 //! Numbers drawn from a seed.
 
 ghost use Rattle.std.specs.Prelude.{◌≡◌, ◌<◌, ◌^◌};
-ghost use Rattle.drawn_lanes.specs.Draws.{begun, next_state, number_of};
+ghost use Rattle.drawn_lanes.specs.Draws.{begun, next_state, drawn_number};
 
 use std::marker::Model;
 
@@ -37,7 +37,7 @@ impl Draws {
     /// Draws the next number, which is below 32,768.
     pub fn next(&mut self) -> u32
         ensures state { self.new ≡ next_state self.old }
-        ensures number { result ≡ number_of self.new }
+        ensures number { result ≡ drawn_number self.new }
         ensures below { result < 2 ^ 15 }
     {
         let product = u64::from(self.state) * 1_103_515_245 + 12_345;

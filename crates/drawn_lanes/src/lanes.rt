@@ -4,7 +4,7 @@ ghost use Rattle.std.specs.Prelude.{◌≡◌, ◌*◌, ◌<◌, ◌≤◌, All,
 ghost use Rattle.std.specs.List.{flat_map};
 ghost use Rattle.edge_io.specs.Planned.{planned_output};
 ghost use Rattle.packet_codec.specs.Canonical.{canonical};
-ghost use Rattle.drawn_lanes.specs.Draws.{after};
+ghost use Rattle.drawn_lanes.specs.Draws.{state_after};
 ghost use Rattle.drawn_lanes.specs.Outputs.{lane_events, outputs_of};
 
 use crate::draws::Draws;
@@ -43,7 +43,7 @@ fn lane_output(alloc: Global, draws: &mut Draws, lane: u32, tests: u32) -> Resul
     requires lane { lane < 64 }
     requires tests { tests ≤ 1_000_000 }
     ensures output { IfOk result (λ output. output ≡ flat_map canonical (lane_events lane tests draws.old)) }
-    ensures state { OnOk result (draws.new ≡ after tests draws.old) }
+    ensures state { OnOk result (draws.new ≡ state_after tests draws.old) }
 {
     let mut out = Vec::new(alloc);
     let mut spare = Vec::new(alloc);

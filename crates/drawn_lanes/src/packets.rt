@@ -3,7 +3,7 @@
 ghost use Rattle.std.specs.Prelude.{◌≡◌, ◌<◌, ◌^◌, ◌++◌, ℕ, IfOk, OnOk};
 ghost use Rattle.std.specs.List.{flat_map};
 ghost use Rattle.packet_codec.specs.Canonical.{canonical};
-ghost use Rattle.drawn_lanes.specs.Outputs.{test_id as id_of, status_of, nanos_of, nanos_fit, none_fit, stamp_of, test_event, test_events};
+ghost use Rattle.drawn_lanes.specs.Outputs.{test_id as id_of, drawn_status, drawn_nanos, nanos_fit, none_fit, drawn_stamp, drawn_event, test_events};
 ghost use Rattle.packet_codec.specs.declared.status.Status.TheVariants.{InProgress};
 
 use itoa::Buffer;
@@ -41,7 +41,7 @@ pub(crate) fn put_test(
 fn begun_event(lane: u32, test: u32, spare: &mut Vec<u8>) -> Result<Event, NoMemory>
     requires lane { lane < 64 }
     requires test { test < 1_000_000 }
-    ensures { IfOk result (λ event. event ≡ test_event lane test InProgress 0 none_fit) }
+    ensures { IfOk result (λ event. event ≡ drawn_event lane test InProgress 0 none_fit) }
 {
     let id = test_id(lane, test, spare)?;
     Ok(Event {
@@ -60,7 +60,7 @@ fn begun_event(lane: u32, test: u32, spare: &mut Vec<u8>) -> Result<Event, NoMem
 // The event with which it ends, of that with which it began.
 fn ended_event(event: Event, test: u32, number: u32) -> Event
     requires test { test < 1_000_000 }
-    ensures { (lane : ℕ) → event ≡ test_event lane test InProgress 0 none_fit → result ≡ test_event lane test (status_of number) (nanos_of number) (nanos_fit number) }
+    ensures { (lane : ℕ) → event ≡ drawn_event lane test InProgress 0 none_fit → result ≡ drawn_event lane test (drawn_status number) (drawn_nanos number) (nanos_fit number) }
 {
     Event {
         stamp: Some(stamp(test, number % 1000 * 1_000_000)),
@@ -73,7 +73,7 @@ fn ended_event(event: Event, test: u32, number: u32) -> Event
 fn stamp(test: u32, nanos: u32) -> Stamp
     requires test { test < 1_000_000 }
     requires nanos { nanos < 2 ^ 30 }
-    ensures { (fit : nanos < 2 ^ 30) → result ≡ stamp_of test nanos fit }
+    ensures { (fit : nanos < 2 ^ 30) → result ≡ drawn_stamp test nanos fit }
 {
     Stamp {
         seconds: FIRST_SECOND + test,
@@ -96,7 +96,7 @@ fn test_id(lane: u32, test: u32, spare: &mut Vec<u8>) -> Result<Text, NoMemory>
 }
 
 fn status(number: u32) -> Status
-    ensures { result ≡ status_of number }
+    ensures { result ≡ drawn_status number }
 {
     match number % 7 {
         0 => Status::Fail,
