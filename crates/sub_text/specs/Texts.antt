@@ -13,6 +13,7 @@ use Rattle.outcome_fold.specs.declared.row.Counts.{Counts}
 use Rattle.outcome_fold.specs.Order.{text_cmp, route_cmp}
 use Rattle.outcome_fold.specs.Answers.{row_fails, timed_rows, counts_of}
 
+-- the end of a line
 abbrev pub newline : List ℕ
 newline = 10 ∷ []
 
@@ -26,35 +27,40 @@ millis_of nanos = (nanos + 500000) / 1000000
 abbrev pub three_digits : ℕ → List ℕ
 three_digits n = (48 + n / 100) ∷ (48 + n / 10 % 10) ∷ (48 + n % 10) ∷ []
 
-abbrev pub seconds_of : ℕ → List ℕ
-seconds_of nanos = decimal (millis_of nanos / 1000) ++ codes "." ++ three_digits (millis_of nanos % 1000)
+-- the time in seconds with three places
+abbrev pub printed_seconds : ℕ → List ℕ
+printed_seconds nanos = decimal (millis_of nanos / 1000) ++ codes "." ++ three_digits (millis_of nanos % 1000)
 
 -- The summary.
 
 -- the first line's end: how long the tests took, where that is known
 abbrev pub took : Option ℕ → List ℕ
 took None = []
-took (Some nanos) = codes " in " ++ seconds_of nanos ++ codes "s"
+took (Some nanos) = codes " in " ++ printed_seconds nanos ++ codes "s"
 
-abbrev pub verdict : ℕ → List ℕ
-verdict failed = if failed == 0 then codes "PASSED" else codes "FAILED"
+-- the word for a run with so many failures
+abbrev pub verdict_word : ℕ → List ℕ
+verdict_word failed = if failed == 0 then codes "PASSED" else codes "FAILED"
 
 -- how many of this name there are, where there are any
-abbrev pub counted : List ℕ → ℕ → List ℕ
-counted name count = if count == 0 then [] else name ++ decimal count
+abbrev pub named_count : List ℕ → ℕ → List ℕ
+named_count name count = if count == 0 then [] else name ++ decimal count
 
+-- the line with how many tests ran, and how long they took
 abbrev pub first_line : Counts → List ℕ
 first_line counts = codes "Ran " ++ decimal counts.total ++ codes " tests" ++ took counts.nanos ++ newline
 
+-- the line with the verdict, the run's number and how many failed and were skipped
 abbrev pub second_line : Counts → ℕ → List ℕ
 second_line counts run =
-    verdict counts.failed ++ codes " (id=" ++ decimal run
-    ++ counted (codes ", failures=") counts.failed ++ counted (codes ", skips=") counts.skipped ++ codes ")\n"
+    verdict_word counts.failed ++ codes " (id=" ++ decimal run
+    ++ named_count (codes ", failures=") counts.failed ++ named_count (codes ", skips=") counts.skipped ++ codes ")\n"
 
 -- the two lines of a run of this number, of which these are the counts
 abbrev pub summary_lines : Counts → ℕ → List ℕ
 summary_lines counts run = first_line counts ++ second_line counts run
 
+-- the last two lines of a report on these rows
 abbrev pub summary_of : List Row → ℕ → List (List ℕ) → List ℕ
 summary_of rows run filter_tags = summary_lines (counts_of filter_tags rows) run
 
@@ -82,6 +88,7 @@ whole_lines text = text ++ (if length text == 0 then [] else if ends_with nat_eq
 abbrev pub heading_of : Row → List ℕ
 heading_of row = ruler 61 ++ label row.ended ++ codes ": " ++ row.id ++ newline ++ ruler 45
 
+-- what a report says of a test that failed: its heading, and its text in whole lines
 abbrev pub failure_of : Row → List ℕ
 failure_of row = heading_of row ++ whole_lines row.text
 
@@ -95,9 +102,11 @@ report_of rows run filter_tags = flat_map failure_of (filter row_fails rows) ++ 
 
 -- The failing ids.
 
+-- an id in a line
 abbrev pub id_line : List ℕ → List ℕ
 id_line id = id ++ newline
 
+-- the line of a test that fails
 abbrev pub failing_line : List ℕ → List ℕ
 failing_line id = codes "FAIL: " ++ id ++ newline
 
@@ -108,37 +117,41 @@ failing_text_of ids list = if list then flat_map id_line ids else flat_map faili
 -- The slowest tests.
 
 -- a test that ran and has a time
-pub record Timed : Type 0 where
+pub record TimedTest : Type 0 where
   pub nanos : ℕ
   pub id : List ℕ
   pub route : Option (List ℕ)
 
-abbrev pub timed_of : Row → Timed
-timed_of row = record { nanos = unwrap_or row.nanos 0; id = row.id; route = row.route }
+-- the test of a row, with its time, 0 where it has none
+abbrev pub timed_test : Row → TimedTest
+timed_test row = record { nanos = unwrap_or row.nanos 0; id = row.id; route = row.route }
 
 -- the longest first, of equal times by id, then by route
-abbrev pub slow_cmp : Timed → Timed → Ordering
+abbrev pub slow_cmp : TimedTest → TimedTest → Ordering
 slow_cmp s t = ordering_then (nat_cmp t.nanos s.nanos) (ordering_then (text_cmp s.id t.id) (route_cmp s.route t.route))
 
 -- in front of the first that is not before it
-abbrev pub placed : Timed → List Timed → List Timed
-placed t [] = t ∷ []
-placed t (u ∷ us) = if is_lt (slow_cmp u t) then u ∷ placed t us else t ∷ u ∷ us
+abbrev pub placed_by_time : TimedTest → List TimedTest → List TimedTest
+placed_by_time t [] = t ∷ []
+placed_by_time t (u ∷ us) = if is_lt (slow_cmp u t) then u ∷ placed_by_time t us else t ∷ u ∷ us
 
-abbrev pub in_order : List Timed → List Timed
-in_order [] = []
-in_order (t ∷ ts) = placed t (in_order ts)
+-- the tests, the slowest first
+abbrev pub slowest_first : List TimedTest → List TimedTest
+slowest_first [] = []
+slowest_first (t ∷ ts) = placed_by_time t (slowest_first ts)
 
 -- right in ten places, or in its own width where that is more
 abbrev pub in_ten_places : List ℕ → List ℕ
 in_ten_places text = replicate (10 - length text) 32 ++ text
 
-abbrev pub slow_line : Timed → List ℕ
-slow_line t = in_ten_places (seconds_of t.nanos) ++ codes "  " ++ t.id ++ newline
+-- the line of a test with its time
+abbrev pub slow_line : TimedTest → List ℕ
+slow_line t = in_ten_places (printed_seconds t.nanos) ++ codes "  " ++ t.id ++ newline
 
 -- all of them, or the first ten
-abbrev pub first_ones : Bool → List Timed → List Timed
+abbrev pub first_ones : Bool → List TimedTest → List TimedTest
 first_ones all ts = if all then ts else take 10 ts
 
+-- the lines of the slowest tests among the rows, of ten or of all
 abbrev pub slowest_of : List Row → Bool → List ℕ
-slowest_of rows all = flat_map slow_line (first_ones all (in_order (map timed_of (timed_rows rows))))
+slowest_of rows all = flat_map slow_line (first_ones all (slowest_first (map timed_test (timed_rows rows))))

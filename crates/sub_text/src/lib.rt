@@ -7,13 +7,13 @@
 //! before, where it does not say otherwise.
 //!
 //! - `report`, `summary`: the report of a run, and how it ends
-//! - `failing`, `slowest`, `stats`: failing ids, slowest tests, and counts
+//! - `failing_ids`, `slowest`, `stats`: failing ids, slowest tests, and counts
 //! - `listing`: the line of an id in the listing of a stream
 //! - `seconds`: times in seconds
 //! - `laws`: the summary of lanes does not tell in which order they come
 #![tactic(auto)]
 
-mod failing;
+mod failing_ids;
 mod laws;
 mod listing;
 mod report;
@@ -22,7 +22,7 @@ mod slowest;
 mod stats;
 mod summary;
 
-pub use failing::failing_text;
+pub use failing_ids::failing_text;
 pub use laws::texts_are_of_lanes_in_turn;
 pub use listing::ls_line;
 pub use report::{failure_parts, report_text};

@@ -49,9 +49,9 @@ fn line_end(text: &[u8]) -> &[u8]
     }
 }
 
-/// What is printed of a row that fails, in parts that stand behind one another: its label and its id between two rulers, and
-/// its text, with a newline where that is not empty and ends within a line. Each part stands where it stood, so this takes no
-/// memory.
+/// What is printed of a row that fails, in parts that stand behind one another. They are its label and its id between
+/// two rulers, and its text, with a newline where that is not empty and ends within a line. Each part stands where it
+/// stood, so this takes no memory.
 pub fn failure_parts(row: &Row) -> [&[u8]; 8]
     ensures { flat_map part_bytes result ≡ failure_of row.now }
 {

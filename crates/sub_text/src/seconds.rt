@@ -1,7 +1,7 @@
 //! Seconds with three places.
 
 ghost use Rattle.std.specs.Prelude.{◌≡◌, ◌++◌, ◌<◌, codes, OnOk, OnErr};
-ghost use Rattle.sub_text.specs.Texts.{millis_of, three_digits, seconds_of};
+ghost use Rattle.sub_text.specs.Texts.{millis_of, three_digits, printed_seconds};
 
 use itoa::Buffer;
 use sub_number::NoMemory;
@@ -33,7 +33,7 @@ fn places(number: u32) -> [u8; 4]
 
 /// Appends the nanoseconds as seconds with a point and three places, halves up.
 pub fn seconds_text(nanos: u128, out: &mut Vec<u8>) -> Result<(), NoMemory>
-    ensures ok { OnOk result (out.new.items ≡ out.old.items ++ seconds_of nanos) }
+    ensures ok { OnOk result (out.new.items ≡ out.old.items ++ printed_seconds nanos) }
     ensures err { OnErr result (out.new.items ≡ out.old.items) }
 {
     let millis = millis_of(nanos);

@@ -3,7 +3,7 @@
 ghost use Rattle.std.specs.Prelude.{◌≡◌, ◌++◌, map, take, length, OnOk, OnErr, IfOk};
 ghost use Rattle.std.specs.List.{flat_map};
 ghost use Rattle.outcome_fold.specs.Answers.{timed_rows};
-ghost use Rattle.sub_text.specs.Texts.{seconds_of, timed_of, slow_cmp, in_order, first_ones, slow_line, in_ten_places, slowest_of};
+ghost use Rattle.sub_text.specs.Texts.{printed_seconds, timed_test, slow_cmp, slowest_first, first_ones, slow_line, in_ten_places, slowest_of};
 
 use crate::seconds::seconds_text;
 use outcome_fold::{Ended, Row, Rows};
@@ -19,7 +19,7 @@ const BLANKS: &[u8] = b"          ";
 
 // The order in which the rows are printed: the longest time first, of equal times by id, then by route.
 fn compare(one: &Row, other: &Row) -> Ordering
-    ensures { result ≡ slow_cmp (timed_of one.now) (timed_of other.now) }
+    ensures { result ≡ slow_cmp (timed_test one.now) (timed_test other.now) }
 {
     let (first, second) = (one.nanos.unwrap_or(0), other.nanos.unwrap_or(0));
     second
@@ -43,7 +43,7 @@ fn timed(alloc: Global, rows: &[Row]) -> Result<Vec<&Row>, NoMemory>
 
 // Those rows in the order in which they are printed.
 fn in_order(alloc: Global, rows: &[Row]) -> Result<Vec<&Row>, NoMemory>
-    ensures { IfOk result (λ order. map (λ row. timed_of row.now) order.items ≡ in_order (map timed_of (timed_rows rows.now))) }
+    ensures { IfOk result (λ order. map (λ row. timed_test row.now) order.items ≡ slowest_first (map timed_test (timed_rows rows.now))) }
 {
     let mut order = timed(alloc, rows)?;
     order.sort_by(|one, other| compare(one, other))?;
@@ -52,7 +52,7 @@ fn in_order(alloc: Global, rows: &[Row]) -> Result<Vec<&Row>, NoMemory>
 
 // All of the rows, or the first ten.
 fn first_ones<'a>(all: bool, rows: &'a [&'a Row]) -> &'a [&'a Row]
-    ensures { map (λ row. timed_of row.now) result.now ≡ first_ones all (map (λ row. timed_of row.now) rows.now) }
+    ensures { map (λ row. timed_test row.now) result.now ≡ first_ones all (map (λ row. timed_test row.now) rows.now) }
 {
     if all {
         rows
@@ -63,7 +63,7 @@ fn first_ones<'a>(all: bool, rows: &'a [&'a Row]) -> &'a [&'a Row]
 
 // The seconds right in ten places.
 fn write_seconds(nanos: u64, text: &mut Vec<u8>) -> Result<(), NoMemory>
-    ensures ok { OnOk result (text.new.items ≡ text.old.items ++ in_ten_places (seconds_of nanos)) }
+    ensures ok { OnOk result (text.new.items ≡ text.old.items ++ in_ten_places (printed_seconds nanos)) }
     ensures kept { take (length text.old.items) text.new.items ≡ text.old.items }
 {
     let mut seconds = Vec::new(*text.allocator());
@@ -75,7 +75,7 @@ fn write_seconds(nanos: u64, text: &mut Vec<u8>) -> Result<(), NoMemory>
 }
 
 fn write_line(row: &Row, text: &mut Vec<u8>) -> Result<(), NoMemory>
-    ensures ok { OnOk result (text.new.items ≡ text.old.items ++ slow_line (timed_of row.now)) }
+    ensures ok { OnOk result (text.new.items ≡ text.old.items ++ slow_line (timed_test row.now)) }
     ensures kept { take (length text.old.items) text.new.items ≡ text.old.items }
 {
     write_seconds(row.nanos.unwrap_or(0), text)?;
@@ -87,7 +87,7 @@ fn write_line(row: &Row, text: &mut Vec<u8>) -> Result<(), NoMemory>
 
 // What stands in the text stays, also where there is not enough memory. So of the functions above that append.
 fn write_lines(rows: &[&Row], text: &mut Vec<u8>) -> Result<(), NoMemory>
-    ensures ok { OnOk result (text.new.items ≡ text.old.items ++ flat_map slow_line (map (λ row. timed_of row.now) rows.now)) }
+    ensures ok { OnOk result (text.new.items ≡ text.old.items ++ flat_map slow_line (map (λ row. timed_test row.now) rows.now)) }
     ensures kept { take (length text.old.items) text.new.items ≡ text.old.items }
 {
     for row in rows {

@@ -1,7 +1,7 @@
 //! The summary of a run.
 
 ghost use Rattle.std.specs.Prelude.{◌≡◌, ◌++◌, take, length, OnOk, OnErr};
-ghost use Rattle.sub_text.specs.Texts.{took, verdict, counted, first_line, second_line, summary_lines, summary_of};
+ghost use Rattle.sub_text.specs.Texts.{took, verdict_word, named_count, first_line, second_line, summary_lines, summary_of};
 
 use crate::seconds::seconds_text;
 use itoa::Buffer;
@@ -24,14 +24,14 @@ fn write_took(nanos: Option<u128>, text: &mut Vec<u8>) -> Result<(), NoMemory>
 }
 
 fn verdict(failed: u64) -> &'static [u8]
-    ensures { result.now ≡ verdict failed }
+    ensures { result.now ≡ verdict_word failed }
 {
     if failed == 0 { b"PASSED" } else { b"FAILED" }
 }
 
 // How many of this name there are, where there are any.
 fn write_counted(name: &[u8], count: u64, text: &mut Vec<u8>) -> Result<(), NoMemory>
-    ensures ok { OnOk result (text.new.items ≡ text.old.items ++ counted name.now count) }
+    ensures ok { OnOk result (text.new.items ≡ text.old.items ++ named_count name.now count) }
     ensures kept { take (length text.old.items) text.new.items ≡ text.old.items }
 {
     if count != 0 {
