@@ -10,7 +10,7 @@ use Rattle.bstr.proofs.lemmas.LossyLemmas.{lossy_chars-front}
 use Rattle.bstr.proofs.lemmas.PieceLemmas.{lossy_chars-nil}
 use Rattle.bstr.proofs.lemmas.LengthLemmas.{length-lossy_chars}
 use Rattle.sub_number.specs.Texts.{IsText}
-use Rattle.tap_bridge.specs.Ids.{without_nul, id_of}
+use Rattle.tap_bridge.specs.Ids.{without_nul, id_from}
 use lib.Utf8.{next}
 
 -- the characters of bytes without NUL are none of them NUL
@@ -28,7 +28,7 @@ kept (char ∷ chars) none =
     (cases_Bool (char == 0))
 
 -- a text is its own id
-pub text_is_id : (bytes : List ℕ) → IsText bytes → bytes ≡ id_of bytes
+pub text_is_id : (bytes : List ℕ) → IsText bytes → bytes ≡ id_from bytes
 text_is_id bytes text =
     let chars = text.utf8.0 in
     let spelled = text.utf8.1.1 in
@@ -93,9 +93,9 @@ at_most (char ∷ chars) =
     omega (arith, length-append (encode_utf8 (without_nul char)) (encode_utf8_all (map without_nul chars)), few_bytes (without_nul char), at_most chars)
 
 -- an id has no NUL
-pub no_nul : (bytes id : List ℕ) → id ≡ id_of bytes → All (λ byte. byte ≢ 0) id
+pub no_nul : (bytes id : List ℕ) → id ≡ id_from bytes → All (λ byte. byte ≢ 0) id
 no_nul bytes id is = All-same (λ byte. byte ≢ 0) _ _ is (none_in (lossy_chars bytes))
 
 -- the id of bytes that are not too many leaves room in a packet
-pub is_short : (bytes id : List ℕ) → length bytes < 2 ^ 17 → id ≡ id_of bytes → length id < 2 ^ 20
+pub is_short : (bytes id : List ℕ) → length bytes < 2 ^ 17 → id ≡ id_from bytes → length id < 2 ^ 20
 is_short bytes id short is = omega (arith, ap length is, at_most (lossy_chars bytes), length-lossy_chars bytes)

@@ -6,7 +6,7 @@ use Rattle.std.specs.List.{range_with_len}
 use Rattle.stream_reader.specs.Notes.{stdout_event}
 use Rattle.tap_bridge.specs.declared.reader.TapReader.{TapReader}
 use Rattle.tap_bridge.specs.Events.{longest_line, input_of, too_long, events_at, events_so_far, pieces_of}
-use Rattle.tap_bridge.specs.Kept.{Knows, HasRead}
+use Rattle.tap_bridge.specs.Kept.{HasHeardLines, HasRead}
 use Rattle.tap_bridge.proofs.ReadLemmas.{knows_too_long, so_far_push}
 
 input_is : (bytes : List ℕ) → longest_line < length bytes → too_long bytes ≡ input_of bytes
@@ -15,7 +15,7 @@ input_is bytes more = sym (cond-true _ _ _ (lt-ltb longest_line (length bytes) m
 -- a reader is given no such line, and knows it
 pub too_long_is_read : (reader : TapReader) (lines : List (List ℕ)) (bytes : List ℕ) → longest_line < length bytes → HasRead reader lines → HasRead reader (lines ++ bytes ∷ [])
 too_long_is_read reader lines bytes more known =
-    subst (Knows reader) (ap (λ input. map input_of lines ++ input ∷ []) (input_is bytes more) ∙ sym (map_push input_of lines bytes))
+    subst (HasHeardLines reader) (ap (λ input. map input_of lines ++ input ∷ []) (input_is bytes more) ∙ sym (map_push input_of lines bytes))
     (knows_too_long reader (map input_of lines) bytes known)
 
 -- it gives its pieces, at once

@@ -8,12 +8,12 @@ use Rattle.std.proofs.lemmas.List.Sums.{fold_push}
 use Rattle.std.specs.List.{suffix_len, prefix_len, before_last, after_last, filter, filter_map, last_or}
 use Rattle.std.specs.Option.{option_map, option_to_list}
 use Rattle.tap_bridge.specs.declared.plan.Plan.{Plan}
-use Rattle.tap_bridge.specs.declared.waiting.Waiting.{Waiting as Kept}
+use Rattle.tap_bridge.specs.declared.waiting_test.Waiting.{Waiting as Kept}
 use Rattle.tap_bridge.specs.declared.reader.TapReader.{TapReader}
 use Rattle.tap_bridge.specs.Blanks.{trim}
-use Rattle.tap_bridge.specs.Grammar.{Test, Line, plan, test, comment, bail_out, other, begins, plan_of, test_of, line_with, line_of}
+use Rattle.tap_bridge.specs.Grammar.{Test, TapLine, plan, test, comment, bail_out, other, begins, plan_of, test_line_of, line_with, tap_line_of}
 use Rattle.tap_bridge.specs.Events.{Input, line, too_long, longest_line, without_return, one_more, number_in, number_after, next_number, planned, is_awaited, is_heading, comment_in, waiting_with, waiting, with_newline, comment_limit, events_at, events_behind, events_so_far, input_of}
-use Rattle.tap_bridge.specs.Kept.{Knows, HasRead, kept_of}
+use Rattle.tap_bridge.specs.Kept.{HasHeardLines, HasRead, kept_of}
 use Rattle.tap_bridge.proofs.CommentLemmas.{comment_push}
 
 -- The last heading.
@@ -105,14 +105,14 @@ with_comment next ys bytes (Some (too_long c)) = refl
 
 -- What a reader knows.
 
-pub knows_plan : (r s : TapReader) (before : List Input) (p : Plan) → s.next ≡ r.next → s.tests ≡ Some p.tests → s.waiting ≡ None → Knows r before → Knows s (before ++ line (plan p) ∷ [])
+pub knows_plan : (r s : TapReader) (before : List Input) (p : Plan) → s.next ≡ r.next → s.tests ≡ Some p.tests → s.waiting ≡ None → HasHeardLines r before → HasHeardLines s (before ++ line (plan p) ∷ [])
 knows_plan r s before p next tests none known = record {
   next = next ∙ known.next ∙ sym (fold_push number_after 1 before (line (plan p)));
   tests = tests ∙ sym (fold_push planned None before (line (plan p)));
   waits = none ∙ sym (ap (option_map kept_of) (waiting_heading before (line (plan p)) refl));
 }
 
-pub knows_bail_out : (r s : TapReader) (before : List Input) (id : List ℕ) → s.next ≡ r.next → s.tests ≡ r.tests → s.waiting ≡ None → Knows r before → Knows s (before ++ line (bail_out id) ∷ [])
+pub knows_bail_out : (r s : TapReader) (before : List Input) (id : List ℕ) → s.next ≡ r.next → s.tests ≡ r.tests → s.waiting ≡ None → HasHeardLines r before → HasHeardLines s (before ++ line (bail_out id) ∷ [])
 knows_bail_out r s before id next tests none known = record {
   next = next ∙ known.next ∙ sym (fold_push number_after 1 before (line (bail_out id)));
   tests = tests ∙ known.tests ∙ sym (fold_push planned None before (line (bail_out id)));
@@ -120,14 +120,14 @@ knows_bail_out r s before id next tests none known = record {
 }
 
 pub knows_test : (r s : TapReader) (before : List Input) (t : Test) → s.next ≡ max r.next (one_more (number_in r.next t)) → s.tests ≡ r.tests
-    → s.waiting ≡ Some (kept_of (record { number = number_in r.next t; shown = t; comments = [] })) → Knows r before → Knows s (before ++ line (test t) ∷ [])
+    → s.waiting ≡ Some (kept_of (record { number = number_in r.next t; shown = t; comments = [] })) → HasHeardLines r before → HasHeardLines s (before ++ line (test t) ∷ [])
 knows_test r s before t next tests waits known = record {
   next = next ∙ ap (λ n. max n (one_more (number_in n t))) known.next ∙ sym (fold_push number_after 1 before (line (test t)));
   tests = tests ∙ known.tests ∙ sym (fold_push planned None before (line (test t)));
   waits = waits ∙ ap (λ n. Some (kept_of (record { number = number_in n t; shown = t; comments = [] }))) known.next ∙ sym (ap (option_map kept_of) (waiting_heading before (line (test t)) refl));
 }
 
-pub knows_comment : (r s : TapReader) (before : List Input) (bytes : List ℕ) → s.next ≡ r.next → s.tests ≡ r.tests → s.waiting ≡ option_map (commented bytes) r.waiting → Knows r before → Knows s (before ++ line (comment bytes) ∷ [])
+pub knows_comment : (r s : TapReader) (before : List Input) (bytes : List ℕ) → s.next ≡ r.next → s.tests ≡ r.tests → s.waiting ≡ option_map (commented bytes) r.waiting → HasHeardLines r before → HasHeardLines s (before ++ line (comment bytes) ∷ [])
 knows_comment r s before bytes next tests waits known = record {
   next = next ∙ known.next ∙ sym (fold_push number_after 1 before (line (comment bytes)));
   tests = tests ∙ known.tests ∙ sym (fold_push planned None before (line (comment bytes)));
@@ -136,7 +136,7 @@ knows_comment r s before bytes next tests waits known = record {
       ∙ sym (ap (option_map kept_of) (waiting_other before (line (comment bytes)) refl));
 }
 
-pub knows_other : (r : TapReader) (before : List Input) (bytes : List ℕ) → Knows r before → Knows r (before ++ line (other bytes) ∷ [])
+pub knows_other : (r : TapReader) (before : List Input) (bytes : List ℕ) → HasHeardLines r before → HasHeardLines r (before ++ line (other bytes) ∷ [])
 knows_other r before bytes known = record {
   next = known.next ∙ sym (fold_push number_after 1 before (line (other bytes)));
   tests = known.tests ∙ sym (fold_push planned None before (line (other bytes)));
@@ -145,7 +145,7 @@ knows_other r before bytes known = record {
 }
 
 -- bytes that are too many for a line change nothing
-pub knows_too_long : (r : TapReader) (before : List Input) (bytes : List ℕ) → Knows r before → Knows r (before ++ too_long bytes ∷ [])
+pub knows_too_long : (r : TapReader) (before : List Input) (bytes : List ℕ) → HasHeardLines r before → HasHeardLines r (before ++ too_long bytes ∷ [])
 knows_too_long r before bytes known = record {
   next = known.next ∙ sym (fold_push number_after 1 before (too_long bytes));
   tests = known.tests ∙ sym (fold_push planned None before (too_long bytes));
@@ -168,15 +168,15 @@ so_far_push lines bytes = ap (events_behind []) (map_push input_of lines bytes) 
 -- Comment lines.
 
 -- a line that is not too long
-pub input_is_line : (bytes : List ℕ) → length bytes ≤ longest_line → input_of bytes ≡ line (line_of (without_return bytes))
+pub input_is_line : (bytes : List ℕ) → length bytes ≤ longest_line → input_of bytes ≡ line (tap_line_of (without_return bytes))
 input_is_line bytes few = cond-false _ _ _ (le-ltb longest_line (length bytes) few)
 
 -- and is known to be this
-pub input_meant : (bytes short : List ℕ) (this : Line) → length bytes ≤ longest_line → short ≡ without_return bytes → this ≡ line_of short → input_of bytes ≡ line this
-input_meant bytes short this few cut is = input_is_line bytes few ∙ ap (λ l. line (line_of l)) (sym cut) ∙ ap line (sym is)
+pub input_meant : (bytes short : List ℕ) (this : TapLine) → length bytes ≤ longest_line → short ≡ without_return bytes → this ≡ tap_line_of short → input_of bytes ≡ line this
+input_meant bytes short this few cut is = input_is_line bytes few ∙ ap (λ l. line (tap_line_of l)) (sym cut) ∙ ap line (sym is)
 
 -- a line that begins with `#`
-pub comment_is : (bytes : List ℕ) → begins (codes "#") bytes ≡ true → line_of bytes ≡ comment bytes
+pub comment_is : (bytes : List ℕ) → begins (codes "#") bytes ≡ true → tap_line_of bytes ≡ comment bytes
 comment_is [] is = absurd cc
 comment_is (byte ∷ bytes) is =
     let sign : byte ≡ 35 = sym (eqb-true 35 byte ((and_parts (nat_eq 35 byte) true is).0)) in
@@ -194,13 +194,13 @@ with_parts None None bytes not_it =
     either false = refl
 
 -- a line that does not
-pub comment_is_not : (bytes : List ℕ) → begins (codes "#") bytes ≡ false → comment_in (line (line_of bytes)) ≡ None
-comment_is_not bytes not_it = with_parts (plan_of bytes) (test_of bytes) bytes not_it
+pub comment_is_not : (bytes : List ℕ) → begins (codes "#") bytes ≡ false → comment_in (line (tap_line_of bytes)) ≡ None
+comment_is_not bytes not_it = with_parts (plan_of bytes) (test_line_of bytes) bytes not_it
 
 -- a line that is not too long, and what is left of it without a carriage return
 module _ (bytes short : List ℕ) (few : length bytes ≤ longest_line) (cut : short ≡ without_return bytes) where
-  input_is : input_of bytes ≡ line (line_of short)
-  input_is = input_is_line bytes few ∙ ap (λ l. line (line_of l)) (sym cut)
+  input_is : input_of bytes ≡ line (tap_line_of short)
+  input_is = input_is_line bytes few ∙ ap (λ l. line (tap_line_of l)) (sym cut)
 
   input_is_comment : begins (codes "#") short ≡ true → input_of bytes ≡ line (comment short)
   input_is_comment is = input_is ∙ ap line (comment_is short is)
@@ -211,8 +211,8 @@ module _ (bytes short : List ℕ) (few : length bytes ≤ longest_line) (cut : s
   pub not_awaited : (before : List Input) → begins (codes "#") short ≡ false → is_awaited before (input_of bytes) ≡ false
   not_awaited before is_not = ap (λ c. is_some c && is_some (waiting before)) (ap comment_in input_is ∙ comment_is_not short is_not)
 
-  pub comment_read : (reader : TapReader) (lines : List (List ℕ)) → begins (codes "#") short ≡ true → Knows reader (map input_of lines ++ line (comment short) ∷ []) → HasRead reader (lines ++ bytes ∷ [])
-  comment_read reader lines is known = subst (Knows reader) (ap (λ i. map input_of lines ++ i ∷ []) (sym (input_is_comment is)) ∙ sym (map_push input_of lines bytes)) known
+  pub comment_read : (reader : TapReader) (lines : List (List ℕ)) → begins (codes "#") short ≡ true → HasHeardLines reader (map input_of lines ++ line (comment short) ∷ []) → HasRead reader (lines ++ bytes ∷ [])
+  comment_read reader lines is known = subst (HasHeardLines reader) (ap (λ i. map input_of lines ++ i ∷ []) (sym (input_is_comment is)) ∙ sym (map_push input_of lines bytes)) known
 
   pub comment_gives_none : (lines : List (List ℕ)) → begins (codes "#") short ≡ true → events_at (map input_of lines) (line (comment short)) ≡ [] → events_so_far (lines ++ bytes ∷ []) ≡ events_so_far lines
   comment_gives_none lines is none =

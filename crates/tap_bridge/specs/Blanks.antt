@@ -2,6 +2,7 @@
 use Rattle.std.specs.Prelude.{ℕ, ◌-◌, Bool, false, ◌||◌, ◌==◌, List, [], ◌∷◌, length, take, drop}
 use Rattle.std.specs.List.{prefix_len, suffix_len, before_first}
 
+-- a space or a tab
 abbrev pub is_blank : ℕ → Bool
 is_blank byte = byte == 32 || byte == 9
 
@@ -13,6 +14,7 @@ trim_start bytes = drop (prefix_len is_blank bytes) bytes
 abbrev pub trim_end : List ℕ → List ℕ
 trim_end bytes = take (length bytes - suffix_len is_blank bytes) bytes
 
+-- the bytes without the blanks at both ends
 abbrev pub trim : List ℕ → List ℕ
 trim bytes = trim_end (trim_start bytes)
 

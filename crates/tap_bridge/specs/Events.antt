@@ -1,7 +1,9 @@
 -- What a list of lines of the Test Anything Protocol means as events (docs/FORMATS.md, "TAP").
-use Rattle.std.specs.Prelude.{ℕ, ◌+◌, ◌-◌, ◌*◌, ◌/◌, ◌^◌, ◌==◌, ◌&&◌, Bool, true, false, Option, Some, None, List, [], ◌∷◌, ◌++◌, map, take, drop, length, min, max, nat_eq, nat_lt, is_some, codes, if◌then◌else◌}
+use Rattle.std.specs.Prelude.{ℕ, ◌+◌, ◌-◌, ◌==◌, ◌&&◌, Bool, true, false, Option, Some, None, List, [], ◌∷◌, ◌++◌, map, take, length, max, nat_eq, nat_lt, is_some, codes, if◌then◌else◌}
 use Rattle.std.specs.List.{ends_with, filter, filter_map, flat_map, fold, last_or, before_last, after_last, range_with_len}
 use Rattle.std.specs.Option.{option_map, option_to_list, unwrap_or}
+pub use Rattle.packet_codec.specs.Pieces.{pieces_of}
+pub use Rattle.sub_number.specs.Numbers.{one_more}
 use Rattle.packet_codec.specs.declared.event.Event.{Event}
 use Rattle.packet_codec.specs.declared.event.FilePart.{FilePart}
 use Rattle.packet_codec.specs.declared.status.Status.{Status}
@@ -10,8 +12,8 @@ use Rattle.stream_reader.specs.Notes.{stdout_event}
 use Rattle.tap_bridge.specs.declared.directive.Directive.{Directive}
 use Rattle.tap_bridge.specs.declared.directive.Directive.TheVariants as directive
 use Rattle.tap_bridge.specs.declared.plan.Plan.{Plan}
-use Rattle.tap_bridge.specs.Grammar.{Test, Line, plan, test, comment, bail_out, other, line_of}
-use Rattle.tap_bridge.specs.Ids.{id_of, test_name}
+use Rattle.tap_bridge.specs.Grammar.{Test, TapLine, plan, test, comment, bail_out, other, tap_line_of}
+use Rattle.tap_bridge.specs.Ids.{id_from, test_name}
 
 -- The lines of a list.
 
@@ -25,22 +27,20 @@ without_return bytes = if ends_with nat_eq bytes (13 ∷ []) then take (length b
 
 -- a line of the protocol, or bytes that are too many for one
 pub data Input : Type 0 where
-  line : Line → Input
+  line : TapLine → Input
   too_long : List ℕ → Input
 
+-- what the bytes of a line are taken for: too long, or a line
 abbrev pub input_of : List ℕ → Input
-input_of bytes = if nat_lt longest_line (length bytes) then too_long bytes else line (line_of (without_return bytes))
+input_of bytes = if nat_lt longest_line (length bytes) then too_long bytes else line (tap_line_of (without_return bytes))
 
 -- Numbers.
-
--- one more, which stands still at the greatest number of 64 bits
-abbrev pub one_more : ℕ → ℕ
-one_more count = min (count + 1) (2 ^ 64 - 1)
 
 -- the test's own number, or else the next one
 abbrev pub number_in : ℕ → Test → ℕ
 number_in next t = unwrap_or t.number next
 
+-- the number that the next test gets by itself, behind this line
 abbrev pub number_after : ℕ → Input → ℕ
 number_after next (line (plan p)) = next
 number_after next (line (test t)) = max next (one_more (number_in next t))
@@ -55,6 +55,7 @@ next_number lines = fold number_after 1 lines
 
 -- The plan.
 
+-- how many tests are planned behind this line
 abbrev pub planned : Option ℕ → Input → Option ℕ
 planned before (line (plan p)) = Some p.tests
 planned before (line (test t)) = before
@@ -78,6 +79,7 @@ is_heading (line (bail_out id)) = true
 is_heading (line (other bytes)) = false
 is_heading (too_long bytes) = false
 
+-- the bytes of a line that is a comment
 abbrev pub comment_in : Input → Option (List ℕ)
 comment_in (line (plan p)) = None
 comment_in (line (test t)) = None
@@ -112,14 +114,15 @@ is_awaited before this = is_some (comment_in this) && is_some (waiting before)
 
 -- Events.
 
+-- the type of the bytes of comments
 abbrev pub mime_type : List ℕ
 mime_type = codes "text/plain; charset=UTF8"
 
--- an event of the test of this name, with this file
-abbrev pub event_with : List ℕ → Status → Option FilePart → Event
-event_with name how file = record {
+-- an event of the test of this id, with this file
+abbrev pub event_with_id : List ℕ → Status → Option FilePart → Event
+event_with_id id how file = record {
   stamp = None;
-  id = Some (id_of name);
+  id = Some id;
   tags = None;
   runnable = true;
   status = how;
@@ -129,12 +132,18 @@ event_with name how file = record {
   route = None;
 }
 
-abbrev pub status_of : Bool → Option Directive → Status
-status_of passed (Some directive.Skip) = status.Skip
-status_of passed (Some directive.Todo) = status.XFail
-status_of true None = status.Success
-status_of false None = status.Fail
+-- an event of the test of this name, with this file
+abbrev pub event_with_name : List ℕ → Status → Option FilePart → Event
+event_with_name name how file = event_with_id (id_from name) how file
 
+-- the status of a test, by its word and its directive
+abbrev pub tap_status : Bool → Option Directive → Status
+tap_status passed (Some directive.Skip) = status.Skip
+tap_status passed (Some directive.Todo) = status.XFail
+tap_status true None = status.Success
+tap_status false None = status.Fail
+
+-- the bytes of a line with its end
 abbrev pub with_newline : List ℕ → List ℕ
 with_newline bytes = bytes ++ 10 ∷ []
 
@@ -154,11 +163,13 @@ comment_of reason comments = take comment_limit (flat_map with_newline (reason_l
 abbrev pub comment_file : List ℕ → Option FilePart
 comment_file bytes = if length bytes == 0 then None else Some (record { name = codes "tap comment"; bytes = bytes })
 
-abbrev pub test_event : Waiting → Event
-test_event w = event_with (test_name w.number w.shown.description) (status_of w.shown.passed w.shown.directive) (comment_file (comment_of w.shown.reason w.comments))
+-- the event of a test with its reason and its comments
+abbrev pub event_of_test : Waiting → Event
+event_of_test w = event_with_name (test_name w.number w.shown.description) (tap_status w.shown.passed w.shown.directive) (comment_file (comment_of w.shown.reason w.comments))
 
+-- the event of a test that was planned and did not come
 abbrev pub missing_event : ℕ → Event
-missing_event number = event_with (test_name number []) status.Fail (Some (record { name = codes "tap meta"; bytes = codes "test missing from TAP output" }))
+missing_event number = event_with_name (test_name number []) status.Fail (Some (record { name = codes "tap meta"; bytes = codes "test missing from TAP output" }))
 
 -- the tests from the one number up to the other, without it, are missing
 abbrev pub missing_events : ℕ → ℕ → List Event
@@ -166,22 +177,18 @@ missing_events first behind = map missing_event (range_with_len first (behind - 
 
 -- a plan of no tests that skips them
 abbrev pub skipped_file : Plan → List Event
-skipped_file p = if p.skipped && p.tests == 0 then event_with (codes "file skip") status.Skip None ∷ [] else []
-
--- the pieces of 65,536 bytes, the last of which may be shorter
-abbrev pub pieces_of : List ℕ → List (List ℕ)
-pieces_of bytes = map (λ k. take longest_line (drop (longest_line * k) bytes)) (range_with_len 0 ((length bytes + (longest_line - 1)) / longest_line))
+skipped_file p = if p.skipped && p.tests == 0 then event_with_name (codes "file skip") status.Skip None ∷ [] else []
 
 -- the event of the waiting test, where one waits
-abbrev pub waiting_events : List Input → List Event
-waiting_events before = map test_event (option_to_list (waiting before))
+abbrev pub events_of_waiting : List Input → List Event
+events_of_waiting before = map event_of_test (option_to_list (waiting before))
 
 -- what the line gives where these came before it
 abbrev pub events_at : List Input → Input → List Event
-events_at before (line (plan p)) = waiting_events before ++ skipped_file p
-events_at before (line (test t)) = waiting_events before ++ missing_events (next_number before) (number_in (next_number before) t)
+events_at before (line (plan p)) = events_of_waiting before ++ skipped_file p
+events_at before (line (test t)) = events_of_waiting before ++ missing_events (next_number before) (number_in (next_number before) t)
 events_at before (line (comment bytes)) = if is_some (waiting before) then [] else stdout_event (with_newline bytes) ∷ []
-events_at before (line (bail_out id)) = waiting_events before ++ event_with id status.Fail None ∷ []
+events_at before (line (bail_out id)) = events_of_waiting before ++ event_with_name id status.Fail None ∷ []
 events_at before (line (other bytes)) = stdout_event (with_newline bytes) ∷ []
 events_at before (too_long bytes) = map stdout_event (pieces_of bytes)
 
@@ -192,7 +199,7 @@ missing_at_end (Some tests) next = missing_events next (tests + 1)
 
 -- what the end gives behind these lines
 abbrev pub events_at_end : List Input → List Event
-events_at_end lines = waiting_events lines ++ missing_at_end (planned_tests lines) (next_number lines)
+events_at_end lines = events_of_waiting lines ++ missing_at_end (planned_tests lines) (next_number lines)
 
 -- what the lines give, one after another, where these came before them
 abbrev pub events_behind : List Input → List Input → List Event

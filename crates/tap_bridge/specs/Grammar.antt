@@ -23,17 +23,21 @@ is_blank_text bytes = length (trim_start bytes) == 0
 
 -- Numbers: 1 to 7 digits, 1,000,000 at most.
 
+-- the greatest number that a test may have
 abbrev pub most_tests : ℕ
 most_tests = 1000000
 
+-- each of the bytes is a digit
 abbrev pub is_digits : List ℕ → Bool
 is_digits bytes = list_all is_ascii_digit bytes
 
-abbrev pub is_number : List ℕ → Bool
-is_number bytes = is_digits bytes && (nat_le 1 (length bytes) && (nat_le (length bytes) 7 && nat_le (digits_value 10 bytes) most_tests))
+-- one to seven digits that are no greater number than a test may have
+abbrev pub is_tap_number : List ℕ → Bool
+is_tap_number bytes = is_digits bytes && (nat_le 1 (length bytes) && (nat_le (length bytes) 7 && nat_le (digits_value 10 bytes) most_tests))
 
-abbrev pub number_of : List ℕ → Option ℕ
-number_of bytes = if is_number bytes then Some (digits_value 10 bytes) else None
+-- the number of these digits, where they are the number of a test
+abbrev pub tap_number_of : List ℕ → Option ℕ
+tap_number_of bytes = if is_tap_number bytes then Some (digits_value 10 bytes) else None
 
 -- The plan: `1..`, a number, and nothing more or a directive that skips all.
 
@@ -53,13 +57,15 @@ plan_with (Some tests) rest =
 
 -- the plan behind `1..`
 abbrev pub plan_behind : List ℕ → Option Plan
-plan_behind rest = plan_with (number_of (first_word rest)) (behind_word rest)
+plan_behind rest = plan_with (tap_number_of (first_word rest)) (behind_word rest)
 
+-- the plan that a line is
 abbrev pub plan_of : List ℕ → Option Plan
 plan_of line = if begins (codes "1..") line then plan_behind (drop 3 line) else None
 
 -- Directives: ` #`, blanks, and SKIP or TODO in any case. No end of a word is asked for.
 
+-- the directive that the bytes begin with, in capital letters or small ones
 abbrev pub directive_word : List ℕ → Option Directive
 directive_word bytes =
     if begins_in_any_case (codes "skip") bytes then Some Skip
@@ -86,6 +92,7 @@ reason_behind (Some directive) bytes = trim (drop 4 (trim_start (drop 2 bytes)))
 
 -- A test line: `ok` or `not ok`, a number, a description, and a directive with its reason. Only the first must be there.
 
+-- what the line of a test says
 pub record Test : Type 0 where
   pub passed : Bool
   pub number : Option ℕ
@@ -115,29 +122,32 @@ test_with_number passed (Some number) rest = if nat_le 1 number then Some (test_
 -- Digits that are no number make no test line.
 abbrev pub test_behind : Bool → List ℕ → Option Test
 test_behind passed rest =
-    if begins_with_digits (trim_start rest) then test_with_number passed (number_of (first_word (trim_start rest))) (behind_word (trim_start rest))
+    if begins_with_digits (trim_start rest) then test_with_number passed (tap_number_of (first_word (trim_start rest))) (behind_word (trim_start rest))
     else Some (test_with passed None rest)
 
 -- the line begins with this word, which ends there or goes on with a blank
 abbrev pub begins_with_word : List ℕ → List ℕ → Bool
 begins_with_word word line = begins word line && (begins_blank (drop (length word) line) || length line == length word)
 
-abbrev pub test_of : List ℕ → Option Test
-test_of line =
+-- the test that a line tells
+abbrev pub test_line_of : List ℕ → Option Test
+test_line_of line =
     if begins_with_word (codes "ok") line then test_behind true (drop 2 line)
     else if begins_with_word (codes "not ok") line then test_behind false (drop 6 line)
     else None
 
 -- What one line is.
 
-pub data Line : Type 0 where
-  plan : Plan → Line
-  test : Test → Line
-  comment : List ℕ → Line
-  bail_out : List ℕ → Line
-  other : List ℕ → Line
+-- what a line is: a plan, a test, a comment, the end of all, or something else
+pub data TapLine : Type 0 where
+  plan : Plan → TapLine
+  test : Test → TapLine
+  comment : List ℕ → TapLine
+  bail_out : List ℕ → TapLine
+  other : List ℕ → TapLine
 
-abbrev pub line_with : Option Plan → Option Test → List ℕ → Line
+-- what a line is that is this plan, or else this test
+abbrev pub line_with : Option Plan → Option Test → List ℕ → TapLine
 line_with (Some p) t line = plan p
 line_with None (Some t) line = test t
 line_with None None line =
@@ -146,5 +156,5 @@ line_with None None line =
     else other line
 
 -- a line without its newline and carriage return
-abbrev pub line_of : List ℕ → Line
-line_of line = line_with (plan_of line) (test_of line) line
+abbrev pub tap_line_of : List ℕ → TapLine
+tap_line_of line = line_with (plan_of line) (test_line_of line) line

@@ -1,10 +1,11 @@
 -- What the code's lines mean, which borrow the bytes that they were read from.
 use Rattle.std.specs.Prelude.{ℕ, ◌≤◌, length}
 use Rattle.tap_bridge.specs.declared.test_line.TestLine.{TestLine}
-use Rattle.tap_bridge.specs.declared.line.Line.{Line as Read}
+use Rattle.tap_bridge.specs.declared.line.Line.{TapLine as Read}
 use Rattle.tap_bridge.specs.declared.line.Line.TheVariants as read
-use Rattle.tap_bridge.specs.Grammar.{Test, Line, plan, test, comment, bail_out, other}
+use Rattle.tap_bridge.specs.Grammar.{Test, TapLine, plan, test, comment, bail_out, other}
 
+-- the test that the code's line of a test stands for
 abbrev pub test_meant : TestLine → Test
 test_meant t = record {
   passed = t.passed;
@@ -14,7 +15,8 @@ test_meant t = record {
   reason = t.reason.now;
 }
 
-abbrev pub line_meant : Read → Line
+-- the line that the code's line stands for
+abbrev pub line_meant : Read → TapLine
 line_meant (read.Plan p) = plan p
 line_meant (read.Test t) = test (test_meant t)
 line_meant (read.Comment bytes) = comment bytes.now

@@ -18,15 +18,17 @@ has_line ended.Fail = true
 has_line ended.XFail = true
 has_line ended.Open = true
 
-abbrev pub verdict : Ended → List ℕ
-verdict ended.Exists = []
-verdict ended.Success = codes "ok "
-verdict ended.UxSuccess = codes "not ok "
-verdict ended.Skip = codes "ok "
-verdict ended.Fail = codes "not ok "
-verdict ended.XFail = codes "not ok "
-verdict ended.Open = codes "not ok "
+-- what the line of a test that ended so begins with
+abbrev pub tap_verdict : Ended → List ℕ
+tap_verdict ended.Exists = []
+tap_verdict ended.Success = codes "ok "
+tap_verdict ended.UxSuccess = codes "not ok "
+tap_verdict ended.Skip = codes "ok "
+tap_verdict ended.Fail = codes "not ok "
+tap_verdict ended.XFail = codes "not ok "
+tap_verdict ended.Open = codes "not ok "
 
+-- the directive at the end of the line of a test that ended so
 abbrev pub directive_text : Ended → List ℕ
 directive_text ended.Exists = []
 directive_text ended.Success = []
@@ -40,27 +42,31 @@ directive_text ended.Open = []
 abbrev pub is_hidden : ℕ → Bool
 is_hidden byte = nat_lt byte 32 || byte == 35
 
+-- a question mark in place of a byte that a line does not show
 abbrev pub shown_byte : ℕ → ℕ
 shown_byte byte = if is_hidden byte then 63 else byte
 
-abbrev pub shown : List ℕ → List ℕ
-shown id = map shown_byte id
+-- the id as a line shows it
+abbrev pub shown_id : List ℕ → List ℕ
+shown_id id = map shown_byte id
 
 -- the line of the test of this number
 abbrev pub line_of_row : ℕ → Row → List ℕ
-line_of_row number row = verdict row.ended ++ decimal number ++ codes " " ++ shown row.id ++ directive_text row.ended ++ codes "\n"
+line_of_row number row = tap_verdict row.ended ++ decimal number ++ codes " " ++ shown_id row.id ++ directive_text row.ended ++ codes "\n"
 
-abbrev pub counted : ℕ → Row → ℕ
-counted count row = if has_line row.ended then one_more count else count
+-- how many lines there are with this row, where there were so many before it
+abbrev pub lines_with : ℕ → Row → ℕ
+lines_with count row = if has_line row.ended then one_more count else count
 
 -- how many lines the rows have
 abbrev pub lines_in : List Row → ℕ
-lines_in rows = fold counted 0 rows
+lines_in rows = fold lines_with 0 rows
 
 -- what is written of the row where these came before it
 abbrev pub text_at : List Row → Row → List ℕ
 text_at before row = if has_line row.ended then line_of_row (one_more (lines_in before)) row else []
 
+-- the lines of some rows, where others came before them
 abbrev pub text_behind : List Row → List Row → List ℕ
 text_behind before [] = []
 text_behind before (row ∷ rows) = text_at before row ++ text_behind (before ++ row ∷ []) rows

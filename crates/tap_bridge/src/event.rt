@@ -6,7 +6,7 @@ ghost use Rattle.tap_bridge.specs.Events as spec;
 ghost use Rattle.packet_codec.specs.declared.status.Status.TheVariants.{Fail};
 ghost use Rattle.packet_codec.specs.Canonical.{Fits};
 ghost use Rattle.stream_reader.specs.Notes.{stdout_event as event_of_output};
-ghost use Rattle.tap_bridge.specs.Kept.{event_of, IsShortFile};
+ghost use Rattle.tap_bridge.specs.Kept.{IsShortFile};
 
 use crate::directive::Directive;
 use crate::ids::{TestId, id_of, test_id};
@@ -35,7 +35,7 @@ pub(crate) fn test_event(
     file: Option<FilePart>,
 ) -> Result<Event, NoMemory>
     requires { IfSome file IsShortFile }
-    ensures event { IfOk result (λ event. event ≡ event_of id status file) }
+    ensures event { IfOk result (λ event. event ≡ spec.event_with_id id status file) }
     ensures fits { IfOk result Fits }
 {
     let id = id.into_text();
@@ -54,7 +54,7 @@ pub(crate) fn test_event(
 
 /// The status of a test that passed or did not, with this directive.
 pub(crate) fn status_of(passed: bool, directive: Option<Directive>) -> Status
-    ensures { result ≡ spec.status_of passed directive }
+    ensures { result ≡ spec.tap_status passed directive }
 {
     match directive {
         Some(Directive::Skip) => Status::Skip,
@@ -122,7 +122,7 @@ pub(crate) fn add_skipped_file(
 /// The event of a line that gives the run up.
 pub(crate) fn bail_out_event(alloc: Global, line: &[u8]) -> Result<Event, NoMemory>
     requires { length line.now ≤ spec.longest_line }
-    ensures event { IfOk result (λ event. event ≡ spec.event_with line.now Fail None) }
+    ensures event { IfOk result (λ event. event ≡ spec.event_with_name line.now Fail None) }
     ensures fits { IfOk result Fits }
 {
     let id = id_of(alloc, line)?;

@@ -41,7 +41,7 @@ impl TestId {
 
 // The bytes as a text, with U+FFFD for what is no UTF-8 and for each NUL.
 fn lossy(alloc: Global, bytes: &[u8]) -> Result<String, NoMemory>
-    ensures { IfOk result (λ text. string_bytes text ≡ spec.id_of bytes.now) }
+    ensures { IfOk result (λ text. string_bytes text ≡ spec.id_from bytes.now) }
 {
     let mut text = String::with_capacity(alloc, bytes.len())?;
     for char in bytes.chars() {
@@ -66,7 +66,7 @@ fn text_of(alloc: Global, text: &str) -> Result<TestId, NoMemory>
 /// The bytes, which are not too many for it, as an id, with U+FFFD for what is no UTF-8 and for each NUL.
 pub(crate) fn id_of(alloc: Global, bytes: &[u8]) -> Result<TestId, NoMemory>
     requires { length bytes.now < 2 ^ 17 }
-    ensures { IfOk result (λ id. id ≡ spec.id_of bytes.now) }
+    ensures { IfOk result (λ id. id ≡ spec.id_from bytes.now) }
 {
     match Text::new(alloc, bytes) {
         Ok(text) => Ok(TestId { text }),
@@ -97,7 +97,7 @@ pub(crate) fn test_id(
     name: &mut Vec<u8>,
 ) -> Result<TestId, NoMemory>
     requires { length description.now ≤ longest_line }
-    ensures { IfOk result (λ id. id ≡ spec.id_of (spec.test_name number description.now)) }
+    ensures { IfOk result (λ id. id ≡ spec.id_from (spec.test_name number description.now)) }
 {
     name.clear();
     name.extend_from_slice(b"test ")?;

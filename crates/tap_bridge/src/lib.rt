@@ -9,7 +9,7 @@
 //! - `blanks`, `number`, `directive`: the parts of a line
 //! - `plan`, `test_line`, `line`: what one line is
 //! - `ids`, `comment`, `event`: the parts of the events, and the events
-//! - `waiting`, `reader`: lines in turn, and the events that they give
+//! - `waiting_test`, `reader`: lines in turn, and the events that they give
 //! - `writer`: rows as lines
 //!
 //! Its tests stand in a room above it, `filter_trials`.
@@ -25,7 +25,7 @@ mod number;
 mod plan;
 mod reader;
 mod test_line;
-mod waiting;
+mod waiting_test;
 mod writer;
 
 pub use reader::TapReader;

@@ -37,7 +37,7 @@ pub(crate) fn without_return(line: &[u8]) -> &[u8]
 
 /// What the line is, which has no newline and no carriage return at its end.
 pub(crate) fn line_of(line: &[u8]) -> Line<'_>
-    ensures meant { line_meant result ≡ grammar.line_of line.now }
+    ensures meant { line_meant result ≡ grammar.tap_line_of line.now }
     ensures within { HasShortParts result (length line.now) }
 {
     if let Some(plan) = plan_of(line) {

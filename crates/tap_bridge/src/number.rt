@@ -32,7 +32,7 @@ fn value_of(digits: &[u8]) -> u32
 
 /// The number that the bytes write. `None` comes exactly where they are not 1 to 7 digits, or write more than 1,000,000.
 pub(crate) fn number_of(bytes: &[u8]) -> Option<u32>
-    ensures { result ≡ grammar.number_of bytes.now }
+    ensures { result ≡ grammar.tap_number_of bytes.now }
 {
     if !is_digits(bytes) || bytes.is_empty() || bytes.len() > MOST_DIGITS {
         return None;

@@ -6,14 +6,14 @@ ghost use Rattle.packet_codec.specs.Canonical.{Fits};
 ghost use Rattle.stream_reader.specs.Notes.{stdout_event};
 ghost use Rattle.tap_bridge.specs.Grammar as grammar;
 ghost use Rattle.tap_bridge.specs.Events as spec;
-ghost use Rattle.tap_bridge.specs.Kept.{Knows, HasRead, kept_events};
+ghost use Rattle.tap_bridge.specs.Kept.{HasHeardLines, HasRead, kept_events};
 ghost use Rattle.tap_bridge.specs.Read.{test_meant};
 
 use crate::event::{add_missing, add_skipped_file, bail_out_event, output_event};
 use crate::line::{Line, line_of, without_return};
 use crate::plan::Plan;
 use crate::test_line::TestLine;
-use crate::waiting::Waiting;
+use crate::waiting_test::Waiting;
 use packet_codec::Event;
 use std::alloc::Global;
 use sub_number::NoMemory;
@@ -21,8 +21,9 @@ use sub_number::NoMemory;
 /// What is known of the lines that were read: the next number, the plan, and the test that waits for its comments.
 ///
 /// The events that its calls of `line` and `line_into` give, one after another, and then those of `close` are the
-/// events of the lines, as docs/FORMATS.md says under "TAP"; a line that `comment` takes gives none. A line of more than
-/// 65,536 bytes is no line of the protocol: what reads the lines gives its pieces itself, and no call is made for it.
+/// events of the lines, as docs/FORMATS.md says under "TAP". A line that `comment` takes gives none. A line of more
+/// than 65,536 bytes is no line of the protocol: what reads the lines gives its pieces itself, and no call is made for
+/// it.
 #[derive(Drop)]
 pub struct TapReader {
     alloc: Global,
@@ -60,9 +61,9 @@ impl TapReader {
     }
 
     fn take_plan(&mut self, plan: Plan, events: &mut Vec<Event>) -> Result<(), NoMemory>
-        ensures events { (before : List spec.Input) → Knows self.old before → OnOk result (events.new.items ≡ events.old.items ++ spec.events_at before (spec.line (grammar.plan plan))) }
+        ensures events { (before : List spec.Input) → HasHeardLines self.old before → OnOk result (events.new.items ≡ events.old.items ++ spec.events_at before (spec.line (grammar.plan plan))) }
         ensures fits { All Fits events.old.items → OnOk result (All Fits events.new.items) }
-        ensures read { (before : List spec.Input) → Knows self.old before → OnOk result (Knows self.new (before ++ spec.line (grammar.plan plan) ∷ [])) }
+        ensures read { (before : List spec.Input) → HasHeardLines self.old before → OnOk result (HasHeardLines self.new (before ++ spec.line (grammar.plan plan) ∷ [])) }
     {
         self.give_waiting(events)?;
         add_skipped_file(self.alloc, plan, events)?;
@@ -72,9 +73,9 @@ impl TapReader {
 
     fn take_test(&mut self, test: &TestLine<'_>, events: &mut Vec<Event>) -> Result<(), NoMemory>
         requires { length test.now.description.now ≤ spec.longest_line }
-        ensures events { (before : List spec.Input) → Knows self.old before → OnOk result (events.new.items ≡ events.old.items ++ spec.events_at before (spec.line (grammar.test (test_meant test.now)))) }
+        ensures events { (before : List spec.Input) → HasHeardLines self.old before → OnOk result (events.new.items ≡ events.old.items ++ spec.events_at before (spec.line (grammar.test (test_meant test.now)))) }
         ensures fits { All Fits events.old.items → OnOk result (All Fits events.new.items) }
-        ensures read { (before : List spec.Input) → Knows self.old before → OnOk result (Knows self.new (before ++ spec.line (grammar.test (test_meant test.now)) ∷ [])) }
+        ensures read { (before : List spec.Input) → HasHeardLines self.old before → OnOk result (HasHeardLines self.new (before ++ spec.line (grammar.test (test_meant test.now)) ∷ [])) }
     {
         let number = number_in(self.next, test.number);
         self.give_waiting(events)?;
@@ -86,9 +87,9 @@ impl TapReader {
 
     // Adds the comment line to the waiting test, and answers whether one waits.
     fn add_comment(&mut self, line: &[u8]) -> Result<bool, NoMemory>
-        ensures events { (before : List spec.Input) → Knows self.old before → IfOk result (λ added. spec.events_at before (spec.line (grammar.comment line.now)) ≡ (if added then [] else stdout_event (spec.with_newline line.now) ∷ [])) }
-        ensures read { (before : List spec.Input) → Knows self.old before → OnOk result (Knows self.new (before ++ spec.line (grammar.comment line.now) ∷ [])) }
-        ensures waits { (before : List spec.Input) → Knows self.old before → IfOk result (λ added. added ≡ is_some (spec.waiting before)) }
+        ensures events { (before : List spec.Input) → HasHeardLines self.old before → IfOk result (λ added. spec.events_at before (spec.line (grammar.comment line.now)) ≡ (if added then [] else stdout_event (spec.with_newline line.now) ∷ [])) }
+        ensures read { (before : List spec.Input) → HasHeardLines self.old before → OnOk result (HasHeardLines self.new (before ++ spec.line (grammar.comment line.now) ∷ [])) }
+        ensures waits { (before : List spec.Input) → HasHeardLines self.old before → IfOk result (λ added. added ≡ is_some (spec.waiting before)) }
         ensures left { IfOk result (λ added. added ≡ false → self.new ≡ self.old) }
     {
         match &mut self.waiting {
@@ -102,9 +103,9 @@ impl TapReader {
 
     fn take_comment(&mut self, line: &[u8], events: &mut Vec<Event>) -> Result<(), NoMemory>
         requires { length line.now ≤ spec.longest_line }
-        ensures events { (before : List spec.Input) → Knows self.old before → OnOk result (events.new.items ≡ events.old.items ++ spec.events_at before (spec.line (grammar.comment line.now))) }
+        ensures events { (before : List spec.Input) → HasHeardLines self.old before → OnOk result (events.new.items ≡ events.old.items ++ spec.events_at before (spec.line (grammar.comment line.now))) }
         ensures fits { All Fits events.old.items → OnOk result (All Fits events.new.items) }
-        ensures read { (before : List spec.Input) → Knows self.old before → OnOk result (Knows self.new (before ++ spec.line (grammar.comment line.now) ∷ [])) }
+        ensures read { (before : List spec.Input) → HasHeardLines self.old before → OnOk result (HasHeardLines self.new (before ++ spec.line (grammar.comment line.now) ∷ [])) }
     {
         if self.add_comment(line)? {
             return Ok(());
@@ -115,9 +116,9 @@ impl TapReader {
 
     fn take_bail_out(&mut self, id: &[u8], events: &mut Vec<Event>) -> Result<(), NoMemory>
         requires { length id.now ≤ spec.longest_line }
-        ensures events { (before : List spec.Input) → Knows self.old before → OnOk result (events.new.items ≡ events.old.items ++ spec.events_at before (spec.line (grammar.bail_out id.now))) }
+        ensures events { (before : List spec.Input) → HasHeardLines self.old before → OnOk result (events.new.items ≡ events.old.items ++ spec.events_at before (spec.line (grammar.bail_out id.now))) }
         ensures fits { All Fits events.old.items → OnOk result (All Fits events.new.items) }
-        ensures read { (before : List spec.Input) → Knows self.old before → OnOk result (Knows self.new (before ++ spec.line (grammar.bail_out id.now) ∷ [])) }
+        ensures read { (before : List spec.Input) → HasHeardLines self.old before → OnOk result (HasHeardLines self.new (before ++ spec.line (grammar.bail_out id.now) ∷ [])) }
     {
         self.give_waiting(events)?;
         events.push(bail_out_event(self.alloc, id)?)?;
@@ -126,9 +127,9 @@ impl TapReader {
 
     fn take_other(&mut self, line: &[u8], events: &mut Vec<Event>) -> Result<(), NoMemory>
         requires { length line.now ≤ spec.longest_line }
-        ensures events { (before : List spec.Input) → Knows self.old before → OnOk result (events.new.items ≡ events.old.items ++ spec.events_at before (spec.line (grammar.other line.now))) }
+        ensures events { (before : List spec.Input) → HasHeardLines self.old before → OnOk result (events.new.items ≡ events.old.items ++ spec.events_at before (spec.line (grammar.other line.now))) }
         ensures fits { All Fits events.old.items → OnOk result (All Fits events.new.items) }
-        ensures read { (before : List spec.Input) → Knows self.old before → OnOk result (Knows self.new (before ++ spec.line (grammar.other line.now) ∷ [])) }
+        ensures read { (before : List spec.Input) → HasHeardLines self.old before → OnOk result (HasHeardLines self.new (before ++ spec.line (grammar.other line.now) ∷ [])) }
     {
         add_output(self.alloc, line, events)?;
         Ok(())
@@ -137,9 +138,9 @@ impl TapReader {
     // Takes the next line, without its newline, and appends what it gives.
     fn take_line(&mut self, line: &[u8], events: &mut Vec<Event>) -> Result<(), NoMemory>
         requires { length line.now ≤ spec.longest_line }
-        ensures events { (before : List spec.Input) → Knows self.old before → OnOk result (events.new.items ≡ events.old.items ++ spec.events_at before (spec.input_of line.now)) }
+        ensures events { (before : List spec.Input) → HasHeardLines self.old before → OnOk result (events.new.items ≡ events.old.items ++ spec.events_at before (spec.input_of line.now)) }
         ensures fits { All Fits events.old.items → OnOk result (All Fits events.new.items) }
-        ensures read { (before : List spec.Input) → Knows self.old before → OnOk result (Knows self.new (before ++ spec.input_of line.now ∷ [])) }
+        ensures read { (before : List spec.Input) → HasHeardLines self.old before → OnOk result (HasHeardLines self.new (before ++ spec.input_of line.now ∷ [])) }
     {
         match line_of(without_return(line)) {
             Line::Plan(plan) => self.take_plan(plan, events),

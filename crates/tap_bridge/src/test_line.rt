@@ -66,7 +66,7 @@ fn begins_with_word(line: &[u8], word: &[u8]) -> bool
 
 /// The test line that the line is. `None` comes exactly where it is none.
 pub(crate) fn test_of(line: &[u8]) -> Option<TestLine<'_>>
-    ensures meant { option_map test_meant result ≡ grammar.test_of line.now }
+    ensures meant { option_map test_meant result ≡ grammar.test_line_of line.now }
     ensures within { IfSome result (λ test. length test.description.now ≤ length line.now) }
 {
     if begins_with_word(line, b"ok") {

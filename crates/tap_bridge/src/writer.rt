@@ -35,7 +35,7 @@ fn has_line(ended: Ended) -> bool
 
 // What a line begins with, whose test ended so.
 fn verdict(ended: Ended) -> &'static [u8]
-    ensures { result.now ≡ spec.verdict ended }
+    ensures { result.now ≡ spec.tap_verdict ended }
 {
     match ended {
         Ended::Exists => b"",
@@ -64,7 +64,7 @@ fn is_hidden(byte: u8) -> bool
 
 // Appends the id with `?` for each byte that is not shown.
 fn write_replaced(id: &[u8], text: &mut Vec<u8>) -> Result<(), NoMemory>
-    ensures { OnOk result (text.new.items ≡ text.old.items ++ spec.shown id.now) }
+    ensures { OnOk result (text.new.items ≡ text.old.items ++ spec.shown_id id.now) }
 {
     for byte in id {
         text.push(if is_hidden(*byte) { b'?' } else { *byte })?;
@@ -74,7 +74,7 @@ fn write_replaced(id: &[u8], text: &mut Vec<u8>) -> Result<(), NoMemory>
 
 // Appends the id as a line shows it. Most ids are shown as they are.
 fn write_shown(id: &[u8], text: &mut Vec<u8>) -> Result<(), NoMemory>
-    ensures { OnOk result (text.new.items ≡ text.old.items ++ spec.shown id.now) }
+    ensures { OnOk result (text.new.items ≡ text.old.items ++ spec.shown_id id.now) }
 {
     if id.iter().any(|byte| is_hidden(*byte)) {
         return write_replaced(id, text);

@@ -1,7 +1,7 @@
 use Rattle.std.proofs.Common.{sym, ◌∙◌, ap, subst, ◌++◌, map}
 use Rattle.std.proofs.lemmas.List.{map_push}
 use Rattle.tap_bridge.specs.Events.{events_at, events_so_far, input_of}
-use Rattle.tap_bridge.specs.Kept.{Knows}
+use Rattle.tap_bridge.specs.Kept.{HasHeardLines}
 use Rattle.tap_bridge.proofs.ReadLemmas.{so_far_push}
 use Rattle.tap_bridge.proofs.reader.TapReader.line.Goals as goal
 
@@ -13,4 +13,4 @@ returns-clause-so_far c lines known =
 
 pub returns-clause-read : goal.returns-clause-read
 returns-clause-read c lines known =
-    subst (Knows c.take_line.new.self) (sym (map_push input_of lines c.args.line.now)) (c.in_ok-take_line.ensures.read (map input_of lines) known)
+    subst (HasHeardLines c.take_line.new.self) (sym (map_push input_of lines c.args.line.now)) (c.in_ok-take_line.ensures.read (map input_of lines) known)
