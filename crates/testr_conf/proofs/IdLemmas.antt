@@ -6,7 +6,7 @@ use Rattle.std.proofs.lemmas.Bool.{cond-true, cond-false, eqb-true, false_from_n
 use Rattle.bstr.specs.Text.{lines_of}
 use Rattle.bstr.proofs.lemmas.LengthLemmas.{length-lines_of}
 use Rattle.testr_conf.specs.White.{trimmed, has_bytes}
-use Rattle.testr_conf.specs.Lines.{is_text}
+use Rattle.testr_conf.specs.Lines.{is_plain_line}
 use Rattle.testr_conf.specs.ListedIds.{entries_of, first_other, unless_other, ids_in}
 use Rattle.testr_conf.specs.declared.ids.IdsFault.{IdsFault}
 use Rattle.testr_conf.specs.declared.ids.IdsFault.TheVariants.{NotText, NoMemory}
@@ -14,12 +14,12 @@ use Rattle.sub_number.specs.Texts.{IsShortText}
 use Rattle.testr_conf.proofs.TextLemmas.{text_from_test, test_from_text, text_nil}
 use Rattle.testr_conf.proofs.PartLemmas.{first_size, lines_size}
 
-pub empty_text : (bytes : List ℕ) → true ≡ (length bytes == 0) → is_text bytes ≡ true
+pub empty_text : (bytes : List ℕ) → true ≡ (length bytes == 0) → is_plain_line bytes ≡ true
 empty_text [] e = test_from_text [] text_nil
 empty_text (b ∷ bytes) e = absurd (omega (arith, eqb-true (length (b ∷ bytes)) 0 (sym e)))
 
-pub other_text : (bytes : List ℕ) → length bytes ≤ 16777216 → (IsShortText bytes → ⊥) → is_text bytes ≡ false
-other_text bytes short none = false_from_ne_true (is_text bytes) (λ passes. none (record { text = text_from_test bytes passes; short = omega arith }))
+pub other_text : (bytes : List ℕ) → length bytes ≤ 16777216 → (IsShortText bytes → ⊥) → is_plain_line bytes ≡ false
+other_text bytes short none = false_from_ne_true (is_plain_line bytes) (λ passes. none (record { text = text_from_test bytes passes; short = omega arith }))
 
 pub on_ok : {T E : Type 0} (r : Result T E) (P : Type 0) → P → OnOk r P
 on_ok (Ok x) P p = p
@@ -48,14 +48,14 @@ module _ (text : List ℕ) (lines rest : List (List ℕ)) (line entry : List ℕ
   pub line_room : length line ≤ length text
   line_room = omega (arith, h.room, first_size lines rest line first)
 
-  other_here : first_other 1 (entries_of text) ≡ cond (is_text entry) (first_other (number + 1 + 1) (map trimmed rest)) (Some (number + 1))
+  other_here : first_other 1 (entries_of text) ≡ cond (is_plain_line entry) (first_other (number + 1 + 1) (map trimmed rest)) (Some (number + 1))
   other_here =
       h.other ∙ ap (λ l. first_other (number + 1) (map trimmed l)) first
-      ∙ ap (λ e. cond (is_text e) (first_other (number + 1 + 1) (map trimmed rest)) (Some (number + 1))) (sym entry_is)
+      ∙ ap (λ e. cond (is_plain_line e) (first_other (number + 1 + 1) (map trimmed rest)) (Some (number + 1))) (sym entry_is)
 
-  pub listed_next : (new : List (List ℕ)) → is_text entry ≡ true → new ≡ ids ++ filter has_bytes (entry ∷ []) → Listed text rest (number + 1) new
+  pub listed_next : (new : List (List ℕ)) → is_plain_line entry ≡ true → new ≡ ids ++ filter has_bytes (entry ∷ []) → Listed text rest (number + 1) new
   listed_next new fine added = record {
-    other = other_here ∙ cond-true (is_text entry) (first_other (number + 1 + 1) (map trimmed rest)) (Some (number + 1)) fine;
+    other = other_here ∙ cond-true (is_plain_line entry) (first_other (number + 1 + 1) (map trimmed rest)) (Some (number + 1)) fine;
     listed =
         h.listed ∙ ap (λ l. ids ++ filter has_bytes (map trimmed l)) first
         ∙ ap (λ e. ids ++ filter has_bytes (e ∷ map trimmed rest)) (sym entry_is)
@@ -66,12 +66,12 @@ module _ (text : List ℕ) (lines rest : List (List ℕ)) (line entry : List ℕ
     room = omega (arith, h.room, first_size lines rest line first);
   }
 
-  pub listed_refused : (fault : IdsFault) → ((is_text entry ≡ false) × (fault ≡ NotText (number + 1))) ⊎ (fault ≡ NoMemory) → (ids_in text ≡ Err fault) ⊎ (fault ≡ NoMemory)
+  pub listed_refused : (fault : IdsFault) → ((is_plain_line entry ≡ false) × (fault ≡ NotText (number + 1))) ⊎ (fault ≡ NoMemory) → (ids_in text ≡ Err fault) ⊎ (fault ≡ NoMemory)
   listed_refused fault reason =
       ⊎_elim
       (λ other. inl
       (ap (λ o. unless_other o (filter has_bytes (entries_of text)))
-      (other_here ∙ cond-false (is_text entry) (first_other (number + 1 + 1) (map trimmed rest)) (Some (number + 1)) other.0)
+      (other_here ∙ cond-false (is_plain_line entry) (first_other (number + 1 + 1) (map trimmed rest)) (Some (number + 1)) other.0)
       ∙ ap Err (sym other.1)))
       (λ memory. inr memory)
       reason

@@ -9,7 +9,7 @@ use Rattle.bstr.proofs.lemmas.LengthLemmas.{length-lines_of}
 use Rattle.bstr.proofs.lemmas.RestLemmas.{concat-lines_of}
 use Rattle.sub_number.specs.Texts.{IsText}
 use Rattle.testr_conf.specs.White.{trimmed, has_bytes}
-use Rattle.testr_conf.specs.Lines.{Line, bad, skipped, more, section, setting, is_sign, is_text, is_comment_sign, is_indent, is_bracket, begins_by, key_of, section_line, setting_line, text_line, without_last, ended_line_of}
+use Rattle.testr_conf.specs.Lines.{Line, bad, skipped, more, section, setting, is_sign, is_plain_line, is_comment_sign, is_indent, is_bracket, begins_by, setting_key, section_line, setting_line, text_line, strip_last_byte, ended_line_of}
 use Rattle.testr_conf.specs.Parts.{FitsWithin}
 use Rattle.testr_conf.proofs.SearchLemmas.{any_none}
 use Rattle.testr_conf.proofs.TextLemmas.{text_behind, text_from_test}
@@ -27,9 +27,9 @@ sign_in_line line has =
 module _ (line : List ℕ) (size : ℕ) (text : IsText line) (short : length line ≤ size) where
   setting_fits : FitsWithin (setting_line line) size
   setting_fits =
-      cond_both (list_any is_sign line && has_bytes (key_of line)) (setting (key_of line) (trimmed (after_first is_sign line))) bad (λ k. FitsWithin k size)
+      cond_both (list_any is_sign line && has_bytes (setting_key line)) (setting (setting_key line) (trimmed (after_first is_sign line))) bad (λ k. FitsWithin k size)
       (λ both.
-      let below : position_or_len is_sign line < length line = sign_in_line line (and_parts (list_any is_sign line) (has_bytes (key_of line)) both).0 in
+      let below : position_or_len is_sign line < length line = sign_in_line line (and_parts (list_any is_sign line) (has_bytes (setting_key line)) both).0 in
       let behind : IsText (after_first is_sign line) = text_behind line (position_or_len is_sign line) text below (sign_small (get_or line (position_or_len is_sign line) 0) (passes_at_first is_sign line 0 below)) in (
         trimmed_text (after_first is_sign line) behind,
         omega (arith, trimmed_short (after_first is_sign line), length-drop (position_or_len is_sign line + 1) line),
@@ -47,17 +47,17 @@ module _ (line : List ℕ) (size : ℕ) (text : IsText line) (short : length lin
       (λ bracket. cond_both (ends_with nat_eq (drop 1 (trimmed line)) (93 ∷ [])) (section (take (length (drop 1 (trimmed line)) - 1) (drop 1 (trimmed line)))) bad (λ k. FitsWithin k size) (λ a. tt) (λ b. tt))
       (λ plain. setting_fits)))
 
-pub without_last_short : (b : ℕ) (bytes : List ℕ) → length (without_last b bytes) ≤ length bytes
-without_last_short b bytes =
+pub strip_last_byte_short : (b : ℕ) (bytes : List ℕ) → length (strip_last_byte b bytes) ≤ length bytes
+strip_last_byte_short b bytes =
     cond_both (ends_with nat_eq bytes (b ∷ [])) (take (length bytes - 1) bytes) bytes (λ l. length l ≤ length bytes)
     (λ a. omega (arith, length-take (length bytes - 1) bytes)) (λ a. omega arith)
 
 pub line_fits_within : (line : List ℕ) (size : ℕ) → length line ≤ size → FitsWithin (ended_line_of line) size
 line_fits_within line size short =
-    cond_both (is_text (without_last 13 (without_last 10 line)))
-    (text_line (without_last 13 (without_last 10 line)) (trimmed (without_last 13 (without_last 10 line)))) bad (λ k. FitsWithin k size)
-    (λ passes. text_fits (without_last 13 (without_last 10 line)) size (text_from_test (without_last 13 (without_last 10 line)) passes)
-    (omega (arith, without_last_short 13 (without_last 10 line), without_last_short 10 line)))
+    cond_both (is_plain_line (strip_last_byte 13 (strip_last_byte 10 line)))
+    (text_line (strip_last_byte 13 (strip_last_byte 10 line)) (trimmed (strip_last_byte 13 (strip_last_byte 10 line)))) bad (λ k. FitsWithin k size)
+    (λ passes. text_fits (strip_last_byte 13 (strip_last_byte 10 line)) size (text_from_test (strip_last_byte 13 (strip_last_byte 10 line)) passes)
+    (omega (arith, strip_last_byte_short 13 (strip_last_byte 10 line), strip_last_byte_short 10 line)))
     (λ fails. tt)
 
 -- the same of a line as it was read

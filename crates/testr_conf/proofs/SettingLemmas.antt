@@ -7,17 +7,17 @@ use Rattle.std.specs.Str.{bytes_eq}
 use Rattle.std.proofs.lemmas.List.Folds.{find-append}
 use Rattle.std.proofs.lemmas.Bool.{cases_Bool, or_left, true≢false, false≢true, cond-false}
 use Rattle.std.proofs.lemmas.Slice.Eq.{bytes_eq-Decides}
-use Rattle.testr_conf.specs.Settings.{Setting, value_of, has_key, is_known}
+use Rattle.testr_conf.specs.Settings.{Setting, setting_value, has_key, is_known}
 use Rattle.testr_conf.specs.Names.{key_name}
 use Rattle.testr_conf.specs.Keys.{named, found_value, with_value, found_of}
 use Rattle.testr_conf.specs.Steps.{is_taken, kept}
 use Rattle.testr_conf.specs.declared.name.Name.{Name}
 use Rattle.testr_conf.specs.declared.name.Name.TheVariants.{Command, IdOption, ListOption, IdList, Concurrency, GroupRegex, FilterTags}
-use Rattle.testr_conf.specs.declared.found.Found.{Found}
-use Rattle.testr_conf.specs.declared.reading.Place.TheVariants.{Default}
+use Rattle.testr_conf.specs.declared.found_values.Found.{Found}
+use Rattle.testr_conf.specs.declared.line_reader.Place.TheVariants.{Default}
 use Rattle.testr_conf.proofs.KeyLemmas.{named_known, named_key, named_none}
 
-has_value : (key : List ℕ) (settings : List Setting) → is_some (value_of key settings) ≡ has_key key settings
+has_value : (key : List ℕ) (settings : List Setting) → is_some (setting_value key settings) ≡ has_key key settings
 has_value key [] = refl
 has_value key (s ∷ settings) =
     ⊎_elim
@@ -29,7 +29,7 @@ has_value key (s ∷ settings) =
     ∙ has_value key settings ∙ ap (λ b. b || has_key key settings) (sym other))
     (cases_Bool (bytes_eq s.key key))
 
-found_is : (name : Name) (settings : List Setting) → found_value name (found_of settings) ≡ value_of (key_name name) settings
+found_is : (name : Name) (settings : List Setting) → found_value name (found_of settings) ≡ setting_value (key_name name) settings
 found_is Command settings = refl
 found_is IdOption settings = refl
 found_is ListOption settings = refl
@@ -62,14 +62,14 @@ push_option (Some t) false s new = refl
 
 module _ (settings : List Setting) (s : Setting) where
   value_push : (key : List ℕ) → (bytes_eq s.key key ≡ true → has_key key settings ≡ false)
-      → value_of key (settings ++ s ∷ []) ≡ cond (bytes_eq s.key key) (Some s.value) (value_of key settings)
+      → setting_value key (settings ++ s ∷ []) ≡ cond (bytes_eq s.key key) (Some s.value) (setting_value key settings)
   value_push key new =
       ap (option_map (λ x. x.value)) (find-append (λ x. bytes_eq x.key key) settings (s ∷ []))
       ∙ push_option (find (λ x. bytes_eq x.key key) settings) (bytes_eq s.key key) s (λ e. has_value key settings ∙ new e)
 
-  value_same : (key : List ℕ) → bytes_eq s.key key ≡ false → value_of key (settings ++ s ∷ []) ≡ value_of key settings
+  value_same : (key : List ℕ) → bytes_eq s.key key ≡ false → setting_value key (settings ++ s ∷ []) ≡ setting_value key settings
   value_same key other =
-      value_push key (λ e. absurd (false≢true (sym other ∙ e))) ∙ cond-false (bytes_eq s.key key) (Some s.value) (value_of key settings) other
+      value_push key (λ e. absurd (false≢true (sym other ∙ e))) ∙ cond-false (bytes_eq s.key key) (Some s.value) (setting_value key settings) other
 
   -- its key is not used
   pub found_skip : named s.key ≡ None → found_of (settings ++ s ∷ []) ≡ found_of settings
@@ -87,13 +87,13 @@ module _ (settings : List Setting) (s : Setting) where
 
   updated : List ℕ → Found
   updated key = record {
-    command = cond (bytes_eq key (codes "test_command")) (Some s.value) (value_of (codes "test_command") settings);
-    id_option = cond (bytes_eq key (codes "test_id_option")) (Some s.value) (value_of (codes "test_id_option") settings);
-    list_option = cond (bytes_eq key (codes "test_list_option")) (Some s.value) (value_of (codes "test_list_option") settings);
-    id_list = cond (bytes_eq key (codes "test_id_list_default")) (Some s.value) (value_of (codes "test_id_list_default") settings);
-    concurrency = cond (bytes_eq key (codes "test_run_concurrency")) (Some s.value) (value_of (codes "test_run_concurrency") settings);
-    group_regex = cond (bytes_eq key (codes "group_regex")) (Some s.value) (value_of (codes "group_regex") settings);
-    filter_tags = cond (bytes_eq key (codes "filter_tags")) (Some s.value) (value_of (codes "filter_tags") settings);
+    command = cond (bytes_eq key (codes "test_command")) (Some s.value) (setting_value (codes "test_command") settings);
+    id_option = cond (bytes_eq key (codes "test_id_option")) (Some s.value) (setting_value (codes "test_id_option") settings);
+    list_option = cond (bytes_eq key (codes "test_list_option")) (Some s.value) (setting_value (codes "test_list_option") settings);
+    id_list = cond (bytes_eq key (codes "test_id_list_default")) (Some s.value) (setting_value (codes "test_id_list_default") settings);
+    concurrency = cond (bytes_eq key (codes "test_run_concurrency")) (Some s.value) (setting_value (codes "test_run_concurrency") settings);
+    group_regex = cond (bytes_eq key (codes "group_regex")) (Some s.value) (setting_value (codes "group_regex") settings);
+    filter_tags = cond (bytes_eq key (codes "filter_tags")) (Some s.value) (setting_value (codes "filter_tags") settings);
   }
 
   updated_is : (name : Name) → updated (key_name name) ≡ with_value name s.value (found_of settings)

@@ -6,14 +6,14 @@ use Rattle.std.proofs.lemmas.List.{append-nil, map-append, length-map, length_pu
 use Rattle.std.proofs.lemmas.List.Sums.{fold_push}
 use Rattle.bstr.specs.Text.{lines_of}
 use Rattle.bstr.proofs.lemmas.LengthLemmas.{length-lines_of}
-use Rattle.testr_conf.specs.Lines.{Line, bad, skipped, more, section, setting, lines_in, ended_line_of}
-use Rattle.testr_conf.specs.Settings.{Setting, section_after, section_of, is_default, is_open, is_open_after, settings_from, settings_of, value_above, is_known, has_key, fault_of, first_fault, or_else}
+use Rattle.testr_conf.specs.Lines.{Line, bad, skipped, more, section, setting, conf_lines, ended_line_of}
+use Rattle.testr_conf.specs.Settings.{Setting, section_after, section_of, is_default, is_setting_open, is_open_after, settings_from, settings_of, value_above, is_known, has_key, fault_of, first_fault, or_later}
 use Rattle.testr_conf.specs.Keys.{named, found_of}
-use Rattle.testr_conf.specs.Steps.{place_of, reading_of, is_taken, setting_fault, fault_at, kept, known_after, Takes}
+use Rattle.testr_conf.specs.Steps.{place_behind, reading_of, is_taken, setting_fault, fault_at, kept, known_after, Takes}
 use Rattle.testr_conf.specs.declared.fault.ConfFault.{ConfFault}
 use Rattle.testr_conf.specs.declared.fault.ConfFault.TheVariants.{NoSection, Repeated, NoMemory}
-use Rattle.testr_conf.specs.declared.reading.Place.TheVariants.{Default, Elsewhere}
-use Rattle.testr_conf.specs.declared.reading.Reading.{Reading}
+use Rattle.testr_conf.specs.declared.line_reader.Place.TheVariants.{Default, Elsewhere}
+use Rattle.testr_conf.specs.declared.line_reader.Reading.{Reading}
 use Rattle.testr_conf.proofs.SettingLemmas.{taken_is, has_by_keys, kept_default}
 
 -- The settings of one more line.
@@ -79,15 +79,15 @@ module _ (done : List Setting) (s : Setting) (number : ℕ) where
   kept_if true fine = kept_default done s (named s.key) refl (free_if (is_taken (named s.key) (found_of done)) number fine)
   kept_if false fine = ap found_of (sym (append-nil done))
 
-  kept_is : (last : Option (List ℕ)) → setting_fault (place_of last) number (is_taken (named s.key) (found_of done)) ≡ None
-      → kept (place_of last) (named s.key) s.value (found_of done) ≡ found_of (done ++ setting_if (is_default last) s)
+  kept_is : (last : Option (List ℕ)) → setting_fault (place_behind last) number (is_taken (named s.key) (found_of done)) ≡ None
+      → kept (place_behind last) (named s.key) s.value (found_of done) ≡ found_of (done ++ setting_if (is_default last) s)
   kept_is None fine = ap found_of (sym (append-nil done))
   kept_is (Some name) fine = kept_if (is_default (Some name)) fine
 
 -- one more line, which is not refused
 module _ (before : List Line) (done : List Setting) (number : ℕ) (line : Line) (rest : List Line) where
   known_parts : (l : Line) → fault_at (reading_of before done) number l ≡ None
-      → place_of (section_after (section_of before) l) ≡ place_of (section_of (before ++ line ∷ [])) → is_open_after (is_open before) l ≡ is_open (before ++ line ∷ [])
+      → place_behind (section_after (section_of before) l) ≡ place_behind (section_of (before ++ line ∷ [])) → is_open_after (is_setting_open before) l ≡ is_setting_open (before ++ line ∷ [])
       → known_after (reading_of before done) l rest ≡ reading_of (before ++ line ∷ []) (done ++ new_settings (section_of before) l rest)
   known_parts (section name) fine place opens = λ i. record { place = place i; is_open = opens i; found = found_of (sym (append-nil done) i) }
   known_parts (setting key own) fine place opens = λ i. record {
@@ -102,7 +102,7 @@ module _ (before : List Line) (done : List Setting) (number : ℕ) (line : Line)
   known_step : fault_at (reading_of before done) number line ≡ None
       → known_after (reading_of before done) line rest ≡ reading_of (before ++ line ∷ []) (done ++ new_settings (section_of before) line rest)
   known_step fine =
-      known_parts line fine (ap place_of (sym (fold_push section_after None before line))) (sym (fold_push is_open_after false before line))
+      known_parts line fine (ap place_behind (sym (fold_push section_after None before line))) (sym (fold_push is_open_after false before line))
 
 -- The refusals.
 
@@ -112,7 +112,7 @@ repeated_if true number taken known has is = ap (λ t. cond t (Some (Repeated nu
 repeated_if false number taken known has is = refl
 
 setting_same : (last : Option (List ℕ)) (number : ℕ) (taken known has : Bool) → taken ≡ (known && has)
-    → setting_fault (place_of last) number taken
+    → setting_fault (place_behind last) number taken
     ≡ cond (is_none last) (Some (NoSection number)) (cond (is_default last && known && has) (Some (Repeated number)) None)
 setting_same None number taken known has is = refl
 setting_same (Some name) number taken known has is = repeated_if (is_default (Some name)) number taken known has is
@@ -144,12 +144,12 @@ pub stands_begin : (all : List Line) → Stands all all 0 (reading_of [] [])
 stands_begin all = record { before = []; done = []; known = refl; count = refl; faults = refl; settings = refl; keys = refl; size = omega arith }
 
 pub stands_start : (text : List ℕ) (lines : List (List ℕ)) (reading : Reading) → lines ≡ lines_of text → reading ≡ reading_of [] []
-    → Stands (lines_in text) (map ended_line_of lines) 0 reading
+    → Stands (conf_lines text) (map ended_line_of lines) 0 reading
 stands_start text lines reading lines_are is =
-    subst (λ l. Stands (lines_in text) (map ended_line_of l) 0 reading) (sym lines_are)
-    (subst (Stands (lines_in text) (lines_in text) 0) (sym is) (stands_begin (lines_in text)))
+    subst (λ l. Stands (conf_lines text) (map ended_line_of l) 0 reading) (sym lines_are)
+    (subst (Stands (conf_lines text) (conf_lines text) 0) (sym is) (stands_begin (conf_lines text)))
 
-pub number_fits : (text : List ℕ) (line : Line) (rest : List Line) (number : ℕ) (reading : Reading) → Stands (lines_in text) (line ∷ rest) number reading
+pub number_fits : (text : List ℕ) (line : Line) (rest : List Line) (number : ℕ) (reading : Reading) → Stands (conf_lines text) (line ∷ rest) number reading
     → length text ≤ 16777216 → number < 16777216
 number_fits text line rest number reading s short =
     omega (arith, s.size, length-map (lines_of text) ended_line_of, length-lines_of text)
@@ -167,7 +167,7 @@ module _ (all : List Line) (line : Line) (rest : List Line) (number : ℕ) (read
         takes.known ∙ ap (λ r. known_after r line rest) s.known
         ∙ known_step s.before s.done (number + 1) line rest (ap (λ r. fault_at r (number + 1) line) (sym s.known) ∙ takes.fine);
     count = omega (arith, s.count, length_push s.before line);
-    faults = s.faults ∙ ap (λ f. or_else f (first_fault (s.before ++ line ∷ []) rest)) (sym this_fault ∙ takes.fine);
+    faults = s.faults ∙ ap (λ f. or_later f (first_fault (s.before ++ line ∷ []) rest)) (sym this_fault ∙ takes.fine);
     settings =
         s.settings ∙ ap (λ t. s.done ++ t) (settings_step (section_of s.before) line rest)
         ∙ sym (append_assoc s.done (new_settings (section_of s.before) line rest) (settings_from (section_after (section_of s.before) line) rest))
@@ -180,27 +180,27 @@ module _ (all : List Line) (line : Line) (rest : List Line) (number : ℕ) (read
   }
 
   pub stands_fault : (fault : ConfFault) → fault_at reading (number + 1) line ≡ Some fault → first_fault [] all ≡ Some fault
-  stands_fault fault is = s.faults ∙ ap (λ f. or_else f (first_fault (s.before ++ line ∷ []) rest)) (sym this_fault ∙ is)
+  stands_fault fault is = s.faults ∙ ap (λ f. or_later f (first_fault (s.before ++ line ∷ []) rest)) (sym this_fault ∙ is)
 
 -- the same with the lines as they stand in the text
 module _ (text : List ℕ) (lines rest : List (List ℕ)) (line : List ℕ) (number : ℕ) (reading : Reading) (first : lines ≡ line ∷ rest)
-    (s : Stands (lines_in text) (map ended_line_of lines) number reading) where
-  here : Stands (lines_in text) (ended_line_of line ∷ map ended_line_of rest) number reading
-  here = subst (λ l. Stands (lines_in text) (map ended_line_of l) number reading) first s
+    (s : Stands (conf_lines text) (map ended_line_of lines) number reading) where
+  here : Stands (conf_lines text) (ended_line_of line ∷ map ended_line_of rest) number reading
+  here = subst (λ l. Stands (conf_lines text) (map ended_line_of l) number reading) first s
 
   pub line_fits : length text ≤ 16777216 → number < 16777216
   line_fits short = number_fits text (ended_line_of line) (map ended_line_of rest) number reading here short
 
-  pub line_next : (next : Reading) (kind : Line) (below : List ℕ) → kind ≡ ended_line_of line → lines_of below ≡ rest → Takes reading next (number + 1) kind (lines_in below)
-      → Stands (lines_in text) (map ended_line_of rest) (number + 1) next
+  pub line_next : (next : Reading) (kind : Line) (below : List ℕ) → kind ≡ ended_line_of line → lines_of below ≡ rest → Takes reading next (number + 1) kind (conf_lines below)
+      → Stands (conf_lines text) (map ended_line_of rest) (number + 1) next
   line_next next kind below kind_is below_is takes =
-      stands_next (lines_in text) (ended_line_of line) (map ended_line_of rest) number reading here next
+      stands_next (conf_lines text) (ended_line_of line) (map ended_line_of rest) number reading here next
       (subst (λ k. Takes reading next (number + 1) k (map ended_line_of rest)) kind_is (subst (λ l. Takes reading next (number + 1) kind (map ended_line_of l)) below_is takes))
 
-  pub line_fault : (fault : ConfFault) (kind : Line) → kind ≡ ended_line_of line → fault_at reading (number + 1) kind ≡ Some fault → first_fault [] (lines_in text) ≡ Some fault
+  pub line_fault : (fault : ConfFault) (kind : Line) → kind ≡ ended_line_of line → fault_at reading (number + 1) kind ≡ Some fault → first_fault [] (conf_lines text) ≡ Some fault
   line_fault fault kind kind_is is =
-      stands_fault (lines_in text) (ended_line_of line) (map ended_line_of rest) number reading here fault (ap (fault_at reading (number + 1)) (sym kind_is) ∙ is)
+      stands_fault (conf_lines text) (ended_line_of line) (map ended_line_of rest) number reading here fault (ap (fault_at reading (number + 1)) (sym kind_is) ∙ is)
 
   pub line_refused : (fault : ConfFault) (kind : Line) → kind ≡ ended_line_of line → (fault_at reading (number + 1) kind ≡ Some fault) ⊎ (fault ≡ NoMemory)
-      → (first_fault [] (lines_in text) ≡ Some fault) ⊎ (fault ≡ NoMemory)
+      → (first_fault [] (conf_lines text) ≡ Some fault) ⊎ (fault ≡ NoMemory)
   line_refused fault kind kind_is h = ⊎_elim (λ is. inl (line_fault fault kind kind_is is)) (λ is. inr is) h

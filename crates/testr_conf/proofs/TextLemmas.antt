@@ -6,7 +6,7 @@ use Rattle.std.proofs.lemmas.Str.{IsUtf8-from_is_utf8, is_utf8-from_IsUtf8, IsUt
 use Rattle.std.proofs.lemmas.Bool.{and_parts, and_from, not-true, not_from_false, or_parts, or_from, eqb-false, ne_eqb}
 use Rattle.std.proofs.lemmas.List.Elements.{All-nil, All-cons, All-head, All-tail, All-take, All-drop, All-append}
 use Rattle.sub_number.specs.Texts.{IsText}
-use Rattle.testr_conf.specs.Lines.{is_text}
+use Rattle.testr_conf.specs.Lines.{is_plain_line}
 
 abbrev NotNul : ℕ → Type 0
 NotNul byte = byte ≡ 0 → ⊥
@@ -22,12 +22,12 @@ no_nul_test [] all = refl
 no_nul_test (b ∷ bytes) all = or_from (b == 0) (list_any (λ byte. byte == 0) bytes) (ne_eqb b 0 (All-head NotNul b bytes all)) (no_nul_test bytes (All-tail NotNul b bytes all))
 
 -- the test tells it
-pub text_from_test : (bytes : List ℕ) → is_text bytes ≡ true → IsText bytes
+pub text_from_test : (bytes : List ℕ) → is_plain_line bytes ≡ true → IsText bytes
 text_from_test bytes passes =
     let parts = and_parts (is_utf8 bytes) (not (list_any (λ byte. byte == 0) bytes)) passes in
     record { utf8 = IsUtf8-from_is_utf8 bytes parts.0; no_nul = no_nul_from bytes (not-true (list_any (λ byte. byte == 0) bytes) parts.1) }
 
-pub test_from_text : (bytes : List ℕ) → IsText bytes → is_text bytes ≡ true
+pub test_from_text : (bytes : List ℕ) → IsText bytes → is_plain_line bytes ≡ true
 test_from_text bytes text =
     and_from (is_utf8 bytes) (not (list_any (λ byte. byte == 0) bytes)) (is_utf8-from_IsUtf8 bytes text.utf8)
     (not_from_false (list_any (λ byte. byte == 0) bytes) (no_nul_test bytes text.no_nul))

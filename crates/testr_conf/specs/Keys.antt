@@ -2,10 +2,10 @@
 use Rattle.std.specs.Prelude.{ℕ, Option, Some, None, List, if◌then◌else◌}
 use Rattle.std.specs.Str.{bytes_eq}
 use Rattle.testr_conf.specs.Names.{key_name}
-use Rattle.testr_conf.specs.Settings.{Setting, value_of}
+use Rattle.testr_conf.specs.Settings.{Setting, setting_value}
 use Rattle.testr_conf.specs.declared.name.Name.{Name}
 use Rattle.testr_conf.specs.declared.name.Name.TheVariants.{Command, IdOption, ListOption, IdList, Concurrency, GroupRegex, FilterTags}
-use Rattle.testr_conf.specs.declared.found.Found.{Found}
+use Rattle.testr_conf.specs.declared.found_values.Found.{Found}
 
 -- which of the used keys this is, if any
 abbrev pub named : List ℕ → Option Name
@@ -19,6 +19,7 @@ named key =
     else (if bytes_eq key (key_name FilterTags) then Some FilterTags
     else None))))))
 
+-- the value that was found under a name
 abbrev pub found_value : Name → Found → Option (List ℕ)
 found_value Command found = found.command
 found_value IdOption found = found.id_option
@@ -28,6 +29,7 @@ found_value Concurrency found = found.concurrency
 found_value GroupRegex found = found.group_regex
 found_value FilterTags found = found.filter_tags
 
+-- what was found, and this value under a name
 abbrev pub with_value : Name → List ℕ → Found → Found
 with_value Command value found = record found { command = Some value }
 with_value IdOption value found = record found { id_option = Some value }
@@ -40,11 +42,11 @@ with_value FilterTags value found = record found { filter_tags = Some value }
 -- the values that the settings give
 abbrev pub found_of : List Setting → Found
 found_of settings = record {
-  command = value_of (key_name Command) settings;
-  id_option = value_of (key_name IdOption) settings;
-  list_option = value_of (key_name ListOption) settings;
-  id_list = value_of (key_name IdList) settings;
-  concurrency = value_of (key_name Concurrency) settings;
-  group_regex = value_of (key_name GroupRegex) settings;
-  filter_tags = value_of (key_name FilterTags) settings;
+  command = setting_value (key_name Command) settings;
+  id_option = setting_value (key_name IdOption) settings;
+  list_option = setting_value (key_name ListOption) settings;
+  id_list = setting_value (key_name IdList) settings;
+  concurrency = setting_value (key_name Concurrency) settings;
+  group_regex = setting_value (key_name GroupRegex) settings;
+  filter_tags = setting_value (key_name FilterTags) settings;
 }

@@ -16,9 +16,10 @@ pub data Line : Type 0 where
   setting : List ℕ → List ℕ → Line
 
 -- UTF-8 without NUL
-abbrev pub is_text : List ℕ → Bool
-is_text bytes = is_utf8 bytes && not (list_any (λ byte. byte == 0) bytes)
+abbrev pub is_plain_line : List ℕ → Bool
+is_plain_line bytes = is_utf8 bytes && not (list_any (λ byte. byte == 0) bytes)
 
+-- there is a first byte, and it passes the test
 abbrev pub begins_by : (ℕ → Bool) → List ℕ → Bool
 begins_by test [] = false
 begins_by test (byte ∷ bytes) = test byte
@@ -44,13 +45,13 @@ abbrev pub section_line : List ℕ → Line
 section_line behind = if ends_with nat_eq behind (93 ∷ []) then section (take (length behind - 1) behind) else bad
 
 -- a key does not tell capital letters from small ones
-abbrev pub key_of : List ℕ → List ℕ
-key_of line = map to_ascii_lowercase (trimmed (before_first is_sign line))
+abbrev pub setting_key : List ℕ → List ℕ
+setting_key line = map to_ascii_lowercase (trimmed (before_first is_sign line))
 
 -- a key that is not empty, a sign, and the value
 abbrev pub setting_line : List ℕ → Line
 setting_line line =
-    if list_any is_sign line && has_bytes (key_of line) then setting (key_of line) (trimmed (after_first is_sign line))
+    if list_any is_sign line && has_bytes (setting_key line) then setting (setting_key line) (trimmed (after_first is_sign line))
     else bad
 
 -- what a line of text is, which is so much without the white space at its ends
@@ -61,16 +62,18 @@ text_line line text =
     else (if begins_by is_bracket line then section_line (drop 1 text)
     else setting_line line))
 
-abbrev pub line_of : List ℕ → Line
-line_of line = if is_text line then text_line line (trimmed line) else bad
+-- what a line without its end is
+abbrev pub conf_line_of : List ℕ → Line
+conf_line_of line = if is_plain_line line then text_line line (trimmed line) else bad
 
 -- the bytes without this last byte, where it is theirs
-abbrev pub without_last : ℕ → List ℕ → List ℕ
-without_last byte bytes = if ends_with nat_eq bytes (byte ∷ []) then take (length bytes - 1) bytes else bytes
+abbrev pub strip_last_byte : ℕ → List ℕ → List ℕ
+strip_last_byte byte bytes = if ends_with nat_eq bytes (byte ∷ []) then take (length bytes - 1) bytes else bytes
 
 -- the same of a line with its newline, which is removed, and then a carriage return at its end
 abbrev pub ended_line_of : List ℕ → Line
-ended_line_of line = line_of (without_last 13 (without_last 10 line))
+ended_line_of line = conf_line_of (strip_last_byte 13 (strip_last_byte 10 line))
 
-abbrev pub lines_in : List ℕ → List Line
-lines_in text = map ended_line_of (lines_of text)
+-- the lines of a text
+abbrev pub conf_lines : List ℕ → List Line
+conf_lines text = map ended_line_of (lines_of text)

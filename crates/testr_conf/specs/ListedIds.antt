@@ -3,7 +3,7 @@ use Rattle.std.specs.Prelude.{ℕ, ◌+◌, Option, None, Some, Result, Ok, Err,
 use Rattle.std.specs.List.{filter}
 use Rattle.bstr.specs.Text.{lines_of}
 use Rattle.testr_conf.specs.White.{trimmed, has_bytes}
-use Rattle.testr_conf.specs.Lines.{is_text}
+use Rattle.testr_conf.specs.Lines.{is_plain_line}
 use Rattle.testr_conf.specs.declared.ids.IdsFault.{IdsFault}
 use Rattle.testr_conf.specs.declared.ids.IdsFault.TheVariants.{NotText}
 
@@ -14,8 +14,9 @@ entries_of text = map trimmed (lines_of text)
 -- the number of the first entry that is no text, where the first entry has this number
 abbrev pub first_other : ℕ → List (List ℕ) → Option ℕ
 first_other number [] = None
-first_other number (entry ∷ entries) = if is_text entry then first_other (number + 1) entries else Some number
+first_other number (entry ∷ entries) = if is_plain_line entry then first_other (number + 1) entries else Some number
 
+-- the ids, unless a line was no text
 abbrev pub unless_other : Option ℕ → List (List ℕ) → Result (List (List ℕ)) IdsFault
 unless_other None ids = Ok ids
 unless_other (Some number) ids = Err (NotText number)

@@ -3,6 +3,7 @@ use Rattle.std.specs.Prelude.{ℕ, List, codes}
 use Rattle.testr_conf.specs.declared.name.Name.{Name}
 use Rattle.testr_conf.specs.declared.name.Name.TheVariants.{Command, IdOption, ListOption, IdList, Concurrency, GroupRegex, FilterTags}
 
+-- the key of a name, in small letters
 abbrev pub key_name : Name → List ℕ
 key_name Command = codes "test_command"
 key_name IdOption = codes "test_id_option"

@@ -23,6 +23,7 @@ end_trimmed bytes = reverse (front_trimmed (reverse bytes))
 abbrev pub trimmed : List ℕ → List ℕ
 trimmed bytes = end_trimmed (front_trimmed bytes)
 
+-- there is at least one byte
 abbrev pub has_bytes : List ℕ → Bool
 has_bytes bytes = nat_lt 0 (length bytes)
 

@@ -8,11 +8,11 @@ ghost use Rattle.testr_conf.specs.Steps.{settled};
 ghost use Rattle.testr_conf.specs.Jobs.{list_job_of, all_job_of, run_job_of, count_job_of};
 
 use crate::fault::{ConfFault, JobFault, Key};
-use crate::found::Found;
+use crate::found_values::Found;
 use crate::job::{id_file, join_ids, plain_job};
-use crate::reading::read_lines;
+use crate::line_reader::read_lines;
 use crate::variable::{Values, Variable, fill, has_variable};
-use crate::white::read_words;
+use crate::white_space::read_words;
 use edge_io::Job;
 use packet_codec::Tags;
 use std::alloc::Global;

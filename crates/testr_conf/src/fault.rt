@@ -5,8 +5,8 @@ use sub_number::NoMemory;
 /// Why no configuration was read. Lines are counted from 1.
 #[derive(Clone, Copy, PartialEq, Eq, Debug)]
 pub enum ConfFault {
-    /// This line is no setting: it is not UTF-8, has a NUL, a bracket without its other one, no key or no sign behind it;
-    /// or it continues a setting where none stands above it in its section.
+    /// This line is no setting. It is not UTF-8, has a NUL, a bracket without its other one, no key or no sign behind
+    /// it. Or it continues a setting where none stands above it in its section.
     BadLine(u32),
     /// This line is a setting in front of any section.
     NoSection(u32),

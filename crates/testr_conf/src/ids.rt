@@ -3,10 +3,10 @@
 ghost use Rattle.std.specs.Prelude.{◌≡◌, ◌≤◌, ◌⊎◌, false, true, [], ◌∷◌, ◌++◌, length, OnOk, IfOk, IfErr};
 ghost use Rattle.std.specs.List.{filter};
 ghost use Rattle.testr_conf.specs.White.{has_bytes};
-ghost use Rattle.testr_conf.specs.Lines.{is_text};
+ghost use Rattle.testr_conf.specs.Lines.{is_plain_line};
 ghost use Rattle.testr_conf.specs.ListedIds.{ids_in};
 
-use crate::white::trim;
+use crate::white_space::trim;
 use bstr::ByteSlice;
 use std::alloc::Global;
 use sub_number::{IdList, Text, TextFault};
@@ -23,9 +23,9 @@ pub enum IdsFault {
 // Adds the id, if it is one.
 fn push_id(alloc: Global, number: u32, id: &[u8], ids: &mut IdList) -> Result<(), IdsFault>
     requires { length id.now ≤ 16777216 }
-    ensures text { OnOk result (is_text id.now ≡ true) }
+    ensures text { OnOk result (is_plain_line id.now ≡ true) }
     ensures ok { OnOk result (ids.new ≡ ids.old ++ filter has_bytes (id.now ∷ [])) }
-    ensures err { IfErr result (λ fault. ((is_text id.now ≡ false) × (fault ≡ IdsFault.NotText number)) ⊎ (fault ≡ IdsFault.NoMemory)) }
+    ensures err { IfErr result (λ fault. ((is_plain_line id.now ≡ false) × (fault ≡ IdsFault.NotText number)) ⊎ (fault ≡ IdsFault.NoMemory)) }
 {
     if id.is_empty() {
         return Ok(());

@@ -6,11 +6,11 @@
 //! - `conf`: the configuration, read from a text, and its jobs.
 //! - `fault`: why no configuration was read, and why no job was made.
 //! - `line`: one line of the text.
-//! - `reading`: the lines one after another.
-//! - `name`, `found`: the keys that are used, and the values found for them.
+//! - `line_reader`: the lines one after another.
+//! - `name`, `found_values`: the keys that are used, and the values found for them.
 //! - `variable`: the variables of a command, and what stands in their place.
 //! - `job`: the parts of a job.
-//! - `white`: white space, and the words between it.
+//! - `white_space`: white space, and the words between it.
 //! - `ids`: lists of ids in a file.
 //!
 //! What `specs/` says is the plain meaning: a configuration is a function of its text, and each job one of the settings.
@@ -18,17 +18,17 @@
 
 mod conf;
 mod fault;
-mod found;
+mod found_values;
 mod ids;
 mod job;
 mod line;
+mod line_reader;
 mod name;
-mod reading;
 mod variable;
-mod white;
+mod white_space;
 
 pub use conf::Conf;
 pub use fault::{ConfFault, JobFault, Key};
 pub use ids::{IdsFault, read_ids};
 pub use job::id_lines;
-pub use white::trim;
+pub use white_space::trim;

@@ -2,11 +2,11 @@
 
 ghost use Rattle.std.specs.Prelude.{◌≡◌, ◌<◌, length, drop, MatchOption};
 ghost use Rattle.std.specs.List.{position_or_len};
-ghost use Rattle.testr_conf.specs.Lines.{is_sign, section_line, setting_line, text_line, ended_line_of, without_last};
+ghost use Rattle.testr_conf.specs.Lines.{is_sign, section_line, setting_line, text_line, ended_line_of, strip_last_byte};
 ghost use Rattle.testr_conf.specs.White.{trimmed};
 ghost use Rattle.testr_conf.specs.Seen.{seen};
 
-use crate::white::trim;
+use crate::white_space::trim;
 use memchr::memchr2;
 
 // What a line is.
@@ -25,8 +25,8 @@ pub(crate) enum Line<'a> {
 }
 
 // The bytes without this last byte, where it is theirs.
-pub(crate) fn without_last(byte: u8, bytes: &[u8]) -> &[u8]
-    ensures { result.now ≡ without_last byte bytes.now }
+pub(crate) fn strip_last_byte(byte: u8, bytes: &[u8]) -> &[u8]
+    ensures { result.now ≡ strip_last_byte byte bytes.now }
 {
     match bytes {
         [before @ .., last] if *last == byte => before,
@@ -38,7 +38,7 @@ pub(crate) fn without_last(byte: u8, bytes: &[u8]) -> &[u8]
 pub(crate) fn read_line(line: &[u8]) -> Line<'_>
     ensures { seen result ≡ ended_line_of line.now }
 {
-    let line = without_last(b'\r', without_last(b'\n', line));
+    let line = strip_last_byte(b'\r', strip_last_byte(b'\n', line));
     if sub_number::is_text(line) {
         read_text_line(line)
     } else {

@@ -2,8 +2,8 @@
 
 ghost use Rattle.std.specs.Prelude.{◌≡◌, ◌≤◌, length, map, IfNone, IfSome, IfOk};
 ghost use Rattle.sub_number.specs.Texts.{IsText};
-ghost use Rattle.testr_conf.specs.Variables.{name_of, variable_at, byte, pieces_of, has_variable, filled, value_in};
-ghost use Rattle.testr_conf.specs.Filled.{seen_values, FirstVariable, AreTexts};
+ghost use Rattle.testr_conf.specs.Variables.{variable_name, variable_at, byte, command_pieces, has_variable, filled, variable_value};
+ghost use Rattle.testr_conf.specs.Filled.{seen_values, FirstVariable, AreTextValues};
 
 use memchr::memchr;
 use std::alloc::Global;
@@ -29,7 +29,7 @@ pub(crate) struct Values<'a> {
 impl Variable {
     // As it stands in a command.
     fn name(self) -> &'static [u8]
-        ensures { result.now ≡ name_of self }
+        ensures { result.now ≡ variable_name self }
     {
         match self {
             Variable::IdOption => b"$IDOPTION",
@@ -42,7 +42,7 @@ impl Variable {
 
 impl<'a> Values<'a> {
     fn of(&self, variable: Variable) -> &'a [u8]
-        ensures { result.now ≡ value_in (seen_values self.now) variable }
+        ensures { result.now ≡ variable_value (seen_values self.now) variable }
     {
         match variable {
             Variable::IdOption => self.id_option,
@@ -56,7 +56,7 @@ impl<'a> Values<'a> {
 // The variable that the text begins with.
 fn read_variable(text: &[u8]) -> Option<Variable>
     ensures value { result ≡ variable_at text.now }
-    ensures fits { IfSome result (λ v. length (name_of v) ≤ length text.now) }
+    ensures fits { IfSome result (λ v. length (variable_name v) ≤ length text.now) }
 {
     if text.starts_with(b"$IDOPTION") {
         Some(Variable::IdOption)
@@ -73,7 +73,7 @@ fn read_variable(text: &[u8]) -> Option<Variable>
 
 // The first variable of the text, and its place.
 fn first_variable(text: &[u8]) -> Option<(usize, Variable)>
-    ensures none { IfNone result (pieces_of text.now ≡ map byte text.now) }
+    ensures none { IfNone result (command_pieces text.now ≡ map byte text.now) }
     ensures some { IfSome result (λ r. FirstVariable text.now r.0 r.1) }
 {
     let mut at = 0;
@@ -104,7 +104,7 @@ pub(crate) fn has_variable(wanted: Variable, text: &[u8]) -> bool
 // The text with each variable replaced, once.
 pub(crate) fn fill(alloc: Global, text: &[u8], values: &Values<'_>) -> Result<Vec<u8>, NoMemory>
     requires text { IsText text.now }
-    requires values { AreTexts (seen_values values.now) }
+    requires values { AreTextValues (seen_values values.now) }
     ensures value { IfOk result (λ out. out.items ≡ filled (seen_values values.now) text.now) }
     ensures text { IfOk result (λ out. IsText out.items) }
 {

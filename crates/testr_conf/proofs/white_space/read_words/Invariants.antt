@@ -1,7 +1,7 @@
 use Rattle.std.proofs.Common.{◌≡◌, ◌≤◌, ◌++◌, length}
 use Rattle.sub_number.specs.Texts.{IsText}
 use Rattle.testr_conf.specs.White.{words_of}
-use Rattle.testr_conf.proofs.white.read_words.Given as goal
+use Rattle.testr_conf.proofs.white_space.read_words.Given as goal
 
 abbrev pub invariant-loop-at : goal.invariant-loop-at
 invariant-loop-at l = record {

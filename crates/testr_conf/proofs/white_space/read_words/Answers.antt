@@ -4,7 +4,7 @@ use Rattle.std.proofs.lemmas.Grind.{common_steps}
 use Rattle.sub_number.specs.Texts.{IsText}
 use Rattle.testr_conf.proofs.TextLemmas.{text_before, text_behind}
 use Rattle.testr_conf.proofs.WordLemmas.{words_more, words_end, gap_at}
-use Rattle.testr_conf.proofs.white.read_words.Goals as goal
+use Rattle.testr_conf.proofs.white_space.read_words.Goals as goal
 
 pub loop-at-init : goal.loop-at-init
 loop-at-init c = record {

@@ -3,15 +3,15 @@
 ghost use Rattle.std.specs.Prelude.{◌≡◌, ◌<◌, ◌≤◌, ◌+◌, ◌⊎◌, [], length, map, OnOk, IfOk, IfErr};
 ghost use Rattle.sub_number.specs.Texts.{IsText};
 ghost use Rattle.std.specs.Char.{to_ascii_lowercase};
-ghost use Rattle.testr_conf.specs.Lines.{lines_in, more, setting};
+ghost use Rattle.testr_conf.specs.Lines.{conf_lines, more, setting};
 ghost use Rattle.testr_conf.specs.Parts.{FitsWithin};
 ghost use Rattle.testr_conf.specs.Seen.{seen};
 ghost use Rattle.testr_conf.specs.Settings.{first_fault, settings_of, value_above};
 ghost use Rattle.testr_conf.specs.Keys.{found_of};
-ghost use Rattle.testr_conf.specs.Steps.{place_of, reading_of, fault_at, Takes};
+ghost use Rattle.testr_conf.specs.Steps.{place_behind, reading_of, fault_at, Takes};
 
 use crate::fault::ConfFault;
-use crate::found::Found;
+use crate::found_values::Found;
 use crate::line::{Line, read_line};
 use crate::name::read_name;
 use bstr::ByteSlice;
@@ -36,7 +36,7 @@ pub(crate) struct Reading {
 }
 
 fn place_of(name: &[u8]) -> Place
-    ensures { result ≡ place_of (Some name.now) }
+    ensures { result ≡ place_behind (Some name.now) }
 {
     if name == b"DEFAULT".as_slice() {
         Place::Default
@@ -48,7 +48,7 @@ fn place_of(name: &[u8]) -> Place
 // A setting's own value, and the continuations right below it.
 fn join_value(alloc: Global, own: &[u8], below: &[u8]) -> Result<Vec<u8>, NoMemory>
     requires { IsText own.now }
-    ensures value { IfOk result (λ value. value.items ≡ value_above own.now (lines_in below.now)) }
+    ensures value { IfOk result (λ value. value.items ≡ value_above own.now (conf_lines below.now)) }
     ensures text { IfOk result (λ value. IsText value.items) }
     ensures room { IfOk result (λ value. length value.items ≤ length own.now + (length below.now + length below.now)) }
 {
@@ -71,7 +71,7 @@ fn join_value(alloc: Global, own: &[u8], below: &[u8]) -> Result<Vec<u8>, NoMemo
 fn read_value(alloc: Global, own: &[u8], below: &[u8]) -> Result<Text, NoMemory>
     requires own { FitsWithin (more own.now) 16777216 }
     requires below { length below.now ≤ 16777216 }
-    ensures { IfOk result (λ value. value ≡ value_above own.now (lines_in below.now)) }
+    ensures { IfOk result (λ value. value ≡ value_above own.now (conf_lines below.now)) }
 {
     let value = join_value(alloc, own, below)?;
     match Text::new(alloc, &value) {
@@ -104,7 +104,7 @@ impl Reading {
         requires default { self.old.place ≡ Place.Default }
         requires own { FitsWithin (more own.now) 16777216 }
         requires below { length below.now ≤ 16777216 }
-        ensures ok { OnOk result (Takes self.old self.new number (setting (map to_ascii_lowercase key.now) own.now) (lines_in below.now)) }
+        ensures ok { OnOk result (Takes self.old self.new number (setting (map to_ascii_lowercase key.now) own.now) (conf_lines below.now)) }
         ensures err { IfErr result (λ fault. (fault_at self.old number (setting (map to_ascii_lowercase key.now) own.now) ≡ Some fault) ⊎ (fault ≡ ConfFault.NoMemory)) }
     {
         self.is_open = true;
@@ -129,7 +129,7 @@ impl Reading {
     ) -> Result<(), ConfFault>
         requires parts { FitsWithin (seen line) 16777216 }
         requires below { length below.now ≤ 16777216 }
-        ensures ok { OnOk result (Takes self.old self.new number (seen line.entry) (lines_in below.now)) }
+        ensures ok { OnOk result (Takes self.old self.new number (seen line.entry) (conf_lines below.now)) }
         ensures err { IfErr result (λ fault. (fault_at self.old number (seen line.entry) ≡ Some fault) ⊎ (fault ≡ ConfFault.NoMemory)) }
     {
         match (line, self.place) {
@@ -155,9 +155,9 @@ impl Reading {
 // The values that the text gives. The first line that is refused decides.
 pub(crate) fn read_lines(alloc: Global, text: &[u8]) -> Result<Found, ConfFault>
     requires { length text.now ≤ 16777216 }
-    ensures none { OnOk result (first_fault [] (lines_in text.now) ≡ None) }
-    ensures found { IfOk result (λ found. found ≡ found_of (settings_of (lines_in text.now))) }
-    ensures err { IfErr result (λ fault. (first_fault [] (lines_in text.now) ≡ Some fault) ⊎ (fault ≡ ConfFault.NoMemory)) }
+    ensures none { OnOk result (first_fault [] (conf_lines text.now) ≡ None) }
+    ensures found { IfOk result (λ found. found ≡ found_of (settings_of (conf_lines text.now))) }
+    ensures err { IfErr result (λ fault. (first_fault [] (conf_lines text.now) ≡ Some fault) ⊎ (fault ≡ ConfFault.NoMemory)) }
 {
     let mut reading = Reading::new();
     let mut lines = text.lines_with_terminator();

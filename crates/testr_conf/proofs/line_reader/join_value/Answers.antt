@@ -7,7 +7,7 @@ use Rattle.testr_conf.specs.Parts.{FitsWithin}
 use Rattle.testr_conf.proofs.TextLemmas.{text_then, text_one}
 use Rattle.testr_conf.proofs.InnerLemmas.{more_read, skipped_read}
 use Rattle.testr_conf.proofs.PartLemmas.{read_fits, room_first, room_more, room_skipped}
-use Rattle.testr_conf.proofs.reading.join_value.Goals as goal
+use Rattle.testr_conf.proofs.line_reader.join_value.Goals as goal
 
 pub loop-line-init : goal.loop-line-init
 loop-line-init c = record {

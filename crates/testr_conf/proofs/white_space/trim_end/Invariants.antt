@@ -1,9 +1,9 @@
 use Rattle.std.proofs.Common.{◌≡◌, length}
-use Rattle.testr_conf.specs.White.{front_trimmed}
-use Rattle.testr_conf.proofs.white.trim_front.Given as goal
+use Rattle.testr_conf.specs.White.{end_trimmed}
+use Rattle.testr_conf.proofs.white_space.trim_end.Given as goal
 
 abbrev pub invariant-loop-rest : goal.invariant-loop-rest
-invariant-loop-rest l = front_trimmed l.rest ≡ front_trimmed l.bytes
+invariant-loop-rest l = end_trimmed l.rest ≡ end_trimmed l.bytes
 
 abbrev pub decreases-loop-rest : goal.decreases-loop-rest
 decreases-loop-rest l = length l.rest

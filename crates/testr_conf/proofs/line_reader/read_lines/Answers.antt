@@ -3,7 +3,7 @@ use Rattle.std.specs.List.{concat}
 use Rattle.testr_conf.specs.Seen.{seen}
 use Rattle.testr_conf.proofs.StandLemmas.{stands_start, line_fits, line_next, line_refused}
 use Rattle.testr_conf.proofs.PartLemmas.{read_fits, first_size, rest_size, lines_size}
-use Rattle.testr_conf.proofs.reading.read_lines.Goals as goal
+use Rattle.testr_conf.proofs.line_reader.read_lines.Goals as goal
 
 pub loop-line-init : goal.loop-line-init
 loop-line-init c = record {
