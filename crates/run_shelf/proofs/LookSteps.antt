@@ -16,7 +16,7 @@ use Rattle.edge_io.specs.Steps.{Goes, Stays, FindsLength, ReadsPart, IsPart}
 use Rattle.edge_io.proofs.Going.{goes_then, goes_from, goes_weaker}
 use Rattle.run_shelf.specs.declared.faults.OpenFault.{OpenFault}
 use Rattle.run_shelf.specs.declared.faults.OpenFault.TheVariants.{NoStore, UnknownFormat, Gap, Shelf, NoMemory}
-use Rattle.run_shelf.specs.Looking.{LooksLike, LookFails}
+use Rattle.run_shelf.specs.Looking.{ShowsKinds, LookFails}
 use Rattle.run_shelf.specs.Marks.{IsKindIn, HasRunIn, NamesTellKinds, NamesTellGap, NamesFail}
 use Rattle.run_shelf.specs.Repository.{Run, run_of_files, run_at, kind_at, full_name, partial_name, run_name, most_runs, HasKinds, IsRepository, IsGap, HasFormat, HasOtherFormat, format_name, format_bytes}
 use Rattle.run_shelf.proofs.RunLemmas.{past_items, taken_before, none_is_not_some}
@@ -141,9 +141,9 @@ both_some None P Q R p q f = tt
 both_some (Some s) P Q R p q f = f s p q
 
 module _ (a : Option Folder) (names : List (List ℕ)) (format : IfSome a (λ s. HasFormat s.disk.published)) (lists : ListsNames a names) where
-  pub looks_like : (kinds : List Bool) → NamesTellKinds names kinds → IfSome a (LooksLike kinds)
+  pub looks_like : (kinds : List Bool) → NamesTellKinds names kinds → IfSome a (ShowsKinds kinds)
   looks_like kinds have =
-      both_some a (λ s. HasFormat s.disk.published) (λ s. AreNamesOf s.disk.published names) (LooksLike kinds) format lists
+      both_some a (λ s. HasFormat s.disk.published) (λ s. AreNamesOf s.disk.published names) (ShowsKinds kinds) format lists
       (λ s right are.
       let has = kinds_are s.disk.published names are kinds have in
       record { repository = repository_is s.disk.published kinds right has; kinds_are = has })

@@ -4,7 +4,7 @@ use Rattle.std.specs.Prelude.{Contains, slice_get}
 use Rattle.std.proofs.lemmas.Bool.{cond-true, cond-false, cases_eq, eq-eqb, ne_eqb}
 use Rattle.std.proofs.lemmas.List.{get_or-take, take_all}
 use Rattle.std.proofs.lemmas.List.Elements.{Contains-append_left, Contains-push, Contains-push_cases}
-use Rattle.run_shelf.specs.Marks.{IsKindIn, HasRunIn, NamesTellKinds, NamesTellGap, mark_at, AreMarksOf, joined, Adds}
+use Rattle.run_shelf.specs.Marks.{IsKindIn, HasRunIn, NamesTellKinds, NamesTellGap, mark_at, AreMarksOf, joined_kind, MarksRun}
 use Rattle.run_shelf.specs.Names.{SpellsRun, SpellsNoRun}
 use Rattle.run_shelf.specs.Repository.{full_name, partial_name, run_name, most_runs}
 use Rattle.run_shelf.proofs.NameLemmas.{partial_differs, full_same, partial_same}
@@ -42,7 +42,7 @@ module _ (names : List (List ℕ)) (name : List ℕ) where
   here_now : (x : List ℕ) → name ≡ x → Contains more x
   here_now x same = subst (λ (l : List ℕ). Contains more l) same (Contains-push names name)
 
-  added : (number : ℕ) (o : Option Bool) (partial : Bool) → number < most_runs → name ≡ run_name number partial → IsKindIn names number o → IsKindIn more number (Some (joined o partial))
+  added : (number : ℕ) (o : Option Bool) (partial : Bool) → number < most_runs → name ≡ run_name number partial → IsKindIn names number o → IsKindIn more number (Some (joined_kind o partial))
   added number None false few same is = here_now (full_name number) same
   added number None true few same is = (still_none (full_name number) (λ e. partial_differs number number (omega arith) (sym same ∙ e)) is.0, here_now (partial_name number) same)
   added number (Some false) false few same is = here_now (full_name number) same
@@ -67,8 +67,8 @@ module _ (names : List (List ℕ)) (name : List ℕ) where
       last = are.last;
     }
 
-    module _ (number : ℕ) (partial : Bool) (spells : SpellsRun name number partial) (later : List (Option Bool)) (adds : Adds number partial marks later) where
-      at_number : (other : ℕ) → other ≡ number → mark_at later other ≡ Some (joined (mark_at marks number) partial)
+    module _ (number : ℕ) (partial : Bool) (spells : SpellsRun name number partial) (later : List (Option Bool)) (adds : MarksRun number partial marks later) where
+      at_number : (other : ℕ) → other ≡ number → mark_at later other ≡ Some (joined_kind (mark_at marks number) partial)
       at_number other same = adds.each other ∙ cond-true _ _ _ (eq-eqb other number same)
 
       at_other : (other : ℕ) → (other ≡ number → ⊥) → mark_at later other ≡ mark_at marks other
@@ -78,7 +78,7 @@ module _ (names : List (List ℕ)) (name : List ℕ) where
       each_more other few = elim (cases_eq other number) [
         | inl same ↦
             subst (λ (o : Option Bool). IsKindIn more other o) (sym (at_number other same))
-            (subst (λ (n : ℕ). IsKindIn more n (Some (joined (mark_at marks number) partial))) (sym same)
+            (subst (λ (n : ℕ). IsKindIn more n (Some (joined_kind (mark_at marks number) partial))) (sym same)
             (added number (mark_at marks number) partial spells.few spells.is (are.each number spells.few)))
         | inr differs ↦
             subst (λ (o : Option Bool). IsKindIn more other o) (sym (at_other other differs))

@@ -5,11 +5,13 @@ use Rattle.run_shelf.specs.declared.faults.InitFault.TheVariants.{Exists, Shelf}
 use Rattle.run_shelf.specs.declared.faults.OpenFault.{OpenFault}
 use Rattle.run_shelf.specs.declared.faults.OpenFault.TheVariants as open_fault
 
+-- a call of the folder failed as the repository was made
 abbrev pub init_failed : {T : Type 0} → Result T InitFault → Bool
 init_failed (Ok done) = false
 init_failed (Err Exists) = false
 init_failed (Err (Shelf call)) = true
 
+-- a call of the folder failed as the repository was opened
 abbrev pub open_failed : {T : Type 0} → Result T OpenFault → Bool
 open_failed (Ok found) = false
 open_failed (Err open_fault.NoStore) = false

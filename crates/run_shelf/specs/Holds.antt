@@ -20,5 +20,6 @@ pub record FitsFolder (kinds : List Bool) (s : Folder) : Type 0 where
   pub repository : IsRepository s.disk.published
   pub kinds_are : HasKinds s.disk.published kinds
 
+-- where the folder is told, it has runs of these kinds
 abbrev pub FitsWhereTold : List Bool → Option Folder → Type 0
 FitsWhereTold kinds state = IfSome state (FitsFolder kinds)

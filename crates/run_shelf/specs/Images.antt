@@ -55,5 +55,6 @@ pub record MakesRepository (s t : Folder) : Type 0 where
 abbrev pub ReadsFile : List ℕ → List ℕ → Folder → Folder → Type 0
 ReadsFile name bytes s t = t.disk.published ≡ put s.disk.published name bytes
 
+-- the disk stays as it was
 abbrev pub SameDisk : Folder → Folder → Type 0
 SameDisk s t = t.disk ≡ s.disk

@@ -8,7 +8,7 @@ use Rattle.run_shelf.specs.declared.faults.OpenFault.TheVariants.{NoStore, Unkno
 use Rattle.run_shelf.specs.Repository.{IsRepository, HasKinds, format_name, HasFormat, HasOtherFormat, IsGap}
 
 -- a repository of runs of these kinds
-pub record LooksLike (kinds : List Bool) (s : Folder) : Type 0 where
+pub record ShowsKinds (kinds : List Bool) (s : Folder) : Type 0 where
   pub repository : IsRepository s.disk.published
   pub kinds_are : HasKinds s.disk.published kinds
 

@@ -10,6 +10,7 @@ IsKindIn names number None = (Contains names (full_name number) → ⊥) × (Con
 IsKindIn names number (Some false) = Contains names (full_name number)
 IsKindIn names number (Some true) = (Contains names (full_name number) → ⊥) × Contains names (partial_name number)
 
+-- a run of this number is among the names
 abbrev pub HasRunIn : List (List ℕ) → ℕ → Type 0
 HasRunIn names number = (kind : Bool) × IsKindIn names number (Some kind)
 
@@ -48,13 +49,13 @@ pub record AreMarksOf (names : List (List ℕ)) (marks : List (Option Bool)) : T
   pub last : (number : ℕ) → number + 1 ≡ length marks → IsSome (mark_at marks number)
 
 -- the full run counts
-abbrev pub joined : Option Bool → Bool → Bool
-joined None partial = partial
-joined (Some true) partial = partial
-joined (Some false) partial = false
+abbrev pub joined_kind : Option Bool → Bool → Bool
+joined_kind None partial = partial
+joined_kind (Some true) partial = partial
+joined_kind (Some false) partial = false
 
 -- one run more was marked
-pub record Adds (number : ℕ) (partial : Bool) (old new : List (Option Bool)) : Type 0 where
+pub record MarksRun (number : ℕ) (partial : Bool) (old new : List (Option Bool)) : Type 0 where
   pub few : length old ≤ most_runs → length new ≤ most_runs
-  pub each : (other : ℕ) → mark_at new other ≡ (if nat_eq other number then Some (joined (mark_at old number) partial) else mark_at old other)
+  pub each : (other : ℕ) → mark_at new other ≡ (if nat_eq other number then Some (joined_kind (mark_at old number) partial) else mark_at old other)
   pub last : (other : ℕ) → other + 1 ≡ length new → (other ≡ number) ⊎ (other + 1 ≡ length old)

@@ -8,6 +8,7 @@ pub record SpellsRun (name : List ℕ) (number : ℕ) (partial : Bool) : Type 0 
   pub few : number < most_runs
   pub is : name ≡ run_name number partial
 
+-- the name is that of no run
 abbrev pub SpellsNoRun : List ℕ → Type 0
 SpellsNoRun name = (number : ℕ) (partial : Bool) → SpellsRun name number partial → ⊥
 
@@ -16,5 +17,6 @@ pub record SpellsRunNumber (digits : List ℕ) (number : ℕ) : Type 0 where
   pub few : number < most_runs
   pub is : digits ≡ decimal number
 
+-- the digits are those of no run's number
 abbrev pub SpellsNoRunNumber : List ℕ → Type 0
 SpellsNoRunNumber digits = (number : ℕ) → SpellsRunNumber digits number → ⊥

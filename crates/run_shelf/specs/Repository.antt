@@ -9,6 +9,7 @@ pub record Run : Type 0 where
   pub partial : Bool
   pub bytes : List ℕ
 
+-- the run of this kind with these bytes
 abbrev pub run_of : Bool → List ℕ → Run
 run_of partial bytes = record { partial = partial; bytes = bytes }
 
@@ -16,12 +17,15 @@ run_of partial bytes = record { partial = partial; bytes = bytes }
 abbrev pub most_runs : ℕ
 most_runs = 1000000
 
+-- the name of a full run: its number
 abbrev pub full_name : ℕ → List ℕ
 full_name number = decimal number
 
+-- the name of a partial run: its number and `.part`
 abbrev pub partial_name : ℕ → List ℕ
 partial_name number = decimal number ++ codes ".part"
 
+-- the name of a run of this number and kind
 abbrev pub run_name : ℕ → Bool → List ℕ
 run_name number true = partial_name number
 run_name number false = full_name number
@@ -32,6 +36,7 @@ run_of_files (Some bytes) other = Some (run_of false bytes)
 run_of_files None (Some bytes) = Some (run_of true bytes)
 run_of_files None None = None
 
+-- the run of this number, if there is one
 abbrev pub run_at : Files → ℕ → Option Run
 run_at files number = run_of_files (files (full_name number)) (files (partial_name number))
 
@@ -49,12 +54,15 @@ pub record HasKinds (files : Files) (kinds : List Bool) : Type 0 where
   pub few : length kinds ≤ most_runs
   pub each : (number : ℕ) → number < most_runs → kind_at files number ≡ slice_get kinds number
 
+-- the name of the file that says how the repository is laid out
 abbrev pub format_name : List ℕ
 format_name = codes "format"
 
+-- what that file must hold
 abbrev pub format_bytes : List ℕ
 format_bytes = codes "subunit-store 1" ++ 10 ∷ []
 
+-- the file `format` is there with the right bytes
 abbrev pub HasFormat : Files → Type 0
 HasFormat files = files format_name ≡ Some format_bytes
 

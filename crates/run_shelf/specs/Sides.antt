@@ -15,6 +15,7 @@ use Rattle.run_shelf.specs.Outcomes.{KeepFails}
 use Rattle.run_shelf.specs.Repository.{Run, Shows, IsRepository}
 use Rattle.run_shelf.specs.Stores.{StoreSeen, Reads}
 
+-- the name of a cache's file
 abbrev pub side_name : Side → List ℕ
 side_name Failing = codes "failing.set"
 side_name Times = codes "times.set"

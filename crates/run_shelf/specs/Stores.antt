@@ -27,9 +27,11 @@ store_kinds store = kinds_of store.found
 abbrev pub store_fault : {H : Type 0} → Store H → Option ShelfCall
 store_fault store = store.fault
 
+-- the kinds of the runs that the recorder's repository had
 abbrev pub recorder_kinds : {H : Type 0} → Recorder H → List Bool
 recorder_kinds recorder = kinds_of recorder.recording.found
 
+-- whether the run that is recorded is partial
 abbrev pub recorder_partial : {H : Type 0} → Recorder H → Bool
 recorder_partial recorder = recorder.recording.partial
 
@@ -46,6 +48,7 @@ pub record IsRecording (kinds : List Bool) (s : Folder) : Type 0 where
   pub fits : FitsFolder kinds s
   pub draft : IsSome s.draft
 
+-- where no call failed and the folder is told, it has these runs and the draft of another
 abbrev pub RecordsUnlessBroken : List Bool → Option ShelfCall → Option Folder → Type 0
 RecordsUnlessBroken kinds fault state = fault ≡ None → IfSome state (IsRecording kinds)
 
@@ -55,6 +58,7 @@ fault_after before (Ok done) = before
 fault_after before (Err (Shelf call)) = Some call
 fault_after before (Err (Closed call)) = before
 
+-- a call of the folder failed in this call, and not before it
 abbrev pub store_failed : {T : Type 0} → Result T StoreFault → Bool
 store_failed (Ok done) = false
 store_failed (Err (Shelf call)) = true
@@ -71,6 +75,7 @@ pub record StoreSeen : Type 0 where
   pub fault : Option ShelfCall
   pub folder : Seen Folder
 
+-- what is seen of a store that holds a folder of which this is seen
 abbrev pub seen_store : {H : Type 0} → Store H → Seen Folder → StoreSeen
 seen_store store folder = record { kinds = store_kinds store; fault = store_fault store; folder = folder }
 
@@ -109,11 +114,12 @@ fault_after_start before (start_fault.Store (Shelf call)) = Some call
 fault_after_start before (start_fault.Store (Closed call)) = before
 fault_after_start before start_fault.NoMemory = before
 
-abbrev pub start_failed : StartFault → Bool
-start_failed start_fault.Full = false
-start_failed (start_fault.Store (Shelf call)) = true
-start_failed (start_fault.Store (Closed call)) = false
-start_failed start_fault.NoMemory = false
+-- a call of the folder failed as a run was begun, and not before it
+abbrev pub has_start_failed : StartFault → Bool
+has_start_failed start_fault.Full = false
+has_start_failed (start_fault.Store (Shelf call)) = true
+has_start_failed (start_fault.Store (Closed call)) = false
+has_start_failed start_fault.NoMemory = false
 
 -- what the folder is then
 abbrev pub StartFails : StartFault → Folder → Folder → Type 0

@@ -41,8 +41,8 @@ fn write_draft<H: Shelf>(shelf: &mut H, bytes: &[u8]) -> Result<(), ShelfCall>
     Ok(())
 }
 
-/// The draft, which there must be, becomes the file of this name, in a folder in which nothing is pending: it is brought
-/// to the disk, gets its name, and the name is brought to the disk. At `Ok` each later stop leaves the file.
+/// The draft, which there must be, becomes the file of this name, in a folder in which nothing is pending. It is
+/// brought to the disk, gets its name, and the name is brought to the disk. At `Ok` each later stop leaves the file.
 pub fn place_draft<H: Shelf>(shelf: &mut H, name: &str) -> Result<(), ShelfCall>
     requires rest { IfSome (H.seen shelf.old).told AtRest }
     requires draft { HasDraft (H.seen shelf.old).told }

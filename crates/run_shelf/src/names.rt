@@ -6,8 +6,8 @@ ghost use Rattle.edge_io.specs.Steps.{Goes, Stays};
 ghost use Rattle.run_shelf.specs.Faults.{open_failed};
 ghost use Rattle.run_shelf.specs.Holds.{kinds_of, HasRoom};
 ghost use Rattle.run_shelf.specs.Images.{PassesOld};
-ghost use Rattle.run_shelf.specs.Looking.{LooksLike, LookFails, FormatFails};
-ghost use Rattle.run_shelf.specs.Marks.{NamesTellKinds, NamesFail, AreMarksOf, Adds, joined};
+ghost use Rattle.run_shelf.specs.Looking.{ShowsKinds, LookFails, FormatFails};
+ghost use Rattle.run_shelf.specs.Marks.{NamesTellKinds, NamesFail, AreMarksOf, MarksRun, joined_kind};
 ghost use Rattle.run_shelf.specs.Names.{SpellsRun, SpellsNoRun, SpellsRunNumber, SpellsNoRunNumber};
 ghost use Rattle.run_shelf.specs.Outcomes.{Surveys, OpenFails, TicksUpTo};
 ghost use Rattle.run_shelf.specs.Repository.{most_runs, HasFormat, format_bytes};
@@ -92,7 +92,7 @@ fn marks_of(alloc: Global, names: &[Text]) -> Result<Vec<Option<bool>>, AllocErr
 // Marks one number.
 fn mark(marks: &mut Vec<Option<bool>>, number: usize, partial: bool) -> Result<(), AllocError>
     requires { number < most_runs }
-    ensures { OnOk result (Adds number partial marks.old.items marks.new.items) }
+    ensures { OnOk result (MarksRun number partial marks.old.items marks.new.items) }
 {
     if marks.len() <= number {
         marks.resize(number + 1, None)?;
@@ -104,7 +104,7 @@ fn mark(marks: &mut Vec<Option<bool>>, number: usize, partial: bool) -> Result<(
 
 // The full run counts.
 fn join(earlier: Option<bool>, partial: bool) -> bool
-    ensures { result ≡ joined earlier partial }
+    ensures { result ≡ joined_kind earlier partial }
 {
     match earlier {
         None | Some(true) => partial,
@@ -135,10 +135,10 @@ const FORMAT_SIZE: usize = 16;
 /// Looks which runs the folder has: brings what is pending to the disk, reads `format`, and lists the names, in at most four
 /// calls of the folder. Each name is read once. What it found has room for one run more.
 ///
-/// `NoStore` comes exactly where the file `format` is not there, `UnknownFormat` exactly where it has other bytes, and
-/// `Gap(k)` exactly where it is right, k is the least number without a run, and a greater number has one. `Shelf` comes
-/// only where a call of the folder failed. The files are as before at each exit, and but for a failed `SyncFolder`
-/// nothing is pending.
+/// `NoStore` comes exactly where the file `format` is not there, and `UnknownFormat` exactly where it has other bytes.
+/// `Gap(k)` comes exactly where it is right, k is the least number without a run, and a greater number has one. `Shelf`
+/// comes only where a call of the folder failed. The files are as before at each exit, and but for a failed
+/// `SyncFolder` nothing is pending.
 pub fn survey<H: Shelf>(alloc: Global, shelf: &mut H) -> Result<Found, OpenFault>
     ensures found { IfOk result (λ found. Goes (H.seen shelf.old).told (H.seen shelf.new).told (Surveys (kinds_of found))) }
     ensures room { IfOk result HasRoom }
@@ -155,7 +155,7 @@ pub fn survey<H: Shelf>(alloc: Global, shelf: &mut H) -> Result<Found, OpenFault
 
 // Looks which runs the folder has.
 fn look<H: Shelf>(alloc: Global, shelf: &mut H) -> Result<Found, OpenFault>
-    ensures found { IfOk result (λ found. IfSome (H.seen shelf.old).told (LooksLike (kinds_of found))) }
+    ensures found { IfOk result (λ found. IfSome (H.seen shelf.old).told (ShowsKinds (kinds_of found))) }
     ensures room { IfOk result HasRoom }
     ensures refused { IfErr result (λ fault. Goes (H.seen shelf.old).told (H.seen shelf.new).told (LookFails fault)) }
     ensures same { Goes (H.seen shelf.old).told (H.seen shelf.new).told Stays }

@@ -13,7 +13,7 @@ ghost use Rattle.run_shelf.specs.Outcomes.{InitFails, Surveys, IsRunLength, IsRu
 ghost use Rattle.run_shelf.specs.Sides.{HoldsSide, KeepsSide, PassesSide, PutFails, TellsOfReading, SideReads};
 ghost use Rattle.run_shelf.specs.declared.faults.ShelfCall.TheVariants.{Length, ReadAt};
 ghost use Rattle.run_shelf.specs.declared.faults.StoreFault.TheVariants.{Shelf as ShelfFailed};
-ghost use Rattle.run_shelf.specs.Stores.{store_kinds, store_fault, FitsUnlessBroken, seen_store, store_failed, StoreReads, Closes, TellsOf, HasOpenCause, HasStartCause, StartsFrom, StartFails, start_failed, fault_after_start, recorder_kinds, recorder_fault, RecordsUnlessBroken};
+ghost use Rattle.run_shelf.specs.Stores.{store_kinds, store_fault, FitsUnlessBroken, seen_store, store_failed, StoreReads, Closes, TellsOf, HasOpenCause, HasStartCause, StartsFrom, StartFails, has_start_failed, fault_after_start, recorder_kinds, recorder_fault, RecordsUnlessBroken};
 
 use crate::{
     Found, InitFault, MOST_RUNS, OpenFault, Recorder, Recording, ShelfCall, Side, SideFault,
@@ -216,7 +216,7 @@ impl<'h, H: Shelf> Store<'h, H> {
         ensures closes { IfErr result (λ e. store_fault e.0 ≡ fault_after_start (store_fault self.entry) e.1) }
         ensures refused { IfErr result (λ e. HasStartCause (length (store_kinds self.entry)) (store_fault self.entry) e.1) }
         ensures any_moment_err { IfErr result (λ e. Goes (H.seen self.entry.shelf.now).told (H.seen e.0.shelf.now).told PassesOld) }
-        ensures cause { IfErr result (λ e. RisesExactlyIf (H.seen self.entry.shelf.now).faults (H.seen e.0.shelf.now).faults (start_failed e.1)) }
+        ensures cause { IfErr result (λ e. RisesExactlyIf (H.seen self.entry.shelf.now).faults (H.seen e.0.shelf.now).faults (has_start_failed e.1)) }
     {
         let mut store = self;
         if let Some(call) = store.fault {

@@ -4,7 +4,7 @@ use Rattle.edge_io.specs.Disk.{Folder}
 use Rattle.edge_io.specs.Names.{AreNamesOf}
 use Rattle.edge_io.specs.Steps.{Goes}
 use Rattle.run_shelf.specs.Holds.{kinds_of}
-use Rattle.run_shelf.specs.Looking.{LooksLike, LookFails}
+use Rattle.run_shelf.specs.Looking.{ShowsKinds, LookFails}
 use Rattle.run_shelf.specs.Marks.{NamesTellKinds, NamesFail}
 use Rattle.run_shelf.proofs.LookSteps.{looks_like, names_fail, stays_back, stays_then}
 use Rattle.run_shelf.proofs.names.look.Goals as goal
@@ -15,7 +15,7 @@ returns-clause-found g c =
     let names = c.deref.result.now in
     let lists = stays_back state _ c.check_format.ensures.same (λ (s : Folder). AreNamesOf s.disk.published c.in-Ok.names.items) c.in-Ok.ensures.found in
     let listed = subst (λ (l : List (List ℕ)). IfSome state (λ s. AreNamesOf s.disk.published l)) (sym c.deref.ensures.value) lists in
-    IfOk-weaker c.runs_of.result (λ found. NamesTellKinds names (kinds_of found)) (λ found. IfSome state (LooksLike (kinds_of found)))
+    IfOk-weaker c.runs_of.result (λ found. NamesTellKinds names (kinds_of found)) (λ found. IfSome state (ShowsKinds (kinds_of found)))
     (λ found have. looks_like state names c.in_ok-check_format.ensures.right listed (kinds_of found) have) c.runs_of.ensures.found
 
 pub returns-clause-refused : goal.returns-clause-refused
