@@ -1,6 +1,6 @@
 -- Events from words (docs/FORMATS.md, "Events from words").
-use Rattle.std.specs.Prelude.{ℕ, ◌+◌, ◌-◌, ◌*◌, ◌/◌, Bool, true, false, ◌&&◌, ◌||◌, not, ◌==◌, nat_le, min, Option, Some, None, is_none, is_some, List, [], ◌∷◌, ◌++◌, length, map, take, drop, replicate, codes, if◌then◌else◌}
-use Rattle.std.specs.List.{list_any, flat_map, fold, range_with_len}
+use Rattle.std.specs.Prelude.{ℕ, ◌+◌, ◌-◌, Bool, true, false, ◌&&◌, ◌||◌, not, ◌==◌, nat_le, min, Option, Some, None, is_none, is_some, List, [], ◌∷◌, ◌++◌, length, map, replicate, codes, if◌then◌else◌}
+use Rattle.std.specs.List.{list_any, flat_map, fold}
 use Rattle.std.specs.Option.{option_map, option_and_then, option_to_list, unwrap_or}
 use Rattle.std.specs.Str.{bytes_eq}
 use Rattle.command_words.specs.Items.{Item, flag, valued, name, items_of}
@@ -8,6 +8,7 @@ use Rattle.command_words.specs.declared.table.Kind.{Kind}
 use Rattle.command_words.specs.declared.table.Kind.TheVariants.{Valued}
 use Rattle.std.proofs.Common.{arith}
 use Rattle.instants.specs.Instants.{Moment, instant_of}
+use Rattle.packet_codec.specs.Pieces.{pieces_of}
 use Rattle.packet_codec.specs.declared.event.Event.{Event}
 use Rattle.packet_codec.specs.declared.stamp.Stamp.{Stamp}
 use Rattle.packet_codec.specs.declared.status.Status.{Status}
@@ -24,8 +25,8 @@ abbrev pub piece_size : ℕ
 piece_size = 65536
 
 -- a piece of the attached file
-abbrev pub piece_of : Option Stamp → Option (List ℕ) → Attachment → List ℕ → Event
-piece_of stamp id attachment bytes = record {
+abbrev pub attached_piece : Option Stamp → Option (List ℕ) → Attachment → List ℕ → Event
+attached_piece stamp id attachment bytes = record {
   stamp = stamp;
   id = id;
   tags = None;
@@ -39,11 +40,11 @@ piece_of stamp id attachment bytes = record {
 
 -- the same, where the job attaches a file
 abbrev pub piece_event : Job → List ℕ → Option Event
-piece_event job bytes = option_map (λ attachment. piece_of job.stamp job.id attachment bytes) job.attachment
+piece_event job bytes = option_map (λ attachment. attached_piece job.stamp job.id attachment bytes) job.attachment
 
 -- the last event
-abbrev pub last_event : Job → Event
-last_event job = record {
+abbrev pub last_event_of : Job → Event
+last_event_of job = record {
   stamp = job.stamp;
   id = job.id;
   tags = if_any job.tags;
@@ -59,13 +60,9 @@ last_event job = record {
 unfoldable pub longest_bytes : List ℕ
 longest_bytes = replicate piece_size 0
 
--- the pieces of the bytes, of which the last may be shorter
-abbrev pub pieces_of : List ℕ → List (List ℕ)
-pieces_of bytes = map (λ k. take piece_size (drop (piece_size * k) bytes)) (range_with_len 0 ((length bytes + (piece_size - 1)) / piece_size))
-
 -- all events of a job where these bytes are read
 abbrev pub output_events : Job → List ℕ → List Event
-output_events job bytes = flat_map (λ piece. option_to_list (piece_event job piece)) (pieces_of bytes) ++ last_event job ∷ []
+output_events job bytes = flat_map (λ piece. option_to_list (piece_event job piece)) (pieces_of bytes) ++ last_event_of job ∷ []
 
 -- ---- the job that words ask for
 
@@ -99,11 +96,13 @@ pub record Verdict : Type 0 where
   pub status : Status
   pub id : List ℕ
 
+-- the status and the id that an option tells, where it is the name of a status
 abbrev pub verdict_in : Item → Option Verdict
 verdict_in (flag given) = None
 verdict_in (valued option value) = option_map (λ s. record { status = s; id = value }) (status_named option)
 verdict_in (name word) = None
 
+-- the verdicts that the items tell, in their order
 abbrev pub verdicts_in : List Item → List Verdict
 verdicts_in items = flat_map (λ item. option_to_list (verdict_in item)) items
 
@@ -113,6 +112,7 @@ value_in option (flag given) = None
 value_in option (valued given value) = if bytes_eq given option then Some value else None
 value_in option (name word) = None
 
+-- the values of this option, in the order of the words
 abbrev pub values_in : List ℕ → List Item → List (List ℕ)
 values_in option items = flat_map (λ item. option_to_list (value_in option item)) items
 
@@ -120,6 +120,7 @@ values_in option items = flat_map (λ item. option_to_list (value_in option item
 abbrev pub last_value : Option (List ℕ) → List (List ℕ) → Option (List ℕ)
 last_value before values = fold (λ before now. Some now) before values
 
+-- the last value of this option, where it has one
 abbrev pub value_of : List ℕ → List Item → Option (List ℕ)
 value_of option items = last_value None (values_in option items)
 
@@ -128,18 +129,18 @@ abbrev pub stamp_at : Moment → Stamp
 stamp_at moment = record { seconds = moment.seconds; nanos = min moment.nanos 1073741823; nanos_fit = omega arith }
 
 -- the stamp of the time that a word tells
-unfoldable pub stamp_of : List ℕ → Option Stamp
-stamp_of time = option_map stamp_at (instant_of time)
+unfoldable pub stamp_told : List ℕ → Option Stamp
+stamp_told time = option_map stamp_at (instant_of time)
 
 -- a time that is none
 abbrev pub is_no_time : (option value : List ℕ) → Bool
-is_no_time option value = bytes_eq option (codes "--timestamp") && is_none (stamp_of value)
+is_no_time option value = bytes_eq option (codes "--timestamp") && is_none (stamp_told value)
 
 -- a word that is no option, or a time that is none
-abbrev pub is_refused : Item → Bool
-is_refused (flag given) = false
-is_refused (valued option value) = is_no_time option value
-is_refused (name word) = true
+abbrev pub is_refused_item : Item → Bool
+is_refused_item (flag given) = false
+is_refused_item (valued option value) = is_no_time option value
+is_refused_item (name word) = true
 
 -- what the items say in all: at most one status, the tags, and the values of the other options
 pub record Told : Type 0 where
@@ -163,26 +164,30 @@ agrees t =
     && ((is_some t.attached || not (is_some t.name || is_some t.mime))
     && is_standard t.attached))
 
+-- the job that is told so
 abbrev pub job_with : Told → Job
 job_with t = record {
-  stamp = option_and_then stamp_of t.time;
+  stamp = option_and_then stamp_told t.time;
   id = option_map (λ v. v.id) t.verdict;
   status = unwrap_or (option_map (λ v. v.status) t.verdict) status.Unset;
   tags = t.tags;
   attachment = option_map (λ file. record { name = unwrap_or t.name (codes "stdin"); mime = t.mime }) t.attached;
 }
 
+-- the event is not too long for a packet
 abbrev pub has_packet : Event → Bool
 has_packet e = nat_le (canonical_size e) largest_packet
 
+-- of a file that is attached each piece has a packet, since the longest one has
 abbrev pub longest_piece_fits : Option Stamp → Option (List ℕ) → Option Attachment → Bool
 longest_piece_fits stamp id None = true
-longest_piece_fits stamp id (Some attachment) = has_packet (piece_of stamp id attachment longest_bytes)
+longest_piece_fits stamp id (Some attachment) = has_packet (attached_piece stamp id attachment longest_bytes)
 
 -- each event of the job has a packet, also that of the longest piece
 abbrev pub job_fits : Job → Bool
-job_fits job = has_packet (last_event job) && longest_piece_fits job.stamp job.id job.attachment
+job_fits job = has_packet (last_event_of job) && longest_piece_fits job.stamp job.id job.attachment
 
+-- what the items tell beside this verdict
 abbrev pub told_by : List Item → Option Verdict → Told
 told_by items verdict = record {
   verdict = verdict;
@@ -193,6 +198,7 @@ told_by items verdict = record {
   time = value_of (codes "--timestamp") items;
 }
 
+-- the job that is told, where its parts agree and its events have packets
 abbrev pub job_if : Told → Option Job
 job_if t = if agrees t && job_fits (job_with t) then Some (job_with t) else None
 
@@ -202,8 +208,9 @@ job_by items [] = job_if (told_by items None)
 job_by items (v ∷ []) = job_if (told_by items (Some v))
 job_by items (v ∷ w ∷ more) = None
 
+-- the job that the words ask for, where none of them is refused
 abbrev pub job_behind : List Item → Option Job
-job_behind items = if list_any is_refused items then None else job_by items (verdicts_in items)
+job_behind items = if list_any is_refused_item items then None else job_by items (verdicts_in items)
 
 -- the job that the words behind the filter's name ask for, where they are a command
 abbrev pub job_of : List (List ℕ) → Option Job

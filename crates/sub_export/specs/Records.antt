@@ -16,6 +16,7 @@ use Rattle.instants.specs.Instants.{instant_text}
 
 -- ---- one record
 
+-- the names of the columns
 abbrev pub head_fields : List (List ℕ)
 head_fields = codes "test" ∷ codes "status" ∷ codes "start_time" ∷ codes "stop_time" ∷ []
 
@@ -34,6 +35,7 @@ abbrev pub time_text : Option ℕ → List ℕ
 time_text None = []
 time_text (Some nanos) = instant_text nanos ++ codes "+00:00"
 
+-- the last of the events, where there is one
 abbrev pub last_event : List Event → Option Event
 last_event part = slice_get part (length part - 1)
 
@@ -52,6 +54,7 @@ abbrev pub id_of : List Event → Option (List ℕ)
 id_of [] = None
 id_of (e ∷ es) = e.id
 
+-- the fields of a record, where the test has an id and its end a word
 abbrev pub record_with : (id word : Option (List ℕ)) → (start stop : Option ℕ) → Option (List (List ℕ))
 record_with None word start stop = None
 record_with (Some id) None start stop = None
@@ -67,9 +70,11 @@ abbrev pub row_if : Option (List (List ℕ)) → List ℕ
 row_if None = []
 row_if (Some fields) = row_text default_writer fields
 
+-- the line of a part, and nothing where it has no record
 abbrev pub csv_row_of : List Event → List ℕ
 csv_row_of part = row_if (record_of part)
 
+-- the line with the names of the columns
 abbrev pub csv_head_text : List ℕ
 csv_head_text = row_text default_writer head_fields
 
@@ -81,9 +86,11 @@ kept_part_with kept None row seen e = []
 kept_part_with kept (Some test) None seen e = []
 kept_part_with kept (Some test) (Some row) seen e = if kept row then part_with test seen e ∷ [] else []
 
+-- the part that this event completes, where it is kept and these events came before it
 abbrev pub kept_part_at : (Row → Bool) → List Event → Event → List (List Event)
 kept_part_at kept seen e = kept_part_with kept (test_of e) (completed_row seen e) seen e
 
+-- the parts that some events complete and that are kept, where others came before them
 abbrev pub kept_parts_behind : (Row → Bool) → List Event → List Event → List (List Event)
 kept_parts_behind kept seen [] = []
 kept_parts_behind kept seen (e ∷ es) = kept_part_at kept seen e ++ kept_parts_behind kept (seen ++ e ∷ []) es
@@ -102,6 +109,7 @@ kept_open_part kept es test =
 abbrev pub kept_open_parts : (Row → Bool) → List Event → List (List Event)
 kept_open_parts kept es = fin.values (table {R = test_cmp} (kept_open_part kept es) (open_tests es))
 
+-- all parts that are kept: those that were completed, and then the open ones
 abbrev pub kept_parts : (Row → Bool) → List Event → List (List Event)
 kept_parts kept es = kept_parts_so_far kept es ++ kept_open_parts kept es
 

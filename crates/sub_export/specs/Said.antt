@@ -1,12 +1,13 @@
 -- How the code keeps what items say.
 use Rattle.std.specs.Prelude.{◌≡◌, ⊤, List, [], ◌∷◌}
-use Rattle.sub_export.specs.declared.told.Said.{Said}
-use Rattle.sub_export.specs.declared.told.Verdicts.{Verdicts}
-use Rattle.sub_export.specs.declared.told.Verdicts.TheVariants as said
+use Rattle.sub_export.specs.declared.told_items.Said.{Said}
+use Rattle.sub_export.specs.declared.told_items.Verdicts.{Verdicts}
+use Rattle.sub_export.specs.declared.told_items.Verdicts.TheVariants as said
 use Rattle.std.specs.Option.{option_map}
 use Rattle.sub_export.specs.declared.job.Told as code
 use Rattle.sub_export.specs.Output.{Verdict, Told}
 
+-- the verdict that the code's verdict stands for
 abbrev pub verdict_meant : Said → Verdict
 verdict_meant v = record { status = v.status; id = v.id.now }
 

@@ -9,8 +9,8 @@ ghost use Rattle.sub_export.specs.Output as spec;
 ghost use Rattle.sub_export.specs.Said.{told_meant, verdict_meant};
 
 use crate::options::OutputOptions;
-use crate::stamping::stamp_of;
-use crate::told::{Said, Verdicts, has_refused, tags_in, value_of, verdicts_in, word_text};
+use crate::time_stamp::stamp_of;
+use crate::told_items::{Said, Verdicts, has_refused, tags_in, value_of, verdicts_in, word_text};
 use command_words::{Item, read_items};
 use outcome_fold::copies_of;
 use packet_codec::{Event, FilePart, Stamp, Status, Tags, size};
@@ -69,7 +69,7 @@ pub(crate) fn piece_of(
     attachment: &Attachment,
     bytes: &[u8],
 ) -> Result<Event, NoMemory>
-    ensures { IfOk result (λ event. event ≡ spec.piece_of stamp id.now attachment.now bytes.now) }
+    ensures { IfOk result (λ event. event ≡ spec.attached_piece stamp id.now attachment.now bytes.now) }
 {
     let file = FilePart {
         name: attachment.name.copy()?,
@@ -90,7 +90,7 @@ pub(crate) fn piece_of(
 
 // The last event.
 pub(crate) fn last_event(alloc: Global, job: &Job) -> Result<Event, NoMemory>
-    ensures { IfOk result (λ event. event ≡ spec.last_event job.now) }
+    ensures { IfOk result (λ event. event ≡ spec.last_event_of job.now) }
 {
     Ok(Event {
         stamp: job.stamp,
@@ -123,7 +123,7 @@ fn longest_piece(
     id: &Option<Text>,
     attachment: &Attachment,
 ) -> Result<Event, NoMemory>
-    ensures { IfOk result (λ event. event ≡ spec.piece_of stamp id.now attachment.now spec.longest_bytes) }
+    ensures { IfOk result (λ event. event ≡ spec.attached_piece stamp id.now attachment.now spec.longest_bytes) }
 {
     piece_of(alloc, stamp, id, attachment, &[0; PIECE_SIZE])
 }
@@ -225,7 +225,7 @@ fn attachment_with(alloc: Global, told: &Told<'_>) -> Result<Option<Attachment>,
 
 // The stamp of the time that is told, where one is.
 fn stamp_told(time: Option<&str>) -> Option<Stamp>
-    ensures { result ≡ option_and_then spec.stamp_of (option_map (λ time. time.now) time.entry) }
+    ensures { result ≡ option_and_then spec.stamp_told (option_map (λ time. time.now) time.entry) }
 {
     match time {
         Some(time) => stamp_of(time),

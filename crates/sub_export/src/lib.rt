@@ -6,20 +6,20 @@
 //! before, where it does not say otherwise.
 //!
 //! - `output_job`, `job`: the events that words ask for
-//! - `options`, `told`, `stamping`: what the words say
+//! - `options`, `told_items`, `time_stamp`: what the words say
 //! - `record`, `fields`: the record of a part of a test, and a record as a row
-//! - `reading`: the records, read back
+//! - `exported_text`: the records, read back
 #![tactic(auto)]
 
+mod exported_text;
 mod fields;
 mod job;
 mod options;
 mod output_job;
-mod reading;
 mod record;
-mod stamping;
-mod told;
+mod time_stamp;
+mod told_items;
 
+pub use exported_text::{exported_names, exported_records};
 pub use output_job::OutputJob;
-pub use reading::{exported_names, exported_records};
 pub use record::{csv_head, csv_row};

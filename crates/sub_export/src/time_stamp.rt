@@ -22,7 +22,7 @@ fn stamp_at(instant: Instant) -> Stamp
 /// The stamp of the time that the word tells. None comes exactly where it tells none.
 #[tactic(auto, unfolding(crate::specs::Output::stamp_of))]
 pub(crate) fn stamp_of(time: &str) -> Option<Stamp>
-    ensures { result ≡ spec.stamp_of time.now }
+    ensures { result ≡ spec.stamp_told time.now }
 {
     match instant_of(time.as_bytes()) {
         Some(instant) => Some(stamp_at(instant)),

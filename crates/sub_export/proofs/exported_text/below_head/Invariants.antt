@@ -4,7 +4,7 @@ use Rattle.csv.specs.Reading.{HeaderNext, Reached, Ready, default_config, source
 use Rattle.csv.specs.Records.{fields_of}
 use Rattle.csv.specs.declared.parser.State.TheVariants as st
 use Rattle.csv.specs.declared.reader.Trim.TheVariants as trim
-use Rattle.sub_export.proofs.reading.below_head.Given as goal
+use Rattle.sub_export.proofs.exported_text.below_head.Given as goal
 
 abbrev pub invariant-loop-record : goal.invariant-loop-record
 invariant-loop-record l =

@@ -1,7 +1,7 @@
 use Rattle.std.proofs.Common.{◌≡◌, map, option_map, drop}
 use Rattle.command_words.specs.Code.{shown}
 use Rattle.sub_export.specs.Output as spec
-use Rattle.sub_export.proofs.told.value_of.Given as goal
+use Rattle.sub_export.proofs.told_items.value_of.Given as goal
 
 abbrev pub invariant-loop-item : goal.invariant-loop-item
 invariant-loop-item l =

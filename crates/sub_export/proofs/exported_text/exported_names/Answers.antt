@@ -1,7 +1,7 @@
 use Rattle.std.proofs.Common.{Bor, List, ℕ, Some, ap, ◌∙◌}
 use Rattle.csv.specs.Records.{fields_of}
 use Rattle.sub_export.proofs.ReadLemmas.{names_read}
-use Rattle.sub_export.proofs.reading.exported_names.Goals as goal
+use Rattle.sub_export.proofs.exported_text.exported_names.Goals as goal
 
 pub returns-in-Ok : goal.returns-in-Ok
 returns-in-Ok c kept events is =

@@ -8,7 +8,7 @@ ghost use Rattle.sub_export.specs.Output.{Verdict};
 ghost use Rattle.sub_export.specs.Said.{AreVerdicts, verdict_meant};
 
 use crate::options::status_named;
-use crate::stamping::stamp_of;
+use crate::time_stamp::stamp_of;
 use command_words::{Item, text_of};
 use packet_codec::{Status, Tags};
 use std::alloc::Global;
@@ -94,13 +94,13 @@ pub(crate) fn value_of<'a>(option: &str, items: &[Item<'a>]) -> Option<&'a str>
 
 /// Whether a word is no option, or a time that is none.
 pub(crate) fn has_refused(items: &[Item<'_>]) -> bool
-    ensures { result ≡ list_any (λ item. spec.is_refused (shown item)) items.now }
+    ensures { result ≡ list_any (λ item. spec.is_refused_item (shown item)) items.now }
 {
     items.iter().any(|item| is_refused(item))
 }
 
 fn is_refused(item: &Item<'_>) -> bool
-    ensures { result ≡ spec.is_refused (shown item.now) }
+    ensures { result ≡ spec.is_refused_item (shown item.now) }
 {
     match item {
         Item::Flag(_) => false,

@@ -7,7 +7,7 @@ use Rattle.csv.specs.Records.{fields_of}
 use Rattle.csv.specs.declared.reader.Reader.{Reader}
 use Rattle.csv.specs.declared.parser.State.TheVariants as st
 use Rattle.csv.proofs.ReadFacts.{rows-end, rows-more}
-use Rattle.sub_export.proofs.reading.below_head.Goals as goal
+use Rattle.sub_export.proofs.exported_text.below_head.Goals as goal
 
 -- the header row, read from the start of a text
 header_read : {R : Type 0} (rem : R → _) (a m : Reader R) (names : List (List ℕ)) (xs : List ℕ) → a.config ≡ default_config → source_of rem a ≡ Some xs → a.state ≡ st.StartRecord → ReadRecord rem a m true names
