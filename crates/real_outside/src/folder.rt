@@ -5,7 +5,7 @@ ghost use Rattle.std.specs.Io.{ReadsAtMost};
 use crate::cause::{Cause, told};
 use crate::identity::is_at;
 use crate::lock::{FOLDER, Lock, Sharing};
-use crate::published::{is_stranger, length_of, publish, read_from};
+use crate::published_files::{is_stranger, length_of, publish, read_from};
 use std::alloc::Global;
 use std::collections::BTreeSet;
 use std::fs::{DirEntry, File, Files};

@@ -2,7 +2,7 @@
 ghost use Rattle.std.specs.Prelude.{None};
 
 use crate::cause::Cause;
-use crate::counting::Faults;
+use crate::fault_count::Faults;
 use crate::folder::Folder;
 use crate::lock::Sharing;
 use edge_io::{Failed, NamesFault, Shelf};

@@ -3,30 +3,30 @@
 //! These rooms know files and processes of the system, and nothing of packets or runs. Each object counts its faults, and
 //! keeps why the last of them came.
 //!
-//! - `folder_shelf`, `folder`, `published`: the folder of runs, its draft, and the files that are published in it
+//! - `folder_shelf`, `folder`, `published_files`: the folder of runs, its draft, and the files that are published in it
 //! - `lock`, `identity`: who may use the folder beside others, and whether a name still leads to the file that was opened
-//! - `real_spawner`, `real_child`, `id_paper`: worker processes, and the files of ids that they are told
+//! - `real_spawner`, `real_child`, `written_ids`: worker processes, and the files of ids that they are told
 //! - `real_site`: files of the project by name
 //! - `stream_source`, `stream_sink`, `descriptors`: standard input and outputs, also where they are closed
-//! - `cause`, `counting`: why a call of the system failed, and the count of such faults
+//! - `cause`, `fault_count`: why a call of the system failed, and the count of such faults
 //!
 //! Its tests stand in a room of their own above it, `outside_trials`.
 #![tactic(auto)]
 
 mod cause;
-mod counting;
 mod descriptors;
+mod fault_count;
 mod folder;
 mod folder_shelf;
-mod id_paper;
 mod identity;
 mod lock;
-mod published;
+mod published_files;
 mod real_child;
 mod real_site;
 mod real_spawner;
 mod stream_sink;
 mod stream_source;
+mod written_ids;
 
 pub use cause::Cause;
 pub use descriptors::{Held, hold_closed};

@@ -3,9 +3,9 @@ ghost use Rattle.std.specs.Prelude.{None};
 ghost use Rattle.std.specs.Io.{ReadsAtMost};
 
 use crate::cause::{Cause, told};
-use crate::counting::Faults;
-use crate::id_paper::IdPaper;
+use crate::fault_count::Faults;
 use crate::stream_source::read_retried;
+use crate::written_ids::WrittenIds;
 use edge_io::{Child, Failed};
 use std::fs::Files;
 use std::io::ErrorKind;
@@ -29,12 +29,12 @@ pub struct RealChild<'r, R: Processes> {
 struct Running<'r, R: Processes> {
     rt: &'r R,
     process: process::Child<R::Started>,
-    ids: Option<IdPaper>,
+    ids: Option<WrittenIds>,
 }
 
 impl<'r, R: Processes + Files> RealChild<'r, R> {
     /// The child over this process, whose file of ids is removed when it was waited for.
-    pub fn new(rt: &'r R, process: process::Child<R::Started>, ids: Option<IdPaper>) -> Self {
+    pub fn new(rt: &'r R, process: process::Child<R::Started>, ids: Option<WrittenIds>) -> Self {
         RealChild {
             running: Running { rt, process, ids },
             faults: Faults::new(),

@@ -4,7 +4,7 @@ ghost use Rattle.std.specs.Io.{ReadsAtMost};
 ghost use Rattle.edge_io.specs.Sites.{FindsAtMost};
 
 use crate::cause::Cause;
-use crate::counting::Faults;
+use crate::fault_count::Faults;
 use crate::stream_source::read_retried;
 use edge_io::{Failed, Found, Site};
 use std::alloc::Global;

@@ -2,9 +2,9 @@
 ghost use Rattle.std.specs.Prelude.{None};
 
 use crate::cause::Cause;
-use crate::counting::Faults;
-use crate::id_paper::IdPaper;
+use crate::fault_count::Faults;
 use crate::real_child::RealChild;
+use crate::written_ids::WrittenIds;
 use edge_io::{Failed, Job, Spawner};
 use std::alloc::Global;
 use std::fs::{File, Files};
@@ -64,7 +64,7 @@ fn started<'r, R: Processes + Files<File = File>>(
     job: &Job,
 ) -> Result<RealChild<'r, R>, Cause> {
     let ids = match &job.id_file {
-        Some(file) => Some(IdPaper::write(alloc, rt, file)?),
+        Some(file) => Some(WrittenIds::write(alloc, rt, file)?),
         None => None,
     };
     match spawned(alloc, rt, job.command.bytes()) {

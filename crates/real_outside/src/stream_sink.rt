@@ -4,7 +4,7 @@ ghost use Rattle.std.specs.Io.{WritesAtMost};
 ghost use Rattle.std.specs.Io.KnownBytes.{WriteAppends};
 
 use crate::cause::{Cause, told};
-use crate::counting::Faults;
+use crate::fault_count::Faults;
 use edge_io::{Failed, Sink};
 use std::io;
 use std::io::{ErrorKind, Write};

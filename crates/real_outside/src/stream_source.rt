@@ -3,7 +3,7 @@ ghost use Rattle.std.specs.Io.{ReadsAtMost};
 ghost use Rattle.std.specs.Io.KnownBytes.{ReadConsumes};
 
 use crate::cause::{Cause, told};
-use crate::counting::Faults;
+use crate::fault_count::Faults;
 use edge_io::{Failed, Source};
 use std::io;
 use std::io::{ErrorKind, Read};

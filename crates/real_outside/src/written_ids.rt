@@ -14,12 +14,12 @@ const MODE: u32 = 0o600;
 
 /// A file that was made for a child. It is kept open, so that it is known again when it is to be removed.
 #[derive(Drop)]
-pub struct IdPaper {
+pub struct WrittenIds {
     path: String,
     file: File,
 }
 
-impl IdPaper {
+impl WrittenIds {
     /// Makes a new file of this name, in place of whatever had it, and writes it. What had the name is removed and not
     /// opened, so that nobody can have laid a link or a pipe there; a folder of that name is a failure. No file is left
     /// where it fails.
@@ -33,7 +33,7 @@ impl IdPaper {
             Err(error) => return Err(Cause::new("name", "a file of ids", error)),
         };
         match made(rt, path.as_str()) {
-            Ok(file) => IdPaper { path, file }.filled(rt, ids.bytes.bytes()),
+            Ok(file) => WrittenIds { path, file }.filled(rt, ids.bytes.bytes()),
             Err(error) => Err(Cause::of_path("make", path, error)),
         }
     }
