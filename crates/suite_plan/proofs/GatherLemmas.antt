@@ -14,7 +14,7 @@ use Rattle.suite_plan.specs.FirstIds.{HasFirsts}
 use Rattle.suite_plan.specs.Gathering.{HasIdsOf, GathersNotes, HasGathered}
 use Rattle.suite_plan.specs.Listing.{listed_id, Lists}
 use Rattle.suite_plan.specs.declared.first_ids.FirstIds.{FirstIds}
-use Rattle.suite_plan.specs.declared.gathered.Gathered.{Gathered}
+use Rattle.suite_plan.specs.declared.listed_ids.Gathered.{Gathered}
 
 -- ---- one note
 

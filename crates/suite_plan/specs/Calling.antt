@@ -21,12 +21,13 @@ use Rattle.suite_plan.specs.declared.calling.CallRefusal.TheVariants.{Spawn, Chi
 abbrev pub is_count : List ℕ → Bool
 is_count digits = list_all is_ascii_digit digits && (nat_le 1 (length digits) && nat_le (length digits) 9)
 
-abbrev pub count_of : List ℕ → Option ℕ
-count_of digits = if is_count digits then Some (digits_value 10 digits) else None
+-- the number that the digits are, where they are a number of workers
+abbrev pub called_count : List ℕ → Option ℕ
+called_count digits = if is_count digits then Some (digits_value 10 digits) else None
 
 -- the number that a whole output tells, which has 64 bytes at most, between white space and newlines
 abbrev pub called : List ℕ → Option ℕ
-called bytes = if nat_le (length bytes) 64 then count_of (trimmed bytes) else None
+called bytes = if nat_le (length bytes) 64 then called_count (trimmed bytes) else None
 
 -- the count job was started, and its child has an output that meets this
 pub record StartsCounting (settings : Settings) (Meets : Output → Type 0) (s t : Spawning) : Type 0 where

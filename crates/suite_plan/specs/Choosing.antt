@@ -4,10 +4,8 @@ use Rattle.std.specs.Option.{option_or}
 use Rattle.std.specs.List.{filter}
 use Rattle.outcome_fold.specs.Order.{among}
 use Rattle.partition_times.specs.Patterns.{picked_ids}
+pub use Rattle.partition_times.specs.Shares.{Ids}
 use Rattle.suite_plan.specs.Firsts.{firsts}
-
-abbrev pub Ids : Type 0
-Ids = List (List ℕ)
 
 -- the ids, in their order, that stand among the others
 abbrev pub ids_in_both : Ids → Ids → Ids

@@ -12,6 +12,7 @@ use Rattle.testr_conf.specs.Settings.{Settings, conf_of}
 use Rattle.testr_conf.specs.declared.fault.ConfFault.{ConfFault}
 use Rattle.testr_conf.specs.declared.fault.ConfFault.TheVariants as fault
 
+-- the name of the configuration's file
 abbrev pub conf_name : List ℕ
 conf_name = codes ".testr.conf"
 

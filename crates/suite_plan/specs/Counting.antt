@@ -5,7 +5,7 @@ use Rattle.suite_plan.specs.Calling.{TellsNumber, TellsNone}
 use Rattle.suite_plan.specs.Children.{IsBroken}
 use Rattle.suite_plan.specs.declared.calling.CallRefusal.{CallRefusal}
 use Rattle.suite_plan.specs.declared.calling.CallRefusal.TheVariants.{Spawn, Child, NoNumber, NoMemory}
-use Rattle.suite_plan.specs.declared.head.Head.{Head}
+use Rattle.suite_plan.specs.declared.output_front.Head.{Head}
 
 -- the first bytes of the output, one more than those that a number may have
 abbrev pub HasHead : Head → List ℕ → Type 0

@@ -14,7 +14,7 @@ use Rattle.suite_plan.specs.Children.{IsBroken}
 use Rattle.suite_plan.specs.FirstIds.{HasFirsts}
 use Rattle.suite_plan.specs.Listing.{listed_id, Lists, HasFailed}
 use Rattle.suite_plan.specs.declared.first_ids.FirstIds.{FirstIds}
-use Rattle.suite_plan.specs.declared.gathered.Gathered.{Gathered}
+use Rattle.suite_plan.specs.declared.listed_ids.Gathered.{Gathered}
 use Rattle.suite_plan.specs.declared.listing.ListingRefusal.{ListingRefusal}
 use Rattle.suite_plan.specs.declared.listing.ListingRefusal.TheVariants.{NoListOption, Spawn, Child, Failed, NoMemory}
 
@@ -35,8 +35,8 @@ pub record HasGathered (gathered : Gathered) (bytes : List ℕ) : Type 0 where
   pub found : HasIdsOf gathered.found (events_of notes)
 
 -- few enough bytes are held that a piece can be fed
-abbrev pub HasRoom : Gathered → Type 0
-HasRoom gathered = length gathered.reader.bytes ≤ most_held
+abbrev pub HasRoomForPiece : Gathered → Type 0
+HasRoomForPiece gathered = length gathered.reader.bytes ≤ most_held
 
 -- why there is no list job
 abbrev pub refusal_of : JobFault → ListingRefusal

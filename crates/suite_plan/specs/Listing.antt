@@ -31,6 +31,7 @@ id_where Skip id = None
 id_where Fail id = None
 id_where XFail id = None
 
+-- the id of a test that the event says to exist
 abbrev pub listed_id : Event → Option (List ℕ)
 listed_id event = id_where event.status event.id
 

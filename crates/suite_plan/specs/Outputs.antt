@@ -8,7 +8,7 @@ use Rattle.suite_plan.specs.declared.output.OutputFault.{OutputFault}
 use Rattle.suite_plan.specs.declared.output.OutputFault.TheVariants.{Child, NoMemory}
 
 -- these were taken from the front of what the child had left
-pub record HasTaken (has : List ℕ → Type 0) (before now : Option Output) : Type 0 where
+pub record HasTakenFront (has : List ℕ → Type 0) (before now : Option Output) : Type 0 where
   pub done : List ℕ
   pub given : Goes before now (GivesFront done)
   pub taken : has done
@@ -29,7 +29,7 @@ pub record IsTaken (has : List ℕ → Type 0) (s t : Output) : Type 0 where
   pub whole : s.finish ≡ ReadFault → ⊥
 
 -- the whole output was taken, and the child ended with this status; or it was not read to its end, or not be waited for
-abbrev pub EndsSo : (has : List ℕ → Type 0) → Result ℤ OutputFault → Output → Type 0
-EndsSo has (Ok status) output = (output.finish ≡ Exit status) × has output.bytes
-EndsSo has (Err Child) output = IsBroken output.finish
-EndsSo has (Err NoMemory) output = ⊤
+abbrev pub HasStatus : (has : List ℕ → Type 0) → Result ℤ OutputFault → Output → Type 0
+HasStatus has (Ok status) output = (output.finish ≡ Exit status) × has output.bytes
+HasStatus has (Err Child) output = IsBroken output.finish
+HasStatus has (Err NoMemory) output = ⊤

@@ -1,6 +1,7 @@
 -- The patterns of a run and its `group_regex`, and what is told of a bad one (docs/FORMATS.md, "Patterns" and "Groups").
-use Rattle.std.specs.Prelude.{◌≡◌, ◌⊎◌, ⊤, ℕ, All, List, [], slice_index_or, Option, IfSome, IsSomeAnd, Result, Ok, Err}
-use Rattle.partition_times.specs.Patterns.{IsPattern, IsBadPattern, IsFirstBad}
+use Rattle.std.specs.Prelude.{◌≡◌, ◌⊎◌, ⊤, ℕ, All, List, [], Option, IfSome, IsSomeAnd, Result, Ok, Err}
+use Rattle.partition_times.specs.Patterns.{IsPattern, IsBadPattern}
+pub use Rattle.partition_times.specs.Patterns.{IsFirstBadText}
 use Rattle.suite_plan.specs.declared.patterns.Compiled.{Compiled}
 use Rattle.suite_plan.specs.declared.patterns.PatternRefusal.{PatternRefusal}
 use Rattle.suite_plan.specs.declared.patterns.PatternRefusal.TheVariants.{Bad, NoMemory}
@@ -11,12 +12,6 @@ pub record AreCompiled (patterns : List (List ℕ)) (regex : Option (List ℕ)) 
   pub groups : compiled.groups ≡ regex
   pub good : All IsPattern patterns
   pub good_regex : IfSome regex IsPattern
-
--- the text is the first bad one of the patterns, in their order
-pub record IsFirstBadText (patterns : List (List ℕ)) (text : List ℕ) : Type 0 where
-  pub index : ℕ
-  pub first : IsFirstBad patterns index
-  pub there : text ≡ slice_index_or patterns index []
 
 -- the text is the regex of the groups, and is bad
 abbrev pub IsBadRegex : Option (List ℕ) → List ℕ → Type 0

@@ -12,9 +12,11 @@ use Rattle.suite_plan.specs.declared.sharing.TheConstants.{MOST_WORKERS}
 use Rattle.suite_plan.specs.declared.processors.TableRefusal.{TableRefusal}
 use Rattle.suite_plan.specs.declared.processors.TableRefusal.TheVariants.{Site, TooLong, NoMemory}
 
+-- the name of the system's table of processors
 abbrev pub table_name : List ℕ
 table_name = codes "/proc/cpuinfo"
 
+-- the line begins the entry of a processor
 abbrev pub is_processor : List ℕ → Bool
 is_processor line = starts_with nat_eq line (codes "processor")
 
@@ -23,13 +25,13 @@ abbrev pub processors_in : List ℕ → ℕ
 processors_in text = length (filter is_processor (lines_of text))
 
 -- a number of workers, at least 1 and at most so many as a run may have
-abbrev pub cut : ℕ → ℕ
-cut number = max 1 (min number MOST_WORKERS)
+abbrev pub clamp_workers : ℕ → ℕ
+clamp_workers number = max 1 (min number MOST_WORKERS)
 
 -- a table that is not there counts as an empty one
 abbrev pub workers_for : Option (List ℕ) → ℕ
 workers_for None = 1
-workers_for (Some text) = cut (processors_in text)
+workers_for (Some text) = clamp_workers (processors_in text)
 
 -- the table is not too long where it is there, and this is its number
 pub record GivesProcessors (number : ℕ) (files : Files) : Type 0 where
@@ -55,6 +57,7 @@ unread_table read.Failed = Site
 unread_table read.TooLong = TooLong
 unread_table read.NoMemory = NoMemory
 
+-- at least one worker, and no more than the most that a run may have
 abbrev pub IsInRange : ℕ → Type 0
 IsInRange number = (1 ≤ number) × (number ≤ MOST_WORKERS)
 

@@ -4,6 +4,7 @@ use Rattle.std.specs.List.{filter}
 use Rattle.partition_times.specs.Names.{group_of}
 use Rattle.partition_times.specs.Shares.{Ids, Times, shares_of}
 
+-- there is an id among them
 abbrev pub has_ids : Ids → Bool
 has_ids ids = not (length ids == 0)
 

@@ -5,8 +5,8 @@ ghost use Rattle.suite_plan.specs.Calling.{CallsOut};
 ghost use Rattle.suite_plan.specs.Counting.{HasHead, TellsCount, IsOfCounter};
 
 use crate::count::called;
-use crate::head::Head;
 use crate::output::{OutputFault, read_buffer, read_to_end};
+use crate::output_front::Head;
 use edge_io::{Child, Failed, Spawner};
 use std::alloc::Global;
 use sub_number::NoMemory;

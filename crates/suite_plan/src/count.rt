@@ -4,7 +4,7 @@ ghost use Rattle.std.specs.Prelude.{◌≡◌, ◌≤◌, IsTrue, length};
 ghost use Rattle.std.specs.Char.{is_ascii_digit};
 ghost use Rattle.std.specs.List.{list_all};
 ghost use Rattle.std.specs.Str.Parse.{digits_value};
-ghost use Rattle.suite_plan.specs.Calling.{count_of, called};
+ghost use Rattle.suite_plan.specs.Calling.{called_count, called};
 
 use std::str;
 use testr_conf::trim;
@@ -51,7 +51,7 @@ fn are_digits(bytes: &[u8]) -> bool
 
 // The number that the bytes write, where they are 1 to 9 digits.
 fn count_of(bytes: &[u8]) -> Option<u32>
-    ensures { result ≡ count_of bytes.now }
+    ensures { result ≡ called_count bytes.now }
 {
     if !are_digits(bytes) || bytes.is_empty() || bytes.len() > MOST_DIGITS {
         return None;

@@ -10,32 +10,32 @@
 //!
 //! - `texts`: files that are read whole, and must not be too long
 //! - `conf_file`, `load_list`, `processors`: the configuration, a list of ids, and the table of processors
-//! - `output`, `head`, `gathering`, `gathered`: what a child gives, read to its end
+//! - `output`, `output_front`, `note_ids`, `listed_ids`: what a child gives, read to its end
 //! - `listing`, `calling`, `count`: the tests that the project's listing tells of, and the number of workers that it calls out
 //! - `first_ids`: ids of which each stands once
-//! - `patterns`, `choosing`: which of the tests run
+//! - `patterns`, `choice`: which of the tests run
 //! - `sharing`, `lane_jobs`: which worker runs which of them, and the job of each worker
 #![tactic(auto)]
 
 mod calling;
-mod choosing;
+mod choice;
 mod conf_file;
 mod count;
 mod first_ids;
-mod gathered;
-mod gathering;
-mod head;
 mod lane_jobs;
+mod listed_ids;
 mod listing;
 mod load_list;
+mod note_ids;
 mod output;
+mod output_front;
 mod patterns;
 mod processors;
 mod sharing;
 mod texts;
 
 pub use calling::{CallRefusal, call_out};
-pub use choosing::{choose, chosen, in_both};
+pub use choice::{choose, chosen, in_both};
 pub use conf_file::{ConfRefusal, read_conf};
 pub use first_ids::firsts;
 pub use lane_jobs::jobs_of_lanes;

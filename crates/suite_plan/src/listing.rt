@@ -3,10 +3,10 @@
 ghost use Rattle.std.specs.Prelude.{◌≡◌, [], length, IfOk, IfSome};
 ghost use Rattle.std.specs.List.{IsDistinct};
 ghost use Rattle.std.specs.Str.{bytes_eq};
-ghost use Rattle.suite_plan.specs.Gathering.{HasGathered, HasRoom, TellsIds, IsOfChild};
+ghost use Rattle.suite_plan.specs.Gathering.{HasGathered, HasRoomForPiece, TellsIds, IsOfChild};
 ghost use Rattle.suite_plan.specs.Listing.{ListsTests};
 
-use crate::gathered::Gathered;
+use crate::listed_ids::Gathered;
 use crate::output::{OutputFault, read_buffer, read_to_end};
 use edge_io::{Child, Failed, Spawner};
 use std::alloc::Global;
@@ -85,7 +85,7 @@ fn list_child<C: Child>(
     buffer: &mut [u8],
     mut gathered: Gathered,
 ) -> Result<IdList, ListingRefusal>
-    requires ready { HasRoom gathered }
+    requires ready { HasRoomForPiece gathered }
     requires has { HasGathered gathered [] }
     requires room { length buffer.old ≡ 65536 }
     ensures of_child { IsOfChild result }

@@ -3,7 +3,7 @@
 ghost use Rattle.std.specs.Prelude.{◌≡◌, ◌<◌, ◌≤◌, ◌++◌, ℕ, List, [], true, false, length, IfOk, OnOk, IfSome};
 ghost use Rattle.edge_io.specs.Children.{HasBroken};
 ghost use Rattle.edge_io.specs.Steps.{Goes};
-ghost use Rattle.suite_plan.specs.Outputs.{TakesPiece, IsAtEnd, IsTaken, EndsSo};
+ghost use Rattle.suite_plan.specs.Outputs.{TakesPiece, IsAtEnd, IsTaken, HasStatus};
 ghost use Rattle.suite_plan.specs.declared.output.OutputFault.TheVariants.{Child as child_fault};
 ghost use Rattle.edge_io.specs.declared.child.Finish.TheVariants.{ReadFault};
 
@@ -68,7 +68,7 @@ pub(crate) fn read_to_end<C: Child, T: Taker>(
     requires room { length buffer.old ≡ 65536 }
     ensures ready { IfOk result (λ _. T.ready taker.new) }
     ensures took { IfOk result (λ _. (bytes : List ℕ) × T.has taker.new bytes) }
-    ensures told { IfSome (C.seen child.old).told (EndsSo (T.has taker.new) result) }
+    ensures told { IfSome (C.seen child.old).told (HasStatus (T.has taker.new) result) }
 {
     match take_pieces(child, buffer, taker) {
         Ok(()) => match child.wait() {

@@ -1,7 +1,7 @@
 //! The number of processors, as the system's table tells it.
 
 ghost use Rattle.std.specs.Prelude.{◌≡◌, ◌≤◌, length};
-ghost use Rattle.suite_plan.specs.Processors.{CountsProcessors, processors_in, cut};
+ghost use Rattle.suite_plan.specs.Processors.{CountsProcessors, processors_in, clamp_workers};
 ghost use Rattle.suite_plan.specs.Texts.{most_text};
 
 use crate::sharing::MOST_WORKERS;
@@ -52,8 +52,8 @@ fn processors_in(table: &[u8]) -> u32
 }
 
 // At least 1, and at most so many as a run may have.
-fn cut(number: u32) -> u32
-    ensures { result ≡ cut number }
+fn clamp_workers(number: u32) -> u32
+    ensures { result ≡ clamp_workers number }
 {
     number.clamp(1, MOST_WORKERS)
 }
@@ -68,7 +68,7 @@ pub fn count_processors<F: Site>(alloc: Global, site: &mut F) -> Result<u32, Tab
     ensures step { CountsProcessors (F.seen site.old) (F.seen site.new) result }
 {
     match read_file(alloc, site, "/proc/cpuinfo", MOST_TEXT)? {
-        Some(table) => Ok(cut(processors_in(&table))),
+        Some(table) => Ok(clamp_workers(processors_in(&table))),
         None => Ok(1),
     }
 }

@@ -1,11 +1,11 @@
 use Rattle.std.proofs.Common.{◌≡◌, length}
-use Rattle.suite_plan.specs.Outputs.{HasTaken}
+use Rattle.suite_plan.specs.Outputs.{HasTakenFront}
 use Rattle.suite_plan.proofs.output.take_pieces.Given as goal
 
 -- the pieces so far were taken in turn
 abbrev pub invariant-loop : goal.invariant-loop
 invariant-loop g l = record {
-  taken : HasTaken (g.T.Taker.has l.taker) (g.C.Child.seen l.fn.child).told (g.C.Child.seen l.child).told;
+  taken : HasTakenFront (g.T.Taker.has l.taker) (g.C.Child.seen l.fn.child).told (g.C.Child.seen l.child).told;
   ready : g.T.Taker.ready l.taker;
   room : length l.buffer ≡ 65536;
 }

@@ -2,7 +2,7 @@ use Rattle.std.proofs.Common.{◌≡◌, length, List}
 use Rattle.stream_reader.specs.declared.note.Note.{Note}
 use Rattle.stream_reader.specs.Notes.{events_of}
 use Rattle.suite_plan.specs.Gathering.{HasIdsOf, GathersNotes}
-use Rattle.suite_plan.proofs.gathering.gather_notes.Given as goal
+use Rattle.suite_plan.proofs.note_ids.gather_notes.Given as goal
 
 -- the notes given so far were gathered in turn
 abbrev pub invariant-loop-note : goal.invariant-loop-note

@@ -76,10 +76,10 @@ fn choose_given(
     }
 }
 
-/// The ids of a run, which the patterns pick of those that are given, of repeated ones the first: of the failing ids those
-/// that a load list has, in the order of the failing ids; else the failing ids, or those of the load list, or those of a
-/// listing, of which each stands once, whichever is given first. `None` comes exactly where none of the three is given:
-/// then one worker runs all tests.
+/// The ids of a run, which the patterns pick of those that are given, of repeated ones the first. Where failing ids and
+/// a load list are given, they are those of the failing ids that the load list has, in the order of the failing ids.
+/// Else they are the failing ids, or those of the load list, or those of a listing, of which each stands once,
+/// whichever is given first. `None` comes exactly where none of the three is given: then one worker runs all tests.
 pub fn chosen(
     alloc: Global,
     failing: Option<IdList>,

@@ -3,7 +3,7 @@ use Rattle.std.proofs.lemmas.Grind.{common_steps}
 use Rattle.std.proofs.lemmas.Result.{IfOk-weaker}
 use Rattle.suite_plan.specs.Choosing.{ids_in_both}
 use Rattle.suite_plan.proofs.ChoosingLemmas.{both_by_set}
-use Rattle.suite_plan.proofs.choosing.in_both.Goals as goal
+use Rattle.suite_plan.proofs.choice.in_both.Goals as goal
 
 pub returns : goal.returns
 returns c =

@@ -1,5 +1,5 @@
 use Rattle.suite_plan.proofs.GatherLemmas.{ids_listed}
-use Rattle.suite_plan.proofs.gathered.Gathered.close.Goals as goal
+use Rattle.suite_plan.proofs.listed_ids.Gathered.close.Goals as goal
 
 pub returns-clause-lists : goal.returns-clause-lists
 returns-clause-lists c = λ bytes has.

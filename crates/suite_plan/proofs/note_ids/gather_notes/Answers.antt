@@ -1,6 +1,6 @@
 use Rattle.std.proofs.Common.{◌∙◌, refl}
 use Rattle.suite_plan.proofs.GatherLemmas.{gathered_none, gathered_more}
-use Rattle.suite_plan.proofs.gathering.gather_notes.Goals as goal
+use Rattle.suite_plan.proofs.note_ids.gather_notes.Goals as goal
 
 pub loop-note-init : goal.loop-note-init
 loop-note-init c = record { gathered = λ notes h. gathered_none notes _ _ h; ended = refl }

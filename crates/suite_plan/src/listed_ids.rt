@@ -3,7 +3,7 @@
 ghost use Rattle.std.specs.Prelude.{◌≡◌, false};
 
 use crate::first_ids::FirstIds;
-use crate::gathering::gather_notes;
+use crate::note_ids::gather_notes;
 use crate::output::Taker;
 use std::alloc::Global;
 use stream_reader::Reader;
@@ -21,13 +21,13 @@ impl Gathered {
     ghost use Rattle.std.specs.Prelude.{ℕ, List, [], IfOk};
     ghost use Rattle.std.specs.List.{IsDistinct};
     ghost use Rattle.std.specs.Str.{bytes_eq};
-    ghost use Rattle.suite_plan.specs.Gathering.{HasGathered, HasRoom};
+    ghost use Rattle.suite_plan.specs.Gathering.{HasGathered, HasRoomForPiece};
     ghost use Rattle.suite_plan.specs.Listing.{Lists};
 
     /// Nothing was read yet.
     pub(crate) fn new(alloc: Global) -> Result<Self, NoMemory>
         ensures has { IfOk result (λ gathered. HasGathered gathered []) }
-        ensures room { IfOk result HasRoom }
+        ensures room { IfOk result HasRoomForPiece }
     {
         let reader = Reader::new(alloc)?;
         Ok(Gathered {
@@ -52,11 +52,11 @@ impl Gathered {
 }
 
 impl Taker for Gathered {
-    ghost use Rattle.suite_plan.specs.Gathering.{HasGathered, HasRoom};
+    ghost use Rattle.suite_plan.specs.Gathering.{HasGathered, HasRoomForPiece};
 
     ghost has = { HasGathered };
 
-    ghost ready = { HasRoom };
+    ghost ready = { HasRoomForPiece };
 
     fn take(&mut self, piece: &[u8]) -> Result<(), NoMemory> {
         self.reader.feed(piece);

@@ -3,7 +3,7 @@ use Rattle.std.proofs.lemmas.Result.{IfOk-weaker}
 use Rattle.partition_times.specs.Patterns.{picked_ids}
 use Rattle.suite_plan.specs.Choosing.{chosen_of}
 use Rattle.suite_plan.proofs.ChoosingLemmas.{chosen_picked}
-use Rattle.suite_plan.proofs.choosing.choose.Goals as goal
+use Rattle.suite_plan.proofs.choice.choose.Goals as goal
 
 pub returns : goal.returns
 returns c =
