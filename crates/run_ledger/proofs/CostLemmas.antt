@@ -10,7 +10,7 @@ use Rattle.run_shelf.specs.Repository.{Run, run_at, most_runs}
 use Rattle.run_shelf.proofs.ReadingLemmas.{same_state}
 use Rattle.run_shelf.proofs.RunLemmas.{past_items, within_items, none_is_not_some}
 use Rattle.run_shelf.proofs.ShowsLemmas.{kinds_of_runs}
-use Rattle.run_ledger.specs.Costs.{asked_for, asked_for_each, ReadsOnce, ReadsFrom, ReadsTo}
+use Rattle.run_ledger.specs.Costs.{bytes_asked, asked_for_each, ReadsOnce, ReadsFrom, ReadsTo}
 use Rattle.run_ledger.specs.Starts.{IsStart}
 
 drop_here : (runs : List Run) (n : ℕ) (run : Run) → slice_get runs n ≡ Some run → drop n runs ≡ run ∷ drop (suc n) runs
@@ -68,10 +68,10 @@ module _ (first before : Option Folder) (kinds : List Bool) (start number began 
           let size : length kinds ≡ length runs = ap length (kinds_of_runs s.disk.published runs kinds shown f.kinds_are) ∙ length-map runs (λ (run : Run). run.partial) in
           let item = item_of (slice_get runs number) (within_items runs number (omega (arith, known, size))) in
           let few : number < most_runs = omega (arith, known, f.kinds_are.few) in
-          let one : now * 65536 ≤ old * 65536 + asked_for item.0 = here_of (run_at s.disk.published number) item.0 (λ run. now * 65536 ≤ old * 65536 + asked_for run) (shown.each number few ∙ item.1) o in
+          let one : now * 65536 ≤ old * 65536 + bytes_asked item.0 = here_of (run_at s.disk.published number) item.0 (λ run. now * 65536 ≤ old * 65536 + bytes_asked run) (shown.each number few ∙ item.1) o in
           let at : suc number ≡ next = omega (arith, is) in
-          let rest : asked_for_each (drop number runs) ≡ asked_for item.0 + asked_for_each (drop next runs) =
-          ap asked_for_each (drop_here runs number item.0 item.1) ∙ ap (λ (n : ℕ). asked_for item.0 + asked_for_each (drop n runs)) at in
+          let rest : asked_for_each (drop number runs) ≡ bytes_asked item.0 + asked_for_each (drop next runs) =
+          ap asked_for_each (drop_here runs number item.0 item.1) ∙ ap (λ (n : ℕ). bytes_asked item.0 + asked_for_each (drop n runs)) at in
           omega (arith, one, rest, t runs shown)
 
 -- there is one run from which on is read

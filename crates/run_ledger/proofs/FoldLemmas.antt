@@ -14,7 +14,7 @@ use Rattle.outcome_fold.specs.declared.row.Row.{Row}
 use Rattle.outcome_fold.specs.Outcome.{HasFolded}
 use Rattle.outcome_fold.specs.Rows.{rows_of}
 use Rattle.run_ledger.specs.declared.run_reader.RunReader.{RunReader}
-use Rattle.run_ledger.specs.Reading.{HasRead, FoldsNotes, AreRowsOf}
+use Rattle.run_ledger.specs.Reading.{HasReadBytes, FoldsNotes, AreRowsOf}
 
 pub folds_none : (notes : List Note) (held : Held) (outcomes : Outcomes) → HasFolded outcomes (events_of notes) → FoldsNotes notes held held outcomes
 folds_none notes held outcomes folded = record { all = notes; given = notes_none held notes; folded = folded }
@@ -30,9 +30,9 @@ folds_more notes before held after old new next so_far gives same step = record 
 }
 
 pub read_more : {T E : Type 0} (r : Result T E) (bytes piece : List ℕ) (run new : RunReader) (held : Held)
-    → AreBytes piece → HasRead run bytes → held ≡ record { bytes = run.reader.bytes ++ piece; ended = false }
+    → AreBytes piece → HasReadBytes run bytes → held ≡ record { bytes = run.reader.bytes ++ piece; ended = false }
     → ((notes : List Note) → HasFolded run.outcomes (events_of notes) → OnOk r (FoldsNotes notes held new.reader new.outcomes))
-    → OnOk r (HasRead new (bytes ++ piece))
+    → OnOk r (HasReadBytes new (bytes ++ piece))
 read_more (Err e) bytes piece run new held are read held-is step = tt
 read_more (Ok x) bytes piece run new held are read held-is step =
     let folds = step read.notes read.folded in
@@ -44,9 +44,9 @@ read_more (Ok x) bytes piece run new held are read held-is step =
 
 -- the same where nothing was fed
 pub read_same : {T E : Type 0} (r : Result T E) (bytes : List ℕ) (run new : RunReader)
-    → run.reader.ended ≡ false → HasRead run bytes
+    → run.reader.ended ≡ false → HasReadBytes run bytes
     → ((notes : List Note) → HasFolded run.outcomes (events_of notes) → OnOk r (FoldsNotes notes run.reader new.reader new.outcomes))
-    → OnOk r (HasRead new bytes)
+    → OnOk r (HasReadBytes new bytes)
 read_same (Err e) bytes run new going_on read step = tt
 read_same (Ok x) bytes run new going_on read step =
     let folds = step read.notes read.folded in
@@ -64,20 +64,20 @@ few_held (Err e) held going_on spent = tt
 
 -- what is left of a piece is still to be read
 abbrev pub IsReadTo : RunReader → RunReader → (piece left : List ℕ) → Type 0
-IsReadTo old now piece left = (bytes : List ℕ) → HasRead old bytes → (done : List ℕ) × (piece ≡ done ++ left) × HasRead now (bytes ++ done)
+IsReadTo old now piece left = (bytes : List ℕ) → HasReadBytes old bytes → (done : List ℕ) × (piece ≡ done ++ left) × HasReadBytes now (bytes ++ done)
 
-pub read_to_none : {T E : Type 0} (r : Result T E) (old now : RunReader) (piece : List ℕ) (x : T) → r ≡ Ok x → ((bytes : List ℕ) → HasRead old bytes → OnOk r (HasRead now bytes)) → IsReadTo old now piece piece
+pub read_to_none : {T E : Type 0} (r : Result T E) (old now : RunReader) (piece : List ℕ) (x : T) → r ≡ Ok x → ((bytes : List ℕ) → HasReadBytes old bytes → OnOk r (HasReadBytes now bytes)) → IsReadTo old now piece piece
 read_to_none r old now piece x is step bytes read =
-    let read' : HasRead now bytes = rw is at (step bytes read) in
+    let read' : HasReadBytes now bytes = rw is at (step bytes read) in
     ([], refl, rw (append-nil bytes) read')
 
-pub read_to_more : {T E : Type 0} (r : Result T E) (old now new : RunReader) (piece left part behind : List ℕ) (x : T) → r ≡ Ok x → left ≡ part ++ behind → ((bytes : List ℕ) → HasRead now bytes → OnOk r (HasRead new (bytes ++ part))) → IsReadTo old now piece left → IsReadTo old new piece behind
+pub read_to_more : {T E : Type 0} (r : Result T E) (old now new : RunReader) (piece left part behind : List ℕ) (x : T) → r ≡ Ok x → left ≡ part ++ behind → ((bytes : List ℕ) → HasReadBytes now bytes → OnOk r (HasReadBytes new (bytes ++ part))) → IsReadTo old now piece left → IsReadTo old new piece behind
 read_to_more r old now new piece left part behind x is parts step so_far bytes read =
     let was = so_far bytes read in
-    let next : HasRead new ((bytes ++ was.0) ++ part) = rw is at (step (bytes ++ was.0) was.2) in
+    let next : HasReadBytes new ((bytes ++ was.0) ++ part) = rw is at (step (bytes ++ was.0) was.2) in
     (was.0 ++ part, was.1 ∙ ap (λ (l : List ℕ). was.0 ++ l) parts ∙ sym (append_assoc was.0 part behind), rw (← append_assoc bytes was.0 part) next)
 
-pub read_to_end : (old now : RunReader) (piece left : List ℕ) → length left ≡ 0 → IsReadTo old now piece left → (bytes : List ℕ) → HasRead old bytes → HasRead now (bytes ++ piece)
+pub read_to_end : (old now : RunReader) (piece left : List ℕ) → length left ≡ 0 → IsReadTo old now piece left → (bytes : List ℕ) → HasReadBytes old bytes → HasReadBytes now (bytes ++ piece)
 read_to_end old now piece [] none so_far bytes read =
     let was = so_far bytes read in
     let all : piece ≡ was.0 = was.1 ∙ append-nil was.0 in
@@ -90,7 +90,7 @@ if_ok_then P Q (Err e) holds each = tt
 
 -- at the end of the run
 pub rows_at_end : {E : Type 0} (r : Result (List Row) E) (bytes : List ℕ) (run : RunReader) (held after : Held) (outcomes : Outcomes)
-    → HasRead run bytes → held ≡ record { bytes = run.reader.bytes; ended = true }
+    → HasReadBytes run bytes → held ≡ record { bytes = run.reader.bytes; ended = true }
     → ((notes : List Note) → HasFolded run.outcomes (events_of notes) → FoldsNotes notes held after outcomes)
     → IsSpent after.ended after.bytes
     → ((seen : List Event) → HasFolded outcomes seen → IfOk r (λ rows. rows ≡ rows_of seen))

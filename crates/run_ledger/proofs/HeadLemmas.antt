@@ -6,7 +6,7 @@ use Rattle.std.proofs.lemmas.Bool.{both_ways}
 use Rattle.std.proofs.lemmas.Slice.Eq.{bytes_eq-Decides}
 use Rattle.std.proofs.lemmas.List.{take-append-drop, append_cancel_left}
 use Rattle.run_ledger.specs.Caches.{line}
-use Rattle.run_ledger.specs.Cuts.{Lacks, IsCut, SpellsNumber, BeginsWithHeading}
+use Rattle.run_ledger.specs.Cuts.{Lacks, IsCutAtMark, SpellsDecimal, BeginsWithHeading}
 use Rattle.run_ledger.proofs.FormLemmas.{cut_same, has_mark, decimal_digits}
 
 take_front : (xs ys : List ℕ) → take (length xs) (xs ++ ys) ≡ xs
@@ -33,13 +33,13 @@ module _ (title bytes : List ℕ) where
     pub no_line : Lacks 10 behind → (covers : ℕ) (rest : List ℕ) → BeginsWithHeading title bytes covers rest → ⊥
     no_line lacks covers rest begins = has_mark 10 (decimal covers) rest (subst (Lacks 10) (line_of covers rest begins) lacks)
 
-    module _ (digits after : List ℕ) (cut : IsCut 10 behind digits after) where
-      pub no_number : ((number : ℕ) → SpellsNumber digits number → ⊥) → (covers : ℕ) (rest : List ℕ) → BeginsWithHeading title bytes covers rest → ⊥
+    module _ (digits after : List ℕ) (cut : IsCutAtMark 10 behind digits after) where
+      pub no_number : ((number : ℕ) → SpellsDecimal digits number → ⊥) → (covers : ℕ) (rest : List ℕ) → BeginsWithHeading title bytes covers rest → ⊥
       no_number none covers rest begins =
           let parts = cut_same 10 digits (decimal covers) after rest cut.first (decimal_digits 10 covers (omega arith) begins.small) (sym cut.is ∙ line_of covers rest begins) in
           none covers (record { is = sym parts.0; small = begins.small })
 
-      pub has_heading : (number : ℕ) → SpellsNumber digits number → BeginsWithHeading title bytes number after
+      pub has_heading : (number : ℕ) → SpellsDecimal digits number → BeginsWithHeading title bytes number after
       has_heading number spells = record {
         is = behind_title ∙ ap (λ l. title ++ l) (cut.is ∙ ap (λ (l : List ℕ). l ++ 10 ∷ after) spells.is ∙ sym (line_rest (decimal number) after));
         small = spells.small;

@@ -16,9 +16,9 @@ use Rattle.outcome_fold.specs.Answers.{times_of}
 use Rattle.outcome_fold.proofs.OrderLemmas.{texts_total, exact_texts}
 use Rattle.outcome_fold.proofs.TableLemmas.{entries_in_order}
 use Rattle.run_ledger.specs.Caches.{time_entry, IsTimed}
-use Rattle.run_ledger.specs.Cuts.{Lacks, IsCut, AreTimeEntries}
+use Rattle.run_ledger.specs.Cuts.{Lacks, IsCutAtMark, AreTimeEntries}
 use Rattle.run_ledger.specs.Ledger.{replaced}
-use Rattle.run_ledger.specs.Merging.{AreOf, BeginsWithEntry, timed_of, AreSorted, last_of_each, below, not_below, past, merged}
+use Rattle.run_ledger.specs.Merging.{AreEntriesOfTimes, BeginsWithEntry, timed_of, AreSorted, last_of_each, below, not_below, past, merged}
 use Rattle.run_ledger.proofs.EntryLemmas.{from_own}
 use Rattle.run_ledger.proofs.FormLemmas.{cut_same, has_mark, decimal_digits, no_zero}
 use Rattle.run_ledger.proofs.TimedLemmas.{one_time, keys_sorted}
@@ -167,7 +167,7 @@ module _ (earlier : FinMap text_cmp ℕ) (later : List Timed) (also : Strict lat
 
 -- of a run's rows
 pub run_replaced : (rows : List Row) (sorted later : List Timed) (earlier : FinMap text_cmp ℕ) (old new : List ℕ) → AreSorted (timed_of rows) sorted → later ≡ last_of_each sorted → All IsTimed later → AreTimeEntries old earlier
-    → ((entries : List Timed) → AreOf old entries → new ≡ flat_map time_entry (merged entries later)) → AreTimeEntries new (replaced earlier (times_of rows))
+    → ((entries : List Timed) → AreEntriesOfTimes old entries → new ≡ flat_map time_entry (merged entries later)) → AreTimeEntries new (replaced earlier (times_of rows))
 run_replaced rows sorted later earlier old new are is timed held merges =
     let same : fin.from_entries later ≡ times_of rows = ap fin.from_entries is ∙ longest_are rows sorted are in
     subst (λ (m : FinMap text_cmp ℕ). AreTimeEntries new (replaced earlier m)) same
@@ -175,7 +175,7 @@ run_replaced rows sorted later earlier old new are is timed held merges =
 
 -- of the times that are kept of a run's rows
 pub summed_replaced : (kept : FinMap text_cmp ℕ) (later : List Timed) (earlier : FinMap text_cmp ℕ) (old new : List ℕ) → later ≡ fin.entries kept → All IsTimed later → AreTimeEntries old earlier
-    → ((entries : List Timed) → AreOf old entries → new ≡ flat_map time_entry (merged entries later)) → AreTimeEntries new (replaced earlier kept)
+    → ((entries : List Timed) → AreEntriesOfTimes old entries → new ≡ flat_map time_entry (merged entries later)) → AreTimeEntries new (replaced earlier kept)
 summed_replaced kept later earlier old new are timed held merges =
     let same : fin.from_entries later ≡ kept = ap fin.from_entries are ∙ from_own kept in
     let strict : Strict later = subst Strict (sym are) (keys_strict (fin.entries kept) (keys_sorted (fin.entries kept) (entries_sorted kept))) in
@@ -190,28 +190,28 @@ timed_each f (x ∷ xs) texts small =
 
 -- ---- the first entry
 
-cut_length : (bytes front behind : List ℕ) → IsCut 0 bytes front behind → length behind < length bytes
+cut_length : (bytes front behind : List ℕ) → IsCutAtMark 0 bytes front behind → length behind < length bytes
 cut_length bytes front behind cut = omega (arith, ap length cut.is ∙ length-append front (0 ∷ behind))
 
-pub two_cuts : (bytes front behind digits rest : List ℕ) → IsCut 0 bytes front behind → IsCut 0 behind digits rest → length rest < length bytes
+pub two_cuts : (bytes front behind digits rest : List ℕ) → IsCutAtMark 0 bytes front behind → IsCutAtMark 0 behind digits rest → length rest < length bytes
 two_cuts bytes front behind digits rest one two = omega (arith, cut_length bytes front behind one, cut_length behind digits rest two)
 
-are_first : (bytes : List ℕ) (e : Timed) (es : List Timed) → AreOf bytes (e ∷ es) → bytes ≡ e.0 ++ 0 ∷ (decimal e.1 ++ 0 ∷ flat_map time_entry es)
+are_first : (bytes : List ℕ) (e : Timed) (es : List Timed) → AreEntriesOfTimes bytes (e ∷ es) → bytes ≡ e.0 ++ 0 ∷ (decimal e.1 ++ 0 ∷ flat_map time_entry es)
 are_first bytes e es are = are.is ∙ one_time e.0 e.1 (flat_map time_entry es)
 
-pub no_first : (bytes : List ℕ) → Lacks 0 bytes → (each : List Timed) → AreOf bytes each → each ≡ []
+pub no_first : (bytes : List ℕ) → Lacks 0 bytes → (each : List Timed) → AreEntriesOfTimes bytes each → each ≡ []
 no_first bytes lacks [] are = refl
 no_first bytes lacks (e ∷ es) are = absurd (has_mark 0 e.0 (decimal e.1 ++ 0 ∷ flat_map time_entry es) (subst (Lacks 0) (are_first bytes e es are) lacks))
 
-module _ (bytes front behind : List ℕ) (cut : IsCut 0 bytes front behind) where
-  first_cut : (e : Timed) (es : List Timed) → AreOf bytes (e ∷ es) → (e.0 ≡ front) × (decimal e.1 ++ 0 ∷ flat_map time_entry es ≡ behind)
+module _ (bytes front behind : List ℕ) (cut : IsCutAtMark 0 bytes front behind) where
+  first_cut : (e : Timed) (es : List Timed) → AreEntriesOfTimes bytes (e ∷ es) → (e.0 ≡ front) × (decimal e.1 ++ 0 ∷ flat_map time_entry es ≡ behind)
   first_cut e es are = cut_same 0 front e.0 behind (decimal e.1 ++ 0 ∷ flat_map time_entry es) cut.first (no_zero e.0 (All-head IsTimed e es are.each).text) (sym cut.is ∙ are_first bytes e es are)
 
-  pub no_second : Lacks 0 behind → (each : List Timed) → AreOf bytes each → each ≡ []
+  pub no_second : Lacks 0 behind → (each : List Timed) → AreEntriesOfTimes bytes each → each ≡ []
   no_second lacks [] are = refl
   no_second lacks (e ∷ es) are = absurd (has_mark 0 (decimal e.1) (flat_map time_entry es) (subst (Lacks 0) (sym (first_cut e es are).1) lacks))
 
-  pub first_is : (digits rest : List ℕ) → IsCut 0 behind digits rest → (each : List Timed) → AreOf bytes each → BeginsWithEntry front rest each
+  pub first_is : (digits rest : List ℕ) → IsCutAtMark 0 behind digits rest → (each : List Timed) → AreEntriesOfTimes bytes each → BeginsWithEntry front rest each
   first_is digits rest second [] are = omega (arith, ap length (sym are.is ∙ cut.is) ∙ length-append front (0 ∷ behind))
   first_is digits rest second (e ∷ es) are =
       let one = first_cut e es are in
@@ -222,16 +222,16 @@ module _ (bytes front behind : List ℕ) (cut : IsCut 0 bytes front behind) wher
 
 -- some of the entries below the id were skipped
 abbrev pub SkipsTo : List ℕ → List ℕ → List Timed → Type 0
-SkipsTo id rest each = (more : List Timed) × AreOf rest more × (not_below id more ≡ not_below id each)
+SkipsTo id rest each = (more : List Timed) × AreEntriesOfTimes rest more × (not_below id more ≡ not_below id each)
 
 module _ (id rest : List ℕ) (each : List Timed) (so_far : SkipsTo id rest each) where
-  pub skips_none : ((more : List Timed) → AreOf rest more → more ≡ []) → AreOf rest (not_below id each)
-  skips_none none = subst (AreOf rest) (ap (λ l. l) (is_none (so_far.0) (none so_far.0 so_far.1)) ∙ so_far.2) so_far.1
+  pub skips_none : ((more : List Timed) → AreEntriesOfTimes rest more → more ≡ []) → AreEntriesOfTimes rest (not_below id each)
+  skips_none none = subst (AreEntriesOfTimes rest) (ap (λ l. l) (is_none (so_far.0) (none so_far.0 so_far.1)) ∙ so_far.2) so_far.1
     where
       is_none : (more : List Timed) → more ≡ [] → more ≡ not_below id more
       is_none more none = none ∙ ap (not_below id) (sym none)
 
-  module _ (first behind : List ℕ) (begins : (more : List Timed) → AreOf rest more → BeginsWithEntry first behind more) where
+  module _ (first behind : List ℕ) (begins : (more : List Timed) → AreEntriesOfTimes rest more → BeginsWithEntry first behind more) where
     pub skips_more : is_lt (text_cmp first id) ≡ true → SkipsTo id behind each
     skips_more low = at so_far.0 (begins so_far.0 so_far.1) so_far.2
       where
@@ -239,8 +239,8 @@ module _ (id rest : List ℕ) (each : List Timed) (so_far : SkipsTo id rest each
         at [] never same = absurd never
         at (e ∷ es) found same = (es, found.1, ap (λ b. cond b (not_below id es) (e ∷ es)) (sym (ap (λ k. is_lt (text_cmp k id)) found.0 ∙ low)) ∙ same)
 
-    pub skips_all : is_lt (text_cmp first id) ≡ false → AreOf rest (not_below id each)
-    skips_all low = subst (AreOf rest) (at so_far.0 (begins so_far.0 so_far.1) ∙ so_far.2) so_far.1
+    pub skips_all : is_lt (text_cmp first id) ≡ false → AreEntriesOfTimes rest (not_below id each)
+    skips_all low = subst (AreEntriesOfTimes rest) (at so_far.0 (begins so_far.0 so_far.1) ∙ so_far.2) so_far.1
       where
         at : (more : List Timed) → BeginsWithEntry first behind more → more ≡ not_below id more
         at [] never = refl
@@ -259,7 +259,7 @@ take_front xs ys n is = ap (λ m. take m (xs ++ ys)) is ∙ front xs
     front [] = refl
     front (x ∷ xs) = ap (λ l. x ∷ l) (front xs)
 
-pub front_below : (entries rest id : List ℕ) (each : List Timed) → AreOf entries each → AreOf rest (not_below id each) → take (length entries - length rest) entries ≡ flat_map time_entry (below id each)
+pub front_below : (entries rest id : List ℕ) (each : List Timed) → AreEntriesOfTimes entries each → AreEntriesOfTimes rest (not_below id each) → take (length entries - length rest) entries ≡ flat_map time_entry (below id each)
 front_below entries rest id each are behind =
     let all : entries ≡ flat_map time_entry (below id each) ++ rest =
     are.is ∙ ap (flat_map time_entry) (sym (parts id each)) ∙ flat_both (below id each) (not_below id each) ∙ ap (λ l. flat_map time_entry (below id each) ++ l) (sym behind.is) in
@@ -268,9 +268,9 @@ front_below entries rest id each are behind =
 
 -- the bytes so far, the later entries that are left, and the earlier ones that are left
 abbrev pub MergedTo : List ℕ → List ℕ → List Timed → List Timed → Type 0
-MergedTo bytes rest left whole = (more : List Timed) × AreOf rest more × (bytes ++ flat_map time_entry (merged more left) ≡ flat_map time_entry whole)
+MergedTo bytes rest left whole = (more : List Timed) × AreEntriesOfTimes rest more × (bytes ++ flat_map time_entry (merged more left) ≡ flat_map time_entry whole)
 
-pub merge_none : (bytes earlier : List ℕ) (entries later : List Timed) → bytes ≡ [] → AreOf earlier entries → MergedTo bytes earlier later (merged entries later)
+pub merge_none : (bytes earlier : List ℕ) (entries later : List Timed) → bytes ≡ [] → AreEntriesOfTimes earlier entries → MergedTo bytes earlier later (merged entries later)
 merge_none bytes earlier entries later none are = (entries, are, ap (λ (l : List ℕ). l ++ flat_map time_entry (merged entries later)) none)
 
 pub merge_all : (bytes rest new : List ℕ) (whole left : List Timed) → left ≡ [] → MergedTo bytes rest left whole → new ≡ bytes ++ rest → new ≡ flat_map time_entry whole
@@ -281,7 +281,7 @@ module _ (bytes rest next new : List ℕ) (whole left all : List Timed) (one : T
   so_far : MergedTo bytes rest (one ∷ left) whole
   so_far = subst (λ (l : List Timed). MergedTo bytes rest l whole) begins before
 
-  pub merge_more : ((each : List Timed) → AreOf rest each → AreOf next (past one.0 (not_below one.0 each))) → ((each : List Timed) → AreOf rest each → new ≡ bytes ++ (flat_map time_entry (below one.0 each) ++ time_entry one)) → MergedTo new next left whole
+  pub merge_more : ((each : List Timed) → AreEntriesOfTimes rest each → AreEntriesOfTimes next (past one.0 (not_below one.0 each))) → ((each : List Timed) → AreEntriesOfTimes rest each → new ≡ bytes ++ (flat_map time_entry (below one.0 each) ++ time_entry one)) → MergedTo new next left whole
   merge_more behind puts =
       let rests : List ℕ = flat_map time_entry (merged (past one.0 (not_below one.0 so_far.0)) left) in (
         past one.0 (not_below one.0 so_far.0),
@@ -299,7 +299,7 @@ pub none_left : {A : Type 0} (f : A → Timed) (xs : List A) (i : ℕ) → lengt
 none_left f xs i past = ap (map f) (drop_all i xs past)
 
 pub run_merged : (rows listed : List Row) (earlier : FinMap text_cmp ℕ) (later passed : List Timed) (old new : List ℕ) → listed ≡ rows → (sorted : List Timed) × AreSorted (timed_of listed) sorted × (later ≡ last_of_each sorted) → All IsTimed later → passed ≡ later
-    → AreTimeEntries old earlier → ((entries : List Timed) → AreOf old entries → new ≡ flat_map time_entry (merged entries passed)) → AreTimeEntries new (replaced earlier (times_of rows))
+    → AreTimeEntries old earlier → ((entries : List Timed) → AreEntriesOfTimes old entries → new ≡ flat_map time_entry (merged entries passed)) → AreTimeEntries new (replaced earlier (times_of rows))
 run_merged rows listed earlier later passed old new rows_are (sorted, are, is) timed same held merges =
     subst (λ (l : List Row). AreTimeEntries new (replaced earlier (times_of l))) rows_are
     (run_replaced listed sorted later earlier old new are is timed held (λ entries of. merges entries of ∙ ap (λ l. flat_map time_entry (merged entries l)) same))

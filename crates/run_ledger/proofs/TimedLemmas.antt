@@ -20,7 +20,7 @@ use Rattle.outcome_fold.specs.Answers.{ids_of, row_fails, failing_of, passed_of}
 use Rattle.outcome_fold.proofs.OrderLemmas.{texts_total, exact_texts}
 use Rattle.outcome_fold.proofs.TableLemmas.{entries_in_order}
 use Rattle.run_ledger.specs.Caches.{line, entry, heading, time_entry, times_title, IsTimed, IsTimesCache}
-use Rattle.run_ledger.specs.Cuts.{Lacks, IsCut, SpellsNumber, BeginsWithHeading, BeginsWithTime, AreTimeEntries, HasTimed, last_id, IsTimedAt, entry_of, entry_at}
+use Rattle.run_ledger.specs.Cuts.{Lacks, IsCutAtMark, SpellsDecimal, BeginsWithHeading, BeginsWithTime, AreTimeEntries, HasTimed, last_id, IsTimedAt, entry_if_timed, entry_at}
 use Rattle.run_ledger.specs.Ledger.{RunRows, failing_behind, failing_from, failing_after}
 use Rattle.run_ledger.proofs.FormLemmas.{cut_same, has_mark, decimal_digits, no_zero, sorted_front}
 use Rattle.run_ledger.proofs.CacheLemmas.{begins, same_heading}
@@ -34,20 +34,20 @@ one_time id nanos rest =
     ∙ ap (λ l. id ++ 0 ∷ l) (append_assoc (decimal nanos) (0 ∷ []) rest)
 
 -- why bytes begin with no entry
-module _ (bytes front behind : List ℕ) (cut : IsCut 0 bytes front behind) where
+module _ (bytes front behind : List ℕ) (cut : IsCutAtMark 0 bytes front behind) where
   behind_is : (id : List ℕ) (nanos : ℕ) (rest : List ℕ) → BeginsWithTime bytes id nanos rest → behind ≡ decimal nanos ++ 0 ∷ rest
   behind_is id nanos rest timed = sym (cut_same 0 front id behind (decimal nanos ++ 0 ∷ rest) cut.first timed.plain (sym cut.is ∙ timed.is ∙ one_time id nanos rest)).1
 
   pub no_digits : Lacks 0 behind → (id : List ℕ) (nanos : ℕ) (rest : List ℕ) → BeginsWithTime bytes id nanos rest → ⊥
   no_digits lacks id nanos rest timed = has_mark 0 (decimal nanos) rest (subst (Lacks 0) (behind_is id nanos rest timed) lacks)
 
-  module _ (digits after : List ℕ) (again : IsCut 0 behind digits after) where
-    pub no_time : ((number : ℕ) → SpellsNumber digits number → ⊥) → (id : List ℕ) (nanos : ℕ) (rest : List ℕ) → BeginsWithTime bytes id nanos rest → ⊥
+  module _ (digits after : List ℕ) (again : IsCutAtMark 0 behind digits after) where
+    pub no_time : ((number : ℕ) → SpellsDecimal digits number → ⊥) → (id : List ℕ) (nanos : ℕ) (rest : List ℕ) → BeginsWithTime bytes id nanos rest → ⊥
     no_time none id nanos rest timed =
         let parts = cut_same 0 digits (decimal nanos) after rest again.first (decimal_digits 0 nanos (omega arith) timed.small) (sym again.is ∙ behind_is id nanos rest timed) in
         none nanos (record { is = sym parts.0; small = timed.small })
 
-    pub has_time : (number : ℕ) → SpellsNumber digits number → BeginsWithTime bytes front number after
+    pub has_time : (number : ℕ) → SpellsDecimal digits number → BeginsWithTime bytes front number after
     has_time number spells = record {
       is = cut.is ∙ ap (λ l. front ++ 0 ∷ l) (again.is ∙ ap (λ (l : List ℕ). l ++ 0 ∷ after) spells.is) ∙ sym (one_time front number after);
       plain = cut.first;
@@ -273,7 +273,7 @@ finds_each (e ∷ es) sorted =
 by_id : (times : FinMap text_cmp ℕ) (es : List Timed) → All (λ f. fin.get times f.0 ≡ Some f.1) es → flat_map (entry_at times) (keys es) ≡ flat_map time_entry es
 by_id times [] finds = refl
 by_id times (e ∷ es) finds =
-    ap (λ o. entry_of e.0 o ++ flat_map (entry_at times) (keys es)) (All-head (λ f. fin.get times f.0 ≡ Some f.1) e es finds)
+    ap (λ o. entry_if_timed e.0 o ++ flat_map (entry_at times) (keys es)) (All-head (λ f. fin.get times f.0 ≡ Some f.1) e es finds)
     ∙ ap (λ l. time_entry e ++ l) (by_id times es (All-tail (λ f. fin.get times f.0 ≡ Some f.1) e es finds))
 
 pub entries_by_id : (times : FinMap text_cmp ℕ) → flat_map (entry_at times) (fin.keys times) ≡ flat_map time_entry (fin.entries times)

@@ -13,6 +13,7 @@ use Rattle.run_ledger.specs.Caches.{IsFailingCache, IsTimesCache, SaidOfFirst, I
 use Rattle.run_ledger.specs.Ledger.{failing_after, times_after}
 use Rattle.run_ledger.specs.Starts.{IsStart}
 
+-- the fault of a cache as a fault of the ledger
 abbrev pub ledger_fault : SideFault → LedgerFault
 ledger_fault (side_fault.Store fault) = Store fault
 ledger_fault side_fault.NoMemory = NoMemory

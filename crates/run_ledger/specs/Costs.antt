@@ -5,17 +5,17 @@ use Rattle.edge_io.specs.Disk.{Folder}
 use Rattle.run_shelf.specs.Repository.{Run, run_at, Shows}
 
 -- how many bytes the reads of a run ask for at most, the last of which gives fewer than it asks for
-abbrev pub asked_for : Run → ℕ
-asked_for run = length run.bytes + 65536
+abbrev pub bytes_asked : Run → ℕ
+bytes_asked run = length run.bytes + 65536
 
 -- the same of several runs, each read once
 abbrev pub asked_for_each : List Run → ℕ
 asked_for_each [] = 0
-asked_for_each (run ∷ runs) = asked_for run + asked_for_each runs
+asked_for_each (run ∷ runs) = bytes_asked run + asked_for_each runs
 
 -- the calls are at most the reads of the run of this number, once
 abbrev pub ReadsOnce : ℕ → ℕ → ℕ → Folder → Type 0
-ReadsOnce number before now s = IfSome (run_at s.disk.published number) (λ run. now * 65536 ≤ before * 65536 + asked_for run)
+ReadsOnce number before now s = IfSome (run_at s.disk.published number) (λ run. now * 65536 ≤ before * 65536 + bytes_asked run)
 
 -- the calls are at most the reads of the runs from this number on, each once
 abbrev pub ReadsFrom : ℕ → ℕ → ℕ → Folder → Type 0

@@ -9,16 +9,17 @@ use Rattle.sub_number.specs.Texts.{IsShortText}
 use Rattle.outcome_fold.specs.Order.{text_cmp}
 use Rattle.run_ledger.specs.Caches.{line, entry, time_entry, IsTimed}
 
+-- the mark is not among the bytes
 abbrev pub Lacks : ℕ → List ℕ → Type 0
 Lacks mark bytes = All (λ byte. byte ≢ mark) bytes
 
 -- the bytes before the first mark, and those behind it
-pub record IsCut (mark : ℕ) (bytes front behind : List ℕ) : Type 0 where
+pub record IsCutAtMark (mark : ℕ) (bytes front behind : List ℕ) : Type 0 where
   pub is : bytes ≡ front ++ mark ∷ behind
   pub first : Lacks mark front
 
 -- the digits of this number, which is below 2^64
-pub record SpellsNumber (digits : List ℕ) (number : ℕ) : Type 0 where
+pub record SpellsDecimal (digits : List ℕ) (number : ℕ) : Type 0 where
   pub is : digits ≡ decimal number
   pub small : number < 2 ^ 64
 
@@ -64,12 +65,13 @@ pub record HasTimed (bytes rest : List ℕ) (times : FinMap text_cmp ℕ) (last 
   pub at : last ≡ last_id entries
 
 -- the entry of an id that has this time, and nothing where it has none
-abbrev pub entry_of : List ℕ → Option ℕ → List ℕ
-entry_of id None = []
-entry_of id (Some nanos) = time_entry (id, nanos)
+abbrev pub entry_if_timed : List ℕ → Option ℕ → List ℕ
+entry_if_timed id None = []
+entry_if_timed id (Some nanos) = time_entry (id, nanos)
 
+-- the entry of an id in a table of times, and nothing where it has no time
 abbrev pub entry_at : FinMap text_cmp ℕ → List ℕ → List ℕ
-entry_at times id = entry_of id (fin.get times id)
+entry_at times id = entry_if_timed id (fin.get times id)
 
 -- the id is a text, and its time, where it has one, is small enough
 abbrev pub IsTimedAt : FinMap text_cmp ℕ → List ℕ → Type 0

@@ -44,6 +44,7 @@ abbrev pub failing_behind : List (List ℕ) → RunRows → List (List ℕ)
 failing_behind earlier entry =
     if entry.partial then in_byte_order (without earlier (passed_of entry.rows) ++ failing_of entry.rows) else failing_of entry.rows
 
+-- the failing set behind these runs, where this was the set before them
 abbrev pub failing_from : List (List ℕ) → List RunRows → List (List ℕ)
 failing_from earlier [] = earlier
 failing_from earlier (entry ∷ entries) = failing_from (failing_behind earlier entry) entries
@@ -57,6 +58,7 @@ abbrev pub replaced : FinMap text_cmp ℕ → FinMap text_cmp ℕ → FinMap tex
 replaced earlier later =
     table {R = text_cmp} (λ id. unwrap_or (fin.get later id) (unwrap_or (fin.get earlier id) 0)) (fin.keys earlier ++ fin.keys later)
 
+-- the times behind these runs, where these were the times before them
 abbrev pub times_from : FinMap text_cmp ℕ → List RunRows → FinMap text_cmp ℕ
 times_from earlier [] = earlier
 times_from earlier (entry ∷ entries) = times_from (replaced earlier (times_of entry.rows)) entries

@@ -34,14 +34,14 @@ unfoldable pub times_in : List ℕ → FinMap text_cmp ℕ
 times_in bytes = fin.from_entries (in_pairs (pieces bytes))
 
 -- the bytes are these entries, one after another
-pub record AreOf (bytes : List ℕ) (entries : List (List ℕ × ℕ)) : Type 0 where
+pub record AreEntriesOfTimes (bytes : List ℕ) (entries : List (List ℕ × ℕ)) : Type 0 where
   pub is : bytes ≡ flat_map time_entry entries
   pub each : All IsTimed entries
 
 -- the first of the entries has this id, and these bytes are those behind it
 abbrev pub BeginsWithEntry : (id behind : List ℕ) → List (List ℕ × ℕ) → Type 0
 BeginsWithEntry id behind [] = ⊥
-BeginsWithEntry id behind (one ∷ more) = (one.0 ≡ id) × AreOf behind more
+BeginsWithEntry id behind (one ∷ more) = (one.0 ≡ id) × AreEntriesOfTimes behind more
 
 -- by id, and then by time
 abbrev pub timed_cmp : List ℕ × ℕ → List ℕ × ℕ → Ordering

@@ -25,7 +25,7 @@ pub record SumsRowsOf (filter_tags : List (List ℕ)) (bytes : List ℕ) (summar
   pub sums : Sums filter_tags rows summary
 
 -- the notes that the bytes so far decide were folded, and the rest of the bytes is held
-pub record HasRead (run : RunReader) (bytes : List ℕ) : Type 0 where
+pub record HasReadBytes (run : RunReader) (bytes : List ℕ) : Type 0 where
   pub notes : List Note
   pub begins : BeginsWithNotes bytes notes run.reader.bytes
   pub folded : HasFolded run.outcomes (events_of notes)

@@ -22,12 +22,12 @@ use run_shelf::{Side, Store};
 use std::alloc::Global;
 use sub_number::IdList;
 
-/// The ids of the failing set of all runs, in the order of their bytes, each once, in a folder that is sound: each cache of
-/// its form in it covers at most the runs that there are and holds what these say. A cache is taken for what the runs say
-/// that it covers, and the later ones are read and folded on, each once. Without a cache, where it covers more runs than
-/// there are, and where the last full run is one that it does not cover, that run and those behind it are read, each once.
-/// Nothing changes in the folder. What is asked of the folder is asked of that cache alone, and only where it covers at most
-/// the runs that there are (`ids_where_few`).
+/// The ids of the failing set of all runs, in the order of their bytes, each once, in a folder that is sound. In such a
+/// folder each cache of its form covers at most the runs that there are and holds what these say. A cache is taken for
+/// what the runs say that it covers, and the later ones are read and folded on, each once. Without a cache, where it
+/// covers more runs than there are, and where the last full run is one that it does not cover, that run and those
+/// behind it are read, each once. Nothing changes in the folder. What is asked of the folder is asked of that cache
+/// alone, and only where it covers at most the runs that there are (`ids_where_few`).
 ///
 /// `Store` comes only where a call of the folder failed, and where one had failed before, which comes first. `NoMemory`
 /// comes for want of memory, or of a run without an end in a folder that tells nothing, and leaves the store open.

@@ -21,12 +21,12 @@ use run_shelf::{Side, Store};
 use std::alloc::Global;
 use sub_number::TimeMap;
 
-/// The time of each id that has one in some run, in nanoseconds: that of the last run where it has one, and there the
-/// longest of its times; in a folder that is sound: each cache of its form in it covers at most the runs that there are and
-/// holds what these say. A cache is taken for what the runs say that it covers, and the later ones are read and folded on,
-/// each once. Without a cache, and where it covers more runs than there are, all are read. Nothing changes in the folder.
-/// What is asked of the folder is asked of that cache alone, and only where it covers at most the runs that there are
-/// (`times_where_few`).
+/// The time of each id that has one in some run, in nanoseconds, in a folder that is sound. It is that of the last run
+/// where the id has one, and there the longest of its times. In a sound folder each cache of its form covers at most
+/// the runs that there are and holds what these say. A cache is taken for what the runs say that it covers, and the
+/// later ones are read and folded on, each once. Without a cache, and where it covers more runs than there are, all are
+/// read. Nothing changes in the folder. What is asked of the folder is asked of that cache alone, and only where it
+/// covers at most the runs that there are (`times_where_few`).
 ///
 /// `Store` comes only where a call of the folder failed, and where one had failed before, which comes first. `NoMemory`
 /// comes for want of memory, or of a run without an end in a folder that tells nothing, and leaves the store open.

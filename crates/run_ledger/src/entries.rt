@@ -10,7 +10,7 @@ ghost use Rattle.sub_number.specs.Texts.{IsShortText};
 ghost use Rattle.outcome_fold.specs.Order.{text_cmp};
 ghost use Rattle.run_ledger.specs.Cuts.{BeginsWithTime, AreTimeEntries};
 
-use crate::cutting::{cut, read_decimal};
+use crate::cache_parts::{read_decimal, split_at_mark};
 use std::alloc::Global;
 use std::marker::Model;
 use sub_number::{NoMemory, Text, TextFault, TimeMap, is_text};
@@ -94,8 +94,8 @@ fn next_time(bytes: &[u8]) -> Option<(&[u8], u64, &[u8])>
     ensures some { IfSome result (λ timed. BeginsWithTime bytes.now timed.0.now timed.1 timed.2.now) }
     ensures none { IfNone result ((id : List ℕ) (nanos : ℕ) (rest : List ℕ) → BeginsWithTime bytes.now id nanos rest → ⊥) }
 {
-    let (id, rest) = cut(0, bytes)?;
-    let (digits, behind) = cut(0, rest)?;
+    let (id, rest) = split_at_mark(0, bytes)?;
+    let (digits, behind) = split_at_mark(0, rest)?;
     Some((id, read_decimal(digits)?, behind))
 }
 

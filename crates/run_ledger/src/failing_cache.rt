@@ -8,7 +8,7 @@ ghost use Rattle.outcome_fold.specs.Order.{text_cmp};
 ghost use Rattle.run_ledger.specs.Caches.{entry, failing_cache, IsFailingCache};
 ghost use Rattle.run_ledger.specs.Cuts.{AreIds, AreEntries};
 
-use crate::cutting::{cut, read_heading};
+use crate::cache_parts::{read_heading, split_at_mark};
 use itoa::Buffer;
 use std::alloc::Global;
 use sub_number::{Bytes, IdList, NoMemory, Text, TextFault};
@@ -70,7 +70,7 @@ fn read_entries(alloc: Global, bytes: &[u8]) -> Result<Option<IdList>, NoMemory>
 {
     let mut ids = IdList::new(alloc);
     let mut rest = bytes;
-    while let Some((id, behind)) = cut(0, rest) {
+    while let Some((id, behind)) = split_at_mark(0, rest) {
         if !push_id(alloc, &mut ids, id)? {
             return Ok(None);
         }

@@ -7,9 +7,9 @@ ghost use Rattle.run_ledger.specs.SoFar.{FailsTo};
 ghost use Rattle.run_ledger.specs.Outcomes.{LedgerReads};
 ghost use Rattle.run_ledger.specs.Costs.{ReadsTo};
 
+use crate::failing_change::take_run;
 use crate::fault::LedgerFault;
 use crate::rows::rows_of;
-use crate::taking::take_run;
 use edge_io::Shelf;
 use outcome_fold::TextSet;
 use run_shelf::Store;

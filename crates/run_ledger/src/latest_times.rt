@@ -9,7 +9,7 @@ ghost use Rattle.run_ledger.specs.SoFar.{SaysTo};
 
 use crate::entries::Entries;
 use crate::fault::LedgerFault;
-use crate::merging::replace_times;
+use crate::merged_times::replace_times;
 use crate::rows::rows_of;
 use edge_io::Shelf;
 use run_shelf::Store;

@@ -6,16 +6,16 @@
 //! For want of memory a public call answers `NoMemory`, which comes for nothing else; what it was lent is then as
 //! before, where it does not say otherwise. What it did outside by then stands.
 //!
-//! - `run_reader`, `folding`: the rows of one run, read in pieces
+//! - `run_reader`, `note_fold`: the rows of one run, read in pieces
 //! - `written_run`: the rows of one run, told while it is written
 //! - `fault`: why nothing is said of the runs of a store
 //! - `rows`: the rows of one run of a store
-//! - `failing_set`, `taking`: the ids that fail after the runs of a store, told from the last full run on
+//! - `failing_set`, `failing_change`: the ids that fail after the runs of a store, told from the last full run on
 //! - `latest_times`: the times of the ids in the runs of a store, told from the first one on
-//! - `entries`, `longest`, `merging`: times as the bytes of their cache, and those of one run merged into them
-//! - `cutting`, `failing_cache`, `times_cache`: the two caches, written and read
+//! - `entries`, `longest`, `merged_times`: times as the bytes of their cache, and those of one run merged into them
+//! - `cache_parts`, `failing_cache`, `times_cache`: the two caches, written and read
 //! - `cached_failing`, `cached_times`: the failing set and the times, told with the help of their caches
-//! - `refreshing`: both caches, written anew for the runs as they are
+//! - `fresh_caches`: both caches, written anew for the runs as they are
 //! - `laws`, `cache_laws`: each run has one list of rows, each cache holds one thing, and what keeps files sound
 //! - `lane_laws`: a run of several lanes has the rows of the lanes one after another
 //!
@@ -23,23 +23,23 @@
 #![tactic(auto)]
 
 mod cache_laws;
+mod cache_parts;
 mod cached_failing;
 mod cached_times;
-mod cutting;
 mod entries;
 mod failing_cache;
+mod failing_change;
 mod failing_set;
 mod fault;
-mod folding;
+mod fresh_caches;
 mod lane_laws;
 mod latest_times;
 mod laws;
 mod longest;
-mod merging;
-mod refreshing;
+mod merged_times;
+mod note_fold;
 mod rows;
 mod run_reader;
-mod taking;
 mod times_cache;
 mod written_run;
 
@@ -48,9 +48,9 @@ pub use cached_failing::failing;
 pub use cached_times::times;
 pub use failing_cache::{FailingCache, read_failing_cache, write_failing_cache};
 pub use fault::LedgerFault;
+pub use fresh_caches::{refresh, refresh_behind};
 pub use lane_laws::lanes_are_read_in_turn;
 pub use laws::runs_have_one_list_of_rows;
-pub use refreshing::{refresh, refresh_behind};
 pub use rows::rows_of;
 pub use run_reader::RunReader;
 pub use times_cache::{TimesCache, read_times_cache, write_times_cache};

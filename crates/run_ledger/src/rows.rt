@@ -4,7 +4,7 @@ ghost use Rattle.std.specs.Prelude.{◌≡◌, ◌<◌, [], None, length, vec_le
 ghost use Rattle.run_shelf.specs.Outcomes.{TicksUpTo};
 ghost use Rattle.run_shelf.specs.Stores.{store_kinds, store_fault, FitsUnlessBroken, seen_store};
 ghost use Rattle.run_ledger.specs.Costs.{ReadsOnce};
-ghost use Rattle.run_ledger.specs.Reading.{HasRead};
+ghost use Rattle.run_ledger.specs.Reading.{HasReadBytes};
 ghost use Rattle.run_ledger.specs.Ledger.{HasRowsAt};
 ghost use Rattle.run_ledger.specs.Pieces.{HasReadWhole, ReadsOn};
 ghost use Rattle.run_ledger.specs.Outcomes.{LedgerReads};
@@ -65,7 +65,7 @@ fn read_pieces<H: Shelf>(
     requires known { number < length (store_kinds store.old) }
     requires fits { FitsUnlessBroken (store_kinds store.old) (store_fault store.old) (H.seen store.old.shelf.now).told }
     requires open { store_fault store.old ≡ None }
-    requires fresh { HasRead run.old [] }
+    requires fresh { HasReadBytes run.old [] }
     ensures same_reference { store.new.shelf.ghost_name ≡ store.old.shelf.ghost_name }
     ensures read { OnOk result (IfSome (H.seen store.old.shelf.now).told (HasReadWhole number run.new)) }
     ensures reads { LedgerReads (seen_store store.old (H.seen store.old.shelf.now)) (seen_store store.new (H.seen store.new.shelf.now)) result }

@@ -2,7 +2,7 @@
 
 ghost use Rattle.std.specs.Prelude.{◌≡◌, false};
 
-use crate::folding::fold_notes;
+use crate::note_fold::fold_notes;
 use outcome_fold::{Outcomes, Rows};
 use std::alloc::Global;
 use stream_reader::Reader;
@@ -23,11 +23,11 @@ pub struct RunReader {
 impl RunReader {
     ghost use Rattle.std.specs.Prelude.{◌≤◌, ◌++◌, [], ℕ, List, length, IfOk, OnOk};
     ghost use Rattle.stream_reader.specs.Room.{most_held};
-    ghost use Rattle.run_ledger.specs.Reading.{HasRead, AreRowsOf};
+    ghost use Rattle.run_ledger.specs.Reading.{HasReadBytes, AreRowsOf};
 
     /// A run of which nothing was read.
     pub fn new(alloc: Global) -> Result<Self, NoMemory>
-        ensures { IfOk result (λ run. HasRead run []) }
+        ensures { IfOk result (λ run. HasReadBytes run []) }
     {
         let reader = Reader::new(alloc)?;
         Ok(RunReader {
@@ -41,7 +41,7 @@ impl RunReader {
     ///
     /// After `NoMemory` nothing is known of the rows.
     pub fn feed(&mut self, piece: &[u8]) -> Result<(), NoMemory>
-        ensures { (bytes : List ℕ) → HasRead self.old bytes → OnOk result (HasRead self.new (bytes ++ piece.now)) }
+        ensures { (bytes : List ℕ) → HasReadBytes self.old bytes → OnOk result (HasReadBytes self.new (bytes ++ piece.now)) }
     {
         self.settle()?;
         let mut left = piece;
@@ -55,7 +55,7 @@ impl RunReader {
 
     // Folds what the bytes so far decide: an earlier call may have stopped for want of memory. So there is room.
     fn settle(&mut self) -> Result<(), NoMemory>
-        ensures read { (bytes : List ℕ) → HasRead self.old bytes → OnOk result (HasRead self.new bytes) }
+        ensures read { (bytes : List ℕ) → HasReadBytes self.old bytes → OnOk result (HasReadBytes self.new bytes) }
         ensures held { OnOk result (length self.new.reader.bytes ≤ most_held) }
     {
         fold_notes(self.alloc, &mut self.reader, &mut self.outcomes)
@@ -65,7 +65,7 @@ impl RunReader {
     fn feed_part(&mut self, part: &[u8]) -> Result<(), NoMemory>
         requires held { length self.old.reader.bytes ≤ most_held }
         requires short { length part.now ≤ 65536 }
-        ensures read { (bytes : List ℕ) → HasRead self.old bytes → OnOk result (HasRead self.new (bytes ++ part.now)) }
+        ensures read { (bytes : List ℕ) → HasReadBytes self.old bytes → OnOk result (HasReadBytes self.new (bytes ++ part.now)) }
         ensures held { OnOk result (length self.new.reader.bytes ≤ most_held) }
     {
         self.reader.feed(part);
@@ -74,7 +74,7 @@ impl RunReader {
 
     /// Ends the run, and gives its rows.
     pub fn close(self) -> Result<Rows, NoMemory>
-        ensures { (bytes : List ℕ) → HasRead self bytes → IfOk result (AreRowsOf bytes) }
+        ensures { (bytes : List ℕ) → HasReadBytes self bytes → IfOk result (AreRowsOf bytes) }
     {
         let RunReader {
             alloc,

@@ -5,9 +5,9 @@ ghost use Rattle.std.specs.List.{flat_map};
 ghost use Rattle.std.specs.FinMap.{FinMap};
 ghost use Rattle.outcome_fold.specs.Order.{text_cmp};
 ghost use Rattle.run_ledger.specs.Caches.{heading, times_title, times_cache, IsTimed, IsTimesCache};
-ghost use Rattle.run_ledger.specs.Cuts.{AreTimeEntries, IsTimedAt, entry_of, entry_at};
+ghost use Rattle.run_ledger.specs.Cuts.{AreTimeEntries, IsTimedAt, entry_if_timed, entry_at};
 
-use crate::cutting::read_heading;
+use crate::cache_parts::read_heading;
 use crate::entries::{Entries, are_entries, map_of};
 use itoa::Buffer;
 use std::alloc::Global;
@@ -90,7 +90,7 @@ fn write_times(ids: &[Text], times: &TimeMap, bytes: &mut Vec<u8>) -> Result<(),
 
 // The id and this time, and a zero byte behind each.
 fn write_time(id: &Text, time: Option<u64>, bytes: &mut Vec<u8>) -> Result<(), NoMemory>
-    ensures bytes { OnOk result (bytes.new.items ≡ bytes.old.items ++ entry_of id.now time) }
+    ensures bytes { OnOk result (bytes.new.items ≡ bytes.old.items ++ entry_if_timed id.now time) }
     ensures timed { OnOk result (IfSome time (λ nanos. IsTimed (id.now, nanos))) }
 {
     let Some(nanos) = time else {
