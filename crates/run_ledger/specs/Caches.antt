@@ -25,11 +25,11 @@ entry text = text ++ 0 ∷ []
 abbrev pub heading : List ℕ → ℕ → List ℕ
 heading title covers = line title ++ line (decimal covers)
 
--- what the first line of the failing set's cache begins with
+-- the first line of the failing set's cache
 abbrev pub failing_title : List ℕ
 failing_title = codes "subunit-failing 1"
 
--- what the first line of the times' cache begins with
+-- the first line of the times' cache
 abbrev pub times_title : List ℕ
 times_title = codes "subunit-times 1"
 

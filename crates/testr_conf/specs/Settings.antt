@@ -81,7 +81,7 @@ is_open_after open_above (more text) = open_above
 is_open_after open_above skipped = open_above
 is_open_after open_above bad = open_above
 
--- the last line may have more of its setting below it
+-- a setting has come since the last section line, so that a line may go on with it
 abbrev pub is_setting_open : List Line → Bool
 is_setting_open lines = fold is_open_after false lines
 
