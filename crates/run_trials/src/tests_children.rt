@@ -98,7 +98,7 @@ impl Scheduled {
     }
 
     // Whether this turn comes within so many rounds.
-    fn has_turn(&self, turn: u32) -> bool {
+    fn waits_for_turn(&self, turn: u32) -> bool {
         for _ in 0..1_000_000 {
             if self.ended.load(Ordering::SeqCst) >= turn {
                 return true;
@@ -121,7 +121,7 @@ impl Child for Scheduled {
         let Some((packet, turn)) = self.next() else {
             return Ok(0);
         };
-        if buf.len() < packet.len() || !self.has_turn(turn) {
+        if buf.len() < packet.len() || !self.waits_for_turn(turn) {
             self.faults = self.faults.saturating_add(1);
             return Err(Failed);
         }

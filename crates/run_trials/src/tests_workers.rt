@@ -242,7 +242,7 @@ struct Waiting {
 
 impl Waiting {
     // Whether its turn comes within so many rounds.
-    fn has_turn(&self) -> bool {
+    fn waits_for_turn(&self) -> bool {
         for _ in 0..1_000_000 {
             if self.ended.load(Ordering::SeqCst) >= self.turn {
                 return true;
@@ -262,7 +262,7 @@ impl Child for Waiting {
         let Some(packet) = self.packet else {
             return Ok(0);
         };
-        if buf.len() < packet.len() || !self.has_turn() {
+        if buf.len() < packet.len() || !self.waits_for_turn() {
             self.faults = self.faults.saturating_add(1);
             return Err(Failed);
         }

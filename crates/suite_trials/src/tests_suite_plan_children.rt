@@ -242,7 +242,7 @@ fn an_ending_of_another_kind_is_no_number(rt: HostRuntime) {
 }
 
 // What is answered where no child is there, and whether nothing was started.
-fn called_of_none(alloc: Global, text: &[u8]) -> Option<Result<Option<u32>, CallRefusal>> {
+fn called_without_child(alloc: Global, text: &[u8]) -> Option<Result<Option<u32>, CallRefusal>> {
     let conf = conf_of(alloc, text)?;
     let mut spawner = PlanSpawner::new(alloc, Vec::new(alloc), Vec::new(alloc));
     let answer = call_out(alloc, &conf, &mut spawner);
@@ -255,8 +255,8 @@ fn called_of_none(alloc: Global, text: &[u8]) -> Option<Result<Option<u32>, Call
 
 #[test]
 fn a_call_that_is_not_started(rt: HostRuntime) {
-    assert!(rt; called_of_none(rt.alloc(), NOT_LISTED) == Some(Ok(None)));
-    assert!(rt; called_of_none(rt.alloc(), CONF) == Some(Err(CallRefusal::Spawn)));
+    assert!(rt; called_without_child(rt.alloc(), NOT_LISTED) == Some(Ok(None)));
+    assert!(rt; called_without_child(rt.alloc(), CONF) == Some(Err(CallRefusal::Spawn)));
 }
 
 fn letters_of(alloc: Global, letters: &[u8]) -> Option<IdList> {
