@@ -16,7 +16,7 @@ use Rattle.sub_export.specs.declared.job.Attachment.{Attachment}
 use Rattle.sub_export.specs.declared.told_items.Said.{Said}
 use Rattle.sub_export.specs.declared.told_items.Verdicts.TheVariants as said
 use Rattle.sub_export.specs.Said.{AreVerdicts, verdict_meant}
-use Rattle.sub_export.specs.Output.{Verdict, Told, is_refused_item, verdicts_in, told_by, job_if, job_by, job_behind, job_fits, has_packet, attached_piece, piece_size, longest_bytes, longest_piece_fits, last_event_of}
+use Rattle.sub_export.specs.Output.{Verdict, Told, is_refused_item, verdicts_in, told_by, job_if, job_by, job_behind, job_fits, has_packet, piece_of, piece_size, longest_bytes, longest_piece_fits, last_event}
 
 any_map : {A B : Type 0} → (p : B → Bool) (f : A → B) (xs : List A) → list_any p (map f xs) ≡ list_any (λ x. p (f x)) xs
 any_map p f [] = refl
@@ -64,16 +64,16 @@ shorter_file : (name bytes : List ℕ) → length bytes ≤ 65536 → length (ca
 shorter_file name bytes short =
     omega (arith, length_file name bytes, length_file name longest_bytes, length_longest, size_of_65536 (length longest_bytes) length_longest, shortest_size_least 3 (length bytes) (omega arith) (omega (arith, short)), short)
 
-shorter_piece : (stamp : Option Stamp) (id : Option (List ℕ)) (a : Attachment) (bytes : List ℕ) → length bytes ≤ 65536 → canonical_size (attached_piece stamp id a bytes) ≤ canonical_size (attached_piece stamp id a longest_bytes)
+shorter_piece : (stamp : Option Stamp) (id : Option (List ℕ)) (a : Attachment) (bytes : List ℕ) → length bytes ≤ 65536 → canonical_size (piece_of stamp id a bytes) ≤ canonical_size (piece_of stamp id a longest_bytes)
 shorter_piece stamp id a bytes short =
-    packet_size_grows (length (canonical_fields (attached_piece stamp id a bytes))) (length (canonical_fields (attached_piece stamp id a longest_bytes)))
-    (omega (arith, length_canonical_fields (attached_piece stamp id a bytes), length_canonical_fields (attached_piece stamp id a longest_bytes), shorter_file a.name bytes short))
+    packet_size_grows (length (canonical_fields (piece_of stamp id a bytes))) (length (canonical_fields (piece_of stamp id a longest_bytes)))
+    (omega (arith, length_canonical_fields (piece_of stamp id a bytes), length_canonical_fields (piece_of stamp id a longest_bytes), shorter_file a.name bytes short))
 
-longest_fits : (stamp : Option Stamp) (id : Option (List ℕ)) (a : Attachment) → IsTrue (has_packet (attached_piece stamp id a longest_bytes)) → canonical_size (attached_piece stamp id a longest_bytes) ≤ largest_packet
+longest_fits : (stamp : Option Stamp) (id : Option (List ℕ)) (a : Attachment) → IsTrue (has_packet (piece_of stamp id a longest_bytes)) → canonical_size (piece_of stamp id a longest_bytes) ≤ largest_packet
 longest_fits stamp id a fits = grind (arith, nat_tests)
 
-pub piece_fits : (job : Job) (a : Attachment) (bytes : List ℕ) → job.attachment ≡ Some a → IsTrue (job_fits job) → length bytes ≤ 65536 → Fits (attached_piece job.stamp job.id a bytes)
+pub piece_fits : (job : Job) (a : Attachment) (bytes : List ℕ) → job.attachment ≡ Some a → IsTrue (job_fits job) → length bytes ≤ 65536 → Fits (piece_of job.stamp job.id a bytes)
 piece_fits job a bytes is fits short =
-    let both : IsTrue (has_packet (last_event_of job)) × IsTrue (longest_piece_fits job.stamp job.id job.attachment) = grind arith in
+    let both : IsTrue (has_packet (last_event job)) × IsTrue (longest_piece_fits job.stamp job.id job.attachment) = grind arith in
     let longest : IsTrue (longest_piece_fits job.stamp job.id (Some a)) = subst (λ (o : Option Attachment). IsTrue (longest_piece_fits job.stamp job.id o)) is both.1 in
     record { size = omega (arith, shorter_piece job.stamp job.id a bytes short, longest_fits job.stamp job.id a longest) }

@@ -12,7 +12,7 @@ use Rattle.csv.proofs.RoundTrip.{read-write, rows_text}
 use Rattle.packet_codec.specs.declared.event.Event.{Event}
 use Rattle.outcome_fold.specs.declared.row.Row.{Row}
 use Rattle.outcome_fold.specs.Parts.{start_of}
-use Rattle.sub_export.specs.Records.{head_fields, csv_head_text, csv_row_of, row_if, record_of, record_with, id_of, status_word, end_by, stop_by, last_event, kept_parts, csv_records, csv_text}
+use Rattle.sub_export.specs.Records.{head_fields, csv_head_text, csv_row_of, row_if, record_of, record_with, id_of, status_word, end_by, stop_by, last_of_part, kept_parts, csv_records, csv_text}
 
 -- a row stands at the front of the text, and the rest behind it
 next_row : (row : List (List ℕ)) (rows : List (List (List ℕ))) → next_record default_config st.StartRecord [] [] (rows_text (row ∷ rows)) ≡ Some (read_back row, st.StartRecord, rows_text rows)
@@ -85,7 +85,7 @@ one_back (Some fields) more here rest =
 
 all_back : (parts : List (List Event)) → map read_back (filter_map record_of parts) ≡ filter_map record_of parts
 all_back [] = refl
-all_back (p ∷ ps) = one_back (record_of p) (filter_map record_of ps) (record_back (id_of p) (status_word (end_by (last_event p))) (start_of p) (stop_by (last_event p))) (all_back ps)
+all_back (p ∷ ps) = one_back (record_of p) (filter_map record_of ps) (record_back (id_of p) (status_word (end_by (last_of_part p))) (start_of p) (stop_by (last_of_part p))) (all_back ps)
 
 pub exported_rows : (kept : Row → Bool) (es : List Event) → csv_text kept es ≡ rows_text (head_fields ∷ csv_records kept es)
 unfolding rows_text

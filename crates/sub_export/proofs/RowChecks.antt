@@ -12,7 +12,7 @@ use Rattle.packet_codec.specs.Canonical.{canonical_fields}
 use Rattle.instants.specs.Calendar.{day_of}
 use Rattle.instants.specs.Instants.{instant_text}
 use Rattle.sub_export.specs.Records.{csv_row_of, csv_head_text, kept_parts_so_far}
-use Rattle.sub_export.specs.Output.{job_of, job_if, told_by, last_event_of, longest_bytes}
+use Rattle.sub_export.specs.Output.{job_of, job_if, told_by, last_event, longest_bytes}
 use Rattle.csv.specs.Writing.{fields_text, is_blank, escaped}
 
 abbrev says : List ℕ → Status → Option Stamp → Event
@@ -68,7 +68,7 @@ one_part = refl
 without_failures : kept_parts_so_far (λ row. not (row_fails row)) (says (codes "a,b") status.Success None ∷ says (codes "c") status.Fail None ∷ []) ≡ (says (codes "a,b") status.Success None ∷ []) ∷ []
 without_failures = refl
 
-last_of_empty_file : (a : Attachment) → last_event_of (record { stamp = None; id = None; status = status.Unset; tags = []; attachment = Some a }) ≡ record { stamp = None; id = None; tags = None; runnable = true; status = status.Unset; mime = None; file = None; eof = true; route = None }
+last_of_empty_file : (a : Attachment) → last_event (record { stamp = None; id = None; status = status.Unset; tags = []; attachment = Some a }) ≡ record { stamp = None; id = None; tags = None; runnable = true; status = status.Unset; mime = None; file = None; eof = true; route = None }
 last_of_empty_file a = refl
 
 attached : job_if (told_by (valued (codes "--attach-file") (codes "-") ∷ []) None) ≡ Some (record { stamp = None; id = None; status = status.Unset; tags = []; attachment = Some (record { name = codes "stdin"; mime = None }) })

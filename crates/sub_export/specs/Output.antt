@@ -8,7 +8,7 @@ use Rattle.command_words.specs.declared.table.Kind.{Kind}
 use Rattle.command_words.specs.declared.table.Kind.TheVariants.{Valued}
 use Rattle.std.proofs.Common.{arith}
 use Rattle.instants.specs.Instants.{Moment, instant_of}
-use Rattle.packet_codec.specs.Pieces.{pieces_of}
+pub use Rattle.packet_codec.specs.Pieces.{pieces_of}
 use Rattle.packet_codec.specs.declared.event.Event.{Event}
 use Rattle.packet_codec.specs.declared.stamp.Stamp.{Stamp}
 use Rattle.packet_codec.specs.declared.status.Status.{Status}
@@ -25,8 +25,8 @@ abbrev pub piece_size : ℕ
 piece_size = 65536
 
 -- a piece of the attached file
-abbrev pub attached_piece : Option Stamp → Option (List ℕ) → Attachment → List ℕ → Event
-attached_piece stamp id attachment bytes = record {
+abbrev pub piece_of : Option Stamp → Option (List ℕ) → Attachment → List ℕ → Event
+piece_of stamp id attachment bytes = record {
   stamp = stamp;
   id = id;
   tags = None;
@@ -40,11 +40,11 @@ attached_piece stamp id attachment bytes = record {
 
 -- the same, where the job attaches a file
 abbrev pub piece_event : Job → List ℕ → Option Event
-piece_event job bytes = option_map (λ attachment. attached_piece job.stamp job.id attachment bytes) job.attachment
+piece_event job bytes = option_map (λ attachment. piece_of job.stamp job.id attachment bytes) job.attachment
 
 -- the last event
-abbrev pub last_event_of : Job → Event
-last_event_of job = record {
+abbrev pub last_event : Job → Event
+last_event job = record {
   stamp = job.stamp;
   id = job.id;
   tags = if_any job.tags;
@@ -62,7 +62,7 @@ longest_bytes = replicate piece_size 0
 
 -- all events of a job where these bytes are read
 abbrev pub output_events : Job → List ℕ → List Event
-output_events job bytes = flat_map (λ piece. option_to_list (piece_event job piece)) (pieces_of bytes) ++ last_event_of job ∷ []
+output_events job bytes = flat_map (λ piece. option_to_list (piece_event job piece)) (pieces_of bytes) ++ last_event job ∷ []
 
 -- ---- the job that words ask for
 
@@ -181,11 +181,11 @@ has_packet e = nat_le (canonical_size e) largest_packet
 -- of a file that is attached each piece has a packet, since the longest one has
 abbrev pub longest_piece_fits : Option Stamp → Option (List ℕ) → Option Attachment → Bool
 longest_piece_fits stamp id None = true
-longest_piece_fits stamp id (Some attachment) = has_packet (attached_piece stamp id attachment longest_bytes)
+longest_piece_fits stamp id (Some attachment) = has_packet (piece_of stamp id attachment longest_bytes)
 
 -- each event of the job has a packet, also that of the longest piece
 abbrev pub job_fits : Job → Bool
-job_fits job = has_packet (last_event_of job) && longest_piece_fits job.stamp job.id job.attachment
+job_fits job = has_packet (last_event job) && longest_piece_fits job.stamp job.id job.attachment
 
 -- what the items tell beside this verdict
 abbrev pub told_by : List Item → Option Verdict → Told

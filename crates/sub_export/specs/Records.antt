@@ -36,8 +36,8 @@ time_text None = []
 time_text (Some nanos) = instant_text nanos ++ codes "+00:00"
 
 -- the last of the events, where there is one
-abbrev pub last_event : List Event → Option Event
-last_event part = slice_get part (length part - 1)
+abbrev pub last_of_part : List Event → Option Event
+last_of_part part = slice_get part (length part - 1)
 
 -- how the part ends: as its last event completes it, or open
 abbrev pub end_by : Option Event → Ended
@@ -63,7 +63,7 @@ record_with (Some id) (Some word) start stop = Some (id ∷ word ∷ time_text s
 -- The record of a part of a test's events. There is none where the test is only known to exist, and of events that
 -- speak of no test.
 abbrev pub record_of : List Event → Option (List (List ℕ))
-record_of part = record_with (id_of part) (status_word (end_by (last_event part))) (start_of part) (stop_by (last_event part))
+record_of part = record_with (id_of part) (status_word (end_by (last_of_part part))) (start_of part) (stop_by (last_of_part part))
 
 -- a record as the default writer of comma-separated records writes it, where there is one
 abbrev pub row_if : Option (List (List ℕ)) → List ℕ

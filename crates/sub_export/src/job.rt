@@ -69,7 +69,7 @@ pub(crate) fn piece_of(
     attachment: &Attachment,
     bytes: &[u8],
 ) -> Result<Event, NoMemory>
-    ensures { IfOk result (λ event. event ≡ spec.attached_piece stamp id.now attachment.now bytes.now) }
+    ensures { IfOk result (λ event. event ≡ spec.piece_of stamp id.now attachment.now bytes.now) }
 {
     let file = FilePart {
         name: attachment.name.copy()?,
@@ -90,7 +90,7 @@ pub(crate) fn piece_of(
 
 // The last event.
 pub(crate) fn last_event(alloc: Global, job: &Job) -> Result<Event, NoMemory>
-    ensures { IfOk result (λ event. event ≡ spec.last_event_of job.now) }
+    ensures { IfOk result (λ event. event ≡ spec.last_event job.now) }
 {
     Ok(Event {
         stamp: job.stamp,
@@ -123,7 +123,7 @@ fn longest_piece(
     id: &Option<Text>,
     attachment: &Attachment,
 ) -> Result<Event, NoMemory>
-    ensures { IfOk result (λ event. event ≡ spec.attached_piece stamp id.now attachment.now spec.longest_bytes) }
+    ensures { IfOk result (λ event. event ≡ spec.piece_of stamp id.now attachment.now spec.longest_bytes) }
 {
     piece_of(alloc, stamp, id, attachment, &[0; PIECE_SIZE])
 }

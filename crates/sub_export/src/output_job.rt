@@ -72,7 +72,7 @@ impl OutputJob {
 
     /// The last event.
     pub fn last(&self) -> Result<Event, NoMemory>
-        ensures event { IfOk result (λ event. event ≡ spec.last_event_of self.now) }
+        ensures event { IfOk result (λ event. event ≡ spec.last_event self.now) }
         ensures fits { IfOk result Fits }
     {
         last_event(self.alloc, &self.job)
