@@ -7,7 +7,7 @@ ghost use Rattle.edge_io.specs.Steps.{Goes, Stays, Ticks, HasDraft, Opened, Drop
 ghost use Rattle.run_shelf.specs.Drafts.{OfDraft, PlaceFails};
 ghost use Rattle.run_shelf.specs.Holds.{kinds_of, HasRoom, FitsWhereTold};
 ghost use Rattle.run_shelf.specs.Images.{KeepsRun, PassesRun, PassesOld};
-ghost use Rattle.run_shelf.specs.Outcomes.{IsRunLength, IsRunPart, TicksAtMost};
+ghost use Rattle.run_shelf.specs.Outcomes.{IsRunLength, IsRunPart, TicksAtMost, TicksUpTo};
 ghost use Rattle.run_shelf.specs.Repository.{run_of, run_name, most_runs};
 ghost use Rattle.run_shelf.specs.declared.faults.ShelfCall.TheVariants.{Length, ReadAt, StartDraft, Append};
 
@@ -52,7 +52,8 @@ pub fn add_packet<H: Shelf>(shelf: &mut H, packet: &[u8]) -> Result<(), ShelfCal
 }
 
 /// Keeps what was added as the run behind all others, and answers its number, which is how many runs there were. It takes
-/// no memory: there must be room for it in what was found, which must fit the folder, and fewer than 1,000,000 runs.
+/// no memory, and makes at most three calls of the folder. There must be room for the run in what was found, which must fit
+/// the folder, and fewer than 1,000,000 runs.
 ///
 /// At `Ok` each later stop leaves the run and those before it. The error is the call of the folder that failed: before
 /// the publish the files are as they were, at it the run is there or not, after it the run is there. A stop at any moment
@@ -73,6 +74,7 @@ pub fn finish_run<H: Shelf>(
     ensures kinds_err { OnErr result (kinds_of found.new ≡ kinds_of found.old) }
     ensures failed { IfErr result (λ call. Goes (H.seen shelf.old).told (H.seen shelf.new).told (OfDraft (λ bytes. PlaceFails (run_name (length (kinds_of found.old)) partial) bytes call))) }
     ensures any_moment { Goes (H.seen shelf.old).told (H.seen shelf.new).told (OfDraft (λ bytes. PassesRun (length (kinds_of found.old)) (run_of partial bytes))) }
+    ensures time { TicksUpTo 3 (H.clock shelf.old) (H.clock shelf.new) }
     ensures cause { HasCause (H.seen shelf.old).faults (H.seen shelf.new).faults result }
 {
     let number = found.runs();
