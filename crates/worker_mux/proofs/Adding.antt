@@ -1,5 +1,5 @@
 -- What is added to a run follows what was taken.
-use Rattle.std.proofs.Common.{◌≡◌, ℕ, ◌≤◌, List, [], ◌∷◌, ◌++◌, Bool, false, ◌⊎◌, ⊎_elim, inl, inr, refl, sym, ◌∙◌, ap, subst, append_assoc, arith}
+use Rattle.std.proofs.Common.{◌≡◌, ℕ, ◌≤◌, ◌<◌, ◌+◌, List, [], ◌∷◌, ◌++◌, length, Bool, false, ◌⊎◌, ⊎_elim, inl, inr, refl, sym, ◌∙◌, ap, subst, append_assoc, arith}
 use Rattle.std.specs.Prelude.{Option, None, Some, IfSome, IsSome}
 use Rattle.std.specs.List.{AllByRecursion}
 use Rattle.std.specs.Option.{option_map}
@@ -17,7 +17,7 @@ use Rattle.run_shelf.specs.declared.faults.ShelfCall.TheVariants.{Append}
 use Rattle.worker_lane.specs.declared.lot.Ending.TheVariants.{NoMemory}
 use Rattle.worker_lane.specs.declared.lot.Lot.{Lot}
 use Rattle.worker_lane.specs.declared.lot.Lot.TheVariants.{End}
-use Rattle.worker_mux.specs.Callers.{GoesOn, IsCaller, KeepsTape, IsOpen, Tape, packet_of, piece_of, pieces_of, recorded}
+use Rattle.worker_mux.specs.Callers.{GoesOn, IsCaller, KeepsTape, IsOpen, Tape, calls_for, calls_of, packet_of, piece_of, pieces_of, recorded}
 use Rattle.worker_mux.specs.Passes.{lane_count, lots_taken, IsTakerFor}
 use Rattle.worker_mux.specs.declared.belt.Belt.{Belt}
 use Rattle.worker_mux.specs.declared.caller.Caller.{Caller}
@@ -172,14 +172,14 @@ draft_of : (kinds : List Bool) (told : Option Folder) → IfSome told (IsRecordi
 draft_of kinds None records = tt
 draft_of kinds (Some s) records = records.draft
 
-pub opens : (kinds : List Bool) (fault : Option ShelfCall) (folder : Seen Folder) → RecordsUnlessBroken kinds fault folder.told → IsOpen (record { fault = fault; folder = folder })
-opens kinds fault folder fits = record { draft = λ without. draft_of kinds folder.told (fits without) }
+pub opens : (kinds : List Bool) (fault : Option ShelfCall) (folder : Seen Folder) (clock : ℕ) → RecordsUnlessBroken kinds fault folder.told → IsOpen (record { fault = fault; folder = folder; clock = clock })
+opens kinds fault folder clock fits = record { draft = λ without. draft_of kinds folder.told (fits without) }
 
 -- a repository at rest stays one, and a run that was begun is there
 pub still_fits : (kinds : List Bool) (old new : Tape) → KeepsTape old new → RecordsUnlessBroken kinds old.fault old.folder.told → RecordsUnlessBroken kinds new.fault new.folder.told
 still_fits kinds old new keeps fits without =
     let before : old.fault ≡ None = unbroken old new keeps without in
-    at old.folder.told new.folder.told keeps.files (fits before) ((keeps.is_open (opens kinds old.fault old.folder fits)).draft without)
+    at old.folder.told new.folder.told keeps.files (fits before) ((keeps.is_open (opens kinds old.fault old.folder old.clock fits)).draft without)
   where
     at : (a b : Option Folder) → Goes a b SameButDraft → IfSome a (IsRecording kinds) → HasDraft b → IfSome b (IsRecording kinds)
     at a None goes records has = tt
@@ -198,6 +198,7 @@ goes_same caller t = record {
   memory = λ so. so;
   keeps = tape_same t;
   added = λ start so_far. so_far;
+  counted = λ first so_far. so_far;
 }
 
 pub goes_then : {L : Type 0} (a b c : Caller L) (x y z : Tape) → GoesOn a b x y → GoesOn b c y z → GoesOn a c x z
@@ -207,12 +208,22 @@ goes_then a b c x y z first second = record {
   memory = λ so. first.memory (second.memory so);
   keeps = tape_then x y z first.keeps second.keeps;
   added = λ start so_far. second.added start (first.added start so_far);
+  counted = λ count so_far. second.counted count (first.counted count so_far);
 }
 
 recorded_more : (ps : List Parcel) (p : Parcel) → recorded (ps ++ p ∷ []) ≡ recorded ps ++ packet_of p.lot
 recorded_more [] p = append-nil (packet_of p.lot)
 recorded_more (q ∷ qs) p =
     ap (λ l. packet_of q.lot ++ l) (recorded_more qs p) ∙ sym (append_assoc (packet_of q.lot) (recorded qs) (packet_of p.lot))
+
+calls_more : (ps : List Parcel) (p : Parcel) → calls_of (ps ++ p ∷ []) ≡ calls_of ps + calls_for (packet_of p.lot)
+calls_more [] p = omega arith
+calls_more (q ∷ qs) p = omega (arith, calls_more qs p)
+
+-- bytes that are there take one call
+pub one_call : (bytes : List ℕ) → 0 < length bytes → calls_for bytes ≡ 1
+one_call [] some = absurd (omega (arith, some))
+one_call (byte ∷ bytes) some = refl
 
 -- a lot was taken and added
 pub goes_one : {L : Type 0} (before after : Caller L) (old new : Tape) (lane : ℕ) (lot : Lot)
@@ -222,8 +233,9 @@ pub goes_one : {L : Type 0} (before after : Caller L) (old new : Tape) (lane : �
     → (after.no_memory ≡ false → before.no_memory ≡ false)
     → KeepsTape old new
     → (new.fault ≡ None → Goes old.folder.told new.folder.told (Grown (packet_of lot)))
+    → new.clock ≤ old.clock + calls_for (packet_of lot)
     → GoesOn before after old new
-goes_one before after old new lane lot count begun taken memory keeps added = record {
+goes_one before after old new lane lot count begun taken memory keeps added calls = record {
   count = count;
   begun = begun;
   memory = memory;
@@ -232,6 +244,9 @@ goes_one before after old new lane lot count begun taken memory keeps added = re
       let same : recorded (lots_taken before.taker) ++ packet_of lot ≡ recorded (lots_taken after.taker) = sym (recorded_more (lots_taken before.taker) (record { lane = lane; lot = lot })) ∙ ap recorded (sym taken) in
       subst (λ (l : List ℕ). Goes start new.folder.told (Grown l)) same
       (goes_grown_then start old.folder.told new.folder.told (recorded (lots_taken before.taker)) (packet_of lot) (so_far (unbroken old new keeps works)) (added works));
+  counted = λ first so_far.
+      let more : calls_of (lots_taken after.taker) ≡ calls_of (lots_taken before.taker) + calls_for (packet_of lot) = ap calls_of taken ∙ calls_more (lots_taken before.taker) (record { lane = lane; lot = lot }) in
+      omega (arith, so_far, calls, more);
 }
 
 -- a lane was settled
@@ -242,6 +257,7 @@ goes_settled before after count begun taken memory now = record {
   memory = λ so. sym memory ∙ so;
   keeps = tape_same now;
   added = λ start so_far works. subst (λ (l : List Parcel). Goes start now.folder.told (Grown (recorded l))) (sym taken) (so_far works);
+  counted = λ first so_far. subst (λ (l : List Parcel). now.clock ≤ first + calls_of l) (sym taken) so_far;
 }
 
 -- ---- and knows what was heard

@@ -6,7 +6,7 @@ use Rattle.std.specs.Int.{w32, to_be_bytes}
 use Rattle.std.specs.Option.{option_map}
 use Rattle.std.proofs.lemmas.Bool.{cases_eq}
 use Rattle.std.proofs.lemmas.Bool.Decides.{nat_tests}
-use Rattle.std.proofs.lemmas.List.{append-nil, append_cancel_left, length-map}
+use Rattle.std.proofs.lemmas.List.{append-nil, append_cancel_left, length-append, length-map}
 use Rattle.std.proofs.lemmas.List.Concat.{flat_map-append}
 use Rattle.std.proofs.lemmas.List.Folds.{flat_map-map}
 use Rattle.std.proofs.lemmas.Result.{IfOk-weaker}
@@ -37,7 +37,7 @@ use Rattle.worker_lane.specs.declared.lot.Ending.TheVariants.{NoMemory}
 use Rattle.worker_lane.specs.declared.lot.Lot.{Lot}
 use Rattle.worker_lane.specs.declared.lot.Lot.TheVariants.{Packet, End}
 use Rattle.std.specs.declared.snapshot.Snapshot.{Snapshot}
-use Rattle.worker_mux.specs.Callers.{GoesOn, HasAdded, Tape, packet_of, recorded, piece_of, pieces_of}
+use Rattle.worker_mux.specs.Callers.{GoesOn, HasAdded, Tape, calls_for, calls_of, packet_of, recorded, piece_of, pieces_of}
 use Rattle.worker_mux.specs.Passes.{lane_count, lots_taken, settled_lanes, HasAll, IsOfLanes}
 use Rattle.worker_mux.specs.Rule.{lots_of}
 use Rattle.worker_mux.specs.Runs.{packets_of, AreEventsOf, AddsMerge, HearsMerge, IsRecorded, share, first_share}
@@ -150,6 +150,23 @@ pieces_of_events (p ∷ ps) own = one p.lane p.lot own.0 (pieces_of ps) (groups_
     one : (lane : ℕ) (lot : Lot) (is : IsOwn lane lot) (pieces : List (List ℕ)) (groups : List (List Event)) → pieces ≡ map (flat_map canonical) groups → piece_of lot ++ pieces ≡ map (flat_map canonical) (group_of lane lot is ++ groups)
     one lane (Packet packets) is pieces groups same = λ i. is.0.packets_are i ∷ same i
     one lane (End how) is pieces groups same = same
+
+-- each lot that takes a call has events
+calls_few : (ps : List Parcel) (own : AllOwn ps) → calls_of ps ≤ length (events_of ps own)
+calls_few [] own = omega arith
+calls_few (p ∷ ps) own = one p.lane p.lot own.0 (events_of ps own.1) (calls_few ps own.1)
+  where
+    few : (packets : List ℕ) (events : List Event) → packets ≡ flat_map canonical events → calls_for packets ≤ length events
+    few packets [] is = subst (λ (l : List ℕ). calls_for l ≤ 0) (sym is) (omega arith)
+    few [] (e ∷ events) is = omega arith
+    few (byte ∷ bytes) (e ∷ events) is = omega arith
+
+    one : (lane : ℕ) (lot : Lot) (is : IsOwn lane lot) (events : List Event) → calls_of ps ≤ length events → calls_for (packet_of lot) + calls_of ps ≤ length (event_of lane lot is ++ events)
+    one lane (Packet packets) is events more =
+        let here : calls_for packets ≤ length is.0.events = few packets is.0.events is.0.packets_are in
+        let both : length (is.0.events ++ events) ≡ length is.0.events + length events = length-append is.0.events events in
+        omega (arith, here, more, both)
+    one lane (End how) is events more = omega (arith, more)
 
 -- what holds of each event that is under its lane
 all_under : (P : Event → Type 0) (lane : ℕ) → ((e : Event) → IsEventOf lane e → P e) → (events : List Event) → AllByRecursion (IsEventOf lane) events → All P events
@@ -300,15 +317,15 @@ module _ {C : Type 0} (seen : C → Seen Output) where
       each_told taken well lanes table (k + 1) (others (lane_number lane) k (map lane_number lanes) (range_with_len (k + 1) (length lanes)) numbers) pairs.1 accounts.1 n j (omega arith) (omega arith)
 
   -- all that was taken is of its lanes
-  taken_own : (hears : List (List ℕ) → Type 0) (lanes : List (Lane C)) (works : List (Work C)) (count : ℕ) (old new : Option Folder) → map lane_number lanes ≡ range_with_len 0 (length lanes) → count ≡ length lanes
+  taken_own : (hears : List (List ℕ) → Type 0) (lanes : List (Lane C)) (works : List (Work C)) (count : ℕ) (old new : Tape) → map lane_number lanes ≡ range_with_len 0 (length lanes) → count ≡ length lanes
       → map (share seen) works ≡ map (first_share seen) lanes → (all : IsRecorded seen hears count works old new) → AllOwn all.taken
   taken_own hears lanes works count old new numbers counted shares all =
       let pairs : Pairs IsOf (map (first_share seen) lanes) all.table = subst (λ (l : List (ℕ × Option (List ℕ))). Pairs IsOf l all.table) shares (pairs_of works all.table all.entries) in
       all_own count all.taken (λ n within. each_own all.taken lanes all.table 0 numbers pairs all.accounts n n (omega (arith, counted)) (omega arith)) all.of_lanes
 
   -- the events of what was taken are a merge of those of the lanes
-  merged_of : (hears : List (List ℕ) → Type 0) (lanes : List (Lane C)) (works : List (Work C)) (count : ℕ) (old new : Option Folder) → length lanes ≤ 64 → map lane_number lanes ≡ range_with_len 0 (length lanes) → count ≡ length lanes
-      → map (share seen) works ≡ map (first_share seen) lanes → (all : IsRecorded seen hears count works old new) → (own : AllOwn all.taken) → (merge : AddsMerge (map (rest seen) lanes) old new) × (events_of all.taken own ≡ merge.events)
+  merged_of : (hears : List (List ℕ) → Type 0) (lanes : List (Lane C)) (works : List (Work C)) (count : ℕ) (old new : Tape) → length lanes ≤ 64 → map lane_number lanes ≡ range_with_len 0 (length lanes) → count ≡ length lanes
+      → map (share seen) works ≡ map (first_share seen) lanes → (all : IsRecorded seen hears count works old new) → (own : AllOwn all.taken) → (merge : AddsMerge (map (rest seen) lanes) old.folder.told new.folder.told) × (events_of all.taken own ≡ merge.events)
   merged_of hears lanes works count old new few numbers counted shares all own =
       let pairs : Pairs IsOf (map (first_share seen) lanes) all.table = subst (λ (l : List (ℕ × Option (List ℕ))). Pairs IsOf l all.table) shares (pairs_of works all.table all.entries) in
       let events : List Event = events_of all.taken own in
@@ -318,7 +335,7 @@ module _ {C : Type 0} (seen : C → Seen Output) where
       let below : All (IsOfLaneBelow (length (map (rest seen) lanes))) events = subst (λ (n : ℕ). All (IsOfLaneBelow n) events) (counted ∙ sym size) (all_of_taken (IsOfLaneBelow count) count (of_lane_below count (omega (arith, few, counted))) all.taken own all.of_lanes) in (
         record {
           events = events;
-          added = subst (λ (l : List ℕ). Goes old new (Grown l)) (bytes_of_events all.taken own) all.added;
+          added = subst (λ (l : List ℕ). Goes old.folder.told new.folder.told (Grown l)) (bytes_of_events all.taken own) all.added;
           are_events = is;
           fit = fit;
           of_lanes = below;
@@ -339,7 +356,7 @@ module _ {C : Type 0} (seen : C → Seen Output) where
       )
 
   -- with no lack of memory: a merge is added, and was heard
-  pub heard_of : (hears : List (List ℕ) → Type 0) (lanes : List (Lane C)) (works : List (Work C)) (count : ℕ) (old new : Option Folder) → length lanes ≤ 64 → map lane_number lanes ≡ range_with_len 0 (length lanes) → count ≡ length lanes
+  pub heard_of : (hears : List (List ℕ) → Type 0) (lanes : List (Lane C)) (works : List (Work C)) (count : ℕ) (old new : Tape) → length lanes ≤ 64 → map lane_number lanes ≡ range_with_len 0 (length lanes) → count ≡ length lanes
       → map (share seen) works ≡ map (first_share seen) lanes → IsRecorded seen hears count works old new → HearsMerge hears (map (rest seen) lanes) old new
   heard_of hears lanes works count old new few numbers counted shares all =
       let own : AllOwn all.taken = taken_own hears lanes works count old new numbers counted shares all in
@@ -349,6 +366,10 @@ module _ {C : Type 0} (seen : C → Seen Output) where
         groups = groups_of all.taken own;
         parts = joined all.taken own ∙ merged.1;
         heard = subst hears (pieces_of_events all.taken own) all.heard;
+        few =
+            let size : length (events_of all.taken own) ≡ length merged.0.events = ap length merged.1 in
+            let calls : calls_of all.taken ≤ length (events_of all.taken own) = calls_few all.taken own in
+            omega (arith, all.few, calls, size);
       }
 
   -- all levels, and then what was left on the belt
@@ -364,7 +385,7 @@ module _ {C : Type 0} (seen : C → Seen Output) where
       → (last.no_memory ≡ false → AllByRecursion (λ p. p.lot ≡ End NoMemory → ⊥) (lots_taken last.taker))
       → (last.no_memory ≡ false → hears last.begun.value last.listener (pieces_of (lots_taken last.taker)))
       → last.no_memory ≡ false → new.fault ≡ None
-      → IsRecorded seen (hears listener last.listener) (lane_count first.taker) works old.folder.told new.folder.told
+      → IsRecorded seen (hears listener last.listener) (lane_count first.taker) works old new
   all_recorded {L = L} hears listener first between last old mid new works begun_with nothing none_settled levels (table, grown, each) left same empty well heard memory no_fault =
       let all : settled_lanes last.taker ≡ table = same ∙ grown ∙ ap (λ l. table ++ l) none_settled ∙ append-nil table in
       let taken : List Parcel = lots_taken last.taker in
@@ -374,6 +395,7 @@ module _ {C : Type 0} (seen : C → Seen Output) where
         table = table;
         heard = subst (λ l. hears l last.listener (pieces_of taken)) (ap (λ (c : Snapshot L). c.value) (left.begun ∙ levels.begun) ∙ begun_with) (heard memory);
         added = left.added old.folder.told (levels.added old.folder.told begun) no_fault;
+        few = left.counted old.clock (levels.counted old.clock (omega arith));
         entries = each (left.memory memory);
         accounts = subst (AllByRecursion (λ s. lots_of s.lane taken ≡ s.list)) all (empty memory).0;
         well = well memory;
@@ -391,13 +413,13 @@ nothing_added told = record {
   merged = λ lists have. record { each = λ lane within. absurd (omega (arith, within, have.count)); of_lanes = All-nil (IsOfLaneBelow (length lists)) };
 }
 
-pub without_lanes : {C : Type 0} (seen : C → Seen Output) (hears : List (List ℕ) → Type 0) (lanes : List (Lane C)) (told : Option Folder) → length lanes ≡ 0 → hears [] → HearsMerge hears (map (rest seen) lanes) told told
+pub without_lanes : {C : Type 0} (seen : C → Seen Output) (hears : List (List ℕ) → Type 0) (lanes : List (Lane C)) (t : Tape) → length lanes ≡ 0 → hears [] → HearsMerge hears (map (rest seen) lanes) t t
 unfolding nothing_added
-without_lanes seen hears [] told empty nothing = record { merge = nothing_added told; groups = []; parts = refl; heard = nothing }
-without_lanes seen hears (lane ∷ lanes) told empty nothing = absurd (omega (arith, empty))
+without_lanes seen hears [] t empty nothing = record { merge = nothing_added t.folder.told; groups = []; parts = refl; heard = nothing; few = omega arith }
+without_lanes seen hears (lane ∷ lanes) t empty nothing = absurd (omega (arith, empty))
 
 -- the same where it answered
-pub heard_if : {C L E : Type 0} (seen : C → Seen Output) (hears : L → List (List ℕ) → Type 0) (answer : Result L E) (lanes : List (Lane C)) (works : List (Work C)) (count : ℕ) (fault : Option ShelfCall) (old new : Option Folder) → length lanes ≤ 64 → map lane_number lanes ≡ range_with_len 0 (length lanes) → count ≡ length lanes
+pub heard_if : {C L E : Type 0} (seen : C → Seen Output) (hears : L → List (List ℕ) → Type 0) (answer : Result L E) (lanes : List (Lane C)) (works : List (Work C)) (count : ℕ) (fault : Option ShelfCall) (old new : Tape) → length lanes ≤ 64 → map lane_number lanes ≡ range_with_len 0 (length lanes) → count ≡ length lanes
     → map (share seen) works ≡ map (first_share seen) lanes → IfOk answer (λ l. fault ≡ None → IsRecorded seen (hears l) count works old new) → IfOk answer (λ l. fault ≡ None → HearsMerge (hears l) (map (rest seen) lanes) old new)
 heard_if seen hears answer lanes works count fault old new few numbers counted shares all =
     IfOk-weaker answer (λ l. fault ≡ None → IsRecorded seen (hears l) count works old new) (λ l. fault ≡ None → HearsMerge (hears l) (map (rest seen) lanes) old new)

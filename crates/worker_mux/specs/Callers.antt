@@ -1,5 +1,5 @@
 -- What the one that records has taken, and what it has added to the run.
-use Rattle.std.specs.Prelude.{◌≡◌, ℕ, ◌≤◌, List, [], ◌∷◌, ◌++◌, false, Option, Some, None}
+use Rattle.std.specs.Prelude.{◌≡◌, ℕ, ◌≤◌, ◌+◌, List, [], ◌∷◌, ◌++◌, false, Option, Some, None}
 use Rattle.std.specs.List.{AllByRecursion}
 use Rattle.edge_io.specs.Causes.{Rose}
 use Rattle.edge_io.specs.Disk.{Folder}
@@ -48,13 +48,24 @@ abbrev pub recorded : List Parcel → List ℕ
 recorded [] = []
 recorded (p ∷ ps) = packet_of p.lot ++ recorded ps
 
--- what is seen of a run that is added to: the call of the folder that failed, and the folder
+-- how many calls of the folder it takes to add these bytes: one, and none where there are none
+abbrev pub calls_for : List ℕ → ℕ
+calls_for [] = 0
+calls_for (byte ∷ bytes) = 1
+
+-- the same of all that was taken, each lot by a call of its own
+abbrev pub calls_of : List Parcel → ℕ
+calls_of [] = 0
+calls_of (p ∷ ps) = calls_for (packet_of p.lot) + calls_of ps
+
+-- what is seen of a run that is added to: the call of the folder that failed, the folder, and how many calls of it there were
 pub record Tape : Type 0 where
   pub fault : Option ShelfCall
   pub folder : Seen Folder
+  pub clock : ℕ
 
-abbrev pub tape : Option ShelfCall → Seen Folder → Tape
-tape fault folder = record { fault = fault; folder = folder }
+abbrev pub tape : Option ShelfCall → Seen Folder → ℕ → Tape
+tape fault folder clock = record { fault = fault; folder = folder; clock = clock }
 
 -- until a call has failed, there is a run to add to
 pub record IsOpen (t : Tape) : Type 0 where
@@ -73,10 +84,15 @@ pub record KeepsTape (old new : Tape) : Type 0 where
 abbrev pub HasAdded : {L : Type 0} → Option Folder → Caller L → Tape → Type 0
 HasAdded start caller t = t.fault ≡ None → Goes start t.folder.told (Grown (recorded (lots_taken caller.taker)))
 
--- the lanes stay as many, what the listener was begun with is the same, and what was taken stays added
+-- from so many calls of the folder on, what was taken took no more than it takes to add each lot of it
+abbrev pub IsCounted : {L : Type 0} → (first : ℕ) → Caller L → Tape → Type 0
+IsCounted first caller t = t.clock ≤ first + calls_of (lots_taken caller.taker)
+
+-- the lanes stay as many, what the listener was begun with is the same, what was taken stays added, and its calls counted
 pub record GoesOn {L : Type 0} (before after : Caller L) (old new : Tape) : Type 0 where
   pub count : lane_count after.taker ≡ lane_count before.taker
   pub begun : after.begun ≡ before.begun
   pub memory : after.no_memory ≡ false → before.no_memory ≡ false
   pub keeps : KeepsTape old new
   pub added : (start : Option Folder) → HasAdded start before old → HasAdded start after new
+  pub counted : (first : ℕ) → IsCounted first before old → IsCounted first after new

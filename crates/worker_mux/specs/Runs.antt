@@ -1,5 +1,5 @@
 -- What a run of all lanes adds.
-use Rattle.std.specs.Prelude.{◌≡◌, ℕ, ◌<◌, ◌≤◌, ⊤, Option, Some, None, List, [], ◌∷◌, length, map, slice_index_or, All}
+use Rattle.std.specs.Prelude.{◌≡◌, ℕ, ◌<◌, ◌≤◌, ◌+◌, ⊤, Option, Some, None, List, [], ◌∷◌, length, map, slice_index_or, All}
 use Rattle.std.specs.List.{AllByRecursion, flat_map}
 use Rattle.edge_io.specs.Children.{Output}
 use Rattle.edge_io.specs.Disk.{Folder}
@@ -13,7 +13,7 @@ use Rattle.worker_lane.specs.declared.lane.Lane.{Lane}
 use Rattle.worker_lane.specs.declared.lot.Ending.TheVariants.{NoMemory}
 use Rattle.worker_lane.specs.declared.lot.Lot.{Lot}
 use Rattle.worker_lane.specs.declared.lot.Lot.TheVariants.{Packet, End}
-use Rattle.worker_mux.specs.Callers.{recorded, pieces_of, IsNewTaker, IsOpen, Tape}
+use Rattle.worker_mux.specs.Callers.{recorded, pieces_of, calls_of, IsNewTaker, IsOpen, Tape}
 use Rattle.worker_mux.specs.Passes.{number_of}
 use Rattle.worker_mux.specs.Rule.{lots_of}
 use Rattle.worker_mux.specs.Works.{bytes_left, whole, Pairs, IsEntryOf, IsReady}
@@ -56,12 +56,14 @@ pub record AddsMerge (rests : List (Option (List Lot))) (old new : Option Folder
   pub of_lanes : All (IsOfLaneBelow (length rests)) events
   pub merged : (lists : List (Option (List Event))) → HaveEvents rests lists → IsMergeOfTold events lists
 
--- the same of a merge that was heard as it was added, in pieces of whole packets
-pub record HearsMerge (hears : List (List ℕ) → Type 0) (rests : List (Option (List Lot))) (old new : Option Folder) : Type 0 where
-  pub merge : AddsMerge rests old new
+-- The same of a merge that was heard as it was added, in pieces of whole packets. At most one call of the folder was made
+-- for each packet.
+pub record HearsMerge (hears : List (List ℕ) → Type 0) (rests : List (Option (List Lot))) (old new : Tape) : Type 0 where
+  pub merge : AddsMerge rests old.folder.told new.folder.told
   pub groups : List (List Event)
   pub parts : flat_map (λ group. group) groups ≡ merge.events
   pub heard : hears (map (flat_map canonical) groups)
+  pub few : new.clock ≤ old.clock + length merge.events
 
 -- nothing was taken, each work is ready, there is a flag for each, and there is a run to add to
 pub record IsBegun {C : Type 0} (belt : Belt) (taker : Taker) (works : List (Work C)) (flags : ℕ) (t : Tape) : Type 0 where
@@ -79,13 +81,14 @@ module _ {C : Type 0} (seen : C → Seen Output) where
   abbrev pub first_share : Lane C → ℕ × Option (List ℕ)
   first_share lane = (lane_number lane, bytes_left seen lane)
 
-  -- with no lack of memory: what was taken was heard and has been added, and the settled table, which has each work,
-  -- accounts for it
-  pub record IsRecorded (hears : List (List ℕ) → Type 0) (count : ℕ) (works : List (Work C)) (old new : Option Folder) : Type 0 where
+  -- With no lack of memory: what was taken was heard and has been added, by at most one call of the folder for each lot, and
+  -- the settled table, which has each work, accounts for it.
+  pub record IsRecorded (hears : List (List ℕ) → Type 0) (count : ℕ) (works : List (Work C)) (old new : Tape) : Type 0 where
     pub taken : List Parcel
     pub table : List Settled
     pub heard : hears (pieces_of taken)
-    pub added : Goes old new (Grown (recorded taken))
+    pub added : Goes old.folder.told new.folder.told (Grown (recorded taken))
+    pub few : new.clock ≤ old.clock + calls_of taken
     pub entries : Pairs (IsEntryOf seen) works table
     pub accounts : AllByRecursion (λ s. lots_of s.lane taken ≡ s.list) table
     pub well : AllByRecursion (λ p. p.lot ≡ End NoMemory → ⊥) taken

@@ -1,11 +1,11 @@
 //! The part of the one that records: it alone takes lots and adds them to the run.
 
-ghost use Rattle.std.specs.Prelude.{◌≡◌, ◌∷◌, ◌++◌, [], ℕ, List, None, true, false, IsFalse};
+ghost use Rattle.std.specs.Prelude.{◌≡◌, ◌≤◌, ◌+◌, ◌∷◌, ◌++◌, [], ℕ, List, None, true, false, IsFalse};
 ghost use Rattle.edge_io.specs.Steps.{Goes, Grown};
 ghost use Rattle.packet_codec.specs.Packets.{ArePackets};
 ghost use Rattle.worker_lane.specs.declared.lot.Lot.TheVariants.{End};
 ghost use Rattle.worker_lane.specs.declared.lot.Ending.TheVariants.{NoMemory as without_memory};
-ghost use Rattle.worker_mux.specs.Callers.{IsCaller, GoesOn, KeepsTape, IsOpen, Tape, packet_of, piece_of, tape};
+ghost use Rattle.worker_mux.specs.Callers.{IsCaller, GoesOn, KeepsTape, IsOpen, Tape, calls_for, packet_of, piece_of, tape};
 ghost use Rattle.worker_mux.specs.Packets.{IsWhole};
 ghost use Rattle.worker_mux.specs.Passes.{number_of, settled_lanes, entry_of, HasAll, IsOfLanes};
 ghost use Rattle.worker_mux.specs.Works.{IsOwnPass, IsPut, Drives, IsReadyOutcome};
@@ -46,15 +46,16 @@ impl<L: Listener> Caller<L> {
 
     // Adds packets, and lets them be heard, also where they could not be added.
     fn add<H: Shelf>(&mut self, shared: &Shared, pen: &mut Pen<'_, H>, packet: &[u8])
-        requires is_open { IsOpen (tape pen.old.fault (H.seen pen.old.shelf.now)) }
+        requires is_open { IsOpen (tape pen.old.fault (H.seen pen.old.shelf.now) (H.clock pen.old.shelf.now)) }
         requires packets { ArePackets packet.now }
         ensures taker { self.new.taker ≡ self.old.taker }
         ensures begun { self.new.begun ≡ self.old.begun }
         ensures memory { self.new.no_memory ≡ false → self.old.no_memory ≡ false }
         ensures heard { (pieces : List (List ℕ)) → L.heard self.old.begun.value self.old.listener pieces → self.new.no_memory ≡ false → L.heard self.new.begun.value self.new.listener (pieces ++ packet.now ∷ []) }
         ensures loan { pen.new.shelf.ghost_name ≡ pen.old.shelf.ghost_name }
-        ensures keeps { KeepsTape (tape pen.old.fault (H.seen pen.old.shelf.now)) (tape pen.new.fault (H.seen pen.new.shelf.now)) }
+        ensures keeps { KeepsTape (tape pen.old.fault (H.seen pen.old.shelf.now) (H.clock pen.old.shelf.now)) (tape pen.new.fault (H.seen pen.new.shelf.now) (H.clock pen.new.shelf.now)) }
         ensures added { pen.new.fault ≡ None → Goes (H.seen pen.old.shelf.now).told (H.seen pen.new.shelf.now).told (Grown packet.now) }
+        ensures calls { H.clock pen.new.shelf.now ≤ H.clock pen.old.shelf.now + calls_for packet.now }
     {
         pen.add(packet);
         match self.listener.hear(packet) {
@@ -65,7 +66,7 @@ impl<L: Listener> Caller<L> {
 
     // Adds a lot. At the end of a lane whose memory ran out, all lanes are told to stop.
     fn record<H: Shelf>(&mut self, shared: &Shared, pen: &mut Pen<'_, H>, lot: Lot)
-        requires is_open { IsOpen (tape pen.old.fault (H.seen pen.old.shelf.now)) }
+        requires is_open { IsOpen (tape pen.old.fault (H.seen pen.old.shelf.now) (H.clock pen.old.shelf.now)) }
         requires packets { IsWhole lot }
         ensures taker { self.new.taker ≡ self.old.taker }
         ensures begun { self.new.begun ≡ self.old.begun }
@@ -73,8 +74,9 @@ impl<L: Listener> Caller<L> {
         ensures well { self.new.no_memory ≡ false → lot ≡ End without_memory → ⊥ }
         ensures heard { (pieces : List (List ℕ)) → L.heard self.old.begun.value self.old.listener pieces → self.new.no_memory ≡ false → L.heard self.new.begun.value self.new.listener (pieces ++ piece_of lot) }
         ensures loan { pen.new.shelf.ghost_name ≡ pen.old.shelf.ghost_name }
-        ensures keeps { KeepsTape (tape pen.old.fault (H.seen pen.old.shelf.now)) (tape pen.new.fault (H.seen pen.new.shelf.now)) }
+        ensures keeps { KeepsTape (tape pen.old.fault (H.seen pen.old.shelf.now) (H.clock pen.old.shelf.now)) (tape pen.new.fault (H.seen pen.new.shelf.now) (H.clock pen.new.shelf.now)) }
         ensures added { pen.new.fault ≡ None → Goes (H.seen pen.old.shelf.now).told (H.seen pen.new.shelf.now).told (Grown (packet_of lot)) }
+        ensures calls { H.clock pen.new.shelf.now ≤ H.clock pen.old.shelf.now + calls_for (packet_of lot) }
     {
         match lot {
             Lot::Packet(packet) => self.add(shared, pen, packet.bytes()),
@@ -92,10 +94,10 @@ impl<L: Listener> Caller<L> {
         pen: &mut Pen<'_, H>,
     ) -> bool
         requires ready { IsCaller L.heard shared.now.belt self.old }
-        requires is_open { IsOpen (tape pen.old.fault (H.seen pen.old.shelf.now)) }
+        requires is_open { IsOpen (tape pen.old.fault (H.seen pen.old.shelf.now) (H.clock pen.old.shelf.now)) }
         ensures ready { IsCaller L.heard shared.now.belt self.new }
         ensures loan { pen.new.shelf.ghost_name ≡ pen.old.shelf.ghost_name }
-        ensures goes { GoesOn self.old self.new (tape pen.old.fault (H.seen pen.old.shelf.now)) (tape pen.new.fault (H.seen pen.new.shelf.now)) }
+        ensures goes { GoesOn self.old self.new (tape pen.old.fault (H.seen pen.old.shelf.now) (H.clock pen.old.shelf.now)) (tape pen.new.fault (H.seen pen.new.shelf.now) (H.clock pen.new.shelf.now)) }
         ensures settled { settled_lanes self.new.taker ≡ settled_lanes self.old.taker }
         ensures empty { IsFalse result → self.new.no_memory ≡ false → HasAll self.new.taker × IsOfLanes self.new.taker }
     {
@@ -122,10 +124,10 @@ impl<L: Listener> Caller<L> {
         pen: &mut Pen<'_, H>,
     ) -> LanePass
         requires ready { IsCaller L.heard shared.now.belt self.old × IsReadyOutcome shared.now.belt outcome }
-        requires is_open { IsOpen (tape pen.old.fault (H.seen pen.old.shelf.now)) }
+        requires is_open { IsOpen (tape pen.old.fault (H.seen pen.old.shelf.now) (H.clock pen.old.shelf.now)) }
         ensures ready { IsCaller L.heard shared.now.belt self.new × IsOwnPass shared.now.belt result }
         ensures loan { pen.new.shelf.ghost_name ≡ pen.old.shelf.ghost_name }
-        ensures goes { GoesOn self.old self.new (tape pen.old.fault (H.seen pen.old.shelf.now)) (tape pen.new.fault (H.seen pen.new.shelf.now)) }
+        ensures goes { GoesOn self.old self.new (tape pen.old.fault (H.seen pen.old.shelf.now) (H.clock pen.old.shelf.now)) (tape pen.new.fault (H.seen pen.new.shelf.now) (H.clock pen.new.shelf.now)) }
         ensures settled { settled_lanes self.new.taker ≡ settled_lanes self.old.taker }
         ensures number { (before : Work C) → Drives C.seen before outcome → number_of result ≡ number_of before.pass }
         ensures put { (before : Work C) → Drives C.seen before outcome → self.new.no_memory ≡ false → IsPut C.seen before result }
@@ -166,10 +168,10 @@ impl<L: Listener> Caller<L> {
         pen: &mut Pen<'_, H>,
     )
         requires ready { IsCaller L.heard shared.now.belt self.old }
-        requires is_open { IsOpen (tape pen.old.fault (H.seen pen.old.shelf.now)) }
+        requires is_open { IsOpen (tape pen.old.fault (H.seen pen.old.shelf.now) (H.clock pen.old.shelf.now)) }
         ensures ready { IsCaller L.heard shared.now.belt self.new }
         ensures loan { pen.new.shelf.ghost_name ≡ pen.old.shelf.ghost_name }
-        ensures goes { GoesOn self.old self.new (tape pen.old.fault (H.seen pen.old.shelf.now)) (tape pen.new.fault (H.seen pen.new.shelf.now)) }
+        ensures goes { GoesOn self.old self.new (tape pen.old.fault (H.seen pen.old.shelf.now) (H.clock pen.old.shelf.now)) (tape pen.new.fault (H.seen pen.new.shelf.now) (H.clock pen.new.shelf.now)) }
         ensures settled { settled_lanes self.new.taker ≡ settled_lanes self.old.taker }
     {
         for _ in rt.forever() {
@@ -192,10 +194,10 @@ impl<L: Listener> Caller<L> {
         pen: &mut Pen<'_, H>,
     )
         requires ready { IsCaller L.heard shared.now.belt self.old }
-        requires is_open { IsOpen (tape pen.old.fault (H.seen pen.old.shelf.now)) }
+        requires is_open { IsOpen (tape pen.old.fault (H.seen pen.old.shelf.now) (H.clock pen.old.shelf.now)) }
         ensures ready { IsCaller L.heard shared.now.belt self.new }
         ensures loan { pen.new.shelf.ghost_name ≡ pen.old.shelf.ghost_name }
-        ensures goes { GoesOn self.old self.new (tape pen.old.fault (H.seen pen.old.shelf.now)) (tape pen.new.fault (H.seen pen.new.shelf.now)) }
+        ensures goes { GoesOn self.old self.new (tape pen.old.fault (H.seen pen.old.shelf.now) (H.clock pen.old.shelf.now)) (tape pen.new.fault (H.seen pen.new.shelf.now) (H.clock pen.new.shelf.now)) }
         ensures settled { settled_lanes self.new.taker ≡ settled_lanes self.old.taker }
         ensures empty { self.new.no_memory ≡ false → HasAll self.new.taker × IsOfLanes self.new.taker }
     {

@@ -46,12 +46,12 @@ pub(crate) fn level<
     pen: &mut Pen<'_, H>,
 )
     requires caller { IsCaller L.heard shared.now.belt caller.old }
-    requires is_open { IsOpen (tape pen.old.fault (H.seen pen.old.shelf.now)) }
+    requires is_open { IsOpen (tape pen.old.fault (H.seen pen.old.shelf.now) (H.clock pen.old.shelf.now)) }
     requires works { AllByRecursion (IsReady shared.now.belt) works.old.items }
     requires flags { length works.old.items ≤ length flags.now }
     ensures ready { IsCaller L.heard shared.now.belt caller.new }
     ensures loan { pen.new.shelf.ghost_name ≡ pen.old.shelf.ghost_name }
-    ensures goes { GoesOn caller.old caller.new (tape pen.old.fault (H.seen pen.old.shelf.now)) (tape pen.new.fault (H.seen pen.new.shelf.now)) }
+    ensures goes { GoesOn caller.old caller.new (tape pen.old.fault (H.seen pen.old.shelf.now) (H.clock pen.old.shelf.now)) (tape pen.new.fault (H.seen pen.new.shelf.now) (H.clock pen.new.shelf.now)) }
     ensures settled { Settles C.seen caller.new.no_memory works.old.items (settled_lanes caller.old.taker) (settled_lanes caller.new.taker) }
 {
     let Some(work) = works.pop_front() else {

@@ -57,7 +57,7 @@ pub fn run_lanes<R: Threads + Wait + Sync, C: Child + Send + Drop, H: Shelf>(
     ensures same_reference { recorder.new.shelf.ghost_name ≡ recorder.old.shelf.ghost_name }
     // What each exit leaves.
     ensures any_moment { Goes (H.seen recorder.old.shelf.now).told (H.seen recorder.new.shelf.now).told PassesOld }
-    ensures keeps { KeepsTape (tape (recorder_fault recorder.old) (H.seen recorder.old.shelf.now)) (tape (recorder_fault recorder.new) (H.seen recorder.new.shelf.now)) }
+    ensures keeps { KeepsTape (tape (recorder_fault recorder.old) (H.seen recorder.old.shelf.now) (H.clock recorder.old.shelf.now)) (tape (recorder_fault recorder.new) (H.seen recorder.new.shelf.now) (H.clock recorder.new.shelf.now)) }
     ensures fits { RecordsUnlessBroken (recorder_kinds recorder.new) (recorder_fault recorder.new) (H.seen recorder.new.shelf.now).told }
     ensures kinds { recorder_kinds recorder.new ≡ recorder_kinds recorder.old }
     ensures partial { recorder_partial recorder.new ≡ recorder_partial recorder.old }
@@ -71,8 +71,8 @@ pub fn run_lanes<R: Threads + Wait + Sync, C: Child + Send + Drop, H: Shelf>(
 
 /// The same for a listener that has heard nothing: it hears what is added, in pieces of whole packets, and comes back.
 ///
-/// At `Ok`, where no call of the folder has failed, it has heard all that was added. Where one failed, what it has heard is
-/// not known. Where the listener wants memory, all children are stopped, as for a lane's want of it.
+/// At `Ok`, where no call of the folder has failed, it has heard all that was added, and the folder was called at most once
+/// for each packet. Where one failed, what it has heard is not known. Where the listener wants memory, all children are stopped, as for a lane's want of it.
 pub fn run_lanes_heard<
     R: Threads + Wait + Sync,
     C: Child + Send + Drop,
@@ -92,13 +92,13 @@ pub fn run_lanes_heard<
     ensures same_reference { recorder.new.shelf.ghost_name ≡ recorder.old.shelf.ghost_name }
     // What each exit leaves.
     ensures any_moment { Goes (H.seen recorder.old.shelf.now).told (H.seen recorder.new.shelf.now).told PassesOld }
-    ensures keeps { KeepsTape (tape (recorder_fault recorder.old) (H.seen recorder.old.shelf.now)) (tape (recorder_fault recorder.new) (H.seen recorder.new.shelf.now)) }
+    ensures keeps { KeepsTape (tape (recorder_fault recorder.old) (H.seen recorder.old.shelf.now) (H.clock recorder.old.shelf.now)) (tape (recorder_fault recorder.new) (H.seen recorder.new.shelf.now) (H.clock recorder.new.shelf.now)) }
     ensures fits { RecordsUnlessBroken (recorder_kinds recorder.new) (recorder_fault recorder.new) (H.seen recorder.new.shelf.now).told }
     ensures kinds { recorder_kinds recorder.new ≡ recorder_kinds recorder.old }
     ensures partial { recorder_partial recorder.new ≡ recorder_partial recorder.old }
     // What was added, and heard.
     ensures no_lane { lanes.items ≡ [] → IsOk result }
-    ensures merged { IfOk result (λ l. recorder_fault recorder.new ≡ None → HearsMerge (L.heard listener l) (map (rest C.seen) lanes.items) (H.seen recorder.old.shelf.now).told (H.seen recorder.new.shelf.now).told) }
+    ensures merged { IfOk result (λ l. recorder_fault recorder.new ≡ None → HearsMerge (L.heard listener l) (map (rest C.seen) lanes.items) (tape (recorder_fault recorder.old) (H.seen recorder.old.shelf.now) (H.clock recorder.old.shelf.now)) (tape (recorder_fault recorder.new) (H.seen recorder.new.shelf.now) (H.clock recorder.new.shelf.now))) }
 {
     if lanes.len() == 0 {
         return Ok(listener);
@@ -227,10 +227,10 @@ fn read_all<R: Threads + Wait + Sync, C: Child + Send + Drop, H: Shelf, L: Liste
     requires taker { IsNewTaker shared.now.belt taker }
     requires works { AllByRecursion (IsReady shared.now.belt) works.items }
     requires flags { length works.items ≤ length flags.now }
-    requires is_open { IsOpen (tape fault (H.seen shelf.old)) }
+    requires is_open { IsOpen (tape fault (H.seen shelf.old) (H.clock shelf.old)) }
     requires nothing { L.heard listener listener [] }
-    ensures keeps { KeepsTape (tape fault (H.seen shelf.old)) (tape result.0 (H.seen shelf.new)) }
-    ensures recorded { IfOk result.1 (λ l. result.0 ≡ None → IsRecorded C.seen (L.heard listener l) (lane_count taker) works.items (H.seen shelf.old).told (H.seen shelf.new).told) }
+    ensures keeps { KeepsTape (tape fault (H.seen shelf.old) (H.clock shelf.old)) (tape result.0 (H.seen shelf.new) (H.clock shelf.new)) }
+    ensures recorded { IfOk result.1 (λ l. result.0 ≡ None → IsRecorded C.seen (L.heard listener l) (lane_count taker) works.items (tape fault (H.seen shelf.old) (H.clock shelf.old)) (tape result.0 (H.seen shelf.new) (H.clock shelf.new))) }
 {
     in_scope(rt, shared, flags, works, taker, listener, shelf, fault)
 }
@@ -246,18 +246,18 @@ fn in_scope<R: Threads + Wait + Sync, C: Child + Send + Drop, H: Shelf, L: Liste
     shelf: &mut H,
     fault: Option<ShelfCall>,
 ) -> (Option<ShelfCall>, Result<L, NoMemory>)
-    requires begun { IsBegun shared.now.belt taker works.items (length flags.now) (tape fault (H.seen shelf.old)) × L.heard listener listener [] }
-    ensures keeps { KeepsTape (tape fault (H.seen shelf.old)) (tape result.0 (H.seen shelf.new)) }
-    ensures recorded { IfOk result.1 (λ l. result.0 ≡ None → IsRecorded C.seen (L.heard listener l) (lane_count taker) works.items (H.seen shelf.old).told (H.seen shelf.new).told) }
+    requires begun { IsBegun shared.now.belt taker works.items (length flags.now) (tape fault (H.seen shelf.old) (H.clock shelf.old)) × L.heard listener listener [] }
+    ensures keeps { KeepsTape (tape fault (H.seen shelf.old) (H.clock shelf.old)) (tape result.0 (H.seen shelf.new) (H.clock shelf.new)) }
+    ensures recorded { IfOk result.1 (λ l. result.0 ≡ None → IsRecorded C.seen (L.heard listener l) (lane_count taker) works.items (tape fault (H.seen shelf.old) (H.clock shelf.old)) (tape result.0 (H.seen shelf.new) (H.clock shelf.new))) }
 {
     let (shelf, fault, heard) = thread::scope(
         thread::scope_env(),
         rt,
         move |scope| -> (&mut H, Option<ShelfCall>, Result<L, NoMemory>)
-            requires begun { IsBegun shared.now.belt taker works.items (length flags.now) (tape fault (H.seen shelf.now)) × L.heard listener listener [] }
+            requires begun { IsBegun shared.now.belt taker works.items (length flags.now) (tape fault (H.seen shelf.now) (H.clock shelf.now)) × L.heard listener listener [] }
             ensures same { result.0.ghost_name ≡ shelf.entry.ghost_name }
-            ensures keeps { KeepsTape (tape fault (H.seen shelf.entry.now)) (tape result.1 (H.seen result.0.now)) }
-            ensures recorded { IfOk result.2 (λ l. result.1 ≡ None → IsRecorded C.seen (L.heard listener l) (lane_count taker) works.items (H.seen shelf.entry.now).told (H.seen result.0.now).told) }
+            ensures keeps { KeepsTape (tape fault (H.seen shelf.entry.now) (H.clock shelf.entry.now)) (tape result.1 (H.seen result.0.now) (H.clock result.0.now)) }
+            ensures recorded { IfOk result.2 (λ l. result.1 ≡ None → IsRecorded C.seen (L.heard listener l) (lane_count taker) works.items (tape fault (H.seen shelf.entry.now) (H.clock shelf.entry.now)) (tape result.1 (H.seen result.0.now) (H.clock result.0.now))) }
         {
             let mut pen = Pen { shelf, fault };
             let heard = all_levels(rt, scope, shared, flags, works, taker, listener, &mut pen);
@@ -287,10 +287,10 @@ fn all_levels<
     listener: L,
     pen: &mut Pen<'_, H>,
 ) -> Result<L, NoMemory>
-    requires begun { IsBegun shared.now.belt taker works.items (length flags.now) (tape pen.old.fault (H.seen pen.old.shelf.now)) × L.heard listener listener [] }
+    requires begun { IsBegun shared.now.belt taker works.items (length flags.now) (tape pen.old.fault (H.seen pen.old.shelf.now) (H.clock pen.old.shelf.now)) × L.heard listener listener [] }
     ensures loan { pen.new.shelf.ghost_name ≡ pen.old.shelf.ghost_name }
-    ensures keeps { KeepsTape (tape pen.old.fault (H.seen pen.old.shelf.now)) (tape pen.new.fault (H.seen pen.new.shelf.now)) }
-    ensures recorded { IfOk result (λ l. pen.new.fault ≡ None → IsRecorded C.seen (L.heard listener l) (lane_count taker) works.items (H.seen pen.old.shelf.now).told (H.seen pen.new.shelf.now).told) }
+    ensures keeps { KeepsTape (tape pen.old.fault (H.seen pen.old.shelf.now) (H.clock pen.old.shelf.now)) (tape pen.new.fault (H.seen pen.new.shelf.now) (H.clock pen.new.shelf.now)) }
+    ensures recorded { IfOk result (λ l. pen.new.fault ≡ None → IsRecorded C.seen (L.heard listener l) (lane_count taker) works.items (tape pen.old.fault (H.seen pen.old.shelf.now) (H.clock pen.old.shelf.now)) (tape pen.new.fault (H.seen pen.new.shelf.now) (H.clock pen.new.shelf.now))) }
 {
     let mut caller = Caller {
         taker,

@@ -12,6 +12,7 @@ returns-in-Some-clause-goes g c =
     c.record.ensures.memory
     c.record.ensures.keeps
     c.record.ensures.added
+    c.record.ensures.calls
 
 pub returns-in-Some-clause-ready : goal.returns-in-Some-clause-ready
 returns-in-Some-clause-ready g c =
