@@ -1,5 +1,5 @@
 -- The rows of what is recorded of a run's lanes, from what was heard.
-use Rattle.std.proofs.Common.{◌≡◌, ℕ, ◌≤◌, List, [], ◌∷◌, ◌++◌, Option, None, Some, Result, Ok, Err, IfOk, IfErr, map, refl, sym, ap, ◌∙◌, subst}
+use Rattle.std.proofs.Common.{◌≡◌, ℕ, ◌≤◌, List, [], ◌∷◌, ◌++◌, Option, None, Some, Result, Ok, Err, IfOk, IfErr, OnOk, map, refl, sym, ap, ◌∙◌, subst}
 use Rattle.std.specs.List.{flat_map}
 use Rattle.std.proofs.lemmas.List.Concat.{flat_map-append}
 use Rattle.sub_number.specs.declared.memory.NoMemory as memory
@@ -18,12 +18,12 @@ use Rattle.run_ledger.specs.declared.written_run.WrittenRun.{WrittenRun}
 use Rattle.run_ledger.proofs.FoldLemmas.{if_ok_then}
 use Rattle.run_shelf.specs.declared.faults.ShelfCall.{ShelfCall}
 use Rattle.run_shelf.specs.declared.faults.ShelfCall.TheVariants.{Append}
-use Rattle.suite_run.specs.Recording.{AddsRows, AddsSums, HasHeard, HearsOn, RecordsLanes, TellsOfAppend, lanes_answer, lanes_failed}
+use Rattle.suite_run.specs.Recording.{AddsByFew, AddsRows, AddsSums, HasHeard, HearsOn, RecordsLanes, TellsOfAppend, lanes_answer, lanes_failed}
 use Rattle.suite_run.specs.Summed.{GivesSums}
 use Rattle.suite_run.specs.declared.recording.Ear.{Ear}
 use Rattle.suite_run.specs.declared.recording.LanesRefusal.{LanesRefusal}
 use Rattle.worker_lane.specs.declared.lot.Lot.{Lot}
-use Rattle.worker_mux.specs.Callers.{KeepsTape, tape}
+use Rattle.worker_mux.specs.Callers.{KeepsTape, Tape, tape}
 use Rattle.worker_mux.specs.Runs.{HearsMerge}
 
 -- the packets of groups of events, one group after another, are those of all events
@@ -31,7 +31,7 @@ joined_packets : (groups : List (List Event)) → joined (map (flat_map canonica
 joined_packets [] = refl
 joined_packets (group ∷ groups) = ap (λ l. flat_map canonical group ++ l) (joined_packets groups) ∙ sym (flat_map-append canonical group (flat_map (λ g. g) groups))
 
-module _ (filter_tags : List (List ℕ)) (rests : List (Option (List Lot))) (old new : Option Folder) (begun : WrittenRun) where
+module _ (filter_tags : List (List ℕ)) (rests : List (Option (List Lot))) (old new : Tape) (begun : WrittenRun) where
   -- the ear heard a merge as it was added
   abbrev HeardAll : Ear → Type 0
   HeardAll ear = HearsMerge (HearsOn begun ear.run) rests old new
@@ -49,6 +49,7 @@ module _ (filter_tags : List (List ℕ)) (rests : List (Option (List Lot))) (old
         rows = sums.rows;
         adds = record { merge = h.merge; rows_are = subst (λ l. AreRowsOf l sums.rows) bytes sums.are };
         sums = sums.sums;
+        few = h.few;
       })
 
   pub adds_sums : (fault : Option ShelfCall) (heard : Result Ear memory.NoMemory) (summary : Result Summary memory.NoMemory) (answer : Result Summary LanesRefusal) → answer ≡ lanes_answer fault summary → IfOk heard (λ ear. fault ≡ None → HeardAll ear) → (IfOk heard HeardAll → IfOk summary (AddsSums filter_tags rests old new)) → IfOk answer (AddsSums filter_tags rests old new)
@@ -71,8 +72,8 @@ rises (Some call) rows before now later rose stands = record { later = later; ro
 rises None (Ok list) before now later rose stands = record { later = later; rose = λ no. cc; stands = λ _. stands refl }
 rises None (Err lack) before now later rose stands = record { later = later; rose = λ no. cc; stands = λ _. stands refl }
 
-lanes_recorded : (rests : List (Option (List Lot))) (fault : Option ShelfCall) (rows : Result (List Row) memory.NoMemory) (answer : Result (List Row) LanesRefusal) (before after : Seen Folder) → answer ≡ lanes_answer fault rows → KeepsTape (tape None before) (tape fault after) → IfOk answer (AddsRows rests before.told after.told) → RecordsLanes rests before after answer
-lanes_recorded rests fault rows answer before after is keeps adds = record {
+lanes_recorded : (rests : List (Option (List Lot))) (fault : Option ShelfCall) (rows : Result (List Row) memory.NoMemory) (answer : Result (List Row) LanesRefusal) (before after : Seen Folder) (clock now : ℕ) → answer ≡ lanes_answer fault rows → KeepsTape (tape None before clock) (tape fault after now) → IfOk answer (AddsRows rests before.told after.told) → RecordsLanes rests before after answer
+lanes_recorded rests fault rows answer before after clock now is keeps adds = record {
   recorded = adds;
   refused = subst (λ r. IfErr r TellsOfAppend) (sym is) (tells_of fault rows (λ call failed. (keeps.rose refl call failed).0));
   files = keeps.files;
@@ -88,14 +89,25 @@ answer_rows rows fault summary answer is = ap (with_rows rows) is ∙ same fault
     same None (Ok kept) = refl
     same None (Err lack) = refl
 
-pub lanes_summed : (filter_tags : List (List ℕ)) (rests : List (Option (List Lot))) (fault : Option ShelfCall) (summary : Result Summary memory.NoMemory) (answer : Result Summary LanesRefusal) (before after : Seen Folder) → answer ≡ lanes_answer fault summary → KeepsTape (tape None before) (tape fault after) → IfOk answer (AddsSums filter_tags rests before.told after.told) → GivesSums filter_tags (RecordsLanes rests before after) answer
-lanes_summed filter_tags rests fault summary (Ok kept) before after is keeps adds = record {
+pub lanes_summed : (filter_tags : List (List ℕ)) (rests : List (Option (List Lot))) (fault : Option ShelfCall) (summary : Result Summary memory.NoMemory) (answer : Result Summary LanesRefusal) (before after : Seen Folder) (clock now : ℕ) → answer ≡ lanes_answer fault summary → KeepsTape (tape None before clock) (tape fault after now) → IfOk answer (AddsSums filter_tags rests (tape None before clock) (tape fault after now)) → GivesSums filter_tags (RecordsLanes rests before after) answer
+lanes_summed filter_tags rests fault summary (Ok kept) before after clock now is keeps adds = record {
   rows = adds.rows;
   sums = adds.sums;
-  holds = lanes_recorded rests fault (with_rows adds.rows summary) (Ok adds.rows) before after (answer_rows adds.rows fault summary (Ok kept) is) keeps adds.adds;
+  holds = lanes_recorded rests fault (with_rows adds.rows summary) (Ok adds.rows) before after clock now (answer_rows adds.rows fault summary (Ok kept) is) keeps adds.adds;
 }
-lanes_summed filter_tags rests fault summary (Err refusal) before after is keeps adds = record {
+lanes_summed filter_tags rests fault summary (Err refusal) before after clock now is keeps adds = record {
   rows = [];
   sums = tt;
-  holds = lanes_recorded rests fault (with_rows [] summary) (Err refusal) before after (answer_rows [] fault summary (Err refusal) is) keeps tt;
+  holds = lanes_recorded rests fault (with_rows [] summary) (Err refusal) before after clock now (answer_rows [] fault summary (Err refusal) is) keeps tt;
 }
+
+-- with an answer, the calls were few
+pub few_calls : {E : Type 0} (filter_tags : List (List ℕ)) (rests : List (Option (List Lot))) (old new : Tape) (answer : Result Summary E) → IfOk answer (AddsSums filter_tags rests old new) → OnOk answer (AddsByFew old.folder.told new.folder.told old.clock new.clock)
+few_calls filter_tags rests old new (Ok kept) sums = record {
+  events = sums.adds.merge.events;
+  are_events = sums.adds.merge.are_events;
+  fit = sums.adds.merge.fit;
+  added = sums.adds.merge.added;
+  few = sums.few;
+}
+few_calls filter_tags rests old new (Err refusal) sums = tt

@@ -2,15 +2,15 @@
 
 ghost use Rattle.std.specs.Prelude.{◌≡◌, ◌≤◌, ◌<◌, ℕ, Option, List, [], length, map, IfOk, OnOk};
 ghost use Rattle.std.specs.List.{range_with_len};
-ghost use Rattle.edge_io.specs.Disk.{Folder};
 ghost use Rattle.edge_io.specs.Steps.{HasDraft};
 ghost use Rattle.run_ledger.specs.declared.written_run.WrittenRun.{WrittenRun as ARun};
 ghost use Rattle.run_shelf.specs.Holds.{kinds_of, HasRoom, FitsWhereTold};
 ghost use Rattle.run_shelf.specs.Repository.{most_runs};
-ghost use Rattle.suite_run.specs.Recording.{AddsSums, HasHeard, HearsOn, RecordsLanes, lanes_answer};
+ghost use Rattle.suite_run.specs.Recording.{AddsByFew, AddsSums, HasHeard, HearsOn, RecordsLanes, lanes_answer};
 ghost use Rattle.suite_run.specs.Summed.{GivesSums};
 ghost use Rattle.worker_lane.specs.Lanes.{rest, lane_number};
 ghost use Rattle.worker_lane.specs.declared.lot.Lot.{Lot};
+ghost use Rattle.worker_mux.specs.Callers.{Tape};
 ghost use Rattle.worker_mux.specs.Runs.{HearsMerge};
 
 use edge_io::{Child, Shelf};
@@ -37,7 +37,7 @@ pub enum LanesRefusal {
 /// Reads all lanes to their ends, each on a thread of its own, or on the caller's where none can be started, and adds their
 /// packets behind the draft that was begun, as they come. It may wait for the children. It hands back what was found, and
 /// gives what is kept of the rows of what was added, where these tags filter: the thread that adds a packet folds its event,
-/// so that the run need not be read again.
+/// so that the run need not be read again. At `Ok` it has called the folder at most once for each packet.
 ///
 /// `Shelf` comes exactly where a call of the folder failed, also where memory ran out too. The lanes are read to their
 /// ends also where the folder fails, unless memory runs out (no clause says so). With `NoMemory` all children were
@@ -58,6 +58,7 @@ pub fn record_lanes<R: Threads + Wait + Sync, C: Child + Send + Drop, H: Shelf>(
     requires fits { FitsWhereTold (kinds_of found) (H.seen shelf.old).told }
     requires draft { HasDraft (H.seen shelf.old).told }
     ensures step { GivesSums filter_tags (RecordsLanes (map (rest C.seen) lanes.items) (H.seen shelf.old) (H.seen shelf.new)) result.1 }
+    ensures calls { OnOk result.1 (AddsByFew (H.seen shelf.old).told (H.seen shelf.new).told (H.clock shelf.old) (H.clock shelf.new)) }
     ensures draft { OnOk result.1 (HasDraft (H.seen shelf.new).told) }
     ensures fits { OnOk result.1 (FitsWhereTold (kinds_of result.0) (H.seen shelf.new).told) }
     ensures kinds { kinds_of result.0 ≡ kinds_of found }
@@ -104,7 +105,7 @@ impl Listener for Ear {
 
 // What is kept of the rows of a run that was heard, from this ear on.
 fn summed_up(heard: Result<Ear, NoMemory>) -> Result<Summary, NoMemory>
-    ensures { (filter_tags : List (List ℕ)) (begun : ARun) (rests : List (Option (List Lot))) (old new : Option Folder) → HasHeard filter_tags begun [] → IfOk heard (λ ear. HearsMerge (HearsOn begun ear.run) rests old new) → IfOk result (AddsSums filter_tags rests old new) }
+    ensures { (filter_tags : List (List ℕ)) (begun : ARun) (rests : List (Option (List Lot))) (old new : Tape) → HasHeard filter_tags begun [] → IfOk heard (λ ear. HearsMerge (HearsOn begun ear.run) rests old new) → IfOk result (AddsSums filter_tags rests old new) }
 {
     let ear = heard?;
     ear.run.close()
