@@ -20,7 +20,7 @@ fn stamp_at(instant: Instant) -> Stamp
 }
 
 /// The stamp of the time that the word tells. None comes exactly where it tells none.
-#[tactic(auto, unfolding(crate::specs::Output::stamp_of))]
+#[tactic(auto, unfolding(crate::specs::Output::stamp_told))]
 pub(crate) fn stamp_of(time: &str) -> Option<Stamp>
     ensures { result ≡ spec.stamp_told time.now }
 {
