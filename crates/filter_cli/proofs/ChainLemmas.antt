@@ -1,18 +1,26 @@
 -- How a chain goes on, and how it stops.
-use Rattle.std.proofs.Common.{◌≡◌, ℕ, All, Option, List, [], Result, Ok, Err, refl, ap, subst, ◌∙◌, arith}
-use Rattle.std.specs.Prelude.{IsErrAnd}
+use Rattle.std.proofs.Common.{◌≡◌, ℕ, All, Option, None, Some, List, [], Result, Ok, Err, IsTrue, true≢false, refl, sym, ap, subst, ◌∙◌, arith}
+use Rattle.std.specs.Prelude.{IsErrAnd, is_some}
 use Rattle.std.proofs.lemmas.Result.{err_from_is_err_and}
 use Rattle.partition_times.specs.Patterns.{IsPattern}
 use Rattle.filter_cli.specs.Steps.{Step, Then, stops, goes_on, Still, Gives}
 use Rattle.edge_io.specs.Seen.{Seen}
 use Rattle.event_sift.specs.declared.tagger.Tagger.{Tagger}
-use Rattle.filter_cli.specs.Pipe.{Pipe}
+use Rattle.event_sift.specs.declared.rules.Rules.{Rules}
+use Rattle.packet_codec.specs.Canonical.{canonical}
+use Rattle.sub_export.specs.declared.job.Attachment.{Attachment}
+use Rattle.sub_export.specs.declared.job.Job.{Job}
+use Rattle.sub_export.specs.Output.{last_event}
+use Rattle.filter_cli.specs.Attached.{IsOutputSeen, IsOutput, WritesAlone}
+use Rattle.filter_cli.specs.Exporting.{IsCsvSeen, IsCsvFiltered}
+use Rattle.filter_cli.specs.Pipe.{Pipe, pipe}
 use Rattle.filter_cli.specs.Plan.{Plan, IsSeen, IsFiltered}
 use Rattle.filter_cli.specs.Pumping.{Pumps}
 use Rattle.filter_cli.specs.Tagging.{tags_plan, tags_plan_of}
-use Rattle.filter_cli.specs.Streams.{patterns_of}
-use Rattle.filter_cli.specs.Program.{Passes, Checked, Performs, Tells}
+use Rattle.filter_cli.specs.Streams.{of_job, writing_of, unread_by, unread_text, patterns_of}
+use Rattle.filter_cli.specs.Program.{PumpsOrLeaves, Passes, Checked, Performs, Tells}
 use Rattle.filter_cli.specs.declared.asked.Asked.{Asked}
+use Rattle.filter_cli.specs.declared.asked.Asked.TheVariants.{Output}
 use Rattle.filter_cli.specs.declared.pass.PumpFault.{PumpFault}
 use Rattle.filter_cli.specs.declared.refusal.UsageFault.{UsageFault}
 use Rattle.filter_cli.specs.declared.refusal.Refusal.{Refusal}
@@ -58,6 +66,25 @@ PumpsBy plan = Pumps (IsSeen plan) (IsFiltered plan)
 
 pub plan_as : (plan given : Plan) (before after : Pipe) (result : Result ℕ PumpFault) → given ≡ plan → PumpsBy given before after result → PumpsBy plan before after result
 plan_as plan given before after result is pumps = subst (λ (p : Plan). PumpsBy p before after result) is pumps
+
+-- the records by the same rules
+pub records_as : (rules given : Rules) (before after : Pipe) (result : Result ℕ PumpFault) → given ≡ rules → Pumps (IsCsvSeen given) (IsCsvFiltered given) before after result → Pumps (IsCsvSeen rules) (IsCsvFiltered rules) before after result
+records_as rules given before after result is pumps = subst (λ (r : Rules). Pumps (IsCsvSeen r) (IsCsvFiltered r) before after result) is pumps
+
+-- ---- the events that words ask for
+
+attaches_with : (job : Job) (attachment : Option Attachment) (before after : Pipe) (result : Result ℕ PumpFault) → IsTrue (is_some attachment) → Pumps (IsOutputSeen job) (IsOutput job) before after result → PumpsOrLeaves (unread_by job attachment) (of_job job) before after result
+attaches_with job None before after result some pumps = absurd (true≢false (sym some))
+attaches_with job (Some attachment) before after result some pumps = pumps
+
+-- a job that attaches a file reads the input
+pub attaches_as : (job : Job) (before after : Pipe) (result : Result ℕ PumpFault) → IsTrue (is_some job.attachment) → Pumps (IsOutputSeen job) (IsOutput job) before after result → PumpsOrLeaves (unread_text (Output job)) (writing_of (Output job)) before after result
+attaches_as job before after result some pumps = attaches_with job job.attachment before after result some pumps
+
+-- one that attaches nothing leaves it unread
+pub leaves_as : (job : Job) (input before after : Seen (List ℕ)) (result : Result ℕ PumpFault) → job.attachment ≡ None → WritesAlone (canonical (last_event job)) before after result → PumpsOrLeaves (unread_text (Output job)) (writing_of (Output job)) (pipe input before) (pipe input after) result
+leaves_as job input before after result none written =
+    subst (λ (o : Option Attachment). PumpsOrLeaves (unread_by job o) (of_job job) (pipe input before) (pipe input after) result) (sym none) (record { unread = refl; written = written })
 
 pub tags_is : (tagger : Tagger) (add remove : List (List ℕ)) → tagger.add ≡ add → tagger.remove ≡ remove → tags_plan tagger ≡ tags_plan_of add remove
 tags_is tagger add remove add_is remove_is = ap (λ (l : List (List ℕ)). tags_plan_of l tagger.remove) add_is ∙ ap (tags_plan_of add) remove_is

@@ -2,6 +2,9 @@ pub mod PipeLemmas
 pub mod PumpLemmas
 pub mod NotedLemmas
 pub mod EventLemmas
+pub mod AttachLemmas
+pub mod BelowLemmas
+pub mod ExportLemmas
 pub mod NotedPrefix
 pub mod FitLemmas
 pub mod EventTextLemmas
@@ -11,6 +14,7 @@ pub mod ChainLemmas
 pub mod BadLemmas
 pub mod StatusLemmas
 pub mod Ways
+pub mod UnreadLemmas
 pub mod WritingLaws
 pub mod PromiseLemmas
 pub mod TallyLemmas

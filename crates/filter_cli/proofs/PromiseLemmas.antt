@@ -3,15 +3,16 @@ use Rattle.std.proofs.Common.{◌≡◌, ◌⊎◌, inl, inr, ℕ, ◌<◌, ◌�
 use Rattle.std.proofs.KnownBytes.{Appends-nil}
 use Rattle.packet_codec.specs.Grammar.{AreBytes}
 use Rattle.edge_io.specs.Bytes.{AppendsPrefix}
+use Rattle.edge_io.specs.Seen.{Seen}
 use Rattle.filter_cli.specs.Pipe.{Pipe, NoFault}
 use Rattle.filter_cli.specs.Pumping.{PumpsAll, ReadFails, WriteFails, IsDue, IsTooLong, Pumps, most_bytes}
 use Rattle.filter_cli.specs.Tools.{tool_of}
 use Rattle.filter_cli.specs.Words.{asked_of}
-use Rattle.filter_cli.specs.Streams.{writing_of, sees_by, ends_by, AsksFor, HasBadPattern, IsSeenBy, IsFilteredBy}
+use Rattle.filter_cli.specs.Streams.{writing_of, unread_text, text_unread, sees_by, ends_by, AsksFor, HasBadPattern, IsSeenBy, IsFilteredBy}
 use Rattle.filter_cli.specs.Outside.{Outside, pipe_of, SomeRose}
 use Rattle.filter_cli.specs.Refusals.{code_of}
-use Rattle.filter_cli.specs.Program.{Answers}
-use Rattle.filter_cli.specs.Promises.{CanFilter, FaultsOf, Promises}
+use Rattle.filter_cli.specs.Program.{Answers, LeavesUnread}
+use Rattle.filter_cli.specs.Promises.{CanFilter, FaultsOf, IsDone, OutputFails, GivesAll, GivesFirst, GiveFails, Promises}
 use Rattle.filter_cli.specs.declared.asked.Asked.{Asked}
 use Rattle.filter_cli.specs.declared.refusal.Refusal.{Refusal}
 use Rattle.filter_cli.specs.declared.pass.PumpFault.{PumpFault}
@@ -19,8 +20,10 @@ use Rattle.filter_cli.specs.declared.pass.PumpFault.TheVariants as pump_fault
 use Rattle.filter_cli.proofs.PumpLemmas.{pumped_prefix, if_told}
 use Rattle.filter_cli.proofs.BadLemmas.{same_asked, asks_no_bad}
 use Rattle.filter_cli.proofs.StatusLemmas.{status_at_most}
+use Rattle.filter_cli.proofs.UnreadLemmas.{unread_whole, gives_first, gives_none, gives_all}
 use Rattle.filter_cli.proofs.WritingLaws.{by_front, by_one}
-use Rattle.filter_cli.proofs.Ways.{Ways, by_usage, by_memory, by_bad, by_want, passed, by_input, by_length, by_output, by_room, filters_ways}
+use Rattle.std.specs.Option.{option_and_then}
+use Rattle.filter_cli.proofs.Ways.{Ways, by_usage, by_memory, by_bad, by_want, passed, by_input, by_length, by_output, by_room, gave, by_sink, by_space, filters_ways}
 
 -- ---- of a filter, and of words that ask for it
 
@@ -72,6 +75,30 @@ module _ (words : List (List ℕ)) (asked : Asked) (asks : AsksFor words asked) 
       let whole = subst (λ (x : Asked). ends_by (writing_of x) bytes text status) (same_asked words e.asked asked e.asks.named asks.named) e.whole in
       pumped_prefix _ _ (by_front (writing_of asked)) (by_one (writing_of asked)) a b result bytes text status told are whole pumps
 
+  -- of words that leave the input unread
+  alone_of : (shown : List ℕ) (result : Result ℕ PumpFault) → text_unread words ≡ Some shown → LeavesUnread shown a b result → (bytes text : List ℕ) (status : ℕ) → IsFilteredBy words bytes text status → AppendsPrefix a.out.told b.out.told text
+  alone_of shown result leaves p bytes text status e =
+      let whole = subst (λ (x : Asked). ends_by (writing_of x) bytes text status) (same_asked words e.asked asked e.asks.named asks.named) e.whole in
+      let own : unread_text asked ≡ Some shown = sym (ap (option_and_then unread_text) asks.named) ∙ leaves in
+      subst (AppendsPrefix a.out.told b.out.told) (sym (unread_whole asked shown bytes text status own whole)) (gives_first shown a b result p).wrote
+
+-- ---- of the text that words write where they leave the input unread
+
+not_reads : (words : List (List ℕ)) (text : List ℕ) → text_unread words ≡ Some text → text_unread words ≡ None → ⊥
+not_reads words text some none = let both : Some text ≡ None = sym some ∙ none in cc
+
+same_text : (words : List (List ℕ)) (text shown : List ℕ) → text_unread words ≡ Some text → text_unread words ≡ Some shown → text ≡ shown
+same_text words text shown one other = let both : Some text ≡ Some shown = sym one ∙ other in cc
+
+done_as : (words : List (List ℕ)) (unread : Option (List ℕ)) (a b : Pipe) (answer : ℕ) → text_unread words ≡ unread → IsDone words unread a b answer → IsDone words (text_unread words) a b answer
+done_as words unread a b answer is done = subst (λ (o : Option (List ℕ)). IsDone words o a b answer) (sym is) done
+
+fails_as : (words : List (List ℕ)) (unread : Option (List ℕ)) (a b : Pipe) → text_unread words ≡ unread → OutputFails words unread a b → OutputFails words (text_unread words) a b
+fails_as words unread a b is fails = subst (λ (o : Option (List ℕ)). OutputFails words o a b) (sym is) fails
+
+give_fails : (text : List ℕ) (a b : Pipe) → LeavesUnread text a b (Err pump_fault.Output) → GiveFails text a b
+give_fails text a b p = record { part = gives_first text a b (Err pump_fault.Output) p; rose = p.written.1 }
+
 none_first : (a b : Pipe) (text : List ℕ) → b ≡ a → AppendsPrefix a.out.told b.out.told text
 none_first a b text same = subst (λ (w : Pipe). AppendsPrefix a.out.told w.out.told text) (sym same) (0, omega arith, Appends-nil a.out.told)
 
@@ -98,35 +125,60 @@ module _ (words : List (List ℕ)) (a b : Pipe) (answer : ℕ) (outcome : Result
   most_of (by_memory none is some same) = let five = code ∙ ap code_of is in omega (arith, five)
   most_of (by_bad text is bad same) = let three = code ∙ ap code_of is in omega (arith, three)
   most_of (by_want asked is named same) = let five = code ∙ ap code_of is in omega (arith, five)
-  most_of (passed asked status is asks p) = omega (arith, few asked status is p)
-  most_of (by_input asked is asks p) = let four = code ∙ ap code_of is in omega (arith, four)
-  most_of (by_length asked is asks p) = let three = code ∙ ap code_of is in omega (arith, three)
-  most_of (by_output asked is asks p) = let four = code ∙ ap code_of is in omega (arith, four)
-  most_of (by_room asked is asks p) = let five = code ∙ ap code_of is in omega (arith, five)
+  most_of (passed asked status is asks reads p) = omega (arith, few asked status is p)
+  most_of (by_input asked is asks reads p) = let four = code ∙ ap code_of is in omega (arith, four)
+  most_of (by_length asked is asks reads p) = let three = code ∙ ap code_of is in omega (arith, three)
+  most_of (by_output asked is asks reads p) = let four = code ∙ ap code_of is in omega (arith, four)
+  most_of (by_room asked is asks reads p) = let five = code ∙ ap code_of is in omega (arith, five)
+  most_of (gave asked text status is asks leaves p) = let zero_is = code ∙ ap code_of is ∙ p.written.0 in omega (arith, zero_is)
+  most_of (by_sink asked text is asks leaves p) = let four = code ∙ ap code_of is in omega (arith, four)
+  most_of (by_space asked text is asks leaves p) = let five = code ∙ ap code_of is in omega (arith, five)
 
-  done_of : Ways words a b outcome → answer ≤ 1 → PumpsAll (IsFilteredBy words) a b answer
+  done_of : Ways words a b outcome → answer ≤ 1 → IsDone words (text_unread words) a b answer
   done_of (by_usage is named same) le = let two = code ∙ ap code_of is in absurd (omega (arith, two, le))
   done_of (by_memory none is some same) le = let five = code ∙ ap code_of is in absurd (omega (arith, five, le))
   done_of (by_bad text is bad same) le = let three = code ∙ ap code_of is in absurd (omega (arith, three, le))
   done_of (by_want asked is named same) le = let five = code ∙ ap code_of is in absurd (omega (arith, five, le))
-  done_of (passed asked status is asks p) le =
+  done_of (passed asked status is asks reads p) le =
       let same : answer ≡ status = code ∙ ap code_of is in
-      subst (PumpsAll (IsFilteredBy words) a b) (sym same) (all_as words asked asks a b status p)
-  done_of (by_input asked is asks p) le = let four = code ∙ ap code_of is in absurd (omega (arith, four, le))
-  done_of (by_length asked is asks p) le = let three = code ∙ ap code_of is in absurd (omega (arith, three, le))
-  done_of (by_output asked is asks p) le = let four = code ∙ ap code_of is in absurd (omega (arith, four, le))
-  done_of (by_room asked is asks p) le = let five = code ∙ ap code_of is in absurd (omega (arith, five, le))
+      done_as words None a b answer reads (subst (PumpsAll (IsFilteredBy words) a b) (sym same) (all_as words asked asks a b status p))
+  done_of (by_input asked is asks reads p) le = let four = code ∙ ap code_of is in absurd (omega (arith, four, le))
+  done_of (by_length asked is asks reads p) le = let three = code ∙ ap code_of is in absurd (omega (arith, three, le))
+  done_of (by_output asked is asks reads p) le = let four = code ∙ ap code_of is in absurd (omega (arith, four, le))
+  done_of (by_room asked is asks reads p) le = let five = code ∙ ap code_of is in absurd (omega (arith, five, le))
+  done_of (gave asked text status is asks leaves p) le =
+      let same : answer ≡ status = code ∙ ap code_of is in
+      done_as words (Some text) a b answer leaves (subst (GivesAll text a b) (sym same) (gives_all text a b status p))
+  done_of (by_sink asked text is asks leaves p) le = let four = code ∙ ap code_of is in absurd (omega (arith, four, le))
+  done_of (by_space asked text is asks leaves p) le = let five = code ∙ ap code_of is in absurd (omega (arith, five, le))
+
+  unread_of : Ways words a b outcome → (text : List ℕ) → text_unread words ≡ Some text → GivesFirst text a b
+  unread_of (by_usage is named same) text some = gives_none text a b same
+  unread_of (by_memory none is some_tool same) text some = gives_none text a b same
+  unread_of (by_bad bad_one is bad same) text some = gives_none text a b same
+  unread_of (by_want asked is named same) text some = gives_none text a b same
+  unread_of (passed asked status is asks reads p) text some = absurd (not_reads words text some reads)
+  unread_of (by_input asked is asks reads p) text some = absurd (not_reads words text some reads)
+  unread_of (by_length asked is asks reads p) text some = absurd (not_reads words text some reads)
+  unread_of (by_output asked is asks reads p) text some = absurd (not_reads words text some reads)
+  unread_of (by_room asked is asks reads p) text some = absurd (not_reads words text some reads)
+  unread_of (gave asked shown status is asks leaves p) text some = subst (λ (t : List ℕ). GivesFirst t a b) (same_text words shown text leaves some) (gives_first shown a b (Ok status) p)
+  unread_of (by_sink asked shown is asks leaves p) text some = subst (λ (t : List ℕ). GivesFirst t a b) (same_text words shown text leaves some) (gives_first shown a b (Err pump_fault.Output) p)
+  unread_of (by_space asked shown is asks leaves p) text some = subst (λ (t : List ℕ). GivesFirst t a b) (same_text words shown text leaves some) (gives_first shown a b (Err pump_fault.NoMemory) p)
 
   prefix_of : Ways words a b outcome → (bytes : List ℕ) → a.input.told ≡ Some bytes → AreBytes bytes → (text : List ℕ) (status : ℕ) → IsFilteredBy words bytes text status → AppendsPrefix a.out.told b.out.told text
   prefix_of (by_usage is named same) bytes told are text status e = none_first a b text same
   prefix_of (by_memory none is some same) bytes told are text status e = none_first a b text same
   prefix_of (by_bad bad_one is bad same) bytes told are text status e = none_first a b text same
   prefix_of (by_want asked is named same) bytes told are text status e = none_first a b text same
-  prefix_of (passed asked another is asks p) bytes told are text status e = first_of words asked asks a b (Ok another) p bytes told are text status e
-  prefix_of (by_input asked is asks p) bytes told are text status e = first_of words asked asks a b (Err pump_fault.Input) p bytes told are text status e
-  prefix_of (by_length asked is asks p) bytes told are text status e = first_of words asked asks a b (Err pump_fault.TooLong) p bytes told are text status e
-  prefix_of (by_output asked is asks p) bytes told are text status e = first_of words asked asks a b (Err pump_fault.Output) p bytes told are text status e
-  prefix_of (by_room asked is asks p) bytes told are text status e = first_of words asked asks a b (Err pump_fault.NoMemory) p bytes told are text status e
+  prefix_of (passed asked another is asks reads p) bytes told are text status e = first_of words asked asks a b (Ok another) p bytes told are text status e
+  prefix_of (by_input asked is asks reads p) bytes told are text status e = first_of words asked asks a b (Err pump_fault.Input) p bytes told are text status e
+  prefix_of (by_length asked is asks reads p) bytes told are text status e = first_of words asked asks a b (Err pump_fault.TooLong) p bytes told are text status e
+  prefix_of (by_output asked is asks reads p) bytes told are text status e = first_of words asked asks a b (Err pump_fault.Output) p bytes told are text status e
+  prefix_of (by_room asked is asks reads p) bytes told are text status e = first_of words asked asks a b (Err pump_fault.NoMemory) p bytes told are text status e
+  prefix_of (gave asked shown another is asks leaves p) bytes told are text status e = alone_of words asked asks a b shown (Ok another) leaves p bytes text status e
+  prefix_of (by_sink asked shown is asks leaves p) bytes told are text status e = alone_of words asked asks a b shown (Err pump_fault.Output) leaves p bytes text status e
+  prefix_of (by_space asked shown is asks leaves p) bytes told are text status e = alone_of words asked asks a b shown (Err pump_fault.NoMemory) leaves p bytes text status e
 
   no_text : (asked : Asked) → AsksFor words asked → (asked_of words ≡ None) ⊎ HasBadPattern words → ⊥
   no_text asked asks (inl none) = asked_not_none words asked asks.named none
@@ -137,44 +189,56 @@ module _ (words : List (List ℕ)) (a b : Pipe) (answer : ℕ) (outcome : Result
   nothing_of (by_memory want is some same) none = same
   nothing_of (by_bad text is bad same) none = same
   nothing_of (by_want asked is named same) none = same
-  nothing_of (passed asked status is asks p) none = absurd (no_text asked asks none)
-  nothing_of (by_input asked is asks p) none = absurd (no_text asked asks none)
-  nothing_of (by_length asked is asks p) none = absurd (no_text asked asks none)
-  nothing_of (by_output asked is asks p) none = absurd (no_text asked asks none)
-  nothing_of (by_room asked is asks p) none = absurd (no_text asked asks none)
+  nothing_of (passed asked status is asks reads p) none = absurd (no_text asked asks none)
+  nothing_of (by_input asked is asks reads p) none = absurd (no_text asked asks none)
+  nothing_of (by_length asked is asks reads p) none = absurd (no_text asked asks none)
+  nothing_of (by_output asked is asks reads p) none = absurd (no_text asked asks none)
+  nothing_of (by_room asked is asks reads p) none = absurd (no_text asked asks none)
+  nothing_of (gave asked text status is asks leaves p) none = absurd (no_text asked asks none)
+  nothing_of (by_sink asked text is asks leaves p) none = absurd (no_text asked asks none)
+  nothing_of (by_space asked text is asks leaves p) none = absurd (no_text asked asks none)
 
   usage_of : Ways words a b outcome → answer ≡ 2 → asked_of words ≡ None
   usage_of (by_usage is named same) two = named
   usage_of (by_memory none is some same) two = let five = code ∙ ap code_of is in absurd (omega (arith, five, two))
   usage_of (by_bad text is bad same) two = let three = code ∙ ap code_of is in absurd (omega (arith, three, two))
   usage_of (by_want asked is named same) two = let five = code ∙ ap code_of is in absurd (omega (arith, five, two))
-  usage_of (passed asked status is asks p) two = absurd (omega (arith, two, few asked status is p))
-  usage_of (by_input asked is asks p) two = let four = code ∙ ap code_of is in absurd (omega (arith, four, two))
-  usage_of (by_length asked is asks p) two = let three = code ∙ ap code_of is in absurd (omega (arith, three, two))
-  usage_of (by_output asked is asks p) two = let four = code ∙ ap code_of is in absurd (omega (arith, four, two))
-  usage_of (by_room asked is asks p) two = let five = code ∙ ap code_of is in absurd (omega (arith, five, two))
+  usage_of (passed asked status is asks reads p) two = absurd (omega (arith, two, few asked status is p))
+  usage_of (by_input asked is asks reads p) two = let four = code ∙ ap code_of is in absurd (omega (arith, four, two))
+  usage_of (by_length asked is asks reads p) two = let three = code ∙ ap code_of is in absurd (omega (arith, three, two))
+  usage_of (by_output asked is asks reads p) two = let four = code ∙ ap code_of is in absurd (omega (arith, four, two))
+  usage_of (by_room asked is asks reads p) two = let five = code ∙ ap code_of is in absurd (omega (arith, five, two))
+  usage_of (gave asked text status is asks leaves p) two = let zero_is = code ∙ ap code_of is ∙ p.written.0 in absurd (omega (arith, zero_is, two))
+  usage_of (by_sink asked text is asks leaves p) two = let four = code ∙ ap code_of is in absurd (omega (arith, four, two))
+  usage_of (by_space asked text is asks leaves p) two = let five = code ∙ ap code_of is in absurd (omega (arith, five, two))
 
   refused_of : Ways words a b outcome → asked_of words ≡ None → (answer ≡ 2) ⊎ ((answer ≡ 5) × (tool_of words ≡ None → ⊥))
   refused_of (by_usage is named same) none = inl (code ∙ ap code_of is)
   refused_of (by_memory want is some same) none = inr (code ∙ ap code_of is, some)
   refused_of (by_bad text is bad same) none = absurd (asked_not_none words bad.asked bad.named none)
   refused_of (by_want asked is named same) none = absurd (asked_not_none words asked named none)
-  refused_of (passed asked status is asks p) none = absurd (asked_not_none words asked asks.named none)
-  refused_of (by_input asked is asks p) none = absurd (asked_not_none words asked asks.named none)
-  refused_of (by_length asked is asks p) none = absurd (asked_not_none words asked asks.named none)
-  refused_of (by_output asked is asks p) none = absurd (asked_not_none words asked asks.named none)
-  refused_of (by_room asked is asks p) none = absurd (asked_not_none words asked asks.named none)
+  refused_of (passed asked status is asks reads p) none = absurd (asked_not_none words asked asks.named none)
+  refused_of (by_input asked is asks reads p) none = absurd (asked_not_none words asked asks.named none)
+  refused_of (by_length asked is asks reads p) none = absurd (asked_not_none words asked asks.named none)
+  refused_of (by_output asked is asks reads p) none = absurd (asked_not_none words asked asks.named none)
+  refused_of (by_room asked is asks reads p) none = absurd (asked_not_none words asked asks.named none)
+  refused_of (gave asked text status is asks leaves p) none = absurd (asked_not_none words asked asks.named none)
+  refused_of (by_sink asked text is asks leaves p) none = absurd (asked_not_none words asked asks.named none)
+  refused_of (by_space asked text is asks leaves p) none = absurd (asked_not_none words asked asks.named none)
 
   named_of : Ways words a b outcome → answer ≡ 3 → HasBadPattern words ⊎ IsTooLong a
   named_of (by_usage is named same) three = let two = code ∙ ap code_of is in absurd (omega (arith, two, three))
   named_of (by_memory none is some same) three = let five = code ∙ ap code_of is in absurd (omega (arith, five, three))
   named_of (by_bad text is bad same) three = inl bad
   named_of (by_want asked is named same) three = let five = code ∙ ap code_of is in absurd (omega (arith, five, three))
-  named_of (passed asked status is asks p) three = absurd (omega (arith, three, few asked status is p))
-  named_of (by_input asked is asks p) three = let four = code ∙ ap code_of is in absurd (omega (arith, four, three))
-  named_of (by_length asked is asks p) three = inr p.told
-  named_of (by_output asked is asks p) three = let four = code ∙ ap code_of is in absurd (omega (arith, four, three))
-  named_of (by_room asked is asks p) three = let five = code ∙ ap code_of is in absurd (omega (arith, five, three))
+  named_of (passed asked status is asks reads p) three = absurd (omega (arith, three, few asked status is p))
+  named_of (by_input asked is asks reads p) three = let four = code ∙ ap code_of is in absurd (omega (arith, four, three))
+  named_of (by_length asked is asks reads p) three = inr p.told
+  named_of (by_output asked is asks reads p) three = let four = code ∙ ap code_of is in absurd (omega (arith, four, three))
+  named_of (by_room asked is asks reads p) three = let five = code ∙ ap code_of is in absurd (omega (arith, five, three))
+  named_of (gave asked text status is asks leaves p) three = let zero_is = code ∙ ap code_of is ∙ p.written.0 in absurd (omega (arith, zero_is, three))
+  named_of (by_sink asked text is asks leaves p) three = let four = code ∙ ap code_of is in absurd (omega (arith, four, three))
+  named_of (by_space asked text is asks leaves p) three = let five = code ∙ ap code_of is in absurd (omega (arith, five, three))
 
   faults_as : (known : Result ℕ Refusal) → outcome ≡ known → FaultsOf words known a b → FaultsOf words outcome a b
   faults_as known is faults = subst (λ (o : Result ℕ Refusal). FaultsOf words o a b) (sym is) faults
@@ -184,33 +248,42 @@ module _ (words : List (List ℕ)) (a b : Pipe) (answer : ℕ) (outcome : Result
   faults_of (by_memory none is some same) = faults_as _ is (none_fault a b same)
   faults_of (by_bad text is bad same) = faults_as _ is (none_fault a b same)
   faults_of (by_want asked is named same) = faults_as _ is (none_fault a b same)
-  faults_of (passed asked status is asks p) = faults_as _ is p.faults
-  faults_of (by_input asked is asks p) = faults_as _ is (reads_as words asked asks a b p)
-  faults_of (by_length asked is asks p) = faults_as _ is p.stops.faults
-  faults_of (by_output asked is asks p) = faults_as _ is (writes_as words asked asks a b p)
-  faults_of (by_room asked is asks p) = faults_as _ is p.faults
+  faults_of (passed asked status is asks reads p) = faults_as _ is p.faults
+  faults_of (by_input asked is asks reads p) = faults_as _ is (reads_as words asked asks a b p)
+  faults_of (by_length asked is asks reads p) = faults_as _ is p.stops.faults
+  faults_of (by_output asked is asks reads p) = faults_as _ is (fails_as words None a b reads (writes_as words asked asks a b p))
+  faults_of (by_room asked is asks reads p) = faults_as _ is p.faults
+  faults_of (gave asked text status is asks leaves p) = faults_as _ is (gives_all text a b status p).faults
+  faults_of (by_sink asked text is asks leaves p) = faults_as _ is (fails_as words (Some text) a b leaves (give_fails text a b p))
+  faults_of (by_space asked text is asks leaves p) = faults_as _ is (record { input = ap (λ (s : Seen (List ℕ)). s.faults) p.unread; out = ap (λ (s : Seen (List ℕ)). s.faults) p.written })
 
-  fault_of : Ways words a b outcome → answer ≡ 4 → ReadFails (IsSeenBy words) a b ⊎ WriteFails (IsSeenBy words) (IsFilteredBy words) a b
+  fault_of : Ways words a b outcome → answer ≡ 4 → ReadFails (IsSeenBy words) a b ⊎ OutputFails words (text_unread words) a b
   fault_of (by_usage is named same) four = let two = code ∙ ap code_of is in absurd (omega (arith, two, four))
   fault_of (by_memory none is some same) four = let five = code ∙ ap code_of is in absurd (omega (arith, five, four))
   fault_of (by_bad text is bad same) four = let three = code ∙ ap code_of is in absurd (omega (arith, three, four))
   fault_of (by_want asked is named same) four = let five = code ∙ ap code_of is in absurd (omega (arith, five, four))
-  fault_of (passed asked status is asks p) four = absurd (omega (arith, four, few asked status is p))
-  fault_of (by_input asked is asks p) four = inl (reads_as words asked asks a b p)
-  fault_of (by_length asked is asks p) four = let three = code ∙ ap code_of is in absurd (omega (arith, three, four))
-  fault_of (by_output asked is asks p) four = inr (writes_as words asked asks a b p)
-  fault_of (by_room asked is asks p) four = let five = code ∙ ap code_of is in absurd (omega (arith, five, four))
+  fault_of (passed asked status is asks reads p) four = absurd (omega (arith, four, few asked status is p))
+  fault_of (by_input asked is asks reads p) four = inl (reads_as words asked asks a b p)
+  fault_of (by_length asked is asks reads p) four = let three = code ∙ ap code_of is in absurd (omega (arith, three, four))
+  fault_of (by_output asked is asks reads p) four = inr (fails_as words None a b reads (writes_as words asked asks a b p))
+  fault_of (by_room asked is asks reads p) four = let five = code ∙ ap code_of is in absurd (omega (arith, five, four))
+  fault_of (gave asked text status is asks leaves p) four = let zero_is = code ∙ ap code_of is ∙ p.written.0 in absurd (omega (arith, zero_is, four))
+  fault_of (by_sink asked text is asks leaves p) four = inr (fails_as words (Some text) a b leaves (give_fails text a b p))
+  fault_of (by_space asked text is asks leaves p) four = let five = code ∙ ap code_of is in absurd (omega (arith, five, four))
 
   complete_of : Ways words a b outcome → CanFilter words a → (SomeRose a b → ⊥) → (answer ≤ 1) ⊎ (answer ≡ 5)
   complete_of (by_usage is named same) can still = absurd (asked_not_none words can.asked can.asks.named named)
   complete_of (by_memory none is some same) can still = inr (code ∙ ap code_of is)
   complete_of (by_bad text is bad same) can still = absurd (asks_no_bad words can.asked can.asks bad)
   complete_of (by_want asked is named same) can still = inr (code ∙ ap code_of is)
-  complete_of (passed asked status is asks p) can still = inl (few asked status is p)
-  complete_of (by_input asked is asks p) can still = absurd (still (inl p.rose))
-  complete_of (by_length asked is asks p) can still = absurd (not_too_long a.input.told can.short p.told)
-  complete_of (by_output asked is asks p) can still = absurd (still (inr p.rose))
-  complete_of (by_room asked is asks p) can still = inr (code ∙ ap code_of is)
+  complete_of (passed asked status is asks reads p) can still = inl (few asked status is p)
+  complete_of (by_input asked is asks reads p) can still = absurd (still (inl p.rose))
+  complete_of (by_length asked is asks reads p) can still = absurd (not_too_long a.input.told (can.short reads) p.told)
+  complete_of (by_output asked is asks reads p) can still = absurd (still (inr p.rose))
+  complete_of (by_room asked is asks reads p) can still = inr (code ∙ ap code_of is)
+  complete_of (gave asked text status is asks leaves p) can still = let zero_is = code ∙ ap code_of is ∙ p.written.0 in inl (omega (arith, zero_is))
+  complete_of (by_sink asked text is asks leaves p) can still = absurd (still (inr p.written.1))
+  complete_of (by_space asked text is asks leaves p) can still = inr (code ∙ ap code_of is)
 
 pub promises : (words : List (List ℕ)) (before after : Outside) (answer : ℕ) → Answers words before after answer → Promises words before after answer
 promises words before after answer answers =
@@ -224,6 +297,7 @@ promises words before after answer answers =
       most = most_of words a b answer o code ways;
       done = done_of words a b answer o code ways;
       prefix = if_told before.input.told (λ bytes. AreBytes bytes → (text : List ℕ) (status : ℕ) → IsFilteredBy words bytes text status → AppendsPrefix before.out.told after.out.told text) (prefix_of words a b answer o code ways);
+      unread = unread_of words a b answer o code ways;
       nothing = nothing_of words a b answer o code ways;
       usage = usage_of words a b answer o code ways;
       refused = refused_of words a b answer o code ways;

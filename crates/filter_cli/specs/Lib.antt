@@ -35,3 +35,11 @@ pub mod Tap
 pub mod Tapped
 pub mod TapLaws
 pub mod TapRows
+-- A text in front of what a filter writes.
+pub mod Headed
+pub mod HeadedLaws
+-- The records of tests.
+pub mod Exporting
+-- Events from words.
+pub mod Attached
+pub mod AttachedLaws

@@ -7,9 +7,11 @@ use Rattle.edge_io.specs.Seen.{Seen}
 use Rattle.filter_cli.specs.Steps.{Step, Then, Still, Gives}
 use Rattle.filter_cli.specs.Pipe.{Pipe}
 use Rattle.filter_cli.specs.Pumping.{Pumps}
+use Rattle.filter_cli.specs.Attached.{WritesAlone}
+use Rattle.filter_cli.specs.declared.pass.PumpFault.{PumpFault}
 use Rattle.filter_cli.specs.Patterns.{Compiles}
 use Rattle.filter_cli.specs.Words.{Reads}
-use Rattle.filter_cli.specs.Streams.{writing_of, sees_by, ends_by, patterns_of}
+use Rattle.filter_cli.specs.Streams.{Writing, writing_of, unread_text, sees_by, ends_by, patterns_of}
 use Rattle.filter_cli.specs.Refusals.{usage_fault, name_in, refusal_line, code_of}
 use Rattle.filter_cli.specs.Outside.{Outside, pipe_of}
 use Rattle.filter_cli.specs.declared.asked.Asked.{Asked}
@@ -22,9 +24,18 @@ pub record Refuses (fault : UsageFault) (before after : Pipe) (outcome : Result 
   pub usage : outcome ≡ Err (Usage fault)
   pub same : after ≡ before
 
--- the input is filtered
+-- the input stays as it was, and this text is written
+pub record LeavesUnread (text : List ℕ) (before after : Pipe) (result : Result ℕ PumpFault) : Type 0 where
+  pub unread : after.input ≡ before.input
+  pub written : WritesAlone text before.out after.out result
+
+-- the input is filtered, or left unread where there is a text that it does not decide
+abbrev pub PumpsOrLeaves : Option (List ℕ) → Writing → Step Pipe ℕ PumpFault
+PumpsOrLeaves None writing = Pumps (sees_by writing) (ends_by writing)
+PumpsOrLeaves (Some text) writing = LeavesUnread text
+
 abbrev pub Passes : Asked → Step Pipe ℕ Refusal
-Passes asked = Then Pump (Pumps (sees_by (writing_of asked)) (ends_by (writing_of asked))) (λ status. Gives status)
+Passes asked = Then Pump (PumpsOrLeaves (unread_text asked) (writing_of asked)) (λ status. Gives status)
 
 -- first its patterns are checked
 abbrev pub Checked : Asked → Step Pipe ℕ Refusal

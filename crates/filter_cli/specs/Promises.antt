@@ -1,12 +1,14 @@
 -- What a call of the filters promises.
-use Rattle.std.specs.Prelude.{◌≡◌, ◌⊎◌, ℕ, ◌≤◌, None, IfSome, IsSomeAnd, List, length, Result, Err}
+use Rattle.std.specs.Prelude.{◌≡◌, ◌⊎◌, ℕ, ◌≤◌, Option, None, Some, IfSome, IsSomeAnd, List, length, Result, Err}
+use Rattle.std.specs.Io.KnownBytes.{Appends}
+use Rattle.edge_io.specs.Causes.{Rose}
 use Rattle.packet_codec.specs.Grammar.{AreBytes}
 use Rattle.edge_io.specs.Bytes.{AppendsPrefix}
 use Rattle.filter_cli.specs.Pipe.{Pipe, NoFault}
 use Rattle.filter_cli.specs.Pumping.{PumpsAll, ReadFails, WriteFails, IsTooLong, most_bytes}
 use Rattle.filter_cli.specs.Tools.{tool_of}
 use Rattle.filter_cli.specs.Words.{asked_of}
-use Rattle.filter_cli.specs.Streams.{AsksFor, HasBadPattern, IsSeenBy, IsFilteredBy}
+use Rattle.filter_cli.specs.Streams.{AsksFor, HasBadPattern, IsSeenBy, IsFilteredBy, text_unread}
 use Rattle.filter_cli.specs.Outside.{Outside, pipe_of, SomeRose}
 use Rattle.filter_cli.specs.Program.{Answers}
 use Rattle.filter_cli.specs.declared.asked.Asked.{Asked}
@@ -14,28 +16,64 @@ use Rattle.filter_cli.specs.declared.refusal.Refusal.{Refusal}
 use Rattle.filter_cli.specs.declared.refusal.Refusal.TheVariants.{Pump}
 use Rattle.filter_cli.specs.declared.pass.PumpFault.TheVariants as pump_fault
 
+-- ---- where the input is left unread
+
+-- it stays as it was, and this text was written
+pub record GivesAll (text : List ℕ) (before after : Pipe) (status : ℕ) : Type 0 where
+  pub unread : after.input ≡ before.input
+  pub wrote : Appends before.out.told after.out.told text
+  pub passed : status ≡ 0
+  pub faults : NoFault before after
+
+-- it stays as it was, and of this text a first part was written
+pub record GivesFirst (text : List ℕ) (before after : Pipe) : Type 0 where
+  pub unread : after.input ≡ before.input
+  pub wrote : AppendsPrefix before.out.told after.out.told text
+
+-- a write failed
+pub record GiveFails (text : List ℕ) (before after : Pipe) : Type 0 where
+  pub part : GivesFirst text before after
+  pub rose : Rose before.out.faults after.out.faults
+
+-- ---- of all words, by the text that they write where they leave the input unread
+
+-- The whole input was read, and its text was written. Where the words leave the input unread, their own text was written.
+abbrev pub IsDone : List (List ℕ) → Option (List ℕ) → Pipe → Pipe → ℕ → Type 0
+IsDone words None = PumpsAll (IsFilteredBy words)
+IsDone words (Some text) = GivesAll text
+
+-- a write failed
+abbrev pub OutputFails : List (List ℕ) → Option (List ℕ) → Pipe → Pipe → Type 0
+OutputFails words None = WriteFails (IsSeenBy words) (IsFilteredBy words)
+OutputFails words (Some text) = GiveFails text
+
 -- Where a read failed, what was written is exactly what the bytes that the reads gave decide. Where a write failed, it is
--- at least what the reads before the last piece decide. Else no call failed.
+-- at least what the reads before the last piece decide, or a first part of the text that the input does not decide. Else no
+-- call failed.
 abbrev pub FaultsOf : List (List ℕ) → Result ℕ Refusal → Pipe → Pipe → Type 0
 FaultsOf words (Err (Pump pump_fault.Input)) = ReadFails (IsSeenBy words)
-FaultsOf words (Err (Pump pump_fault.Output)) = WriteFails (IsSeenBy words) (IsFilteredBy words)
+FaultsOf words (Err (Pump pump_fault.Output)) = OutputFails words (text_unread words)
 FaultsOf words outcome = NoFault
 
 -- no refusal but a fault or want of memory has a cause
 pub record CanFilter (words : List (List ℕ)) (before : Pipe) : Type 0 where
   pub asked : Asked
   pub asks : AsksFor words asked
-  pub short : IsSomeAnd before.input.told (λ bytes. length bytes ≤ most_bytes)
+  -- words that leave the input unread ask nothing of it
+  pub short : text_unread words ≡ None → IsSomeAnd before.input.told (λ bytes. length bytes ≤ most_bytes)
 
 -- What each call of the filters promises, for these words, from the outside before it to that after it.
 pub record Promises (words : List (List ℕ)) (before after : Outside) (answer : ℕ) : Type 0 where
   -- there is one outcome, which the steps made, and the status and the line on the errors' sink are its own
   pub answers : Answers words before after answer
   pub most : answer ≤ 5
-  -- the whole input was read, and the text of it was written; the status is its status
-  pub done : answer ≤ 1 → PumpsAll (IsFilteredBy words) (pipe_of before) (pipe_of after) answer
+  -- the whole input was read, and the text of it was written; the status is its status; or words that leave the input
+  -- unread wrote their text
+  pub done : answer ≤ 1 → IsDone words (text_unread words) (pipe_of before) (pipe_of after) answer
   -- at every exit a first part of the text was written, and nothing else
   pub prefix : IfSome before.input.told (λ bytes. AreBytes bytes → (text : List ℕ) (status : ℕ) → IsFilteredBy words bytes text status → AppendsPrefix before.out.told after.out.told text)
+  -- words that leave the input unread do so at every exit, and then a first part of their text was written
+  pub unread : (text : List ℕ) → text_unread words ≡ Some text → GivesFirst text (pipe_of before) (pipe_of after)
   -- words that are no filter, and bad patterns, touch nothing
   pub nothing : (asked_of words ≡ None) ⊎ HasBadPattern words → pipe_of after ≡ pipe_of before
   pub usage : answer ≡ 2 → asked_of words ≡ None
@@ -44,6 +82,6 @@ pub record Promises (words : List (List ℕ)) (before after : Outside) (answer :
   pub named : answer ≡ 3 → HasBadPattern words ⊎ IsTooLong (pipe_of before)
   -- what is said of faults, by the outcome
   pub faults : FaultsOf words answers.outcome (pipe_of before) (pipe_of after)
-  pub fault : answer ≡ 4 → ReadFails (IsSeenBy words) (pipe_of before) (pipe_of after) ⊎ WriteFails (IsSeenBy words) (IsFilteredBy words) (pipe_of before) (pipe_of after)
+  pub fault : answer ≡ 4 → ReadFails (IsSeenBy words) (pipe_of before) (pipe_of after) ⊎ OutputFails words (text_unread words) (pipe_of before) (pipe_of after)
   -- it does not give up without a cause
   pub completeness : CanFilter words (pipe_of before) → (SomeRose (pipe_of before) (pipe_of after) → ⊥) → (answer ≤ 1) ⊎ (answer ≡ 5)

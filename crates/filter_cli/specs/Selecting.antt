@@ -1,4 +1,4 @@
--- What the options of `subunit-filter` ask for (docs/COMMANDS.md, "subunit-filter").
+-- What the options of `subunit-filter` and `subunit2csv` ask for (docs/COMMANDS.md, "subunit-filter", "subunit2csv").
 use Rattle.std.specs.Prelude.{ℕ, Bool, true, false, ◌||◌, Option, Some, None, List, [], ◌∷◌, codes, if◌then◌else◌}
 use Rattle.std.specs.List.{flat_map, fold}
 use Rattle.std.specs.Option.{option_to_list}
@@ -69,17 +69,25 @@ patterns_in items = values_in added.Pattern items
 
 -- ---- all of it
 
--- at first all but tests that passed are kept, and foreign bytes are passed on
-abbrev pub selection_of : List Item → Selection
-selection_of items = record {
-  success = stands switch.Success false items;
+-- what the items ask for, where at first tests that passed are kept or not, and foreign bytes are hidden or not
+abbrev pub selection_from : (success hidden : Bool) → List Item → Selection
+selection_from success hidden items = record {
+  success = stands switch.Success success items;
   failure = stands switch.Failure true items;
   skip = stands switch.Skip true items;
   xfail = stands switch.XFail true items;
-  hidden = stands switch.Hidden false items;
+  hidden = stands switch.Hidden hidden items;
   with_tags = values_in added.WithTag items;
   without_tags = values_in added.WithoutTag items;
   with_ids = values_in added.WithId items;
   without_ids = values_in added.WithoutId items;
   patterns = patterns_in items;
 }
+
+-- of `subunit-filter`: at first all but tests that passed are kept, and foreign bytes are passed on
+abbrev pub selection_of : List Item → Selection
+selection_of items = selection_from false false items
+
+-- of `subunit2csv`: at first all tests are kept, and foreign bytes are dropped
+abbrev pub csv_selection_of : List Item → Selection
+csv_selection_of items = selection_from true true items

@@ -1,8 +1,18 @@
 -- What the words write of a stream.
-use Rattle.std.specs.Prelude.{◌≡◌, ℕ, All, Some, List, []}
+use Rattle.std.specs.Prelude.{◌≡◌, ℕ, All, Option, Some, None, List, []}
+use Rattle.std.specs.Option.{option_and_then}
+use Rattle.event_sift.specs.Keeping.{keeps}
+use Rattle.packet_codec.specs.Canonical.{canonical}
+use Rattle.sub_export.specs.declared.job.Attachment.{Attachment}
+use Rattle.sub_export.specs.declared.job.Job.{Job}
+use Rattle.sub_export.specs.Output.{last_event}
+use Rattle.sub_export.specs.Records.{csv_head_text}
 use Rattle.partition_times.specs.Patterns.{IsPattern}
 use Rattle.filter_cli.specs.declared.asked.Asked.{Asked}
-use Rattle.filter_cli.specs.declared.asked.Asked.TheVariants.{Filter, Tags, Ls, Stats, FromTap, ToTap}
+use Rattle.filter_cli.specs.declared.asked.Asked.TheVariants.{Filter, Tags, Ls, Stats, FromTap, ToTap, ToCsv, Output}
+use Rattle.filter_cli.specs.Attached.{IsOutputSeen, IsOutput}
+use Rattle.filter_cli.specs.Exporting.{csv_plan}
+use Rattle.filter_cli.specs.Headed.{IsSeenBelow, IsWholeBelow}
 use Rattle.filter_cli.specs.Plan.{Plan, IsSeen, IsFiltered}
 use Rattle.filter_cli.specs.Ls.{ls_plan}
 use Rattle.filter_cli.specs.Stats.{stats_plan}
@@ -13,10 +23,12 @@ use Rattle.filter_cli.specs.TapRows.{tap_plan}
 use Rattle.filter_cli.specs.Patterns.{rules_of, IsFirstBadText}
 use Rattle.filter_cli.specs.Words.{asked_of}
 
--- what a filter writes, by what its input is cut into
+-- what a filter writes, by what its input is cut into: notes, lines, notes below a text, or pieces of a job's file
 pub data Writing : Type 0 where
   of_notes : Plan → Writing
   of_tap_lines : Writing
+  below_head : List ℕ → Plan → Writing
+  of_job : Job → Writing
 
 abbrev pub writing_of : Asked → Writing
 writing_of (Filter selection) = of_notes (filter_plan (rules_of selection) selection.hidden)
@@ -25,16 +37,22 @@ writing_of (Ls listing) = of_notes (ls_plan listing)
 writing_of Stats = of_notes stats_plan
 writing_of FromTap = of_tap_lines
 writing_of ToTap = of_notes tap_plan
+writing_of (ToCsv selection) = below_head csv_head_text (csv_plan (keeps (rules_of selection)))
+writing_of (Output job) = of_job job
 
 -- the text that the first bytes of a stream decide, whatever follows
 abbrev pub sees_by : Writing → List ℕ → List ℕ → Type 0
 sees_by (of_notes plan) = IsSeen plan
 sees_by of_tap_lines = IsTapSeen
+sees_by (below_head head plan) = IsSeenBelow head (IsSeen plan)
+sees_by (of_job job) = IsOutputSeen job
 
 -- the text of a whole stream, and its status
 abbrev pub ends_by : Writing → List ℕ → List ℕ → ℕ → Type 0
 ends_by (of_notes plan) = IsFiltered plan
 ends_by of_tap_lines = IsTapFiltered
+ends_by (below_head head plan) = IsWholeBelow head (IsFiltered plan)
+ends_by (of_job job) = IsOutput job
 
 -- the patterns that a filter is given, in the order of the words
 abbrev pub patterns_of : Asked → List (List ℕ)
@@ -44,6 +62,31 @@ patterns_of (Ls listing) = []
 patterns_of Stats = []
 patterns_of FromTap = []
 patterns_of ToTap = []
+patterns_of (ToCsv selection) = selection.patterns
+patterns_of (Output job) = []
+
+-- ---- what is written where the input is left unread
+
+abbrev pub unread_by : Job → Option Attachment → Option (List ℕ)
+unread_by job None = Some (canonical (last_event job))
+unread_by job (Some attachment) = None
+
+-- The text of a filter that leaves its input unread: a job that attaches nothing. All others read it.
+abbrev pub unread_text : Asked → Option (List ℕ)
+unread_text (Filter selection) = None
+unread_text (Tags retagging) = None
+unread_text (Ls listing) = None
+unread_text Stats = None
+unread_text FromTap = None
+unread_text ToTap = None
+unread_text (ToCsv selection) = None
+unread_text (Output job) = unread_by job job.attachment
+
+-- the same of the filter that the words ask for
+abbrev pub text_unread : List (List ℕ) → Option (List ℕ)
+text_unread words = option_and_then unread_text (asked_of words)
+
+-- ---- what words write
 
 -- the words ask for this filter, and its patterns are good
 pub record AsksFor (words : List (List ℕ)) (asked : Asked) : Type 0 where

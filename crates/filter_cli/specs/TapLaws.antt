@@ -52,7 +52,7 @@ full_are pieces left full few =
     ∙ ap (λ (l : List (List ℕ)). filter is_full pieces ++ l) (none_full left few) ∙ append-nil (filter is_full pieces) ∙ all_full pieces full
 
 -- bytes can be cut into full pieces and fewer bytes than one has
-some_pieces : (n : ℕ) (bytes : List ℕ) → length bytes < longest_line * (n + 1) → (pieces : List (List ℕ)) × (left : List ℕ) × (bytes ≡ concat pieces ++ left) × AreFull pieces × (length left < longest_line)
+pub some_pieces : (n : ℕ) (bytes : List ℕ) → length bytes < longest_line * (n + 1) → (pieces : List (List ℕ)) × (left : List ℕ) × (bytes ≡ concat pieces ++ left) × AreFull pieces × (length left < longest_line)
 some_pieces zero bytes few = ([], bytes, refl, tt, omega (arith, few))
 some_pieces (suc n) bytes few =
     ⊎_elim

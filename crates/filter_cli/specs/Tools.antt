@@ -6,11 +6,14 @@ use Rattle.command_words.specs.declared.table.Kind.TheVariants.{Flag, Valued}
 use Rattle.filter_cli.specs.declared.tool.Tool.{Tool}
 use Rattle.filter_cli.specs.declared.tool.Tool.TheVariants as tool
 
-abbrev pub tap_tool_named : List ℕ → Option Tool
-tap_tool_named name =
+-- the filter of this name that reads or writes another form than Subunit
+abbrev pub converter_named : List ℕ → Option Tool
+converter_named name =
     if bytes_eq name (codes "tap2subunit") then Some tool.FromTap
     else (if bytes_eq name (codes "subunit2tap") then Some tool.ToTap
-    else None)
+    else (if bytes_eq name (codes "subunit2csv") then Some tool.ToCsv
+    else (if bytes_eq name (codes "subunit-output") then Some tool.Output
+    else None)))
 
 abbrev pub tool_named : List ℕ → Option Tool
 tool_named name =
@@ -18,7 +21,7 @@ tool_named name =
     else (if bytes_eq name (codes "subunit-tags") then Some tool.Tags
     else (if bytes_eq name (codes "subunit-ls") then Some tool.Ls
     else (if bytes_eq name (codes "subunit-stats") then Some tool.Stats
-    else tap_tool_named name)))
+    else converter_named name)))
 
 -- the filter that the first word names
 abbrev pub tool_of : List (List ℕ) → Option Tool
@@ -38,7 +41,7 @@ is_switch name =
     || (bytes_eq name (codes "--only-genuine-failures")
     || bytes_eq name (codes "--no-passthrough"))))))))
 
--- its options with a value
+-- its options with a value, which `subunit2csv` has too
 abbrev pub is_addition : List ℕ → Bool
 is_addition name =
     bytes_eq name (codes "--with-tag")
@@ -52,7 +55,19 @@ filter_kind name = if is_switch name then Some Flag else (if is_addition name th
 abbrev pub ls_kind : List ℕ → Option Kind
 ls_kind name = if bytes_eq name (codes "--times") || (bytes_eq name (codes "--exists") || bytes_eq name (codes "--no-passthrough")) then Some Flag else None
 
--- how an option of a filter is written; none where the filter has no such option
+-- the flags of `subunit2csv`
+abbrev pub is_csv_switch : List ℕ → Bool
+is_csv_switch name =
+    bytes_eq name (codes "--no-success")
+    || (bytes_eq name (codes "--no-failure")
+    || (bytes_eq name (codes "--no-skip")
+    || bytes_eq name (codes "--no-xfail")))
+
+abbrev pub csv_kind : List ℕ → Option Kind
+csv_kind name = if is_csv_switch name then Some Flag else (if is_addition name then Some Valued else None)
+
+-- How an option of a filter is written; none where the filter has no such option. The words of `subunit-output` are read
+-- where their events are made.
 abbrev pub kind_in : Tool → List ℕ → Option Kind
 kind_in tool.Filter name = filter_kind name
 kind_in tool.Tags name = None
@@ -60,3 +75,5 @@ kind_in tool.Ls name = ls_kind name
 kind_in tool.Stats name = None
 kind_in tool.FromTap name = None
 kind_in tool.ToTap name = None
+kind_in tool.ToCsv name = csv_kind name
+kind_in tool.Output name = None

@@ -5,13 +5,14 @@ use Rattle.std.specs.Option.{option_map, option_and_then}
 use Rattle.std.specs.Str.{bytes_eq}
 use Rattle.sub_number.specs.declared.memory.NoMemory.{NoMemory}
 use Rattle.command_words.specs.Items.{Item, flag, valued, name, items_of}
+use Rattle.sub_export.specs.Output.{job_of}
 use Rattle.filter_cli.specs.declared.ls.Listing.{Listing}
 use Rattle.filter_cli.specs.declared.tool.Tool.{Tool}
 use Rattle.filter_cli.specs.declared.tool.Tool.TheVariants as tool
 use Rattle.filter_cli.specs.declared.asked.Asked.{Asked}
-use Rattle.filter_cli.specs.declared.asked.Asked.TheVariants.{Filter, Tags, Ls, Stats, FromTap, ToTap}
+use Rattle.filter_cli.specs.declared.asked.Asked.TheVariants.{Filter, Tags, Ls, Stats, FromTap, ToTap, ToCsv, Output}
 use Rattle.filter_cli.specs.Tools.{tool_of, tool_named, kind_in}
-use Rattle.filter_cli.specs.Selecting.{selection_of}
+use Rattle.filter_cli.specs.Selecting.{selection_of, csv_selection_of}
 use Rattle.filter_cli.specs.Retagging.{retagging_of}
 
 abbrev pub is_flag : List ℕ → Item → Bool
@@ -35,7 +36,7 @@ listing_of items = record {
   hidden = has_flag (codes "--no-passthrough") items;
 }
 
--- what a filter is asked by options alone; `subunit-tags` has none
+-- what a filter is asked by options alone; the words of `subunit-tags` are none, and those of `subunit-output` stand for events
 abbrev pub asked_for : Tool → List Item → Option Asked
 asked_for tool.Filter items = Some (Filter (selection_of items))
 asked_for tool.Tags items = None
@@ -43,6 +44,8 @@ asked_for tool.Ls items = Some (Ls (listing_of items))
 asked_for tool.Stats items = Some Stats
 asked_for tool.FromTap items = Some FromTap
 asked_for tool.ToTap items = Some ToTap
+asked_for tool.ToCsv items = Some (ToCsv (csv_selection_of items))
+asked_for tool.Output items = None
 
 -- no filter that has options has names
 abbrev pub asked_with : Tool → List Item → Option Asked
@@ -50,6 +53,9 @@ asked_with t items = if list_any is_name items then None else asked_for t items
 
 abbrev pub asked_tags : List (List ℕ) → Option Asked
 asked_tags words = option_map Tags (retagging_of words)
+
+abbrev pub asked_output : List (List ℕ) → Option Asked
+asked_output words = option_map Output (job_of words)
 
 abbrev pub asked_by_options : Tool → List (List ℕ) → Option Asked
 asked_by_options t words = option_and_then (asked_with t) (items_of (kind_in t) words)
@@ -62,6 +68,8 @@ asked_behind tool.Ls words = asked_by_options tool.Ls words
 asked_behind tool.Stats words = asked_by_options tool.Stats words
 asked_behind tool.FromTap words = asked_by_options tool.FromTap words
 asked_behind tool.ToTap words = asked_by_options tool.ToTap words
+asked_behind tool.ToCsv words = asked_by_options tool.ToCsv words
+asked_behind tool.Output words = asked_output words
 
 -- the filter that the words ask for
 abbrev pub asked_of : List (List ℕ) → Option Asked

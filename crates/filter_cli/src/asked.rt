@@ -8,10 +8,11 @@ ghost use Rattle.filter_cli.specs.Words as asking;
 
 use crate::ls::Listing;
 use crate::retagging::{Retagging, read_retagging};
-use crate::selection::{Selection, selection_of};
+use crate::selection::{Selection, csv_selection_of, selection_of};
 use crate::tool::{Tool, tool_of};
 use command_words::{Item, read_items};
 use std::alloc::Global;
+use sub_export::OutputJob;
 use sub_number::NoMemory;
 
 /// A filter, with what it is asked to do.
@@ -29,6 +30,10 @@ pub enum Asked {
     FromTap,
     /// `subunit2tap`: tests as lines of the Test Anything Protocol.
     ToTap,
+    /// `subunit2csv`: the tests that are selected as records.
+    ToCsv(Selection),
+    /// `subunit-output`: the events that words ask for.
+    Output(OutputJob),
 }
 
 /// The filter that the words ask for. None comes exactly where they ask for none.
@@ -50,6 +55,9 @@ fn read_behind(alloc: Global, tool: Tool, words: &[String]) -> Result<Option<Ask
     if tool == Tool::Tags {
         return read_tags(alloc, words);
     }
+    if tool == Tool::Output {
+        return read_output(alloc, words);
+    }
     match read_items(alloc, &tool, words)? {
         Some(items) => asked_with(alloc, tool, &items),
         None => Ok(None),
@@ -61,6 +69,15 @@ fn read_tags(alloc: Global, words: &[String]) -> Result<Option<Asked>, NoMemory>
 {
     match read_retagging(alloc, words)? {
         Some(retagging) => Ok(Some(Asked::Tags(retagging))),
+        None => Ok(None),
+    }
+}
+
+fn read_output(alloc: Global, words: &[String]) -> Result<Option<Asked>, NoMemory>
+    ensures { IfOk result (λ asked. asked ≡ asking.asked_output (texts words.now)) }
+{
+    match OutputJob::read(alloc, words)? {
+        Some(job) => Ok(Some(Asked::Output(job))),
         None => Ok(None),
     }
 }
@@ -78,8 +95,9 @@ fn asked_with(alloc: Global, tool: Tool, items: &[Item<'_>]) -> Result<Option<As
         Tool::Stats => Ok(Some(Asked::Stats)),
         Tool::FromTap => Ok(Some(Asked::FromTap)),
         Tool::ToTap => Ok(Some(Asked::ToTap)),
-        // It has no options.
-        Tool::Tags => Ok(None),
+        Tool::ToCsv => Ok(Some(Asked::ToCsv(csv_selection_of(alloc, items)?))),
+        // Their words are read elsewhere.
+        Tool::Tags | Tool::Output => Ok(None),
     }
 }
 

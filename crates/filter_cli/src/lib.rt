@@ -10,14 +10,19 @@
 //! - `notes`, `of_notes`, `taking`, `through`: filters that go by the notes of a stream
 //! - `ls`, `sifting`, `stats`, `subunit_to_tap`, `tagging`: those filters; `tally`: what is counted
 //! - `of_tap`, `open_line`, `packets`, `pass_tap`: lines of the Test Anything Protocol as packets
+//! - `headed`, `exporting`: a text in front of what a filter writes, and the records of tests below the names of their fields
+//! - `attaching`: the events that words ask for, with the input as a file
 //! - `event_laws`, `laws`: what filters write of all streams
 //!
 //! Its tests stand in a room above it, `filter_trials`.
 #![tactic(auto)]
 
 mod asked;
+mod attaching;
 mod event_laws;
+mod exporting;
 mod filter;
+mod headed;
 mod laws;
 mod ls;
 mod notes;
@@ -43,8 +48,11 @@ mod tool;
 mod top;
 
 pub use asked::{Asked, read_asked};
+pub use attaching::{attach_stream, give_event};
 pub use event_laws::packets_of_streams;
+pub use exporting::{export_stream, records_of_streams};
 pub use filter::Filter;
+pub use headed::Headed;
 pub use laws::{filtered_streams, lines_of_streams};
 pub use ls::Listing;
 pub use notes::NoteFilter;

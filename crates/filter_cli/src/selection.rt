@@ -1,4 +1,4 @@
-//! What `subunit-filter` is asked to let through.
+//! What `subunit-filter` is asked to let through, and `subunit2csv` to export.
 
 ghost use Rattle.std.specs.Prelude.{◌≡◌, map, option_map, IfOk};
 ghost use Rattle.command_words.specs.Code.{shown};
@@ -55,16 +55,36 @@ enum Added {
     Pattern,
 }
 
-/// What the options ask for. Of flags that set the same the last one stands; the values of the others are added.
+/// What the options of `subunit-filter` ask for. Of flags that set the same the last one stands; the values of the others
+/// are added.
 pub fn selection_of(alloc: Global, items: &[Item<'_>]) -> Result<Selection, NoMemory>
     ensures { IfOk result (λ selection. selection ≡ selecting.selection_of (map shown items.now)) }
 {
+    selection_from(alloc, false, false, items)
+}
+
+/// What the options of `subunit2csv` ask for, in the same way.
+pub fn csv_selection_of(alloc: Global, items: &[Item<'_>]) -> Result<Selection, NoMemory>
+    ensures { IfOk result (λ selection. selection ≡ selecting.csv_selection_of (map shown items.now)) }
+{
+    selection_from(alloc, true, true, items)
+}
+
+// What they ask for, where at first tests that passed are kept or not, and foreign bytes are hidden or not.
+fn selection_from(
+    alloc: Global,
+    success: bool,
+    hidden: bool,
+    items: &[Item<'_>],
+) -> Result<Selection, NoMemory>
+    ensures { IfOk result (λ selection. selection ≡ selecting.selection_from success hidden (map shown items.now)) }
+{
     Ok(Selection {
-        success: stands(Switch::Success, false, items),
+        success: stands(Switch::Success, success, items),
         failure: stands(Switch::Failure, true, items),
         skip: stands(Switch::Skip, true, items),
         xfail: stands(Switch::XFail, true, items),
-        hidden: stands(Switch::Hidden, false, items),
+        hidden: stands(Switch::Hidden, hidden, items),
         with_tags: tags_in(alloc, Added::WithTag, items)?,
         without_tags: tags_in(alloc, Added::WithoutTag, items)?,
         with_ids: ids_in(alloc, Added::WithId, items)?,

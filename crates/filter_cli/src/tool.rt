@@ -21,6 +21,10 @@ pub enum Tool {
     FromTap,
     /// `subunit2tap`
     ToTap,
+    /// `subunit2csv`
+    ToCsv,
+    /// `subunit-output`
+    Output,
 }
 
 /// The filter that the first word names, or none.
@@ -49,18 +53,24 @@ fn tool_named(name: &str) -> Option<Tool>
     if name == "subunit-stats" {
         return Some(Tool::Stats);
     }
-    tap_tool_named(name)
+    converter_named(name)
 }
 
-// That of this name which reads or writes TAP, or none.
-fn tap_tool_named(name: &str) -> Option<Tool>
-    ensures { result ≡ tools.tap_tool_named name.now }
+// That of this name which reads or writes another form than Subunit, or none.
+fn converter_named(name: &str) -> Option<Tool>
+    ensures { result ≡ tools.converter_named name.now }
 {
     if name == "tap2subunit" {
         return Some(Tool::FromTap);
     }
     if name == "subunit2tap" {
         return Some(Tool::ToTap);
+    }
+    if name == "subunit2csv" {
+        return Some(Tool::ToCsv);
+    }
+    if name == "subunit-output" {
+        return Some(Tool::Output);
     }
     None
 }
@@ -72,7 +82,8 @@ impl OptionTable for Tool {
         match self {
             Tool::Filter => filter_kind(name),
             Tool::Ls => ls_kind(name),
-            Tool::Tags | Tool::Stats | Tool::FromTap | Tool::ToTap => None,
+            Tool::ToCsv => csv_kind(name),
+            Tool::Tags | Tool::Stats | Tool::FromTap | Tool::ToTap | Tool::Output => None,
         }
     }
 }
@@ -104,7 +115,7 @@ fn is_switch(name: &str) -> bool
         || name == "--no-passthrough"
 }
 
-// Whether it is an option of `subunit-filter` with a value.
+// Whether it is an option with a value of `subunit-filter` and `subunit2csv`.
 fn is_addition(name: &str) -> bool
     ensures { result ≡ tools.is_addition name.now }
 {
@@ -118,4 +129,23 @@ fn ls_kind(name: &str) -> Option<Kind>
         return Some(Kind::Flag);
     }
     None
+}
+
+fn csv_kind(name: &str) -> Option<Kind>
+    ensures { result ≡ tools.csv_kind name.now }
+{
+    if is_csv_switch(name) {
+        return Some(Kind::Flag);
+    }
+    if is_addition(name) {
+        return Some(Kind::Valued);
+    }
+    None
+}
+
+// Whether it is a flag of `subunit2csv`.
+fn is_csv_switch(name: &str) -> bool
+    ensures { result ≡ tools.is_csv_switch name.now }
+{
+    name == "--no-success" || name == "--no-failure" || name == "--no-skip" || name == "--no-xfail"
 }

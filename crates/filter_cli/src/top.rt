@@ -1,6 +1,7 @@
 //! The top call of the filters.
 
-ghost use Rattle.std.specs.Prelude.{◌≡◌};
+ghost use Rattle.std.specs.Prelude.{◌≡◌, ℕ, List, IsTrue, None, is_some};
+ghost use Rattle.edge_io.specs.Seen.{Seen};
 ghost use Rattle.command_words.specs.Items.{texts};
 ghost use Rattle.filter_cli.specs.Outside.{outside};
 ghost use Rattle.filter_cli.specs.Pipe.{pipe};
@@ -10,6 +11,8 @@ ghost use Rattle.filter_cli.specs.Refusals.{usage_fault, name_in};
 ghost use Rattle.filter_cli.specs.declared.asked.Asked.TheVariants as wanted;
 
 use crate::asked::{Asked, read_asked};
+use crate::attaching::{attach_stream, give_event};
+use crate::exporting::export_stream;
 use crate::ls::{Listing, Ls};
 use crate::pass_tap::tap_to_subunit;
 use crate::patterns::rules_of;
@@ -26,13 +29,15 @@ use crate::tool::tool_of;
 use edge_io::{Sink, Source};
 use event_sift::Tagger;
 use std::alloc::Global;
+use sub_export::OutputJob;
 
 /// Does what the words say, of which the first is a filter's name, and answers the exit status: 0 where it was done and
 /// no test failed, 1 where a test failed, 2 where the words are no filter, 3 for a named refusal, 4 for a fault of the
 /// outside, 5 for want of memory.
 ///
 /// The input is read to its end in pieces of 65,536 bytes, and what each piece decides is written before the next one is
-/// read. A refusal prints one line to `err`. Words that are no filter, and bad patterns, touch neither input nor output.
+/// read; where the words attach no input to their events, it is left unread. A refusal prints one line to `err`. Words that
+/// are no filter, and bad patterns, touch neither input nor output.
 pub fn filters<I: Source, O: Sink, E: Sink>(
     alloc: Global,
     words: &[String],
@@ -94,6 +99,8 @@ fn pass<I: Source, O: Sink>(
         Asked::Stats => count(alloc, input, out),
         Asked::FromTap => read_tap(alloc, input, out),
         Asked::ToTap => write_tap(alloc, input, out),
+        Asked::ToCsv(selection) => export(alloc, selection, input, out),
+        Asked::Output(job) => give(alloc, job, input, out),
     }
 }
 
@@ -160,6 +167,58 @@ fn write_tap<I: Source, O: Sink>(alloc: Global, input: &mut I, out: &mut O) -> R
     ensures { Checked wanted.ToTap (pipe (I.seen input.old) (O.seen out.old)) (pipe (I.seen input.new) (O.seen out.new)) result }
 {
     let status = pass_notes(alloc, SubunitToTap::new(alloc), input, out)?;
+    Ok(status)
+}
+
+// `subunit2csv`
+fn export<I: Source, O: Sink>(
+    alloc: Global,
+    selection: Selection,
+    input: &mut I,
+    out: &mut O,
+) -> Result<u8, Refusal>
+    ensures { Checked (wanted.ToCsv selection) (pipe (I.seen input.old) (O.seen out.old)) (pipe (I.seen input.new) (O.seen out.new)) result }
+{
+    let rules = rules_of(alloc, selection)?;
+    let status = export_stream(alloc, &rules, input, out)?;
+    Ok(status)
+}
+
+// `subunit-output`
+fn give<I: Source, O: Sink>(
+    alloc: Global,
+    job: OutputJob,
+    input: &mut I,
+    out: &mut O,
+) -> Result<u8, Refusal>
+    ensures { Checked (wanted.Output job) (pipe (I.seen input.old) (O.seen out.old)) (pipe (I.seen input.new) (O.seen out.new)) result }
+{
+    if job.attaches() {
+        return attach(alloc, job, input, out);
+    }
+    give_alone(alloc, job, out)
+}
+
+// The same, with the input as a file.
+fn attach<I: Source, O: Sink>(
+    alloc: Global,
+    job: OutputJob,
+    input: &mut I,
+    out: &mut O,
+) -> Result<u8, Refusal>
+    requires { IsTrue (is_some job.attachment) }
+    ensures { Checked (wanted.Output job) (pipe (I.seen input.old) (O.seen out.old)) (pipe (I.seen input.new) (O.seen out.new)) result }
+{
+    let status = attach_stream(alloc, job, input, out)?;
+    Ok(status)
+}
+
+// The same, without one, whatever the input is.
+fn give_alone<O: Sink>(alloc: Global, job: OutputJob, out: &mut O) -> Result<u8, Refusal>
+    requires { job.attachment ≡ None }
+    ensures { (input : Seen (List ℕ)) → Checked (wanted.Output job) (pipe input (O.seen out.old)) (pipe input (O.seen out.new)) result }
+{
+    let status = give_event(alloc, &job, out)?;
     Ok(status)
 }
 

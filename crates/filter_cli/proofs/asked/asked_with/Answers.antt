@@ -37,3 +37,9 @@ pub returns-in-ToTap : goal.returns-in-ToTap
 returns-in-ToTap c =
     ap (λ (t : Tool). asked_for t (map shown c.args.items.now)) (sym c.in-ToTap.is)
     ∙ sym (unnamed_so c.args.tool c.args.items.now _ c.has_name.ensures c.if-has_name.false)
+
+pub returns-in_ok-csv_selection_of-in-ToCsv : goal.returns-in_ok-csv_selection_of-in-ToCsv
+returns-in_ok-csv_selection_of-in-ToCsv c =
+    ap (λ (s : Selection). Some (wanted.ToCsv s)) c.in_ok-csv_selection_of-in-ToCsv.ensures
+    ∙ ap (λ (t : Tool). asked_for t (map shown c.args.items.now)) (sym c.in-ToCsv.is)
+    ∙ sym (unnamed_so c.args.tool c.args.items.now _ c.has_name.ensures c.if-has_name.false)

@@ -19,3 +19,9 @@ returns-in-FromTap g c = checked_as _ _ _ _ _ (sym c.in-FromTap.is) c.read_tap.e
 
 pub returns-in-ToTap : goal.returns-in-ToTap
 returns-in-ToTap g c = checked_as _ _ _ _ _ (sym c.in-ToTap.is) c.write_tap.ensures
+
+pub returns-in-ToCsv : goal.returns-in-ToCsv
+returns-in-ToCsv g c = checked_as _ _ _ _ _ (sym c.in-ToCsv.is) c.export.ensures
+
+pub returns-in-Output : goal.returns-in-Output
+returns-in-Output g c = checked_as _ _ _ _ _ (sym c.in-Output.is) c.give.ensures
