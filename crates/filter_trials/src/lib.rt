@@ -11,6 +11,8 @@ mod tests_filter_cli;
 #[cfg(test)]
 mod tests_filter_cli_events;
 #[cfg(test)]
+mod tests_filter_cli_export;
+#[cfg(test)]
 mod tests_filter_cli_tap;
 #[cfg(test)]
 mod tests_tap_bridge;
