@@ -9,6 +9,8 @@ pub fn of_filter(name: &str) -> Option<&'static str> {
         "subunit-stats" => Some(STATS),
         "tap2subunit" => Some(FROM_TAP),
         "subunit2tap" => Some(TO_TAP),
+        "subunit2csv" => Some(TO_CSV),
+        "subunit-output" => Some(OUTPUT),
         _ => None,
     }
 }
@@ -82,4 +84,39 @@ for those that did not end at the end of the stream, and then the plan. Other by
 failed, 1 where one did.
 Statuses: 2 wrong usage, 4 a fault of the outside, 5 out of memory.
 Example: subunit2tap < stream
+";
+
+const TO_CSV: &str = "\
+usage: subunit2csv [OPTION..]
+Reads a Subunit v2 stream from standard input and writes comma-separated records: first the names of the fields, then one
+record for each test that is kept, as it ends, and at the end for those that did not. The fields are the id, how the test
+ended, and when it began and ended, in UTC. Other bytes are left out. Status 0.
+Which tests are kept by how they ended; at first all are:
+  --no-success               leaves out those that passed
+  --no-failure               leaves out those that failed, passed against the expectation or did not end
+  --no-skip                  leaves out those that were skipped
+  --no-xfail                 leaves out those that failed as expected
+Of these tests only those:
+  --with-tag=TAG             that have this tag; where it is repeated, each of the tags
+  --without-tag=TAG          that do not have this tag; where it is repeated, none of the tags
+  --with-id=PATTERN          in whose id the pattern is found; where it is repeated, one of the patterns
+  --without-id=PATTERN       in whose id the pattern is not found; where it is repeated, none of the patterns
+Statuses: 2 wrong usage, 3 a bad pattern, 4 a fault of the outside, 5 out of memory.
+Example: subunit2csv --no-success < stream
+";
+
+const OUTPUT: &str = "\
+usage: subunit-output [OPTION..]
+Writes a Subunit v2 stream of one test's event. Standard input is read only where it is attached. Status 0.
+At most one of these, of the test with this id:
+  --exists=ID, --inprogress=ID, --success=ID, --uxsuccess=ID, --skip=ID, --fail=ID, --xfail=ID
+And:
+  --tag=TAG                  gives the test this tag; may be repeated
+  --attach-file=-            attaches standard input as a file, in pieces of 65,536 bytes
+  --file-name=NAME           names that file; else it is stdin
+  --mimetype=TYPE            tells its MIME type
+  --timestamp=WHEN           when it was, in UTC, as '2026-11-29 08:38:00Z', with up to 9 digits behind the seconds
+Tags stand beside a status, a name and a type beside a file. A value may also be the next word.
+Statuses: 2 wrong usage, 4 a fault of the outside, 5 out of memory.
+Example: make 2>&1 | subunit-output --success=build --attach-file=- --mimetype=text/plain
 ";

@@ -55,13 +55,15 @@ fn help_is_for_its_words_alone(rt: HostRuntime) -> Result<(), Fail> {
     Ok(())
 }
 
-const FILTERS: [&str; 6] = [
+const FILTERS: [&str; 8] = [
     "subunit-filter",
     "subunit-tags",
     "subunit-ls",
     "subunit-stats",
     "tap2subunit",
     "subunit2tap",
+    "subunit2csv",
+    "subunit-output",
 ];
 
 fn check_filter(rt: &impl Abort, host: &HostRuntime, name: &str) -> io::Result<()> {
