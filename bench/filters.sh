@@ -34,6 +34,7 @@ FILTERS = {
     "subunit-filter": [["--success", "--with-id=parser"], ["--success"], []],
     "subunit-tags": [["added", "-removed"]],
     "subunit2tap": [[]],
+    "subunit2csv": [[]],
 }
 FROM_TAP = {"tap2subunit": [[]]}
 LIMIT = 600
