@@ -1,7 +1,7 @@
 -- What the code's lines mean, which borrow the bytes that they were read from.
 use Rattle.std.specs.Prelude.{ℕ, ◌≤◌, length}
 use Rattle.tap_bridge.specs.declared.test_line.TestLine.{TestLine}
-use Rattle.tap_bridge.specs.declared.line.Line.{TapLine as Read}
+use Rattle.tap_bridge.specs.declared.line.Line.{Line as Read}
 use Rattle.tap_bridge.specs.declared.line.Line.TheVariants as read
 use Rattle.tap_bridge.specs.Grammar.{Test, TapLine, plan, test, comment, bail_out, other}
 
