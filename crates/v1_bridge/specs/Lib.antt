@@ -1,0 +1,12 @@
+pub mod Lines
+pub mod TagWords
+pub mod Sizes
+pub mod Events
+pub mod Stages
+pub mod Reading
+pub mod Fitting
+pub mod Kept
+pub mod Cutting
+pub mod Writing
+pub mod Written
+pub mod Laws

@@ -1,0 +1,11 @@
+//! Tests of v1_bridge: lines of version 1 as events, and events as such lines. No program uses it.
+//!
+//! They use the public names of the room alone, and stand above it, so that its proofs are not made once more for its tests.
+#![tactic(auto)]
+
+#[cfg(test)]
+mod shown;
+#[cfg(test)]
+mod tests_reading;
+#[cfg(test)]
+mod tests_writing;

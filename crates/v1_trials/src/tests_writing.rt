@@ -1,0 +1,232 @@
+//! Events give lines.
+
+use packet_codec::{Event, FilePart, Stamp, Status, Tags};
+use std::alloc::Global;
+use sub_number::{Bytes, Text};
+use v1_bridge::V1Writer;
+
+// An event of the test a: its status, the seconds of its stamp, its tag and the bytes of its file.
+type Row = (Status, Option<u32>, Option<&'static [u8]>, &'static [u8]);
+
+fn tags(alloc: Global, tag: &[u8]) -> Option<Tags> {
+    let mut tags = Tags::new(alloc);
+    tags.push(Text::new(alloc, tag).ok()?).ok()?;
+    Some(tags)
+}
+
+fn file(alloc: Global, bytes: &[u8]) -> Option<FilePart> {
+    Some(FilePart {
+        name: Text::new(alloc, b"log").ok()?,
+        bytes: Bytes::new(alloc, bytes).ok()?,
+    })
+}
+
+fn bare(alloc: Global, id: &[u8], status: Status, seconds: Option<u32>) -> Option<Event> {
+    Some(Event {
+        stamp: seconds.map(|seconds| Stamp {
+            seconds,
+            nanos: 500_000_000,
+        }),
+        id: Some(Text::new(alloc, id).ok()?),
+        tags: None,
+        runnable: true,
+        status,
+        mime: Some(Text::new(alloc, b"text/plain").ok()?),
+        file: None,
+        eof: false,
+        route: None,
+    })
+}
+
+fn event(alloc: Global, id: &[u8], row: &Row) -> Option<Event> {
+    let mut event = bare(alloc, id, row.0, row.1)?;
+    if let Some(tag) = row.2 {
+        event.tags = Some(tags(alloc, tag)?);
+    }
+    if !row.3.is_empty() {
+        event.file = Some(file(alloc, row.3)?);
+    }
+    Some(event)
+}
+
+fn write(
+    alloc: Global,
+    writer: &mut V1Writer,
+    id: &[u8],
+    row: &Row,
+    out: &mut Vec<u8>,
+) -> Option<()> {
+    let event = event(alloc, id, row)?;
+    writer.add(&event, out).ok()
+}
+
+fn write_all(
+    alloc: Global,
+    writer: &mut V1Writer,
+    id: &[u8],
+    rows: &[Row],
+    out: &mut Vec<u8>,
+) -> Option<()> {
+    for row in rows {
+        write(alloc, writer, id, row, out)?;
+    }
+    Some(())
+}
+
+fn write_stream(
+    alloc: Global,
+    front: &[u8],
+    id: &[u8],
+    rows: &[Row],
+    out: &mut Vec<u8>,
+) -> Option<()> {
+    let mut writer = V1Writer::new(alloc);
+    writer.foreign(front, out).ok()?;
+    write_all(alloc, &mut writer, id, rows, out)?;
+    writer.close(out).ok()
+}
+
+// The foreign bytes in front, the id, its events, and the text.
+type Told = (&'static [u8], &'static [u8], &'static [Row], &'static [u8]);
+
+fn writes(alloc: Global, told: &Told) -> Option<bool> {
+    let mut out = Vec::new(alloc);
+    write_stream(alloc, told.0, told.1, told.2, &mut out)?;
+    Some(out.as_slice() == told.3)
+}
+
+const TEXTS: [Told; 8] = [
+    (
+        b"",
+        b"foo",
+        &[
+            (Status::InProgress, Some(100), None, b""),
+            (Status::Success, Some(101), Some(b"x"), b""),
+        ],
+        b"time: 1970-01-01 00:01:40.500000Z\ntest: foo\ntags: x\ntime: 1970-01-01 00:01:41.500000Z\nsuccess: foo\n",
+    ),
+    (
+        b"z",
+        b"a",
+        &[(Status::InProgress, None, None, b"")],
+        b"z\ntest: a\nerror: a [\nnot completed\n]\n",
+    ),
+    (
+        b"z\n",
+        b"a\tb",
+        &[(Status::Skip, Some(1), None, b"")],
+        b"z\ntime: 1970-01-01 00:00:01.500000Z\ntest: a?b\ntime: 1970-01-01 00:00:01.500000Z\nskip: a?b\n",
+    ),
+    (
+        b"",
+        b"",
+        &[
+            (Status::Exists, None, None, b""),
+            (Status::XFail, None, Some(b"-x"), b""),
+        ],
+        b"test: ?\nxfail: ?\n",
+    ),
+    (
+        b"",
+        b"a",
+        &[(Status::Fail, None, None, b"]\n] x\n y")],
+        b"test: a\nfailure: a [\n ]\n ] x\n y\n]\n",
+    ),
+    (
+        b"",
+        b"a",
+        &[
+            (Status::Unset, None, None, b"half"),
+            (Status::UxSuccess, None, None, b" more\n"),
+        ],
+        b"test: a\nuxsuccess: a [\nhalf more\n]\n",
+    ),
+    (
+        b"",
+        b"a",
+        &[(Status::Unset, None, Some(b"a b"), b"said")],
+        b"test: a\nerror: a [\nsaid\nnot completed\n]\n",
+    ),
+    (
+        b"",
+        b"a",
+        &[(Status::Success, None, None, b"\n")],
+        b"test: a\nsuccess: a [\n\n]\n",
+    ),
+];
+
+#[test]
+fn events_give_lines(rt: HostRuntime) {
+    for (place, told) in TEXTS.iter().enumerate() {
+        assert_eq!(rt; writes(rt.alloc(), told), Some(true), "row {place}");
+    }
+}
+
+// The events of two routes and of two ids, of which none ends.
+fn write_open(alloc: Global, out: &mut Vec<u8>) -> Option<()> {
+    let mut writer = V1Writer::new(alloc);
+    for (route, id) in [(b"1", b"a"), (b"0", b"b"), (b"0", b"a")] {
+        write_routed(alloc, &mut writer, route, id, out)?;
+    }
+    writer.close(out).ok()
+}
+
+fn write_routed(
+    alloc: Global,
+    writer: &mut V1Writer,
+    route: &[u8],
+    id: &[u8],
+    out: &mut Vec<u8>,
+) -> Option<()> {
+    let mut event = bare(alloc, id, Status::InProgress, None)?;
+    event.route = Some(Text::new(alloc, route).ok()?);
+    event.tags = Some(tags(alloc, route)?);
+    writer.add(&event, out).ok()
+}
+
+fn open_text(alloc: Global) -> Option<Vec<u8>> {
+    let mut out = Vec::new(alloc);
+    write_open(alloc, &mut out)?;
+    Some(out)
+}
+
+#[test]
+fn open_tests_are_written_by_route_and_id(rt: HostRuntime) {
+    let wanted =
+        b"test: a\ntags: 0\nerror: a [\nnot completed\n]\ntest: b\ntags: 0\nerror: b [\nnot completed\n]\ntest: a\ntags: 1\nerror: a [\nnot completed\n]\n";
+    assert_eq!(rt;
+        open_text(rt.alloc()).map(|text| text.as_slice() == wanted.as_slice()),
+        Some(true)
+    );
+}
+
+// An event without an id, whose file is these bytes, and a test behind it.
+fn write_file(alloc: Global, bytes: &[u8], out: &mut Vec<u8>) -> Option<()> {
+    let mut writer = V1Writer::new(alloc);
+    let mut event = bare(alloc, b"", Status::Unset, None)?;
+    event.id = None;
+    event.file = Some(file(alloc, bytes)?);
+    writer.add(&event, out).ok()?;
+    write(
+        alloc,
+        &mut writer,
+        b"a",
+        &(Status::Success, None, None, b""),
+        out,
+    )
+}
+
+fn file_text(alloc: Global) -> Option<Vec<u8>> {
+    let mut out = Vec::new(alloc);
+    write_file(alloc, b"said", &mut out)?;
+    Some(out)
+}
+
+#[test]
+fn the_file_of_no_test_is_written_where_it_comes(rt: HostRuntime) {
+    let wanted = b"said\ntest: a\nsuccess: a\n";
+    assert_eq!(rt;
+        file_text(rt.alloc()).map(|text| text.as_slice() == wanted.as_slice()),
+        Some(true)
+    );
+}
