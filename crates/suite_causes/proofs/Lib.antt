@@ -1,0 +1,5 @@
+pub mod AnalysisLemmas
+pub mod ProbeLemmas
+pub mod RanLemmas
+pub mod SearchLemmas
+pub mod SuspectLemmas

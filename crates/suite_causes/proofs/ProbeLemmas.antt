@@ -1,0 +1,202 @@
+-- What a probe's child gives, lot by lot.
+use Rattle.std.proofs.Common.{◌≡◌, ◌⊎◌, inl, inr, ℕ, zero, suc, ◌<◌, ◌≤◌, Bool, true, false, ◌&&◌, Option, None, Some, Result, Ok, Err, IfOk, List, [], ◌∷◌, ◌++◌, map, length, nat_lt, refl, sym, ◌∙◌, ap, subst, arith, append_assoc, append-nil}
+use Rattle.std.specs.Prelude.{All, IfErr, FitsSigned, ℤ, pos, negsuc, codes}
+use Rattle.std.specs.Fmt.{signed_decimal}
+use Rattle.std.specs.Option.{option_map, option_to_list}
+use mir.Syntax.{w32}
+use Rattle.std.proofs.lemmas.Bool.Decides.{nat_tests}
+use Rattle.std.proofs.lemmas.Fmt.{length_signed_le, IsAscii-signed}
+use Rattle.std.proofs.Math.Seq.{take-append_seam}
+use Rattle.std.proofs.lemmas.List.{length-append, drop_at}
+use Rattle.std.proofs.lemmas.List.Elements.{All-nil, All-cons, All-append, All-take, All-drop, All-head, All-from_get_or}
+use Rattle.edge_io.specs.Children.{IsFinish, Output}
+use Rattle.edge_io.specs.declared.child.Finish.{Finish}
+use Rattle.edge_io.specs.declared.child.Finish.TheVariants as finish
+use Rattle.outcome_fold.specs.Rows.{rows_of}
+use Rattle.outcome_fold.specs.Summed.{HasSummed}
+use Rattle.outcome_fold.specs.declared.summing.Summing.{Summing}
+use Rattle.packet_codec.specs.declared.event.Event.{Event}
+use Rattle.packet_codec.specs.Canonical.{canonical, IsEvent, Fits}
+use Rattle.packet_codec.specs.Grammar.{AreBytes, Found}
+use Rattle.packet_codec.specs.Packet.{SpellsEvent}
+use Rattle.packet_codec.specs.Routing.{under}
+use Rattle.packet_codec.proofs.SpellingLemmas.{canonical_spells}
+use Rattle.suite_plan.specs.Children.{IsBroken}
+use Rattle.worker_lane.specs.Endings.{ending_of, ending_events, returncode_text, returncode_under, IsPacketOf}
+use Rattle.worker_lane.specs.Recorded.{recorded_events}
+use Rattle.worker_lane.specs.Rest.{Gives, lots_for, notes_of_stream, notes_are}
+use Rattle.worker_lane.specs.declared.lot.Ending.{Ending}
+use Rattle.worker_lane.specs.declared.lot.Ending.TheVariants.{Exit, Fault, NoMemory}
+use Rattle.worker_lane.specs.declared.lot.Lot.{Lot}
+use Rattle.worker_lane.specs.declared.lot.Lot.TheVariants.{Packet, End}
+use Rattle.worker_lane.proofs.EndingLemmas.{ending_is_event, ending_fits}
+use Rattle.worker_lane.proofs.NoteLemmas.{HavePackets}
+use Rattle.worker_lane.proofs.RecordedLaneLemmas.{have_packets}
+use Rattle.worker_lane.proofs.TurnLemmas.{fault_exactly}
+use Rattle.worker_mux.specs.Outputs.{events_for}
+use Rattle.suite_causes.specs.Probing.{one_fails, TellsProbe}
+use Rattle.suite_causes.specs.declared.probing.ProbeFault.{ProbeFault}
+use Rattle.suite_causes.specs.declared.probing.ProbeFault.TheVariants as fault
+
+-- ---- the packet of a lot
+
+pub packet_stands : (packet : List ℕ) → IsPacketOf 0 packet → (event : Event) × (behind : List ℕ) × Found SpellsEvent packet event behind
+packet_stands packet is = (under 0 is.event, [], record { front = packet; parts = sym (append-nil packet); spelled = subst (λ l. SpellsEvent l (under 0 is.event)) (sym is.packet_is) (canonical_spells (under 0 is.event) is.is_event is.fits) })
+
+-- ---- lots
+
+-- The first events that are recorded of the output were summed up, where each of them has a packet. The others are left, and
+-- the end.
+pub record IsHeard (output : Output) (left : Option (List Lot)) (summing : Summing) : Type 0 where
+  pub seen : List Event
+  pub more : List Event
+  pub parts : events_for 0 output ≡ seen ++ more
+  pub left_is : left ≡ Some (map Packet (map canonical more) ++ End (ending_of output.finish) ∷ [])
+  pub summed : HavePackets seen → HasSummed [] summing seen
+
+-- before the first lot nothing was heard
+pub heard_nothing : (output : Output) (left : Option (List Lot)) (summing : Summing) → left ≡ Some (lots_for 0 output) → HasSummed [] summing [] → IsHeard output left summing
+heard_nothing output left summing is summed = record { seen = []; more = events_for 0 output; parts = refl; left_is = is; summed = λ have. summed }
+
+all_left : (P : Event → Type 0) (first more : List Event) → All P (first ++ more) → All P first
+all_left P first more all = subst (All P) (take-append_seam first more) (All-take P (length first) (first ++ more) all)
+
+all_right : (P : Event → Type 0) (first more : List Event) → All P (first ++ more) → All P more
+all_right P first more all = subst (All P) (drop_at first more (length first) refl) (All-drop P (length first) (first ++ more) all)
+
+have_front : (events : List Event) (event : Event) → HavePackets (events ++ event ∷ []) → HavePackets events
+have_front events event have = record { are_events = all_left IsEvent events (event ∷ []) have.are_events; fit = all_left Fits events (event ∷ []) have.fit }
+
+last_spells : (events : List Event) (event : Event) (packet : List ℕ) → canonical event ≡ packet → HavePackets (events ++ event ∷ []) → SpellsEvent packet event
+last_spells events event packet is have =
+    subst (λ l. SpellsEvent l event) is
+    (canonical_spells event
+    (All-head IsEvent event [] (all_right IsEvent events (event ∷ []) have.are_events))
+    (All-head Fits event [] (all_right Fits events (event ∷ []) have.fit)))
+
+-- one packet more was heard
+pub heard_more : (output : Output) (before after : Option (List Lot)) (old new : Summing) (packet : List ℕ) → IsHeard output before old → Gives before (Packet packet ∷ []) after
+    → ((seen : List Event) (event : Event) → SpellsEvent packet event → HasSummed [] old seen → HasSummed [] new (seen ++ event ∷ [])) → IsHeard output after new
+heard_more output before after old new packet h gives hears = by_more h.more h.parts after (sym h.left_is ∙ gives)
+  where
+    by_more : (more : List Event) → events_for 0 output ≡ h.seen ++ more → (after : Option (List Lot))
+        → Some (map Packet (map canonical more) ++ End (ending_of output.finish) ∷ []) ≡ option_map (λ l. (Packet packet ∷ []) ++ l) after → IsHeard output after new
+    by_more more parts None is = absurd (cc)
+    by_more [] parts (Some left) is = absurd (cc)
+    by_more (event ∷ more) parts (Some left) is =
+        let packet_is : canonical event ≡ packet = cc in
+        let rest : map Packet (map canonical more) ++ End (ending_of output.finish) ∷ [] ≡ left = cc in
+        record {
+          seen = h.seen ++ event ∷ [];
+          more = more;
+          parts = parts ∙ sym (append_assoc h.seen (event ∷ []) more);
+          left_is = ap Some (sym rest);
+          summed = λ have. hears h.seen event (last_spells h.seen event packet packet_is have) (h.summed (have_front h.seen event have));
+        }
+
+-- the end is that of the output, all of whose events were heard
+pub heard_all : (output : Output) (before after : Option (List Lot)) (summing : Summing) (how : Ending) → IsHeard output before summing → Gives before (End how ∷ []) after
+    → (ending_of output.finish ≡ how) × (HavePackets (events_for 0 output) → HasSummed [] summing (events_for 0 output))
+heard_all output before after summing how h gives = by_more h.more h.parts after (sym h.left_is ∙ gives)
+  where
+    by_more : (more : List Event) → events_for 0 output ≡ h.seen ++ more → (after : Option (List Lot))
+        → Some (map Packet (map canonical more) ++ End (ending_of output.finish) ∷ []) ≡ option_map (λ l. (End how ∷ []) ++ l) after
+        → (ending_of output.finish ≡ how) × (HavePackets (events_for 0 output) → HasSummed [] summing (events_for 0 output))
+    by_more more parts None is = absurd (cc)
+    by_more (event ∷ more) parts (Some left) is = absurd (cc)
+    by_more [] parts (Some left) is =
+        let ending : ending_of output.finish ≡ how = cc in
+        let all : h.seen ≡ events_for 0 output = sym (append-nil h.seen) ∙ sym parts in
+        (ending, λ have. subst (λ (l : List Event). HasSummed [] summing l) all (h.summed (subst HavePackets (sym all) have)))
+
+-- what a step gave, where it was not want of memory
+gives_this : (result : Option Lot) (lot : Lot) (before after : Option (List Lot)) → result ≡ Some lot → (lot ≡ End NoMemory → ⊥) → (result ≡ Some (End NoMemory)) ⊎ Gives before (option_to_list result) after → Gives before (lot ∷ []) after
+gives_this result lot before after is other gives = elim gives [
+  | inl lack ↦ let e : Some lot ≡ Some (End NoMemory) = sym is ∙ lack in absurd (other (cc))
+  | inr given ↦ subst (λ r. Gives before (option_to_list r) after) is given
+]
+
+pub gives_packet : (result : Option Lot) (packet : List ℕ) (before after : Option (List Lot)) → result ≡ Some (Packet packet) → (result ≡ Some (End NoMemory)) ⊎ Gives before (option_to_list result) after → Gives before (Packet packet ∷ []) after
+gives_packet result packet before after is gives = gives_this result (Packet packet) before after is (λ e. cc) gives
+
+pub gives_exit : (result : Option Lot) (status : ℤ) (before after : Option (List Lot)) → result ≡ Some (End (Exit status)) → (result ≡ Some (End NoMemory)) ⊎ Gives before (option_to_list result) after → Gives before (End (Exit status) ∷ []) after
+gives_exit result status before after is gives = gives_this result (End (Exit status)) before after is (λ e. cc) gives
+
+pub gives_fault : (result : Option Lot) (before after : Option (List Lot)) → result ≡ Some (End Fault) → (result ≡ Some (End NoMemory)) ⊎ Gives before (option_to_list result) after → Gives before (End Fault ∷ []) after
+gives_fault result before after is gives = gives_this result (End Fault) before after is (λ e. cc) gives
+
+-- ---- the events of an output whose end is told have packets
+
+are_small : List ℕ → Bool
+are_small [] = true
+are_small (byte ∷ bytes) = nat_lt byte 256 && are_small bytes
+
+both : (a b : Bool) → (a && b) ≡ true → (a ≡ true) × (b ≡ true)
+both true b h = (refl, h)
+both false b h = absurd (grind (arith, h))
+
+by_test : (bytes : List ℕ) → are_small bytes ≡ true → AreBytes bytes
+unfolding are_small
+by_test [] h = All-nil (λ byte. byte < 256)
+by_test (byte ∷ bytes) h =
+    let test = both (nat_lt byte 256) (are_small bytes) h in
+    All-cons (λ byte. byte < 256) byte bytes (grind (arith, nat_tests, test.0)) (by_test bytes test.1)
+
+word_are_bytes : AreBytes (codes "returncode ")
+unfolding are_small
+word_are_bytes = by_test (codes "returncode ") refl
+
+status_are_bytes : (status : ℤ) → FitsSigned w32 status → AreBytes (returncode_text status)
+status_are_bytes status fits =
+    All-append (λ byte. byte < 256) (codes "returncode ") (signed_decimal status) word_are_bytes
+    (All-from_get_or (λ byte. byte < 256) (signed_decimal status) 0 (λ i below. omega (arith, IsAscii-signed status (omega (arith, fits)) i)))
+
+status_is_short : (status : ℤ) → FitsSigned w32 status → length (returncode_text status) ≤ 60
+status_is_short status fits = omega (arith, length-append (codes "returncode ") (signed_decimal status), length_signed_le 11 status (omega (arith, fits)) (omega (arith, fits)))
+
+one_has_packet : (status : ℤ) → FitsSigned w32 status → HavePackets (returncode_under 0 (returncode_text status) ∷ [])
+one_has_packet status fits =
+    let text : List ℕ = returncode_text status in
+    record {
+      are_events = All-cons IsEvent (returncode_under 0 text) [] (ending_is_event (returncode_under 0 text) 0 text refl (omega arith) (status_are_bytes status fits) (status_is_short status fits)) (All-nil IsEvent);
+      fit = All-cons Fits (returncode_under 0 text) [] (ending_fits (returncode_under 0 text) 0 text refl (omega arith) (status_is_short status fits)) (All-nil Fits);
+    }
+
+exit_has_packet : (status : ℤ) → FitsSigned w32 status → HavePackets (ending_events 0 (Exit status))
+exit_has_packet (pos zero) fits = record { are_events = All-nil IsEvent; fit = All-nil Fits }
+exit_has_packet (pos (suc n)) fits = one_has_packet (pos (suc n)) fits
+exit_has_packet (negsuc n) fits = one_has_packet (negsuc n) fits
+
+-- a status that ends a lane is that of a child
+status_fits : (how : Finish) (status : ℤ) → IsFinish how → ending_of how ≡ Exit status → FitsSigned w32 status
+status_fits (finish.Exit given) status can is =
+    let same : given ≡ status = cc in
+    subst (FitsSigned w32) same (can given refl)
+status_fits finish.ReadFault status can is = cc
+status_fits finish.WaitFault status can is = cc
+
+pub all_have_packets : (output : Output) (status : ℤ) → AreBytes output.bytes → IsFinish output.finish → ending_of output.finish ≡ Exit status → HavePackets (events_for 0 output)
+all_have_packets output status bytes can is =
+    let notes : List Event = recorded_events 0 (notes_of_stream output.bytes) in
+    let ending : List Event = ending_events 0 (ending_of output.finish) in
+    let first : HavePackets notes = have_packets 0 output.bytes notes (omega arith) bytes (record { notes = notes_of_stream output.bytes; are_notes = notes_are output.bytes; made = refl }) in
+    let last : HavePackets ending = subst (λ how. HavePackets (ending_events 0 how)) (sym is) (exit_has_packet status (status_fits output.finish status can is)) in
+    record {
+      are_events = All-append IsEvent notes ending first.are_events last.are_events;
+      fit = All-append Fits notes ending first.fit last.fit;
+    }
+
+-- ---- ends
+
+pub broken_by : (how : Finish) → ending_of how ≡ Fault → IsBroken how
+broken_by how is = (fault_exactly how).0 is
+
+pub not_broken : (how : Finish) (status : ℤ) → ending_of how ≡ Exit status → IsBroken how → ⊥
+not_broken how status is broken = let fault : ending_of how ≡ Fault = (fault_exactly how).1 broken in cc
+
+-- ---- what is answered
+
+pub tells_exit : (test : List ℕ) (result : Result Bool ProbeFault) (output : Output) (summing : Summing) (status : ℤ) → ending_of output.finish ≡ Exit status → HasSummed [] summing (events_for 0 output)
+    → ((seen : List Event) → HasSummed [] summing seen → IfOk result (λ failed. failed ≡ one_fails test (rows_of seen))) → IfErr result (λ given. given ≡ fault.NoMemory) → TellsProbe test result output
+tells_exit test (Ok failed) output summing status ending summed fails lack = record { ended = not_broken output.finish status ending; answer = fails (events_for 0 output) summed }
+tells_exit test (Err given) output summing status ending summed fails lack = subst (λ why. TellsProbe test (Err why) output) (sym lack) tt
