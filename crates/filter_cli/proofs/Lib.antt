@@ -24,3 +24,6 @@ pub mod TapPrefix
 pub mod TapRowLemmas
 pub mod TapTextLemmas
 pub mod TaggedLemmas
+pub mod V1Lemmas
+pub mod V1Prefix
+pub mod V1TextLemmas

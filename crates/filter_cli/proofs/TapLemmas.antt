@@ -22,15 +22,15 @@ use Rattle.filter_cli.specs.Tapped.{AreFull, most_open, GivesPieces, IsLonger, I
 
 -- Lists.
 
-plain_then : (bytes more : List ℕ) → IsPlain bytes → IsPlain more → IsPlain (bytes ++ more)
+pub plain_then : (bytes more : List ℕ) → IsPlain bytes → IsPlain more → IsPlain (bytes ++ more)
 plain_then [] more p q = q
 plain_then (byte ∷ bytes) more p q = (p.0, plain_then bytes more p.1 q)
 
-lines_more : (lines : List (List ℕ)) (line : List ℕ) → ArePlain lines → IsPlain line → ArePlain (lines ++ line ∷ [])
+pub lines_more : (lines : List (List ℕ)) (line : List ℕ) → ArePlain lines → IsPlain line → ArePlain (lines ++ line ∷ [])
 lines_more [] line p q = (q, tt)
 lines_more (first ∷ lines) line p q = (p.0, lines_more lines line p.1 q)
 
-full_then : (pieces more : List (List ℕ)) → AreFull pieces → AreFull more → AreFull (pieces ++ more)
+pub full_then : (pieces more : List (List ℕ)) → AreFull pieces → AreFull more → AreFull (pieces ++ more)
 full_then [] more p q = q
 full_then (piece ∷ pieces) more p q = (p.0, full_then pieces more p.1 q)
 
@@ -303,7 +303,7 @@ added_full bytes held true old new none is full grown = record {
   grown = grown ∙ ap (λ (l : List ℕ). old ++ l) (sym (append-nil (canonical (stdout_event bytes))));
 }
 
-kind_behind : (long longer : Bool) (size sum : ℕ) (pieces others : List (List ℕ)) → most_open long < size → IsLonger true longer sum others → IsLonger long longer size pieces
+pub kind_behind : (long longer : Bool) (size sum : ℕ) (pieces others : List (List ℕ)) → most_open long < size → IsLonger true longer sum others → IsLonger long longer size pieces
 kind_behind false false size sum pieces others more kind = absurd kind
 kind_behind true false size sum pieces others more kind = absurd kind
 kind_behind false true size sum pieces others more kind = more

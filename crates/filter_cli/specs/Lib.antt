@@ -43,3 +43,8 @@ pub mod Exporting
 -- Events from words.
 pub mod Attached
 pub mod AttachedLaws
+-- Version 1.
+pub mod V1
+pub mod V1Fed
+pub mod V1Laws
+pub mod V1Parts

@@ -1,7 +1,8 @@
 -- Bytes are split into lines in one way, and the lines of first bytes come first.
-use Rattle.std.proofs.Common.{◌≡◌, ◌⊎◌, inl, inr, ℕ, ◌==◌, Bool, true, false, Decides, List, [], ◌∷◌, ◌++◌, refl, sym, ap, ◌∙◌, append_assoc}
+use Rattle.std.proofs.Common.{◌≡◌, ◌⊎◌, inl, inr, ℕ, ◌==◌, Bool, true, false, Decides, List, [], ◌∷◌, ◌++◌, map, refl, sym, ap, ◌∙◌, append_assoc}
 use Rattle.std.specs.List.{flat_map}
 use Rattle.std.proofs.lemmas.Bool.Decides.{Decides-eqb}
+use Rattle.std.proofs.lemmas.List.{map-append}
 use Rattle.filter_cli.specs.Lines.{IsPlain, ArePlain, ended, IsSplit, last_line}
 
 -- the first newline ends the first line
@@ -65,6 +66,26 @@ next_line bytes more ls ms rest last s w =
     next_of (x ∷ rest) more (o ∷ others) last plain is =
         let (tail, same) = plain_front (x ∷ rest) more o (flat_map ended others ++ last) plain (is ∙ behind o others last) in
         inr (tail, others ++ last_line last, ap (λ (l : List ℕ). l ∷ (others ++ last_line last)) same)
+
+-- The same of lines with their newlines, which the last one lacks.
+pub next_ended : (bytes more : List ℕ) (ls ms : List (List ℕ)) (rest last : List ℕ) → IsSplit bytes ls rest → IsSplit (bytes ++ more) ms last
+    → (others : List (List ℕ)) × (map ended ms ++ last_line last ≡ map ended ls ++ others) × ((rest ≡ []) ⊎ ((tail : List ℕ) × (later : List (List ℕ)) × (others ≡ (rest ++ tail) ∷ later)))
+next_ended bytes more ls ms rest last s w =
+    let joined : (flat_map ended ls ++ rest) ++ more ≡ flat_map ended ms ++ last = sym (ap (λ (b : List ℕ). b ++ more) s.joined) ∙ w.joined in
+    let (others, same, left) = lines_first ls ms rest more last s.plain w.plain w.open_line joined in
+    let all : map ended ms ++ last_line last ≡ map ended ls ++ (map ended others ++ last_line last) =
+    ap (λ (l : List (List ℕ)). map ended l ++ last_line last) same ∙ ap (λ (l : List (List ℕ)). l ++ last_line last) (map-append ended ls others)
+    ∙ append_assoc (map ended ls) (map ended others) (last_line last) in
+    (map ended others ++ last_line last, all, next_of rest more others last s.open_line left)
+  where
+    next_of : (rest more : List ℕ) (others : List (List ℕ)) (last : List ℕ) → IsPlain rest → rest ++ more ≡ flat_map ended others ++ last
+        → (rest ≡ []) ⊎ ((tail : List ℕ) × (later : List (List ℕ)) × (map ended others ++ last_line last ≡ (rest ++ tail) ∷ later))
+    next_of [] more others last plain is = inl refl
+    next_of (x ∷ rest) more [] [] plain is = absurd cc
+    next_of (x ∷ rest) more [] (y ∷ last) plain is = inr (more, [], ap (λ (l : List ℕ). l ∷ []) (sym is))
+    next_of (x ∷ rest) more (o ∷ others) last plain is =
+        let (tail, same) = plain_front (x ∷ rest) more o (flat_map ended others ++ last) plain (is ∙ behind o others last) in
+        inr (tail ++ 10 ∷ [], map ended others ++ last_line last, ap (λ (l : List ℕ). l ∷ (map ended others ++ last_line last)) (ap ended same ∙ append_assoc (x ∷ rest) tail (10 ∷ [])))
 
 -- bytes are split in one way
 all_same : (ls ms : List (List ℕ)) (rest last : List ℕ) → ArePlain ls → ArePlain ms → IsPlain rest → IsPlain last → flat_map ended ls ++ rest ≡ flat_map ended ms ++ last → (ls ≡ ms) × (rest ≡ last)

@@ -9,7 +9,7 @@ use Rattle.sub_export.specs.Output.{last_event}
 use Rattle.sub_export.specs.Records.{csv_head_text}
 use Rattle.partition_times.specs.Patterns.{IsPattern}
 use Rattle.filter_cli.specs.declared.asked.Asked.{Asked}
-use Rattle.filter_cli.specs.declared.asked.Asked.TheVariants.{Filter, Tags, Ls, Stats, FromTap, ToTap, ToCsv, Output}
+use Rattle.filter_cli.specs.declared.asked.Asked.TheVariants.{Filter, Tags, Ls, Stats, FromTap, ToTap, ToCsv, Output, FromV1, ToV1}
 use Rattle.filter_cli.specs.Attached.{IsOutputSeen, IsOutput}
 use Rattle.filter_cli.specs.Exporting.{csv_plan}
 use Rattle.filter_cli.specs.Headed.{IsSeenBelow, IsWholeBelow}
@@ -20,6 +20,8 @@ use Rattle.filter_cli.specs.Filtering.{filter_plan}
 use Rattle.filter_cli.specs.Tagging.{tags_plan_of}
 use Rattle.filter_cli.specs.Tap.{IsTapSeen, IsTapFiltered}
 use Rattle.filter_cli.specs.TapRows.{tap_plan}
+use Rattle.filter_cli.specs.V1.{IsV1Seen, IsV1Filtered}
+use Rattle.filter_cli.specs.V1Parts.{v1_plan}
 use Rattle.filter_cli.specs.Patterns.{rules_of, IsFirstBadText}
 use Rattle.filter_cli.specs.Words.{asked_of}
 
@@ -27,6 +29,7 @@ use Rattle.filter_cli.specs.Words.{asked_of}
 pub data Writing : Type 0 where
   of_notes : Plan → Writing
   of_tap_lines : Writing
+  of_v1_lines : Writing
   below_head : List ℕ → Plan → Writing
   of_job : Job → Writing
 
@@ -39,11 +42,14 @@ writing_of FromTap = of_tap_lines
 writing_of ToTap = of_notes tap_plan
 writing_of (ToCsv selection) = below_head csv_head_text (csv_plan (keeps (rules_of selection)))
 writing_of (Output job) = of_job job
+writing_of FromV1 = of_v1_lines
+writing_of ToV1 = of_notes v1_plan
 
 -- the text that the first bytes of a stream decide, whatever follows
 abbrev pub sees_by : Writing → List ℕ → List ℕ → Type 0
 sees_by (of_notes plan) = IsSeen plan
 sees_by of_tap_lines = IsTapSeen
+sees_by of_v1_lines = IsV1Seen
 sees_by (below_head head plan) = IsSeenBelow head (IsSeen plan)
 sees_by (of_job job) = IsOutputSeen job
 
@@ -51,6 +57,7 @@ sees_by (of_job job) = IsOutputSeen job
 abbrev pub ends_by : Writing → List ℕ → List ℕ → ℕ → Type 0
 ends_by (of_notes plan) = IsFiltered plan
 ends_by of_tap_lines = IsTapFiltered
+ends_by of_v1_lines = IsV1Filtered
 ends_by (below_head head plan) = IsWholeBelow head (IsFiltered plan)
 ends_by (of_job job) = IsOutput job
 
@@ -64,6 +71,8 @@ patterns_of FromTap = []
 patterns_of ToTap = []
 patterns_of (ToCsv selection) = selection.patterns
 patterns_of (Output job) = []
+patterns_of FromV1 = []
+patterns_of ToV1 = []
 
 -- ---- what is written where the input is left unread
 
@@ -81,6 +90,8 @@ unread_text FromTap = None
 unread_text ToTap = None
 unread_text (ToCsv selection) = None
 unread_text (Output job) = unread_by job job.attachment
+unread_text FromV1 = None
+unread_text ToV1 = None
 
 -- the same of the filter that the words ask for
 abbrev pub text_unread : List (List ℕ) → Option (List ℕ)

@@ -6,14 +6,21 @@ use Rattle.command_words.specs.declared.table.Kind.TheVariants.{Flag, Valued}
 use Rattle.filter_cli.specs.declared.tool.Tool.{Tool}
 use Rattle.filter_cli.specs.declared.tool.Tool.TheVariants as tool
 
--- the filter of this name that reads or writes another form than Subunit
+-- the filter of this name that reads or writes version 1
+abbrev pub v1_tool_named : List ℕ → Option Tool
+v1_tool_named name =
+    if bytes_eq name (codes "subunit-1to2") then Some tool.FromV1
+    else (if bytes_eq name (codes "subunit-2to1") then Some tool.ToV1
+    else None)
+
+-- the filter of this name that reads or writes another form than Subunit, or its version 1
 abbrev pub converter_named : List ℕ → Option Tool
 converter_named name =
     if bytes_eq name (codes "tap2subunit") then Some tool.FromTap
     else (if bytes_eq name (codes "subunit2tap") then Some tool.ToTap
     else (if bytes_eq name (codes "subunit2csv") then Some tool.ToCsv
     else (if bytes_eq name (codes "subunit-output") then Some tool.Output
-    else None)))
+    else v1_tool_named name)))
 
 abbrev pub tool_named : List ℕ → Option Tool
 tool_named name =
@@ -77,3 +84,5 @@ kind_in tool.FromTap name = None
 kind_in tool.ToTap name = None
 kind_in tool.ToCsv name = csv_kind name
 kind_in tool.Output name = None
+kind_in tool.FromV1 name = None
+kind_in tool.ToV1 name = None

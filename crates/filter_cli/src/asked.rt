@@ -34,6 +34,10 @@ pub enum Asked {
     ToCsv(Selection),
     /// `subunit-output`: the events that words ask for.
     Output(OutputJob),
+    /// `subunit-1to2`: lines of version 1 as packets.
+    FromV1,
+    /// `subunit-2to1`: tests as lines of version 1.
+    ToV1,
 }
 
 /// The filter that the words ask for. None comes exactly where they ask for none.
@@ -96,6 +100,8 @@ fn asked_with(alloc: Global, tool: Tool, items: &[Item<'_>]) -> Result<Option<As
         Tool::FromTap => Ok(Some(Asked::FromTap)),
         Tool::ToTap => Ok(Some(Asked::ToTap)),
         Tool::ToCsv => Ok(Some(Asked::ToCsv(csv_selection_of(alloc, items)?))),
+        Tool::FromV1 => Ok(Some(Asked::FromV1)),
+        Tool::ToV1 => Ok(Some(Asked::ToV1)),
         // Their words are read elsewhere.
         Tool::Tags | Tool::Output => Ok(None),
     }

@@ -7,7 +7,9 @@ ghost use Rattle.tap_bridge.specs.Texts.{tap_text};
 ghost use Rattle.filter_cli.specs.declared.asked.Asked.{Asked as AnAsked};
 ghost use Rattle.filter_cli.specs.Script.{given_by};
 ghost use Rattle.filter_cli.specs.Events.{events_in};
+ghost use Rattle.v1_bridge.specs.Writing.{v1_text};
 ghost use Rattle.filter_cli.specs.TapRows.{tap_rows, tap_plan};
+ghost use Rattle.filter_cli.specs.V1Parts.{v1_plan};
 ghost use Rattle.filter_cli.specs.Streams.{AsksFor, IsSeenBy, IsFilteredBy};
 
 /// Laws of what filters write of all streams.
@@ -24,9 +26,11 @@ pub fn filtered_streams()
     ensures first { (words : List (List ℕ)) (bytes more shown all : List ℕ) (status : ℕ) → AreBytes (bytes ++ more) → IsSeenBy words bytes shown → IsFilteredBy words (bytes ++ more) all status → (rest : List ℕ) × (all ≡ shown ++ rest) }
 {}
 
-/// The text of a whole stream as lines of the Test Anything Protocol.
+/// The text of a whole stream as lines of the Test Anything Protocol, and as lines of version 1.
 pub fn lines_of_streams()
-    // It is that of the stream's tests, the lines in the order in which they complete, those left open behind them, and
+    // The first is that of the stream's tests, the lines in the order in which they complete, those left open behind them, and
     // the plan.
     ensures lines { (notes : List Note) → given_by tap_plan notes ++ tap_plan.at_end notes ≡ tap_text (tap_rows (events_in notes)) }
+    // The second is that of the stream's notes.
+    ensures version_one { (notes : List Note) → given_by v1_plan notes ++ v1_plan.at_end notes ≡ v1_text notes }
 {}

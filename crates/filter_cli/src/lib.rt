@@ -11,6 +11,7 @@
 //! - `ls`, `sifting`, `stats`, `subunit_to_tap`, `tagging`: those filters; `tally`: what is counted
 //! - `of_tap`, `open_line`, `packets`, `pass_tap`: lines of the Test Anything Protocol as packets
 //! - `headed`, `exporting`: a text in front of what a filter writes, and the records of tests below the names of their fields
+//! - `of_v1`, `pass_v1`, `subunit_to_v1`: lines of version 1 as packets, and tests as such lines
 //! - `attaching`: the events that words ask for, with the input as a file
 //! - `event_laws`, `laws`: what filters write of all streams
 //!
@@ -28,10 +29,12 @@ mod ls;
 mod notes;
 mod of_notes;
 mod of_tap;
+mod of_v1;
 mod open_line;
 mod packets;
 mod pass;
 mod pass_tap;
+mod pass_v1;
 mod patterns;
 mod refusal;
 mod retagging;
@@ -39,6 +42,7 @@ mod selection;
 mod sifting;
 mod stats;
 mod subunit_to_tap;
+mod subunit_to_v1;
 mod tagging;
 mod taking;
 mod tally;
@@ -59,6 +63,7 @@ pub use notes::NoteFilter;
 pub use of_notes::OfNotes;
 pub use pass::{PumpFault, pump};
 pub use pass_tap::tap_to_subunit;
+pub use pass_v1::v1_to_subunit;
 pub use patterns::{Patterns, PatternsFault};
 pub use refusal::{Refusal, UsageFault};
 pub use retagging::Retagging;

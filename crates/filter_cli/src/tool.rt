@@ -25,6 +25,10 @@ pub enum Tool {
     ToCsv,
     /// `subunit-output`
     Output,
+    /// `subunit-1to2`
+    FromV1,
+    /// `subunit-2to1`
+    ToV1,
 }
 
 /// The filter that the first word names, or none.
@@ -72,6 +76,19 @@ fn converter_named(name: &str) -> Option<Tool>
     if name == "subunit-output" {
         return Some(Tool::Output);
     }
+    v1_tool_named(name)
+}
+
+// That of this name which reads or writes version 1, or none.
+fn v1_tool_named(name: &str) -> Option<Tool>
+    ensures { result ≡ tools.v1_tool_named name.now }
+{
+    if name == "subunit-1to2" {
+        return Some(Tool::FromV1);
+    }
+    if name == "subunit-2to1" {
+        return Some(Tool::ToV1);
+    }
     None
 }
 
@@ -84,6 +101,7 @@ impl OptionTable for Tool {
             Tool::Ls => ls_kind(name),
             Tool::ToCsv => csv_kind(name),
             Tool::Tags | Tool::Stats | Tool::FromTap | Tool::ToTap | Tool::Output => None,
+            Tool::FromV1 | Tool::ToV1 => None,
         }
     }
 }

@@ -15,6 +15,7 @@ use crate::attaching::{attach_stream, give_event};
 use crate::exporting::export_stream;
 use crate::ls::{Listing, Ls};
 use crate::pass_tap::tap_to_subunit;
+use crate::pass_v1::v1_to_subunit;
 use crate::patterns::rules_of;
 use crate::refusal::{Refusal, UsageFault};
 use crate::retagging::Retagging;
@@ -22,6 +23,7 @@ use crate::selection::Selection;
 use crate::sifting::filter_stream;
 use crate::stats::Stats;
 use crate::subunit_to_tap::SubunitToTap;
+use crate::subunit_to_v1::SubunitToV1;
 use crate::tagging::tag_stream;
 use crate::telling::tell;
 use crate::through::pass_notes;
@@ -101,6 +103,8 @@ fn pass<I: Source, O: Sink>(
         Asked::ToTap => write_tap(alloc, input, out),
         Asked::ToCsv(selection) => export(alloc, selection, input, out),
         Asked::Output(job) => give(alloc, job, input, out),
+        Asked::FromV1 => read_v1(alloc, input, out),
+        Asked::ToV1 => write_v1(alloc, input, out),
     }
 }
 
@@ -167,6 +171,22 @@ fn write_tap<I: Source, O: Sink>(alloc: Global, input: &mut I, out: &mut O) -> R
     ensures { Checked wanted.ToTap (pipe (I.seen input.old) (O.seen out.old)) (pipe (I.seen input.new) (O.seen out.new)) result }
 {
     let status = pass_notes(alloc, SubunitToTap::new(alloc), input, out)?;
+    Ok(status)
+}
+
+// `subunit-1to2`
+fn read_v1<I: Source, O: Sink>(alloc: Global, input: &mut I, out: &mut O) -> Result<u8, Refusal>
+    ensures { Checked wanted.FromV1 (pipe (I.seen input.old) (O.seen out.old)) (pipe (I.seen input.new) (O.seen out.new)) result }
+{
+    let status = v1_to_subunit(alloc, input, out)?;
+    Ok(status)
+}
+
+// `subunit-2to1`
+fn write_v1<I: Source, O: Sink>(alloc: Global, input: &mut I, out: &mut O) -> Result<u8, Refusal>
+    ensures { Checked wanted.ToV1 (pipe (I.seen input.old) (O.seen out.old)) (pipe (I.seen input.new) (O.seen out.new)) result }
+{
+    let status = pass_notes(alloc, SubunitToV1::new(alloc), input, out)?;
     Ok(status)
 }
 

@@ -43,3 +43,13 @@ returns-in_ok-csv_selection_of-in-ToCsv c =
     ap (λ (s : Selection). Some (wanted.ToCsv s)) c.in_ok-csv_selection_of-in-ToCsv.ensures
     ∙ ap (λ (t : Tool). asked_for t (map shown c.args.items.now)) (sym c.in-ToCsv.is)
     ∙ sym (unnamed_so c.args.tool c.args.items.now _ c.has_name.ensures c.if-has_name.false)
+
+pub returns-in-FromV1 : goal.returns-in-FromV1
+returns-in-FromV1 c =
+    ap (λ (t : Tool). asked_for t (map shown c.args.items.now)) (sym c.in-FromV1.is)
+    ∙ sym (unnamed_so c.args.tool c.args.items.now _ c.has_name.ensures c.if-has_name.false)
+
+pub returns-in-ToV1 : goal.returns-in-ToV1
+returns-in-ToV1 c =
+    ap (λ (t : Tool). asked_for t (map shown c.args.items.now)) (sym c.in-ToV1.is)
+    ∙ sym (unnamed_so c.args.tool c.args.items.now _ c.has_name.ensures c.if-has_name.false)

@@ -25,3 +25,9 @@ returns-in-ToCsv g c = checked_as _ _ _ _ _ (sym c.in-ToCsv.is) c.export.ensures
 
 pub returns-in-Output : goal.returns-in-Output
 returns-in-Output g c = checked_as _ _ _ _ _ (sym c.in-Output.is) c.give.ensures
+
+pub returns-in-FromV1 : goal.returns-in-FromV1
+returns-in-FromV1 g c = checked_as _ _ _ _ _ (sym c.in-FromV1.is) c.read_v1.ensures
+
+pub returns-in-ToV1 : goal.returns-in-ToV1
+returns-in-ToV1 g c = checked_as _ _ _ _ _ (sym c.in-ToV1.is) c.write_v1.ensures
