@@ -1,4 +1,4 @@
-//! Tests of the filters: the Test Anything Protocol both ways, and filters over streams in memory. No program uses it.
+//! Tests of the filters: the Test Anything Protocol and version 1 both ways, and filters over streams in memory. No program uses it.
 //!
 //! They use the public names of the rooms alone, and stand above them, so that the proofs of a room are not made once more for
 //! its tests. Each file has the room in its name. `calls` has what they share.
@@ -14,5 +14,7 @@ mod tests_filter_cli_events;
 mod tests_filter_cli_export;
 #[cfg(test)]
 mod tests_filter_cli_tap;
+#[cfg(test)]
+mod tests_filter_cli_v1;
 #[cfg(test)]
 mod tests_tap_bridge;
