@@ -11,6 +11,8 @@ pub fn of_filter(name: &str) -> Option<&'static str> {
         "subunit2tap" => Some(TO_TAP),
         "subunit2csv" => Some(TO_CSV),
         "subunit-output" => Some(OUTPUT),
+        "subunit-1to2" => Some(FROM_V1),
+        "subunit-2to1" => Some(TO_V1),
         _ => None,
     }
 }
@@ -119,4 +121,20 @@ And:
 Tags stand beside a status, a name and a type beside a file. A value may also be the next word.
 Statuses: 2 wrong usage, 4 a fault of the outside, 5 out of memory.
 Example: make 2>&1 | subunit-output --success=build --attach-file=- --mimetype=text/plain
+";
+
+const FROM_V1: &str = "\
+usage: subunit-1to2
+Reads lines of Subunit version 1 from standard input and writes a Subunit v2 stream. A line that is none of version 1
+becomes an event of the file stdout. Status 0.
+Statuses: 2 wrong usage, 4 a fault of the outside, 5 out of memory.
+Example: subunit-1to2 < old/.testrepository/0
+";
+
+const TO_V1: &str = "\
+usage: subunit-2to1
+Reads a Subunit v2 stream from standard input and writes the lines of Subunit version 1 of each test as it ends, and for
+those that did not end, at the end of the stream, that they were not completed. Other bytes pass on as they are. Status 0.
+Statuses: 2 wrong usage, 4 a fault of the outside, 5 out of memory.
+Example: subunit-2to1 < stream
 ";

@@ -55,7 +55,7 @@ fn help_is_for_its_words_alone(rt: HostRuntime) -> Result<(), Fail> {
     Ok(())
 }
 
-const FILTERS: [&str; 8] = [
+const FILTERS: [&str; 10] = [
     "subunit-filter",
     "subunit-tags",
     "subunit-ls",
@@ -64,6 +64,8 @@ const FILTERS: [&str; 8] = [
     "subunit2tap",
     "subunit2csv",
     "subunit-output",
+    "subunit-1to2",
+    "subunit-2to1",
 ];
 
 fn check_filter(rt: &impl Abort, host: &HostRuntime, name: &str) -> io::Result<()> {
