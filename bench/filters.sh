@@ -1,7 +1,8 @@
 #!/bin/sh
 # How long each filter takes, and how much memory, on streams and on lines of TAP: small events, events with tags and
 # routes, texts, log lines between events, events of 64 routes in turn, and heads of packets that are none; lines of TAP,
-# the same with blocks of comment lines, and one line of 8,000,000 bytes.
+# the same with blocks of comment lines, and one line of 8,000,000 bytes. `subunit-1to2` reads what `subunit-2to1` writes of
+# each stream.
 # usage: bench/filters.sh [RUNS [PERCENT [WORD..]]]: by default each filter is run 3 times on each input with each list of
 # options, at most 20, and the input has 100 percent of its size, at most 1000. A word is the name of an input or of a filter, and only these are measured.
 # Where the variable YARDSTICK names another program with these filters, called as `YARDSTICK subunit-ls`, it is measured in
@@ -35,8 +36,11 @@ FILTERS = {
     "subunit-tags": [["added", "-removed"]],
     "subunit2tap": [[]],
     "subunit2csv": [[]],
+    "subunit-2to1": [[]],
 }
 FROM_TAP = {"tap2subunit": [[]]}
+# The reader of version 1, and the filter that writes its input.
+READER, WRITER = "subunit-1to2", "subunit-2to1"
 LIMIT = 600
 TIME = "/usr/bin/time"
 
@@ -119,7 +123,7 @@ def made(work, percent, wanted):
 def main(program, work, runs="3", percent="100", *words):
     runs, percent, folder = number(runs, 20), number(percent, 1000), os.environ["STREAMS"]
     kinds = list(SIZES) if not folder else os.listdir(folder)
-    known = {*kinds, *FILTERS, *FROM_TAP}
+    known = {*kinds, *FILTERS, *FROM_TAP, READER}
     if not known.issuperset(words):
         sys.exit(f"filters: the words are {', '.join(sorted(known))}")
     programs = [("ours", program)]
@@ -133,6 +137,11 @@ def main(program, work, runs="3", percent="100", *words):
             if not asked or name in asked:
                 for options in lists:
                     measure(kind, path, name, options, runs, programs, work)
+        if not is_tap and (not asked or READER in asked) and is_there(program, WRITER):
+            lines = os.path.join(work, "lines")
+            run([program, WRITER], path, lines)
+            measure(kind, lines, READER, [], runs, programs, work)
+            os.remove(lines)
 
 
 main(*sys.argv[1:])
