@@ -1,5 +1,5 @@
 -- What a command has done, from its chain.
-use Rattle.std.proofs.Common.{◌≡◌, inl, inr, ℕ, ◌<◌, Bool, true, false, Option, None, Some, IfSome, Result, Ok, List, [], ◌∷◌, ◌++◌, length, refl, sym, ap, subst, ◌∙◌, if◌then◌else◌}
+use Rattle.std.proofs.Common.{◌≡◌, inl, inr, ℕ, ◌<◌, Bool, true, false, Option, None, Some, IfSome, All, Result, Ok, List, [], ◌∷◌, ◌++◌, length, refl, sym, ap, subst, ◌∙◌, if◌then◌else◌}
 use Rattle.std.specs.Io.KnownBytes.{Appends}
 use Rattle.std.specs.List.{list_any}
 use Rattle.edge_io.specs.Disk.{Files, Folder, IsImage}
@@ -7,6 +7,7 @@ use Rattle.edge_io.specs.Seen.{Seen}
 use Rattle.edge_io.specs.Spawners.{Spawning}
 use Rattle.edge_io.specs.Steps.{Goes, Opened, Grown}
 use Rattle.edge_io.proofs.Going.{goes_then, goes_weaker}
+use Rattle.packet_codec.specs.Grammar.{AreBytes}
 use Rattle.packet_codec.specs.declared.event.Event.{Event}
 use Rattle.outcome_fold.specs.declared.row.Row.{Row}
 use Rattle.outcome_fold.specs.Rows.{rows_of}
@@ -20,13 +21,17 @@ use Rattle.run_shelf.proofs.DraftLemmas.{goes_writes, run_kept}
 use Rattle.run_shelf.proofs.Joining.{stays_some}
 use Rattle.run_shelf.proofs.SameLemmas.{shows_still}
 use Rattle.sub_text.specs.Texts.{report_of}
-use Rattle.testr_cli.specs.Outside.{Work, Shown}
+use Rattle.testr_cli.specs.Outside.{Work, Shown, work_folder}
 use Rattle.testr_cli.specs.Runs.{run_bytes, HasRunAndCaches, KeepsFiles, AddsRun}
 use Rattle.testr_cli.specs.Verdicts.{verdict_of, verdict_code}
 use Rattle.testr_cli.specs.Says.{SaysOfFolder, OfLastRun}
-use Rattle.testr_cli.specs.Files.{RecordsSources}
+use Rattle.testr_cli.specs.Files.{AreSources, HasRecordedInTurn, RecordsSources}
 use Rattle.testr_cli.specs.declared.recording.RecordFault.{RecordFault}
-use Rattle.testr_cli.specs.Reporting.{IsReport}
+use Rattle.testr_cli.specs.Refreshing.{Refreshes, BringsCaches}
+use Rattle.testr_cli.specs.Reporting.{Report, IsReport, Reports}
+use Rattle.testr_cli.specs.Steps.{Still, At}
+use Rattle.testr_cli.specs.Store.{Opens, TakesRun, Begins, Keeps}
+use Rattle.testr_cli.specs.declared.store.RunsFault.{RunsFault}
 use Rattle.testr_cli.specs.Init.{Inits}
 use Rattle.testr_cli.specs.Load.{Loads}
 use Rattle.testr_cli.specs.Ask.{CopiesLast, PrintsAnswer, AnswersOf, Asks}
@@ -96,9 +101,63 @@ reports partial (Some s) None printed new number events kept appends = absurd ke
 reports partial (Some s) (Some t) printed new number events kept appends = λ runs shows.
     subst (λ n. Appends printed new (report_of (rows_of events) n [])) (kept.reads.beside.counts runs shows) appends
 
-out_stays : (names : List (List ℕ)) (result : Result (List Row) RecordFault) (a b : Work) → RecordsSources names a b result → b.out.told ≡ a.out.told
+pub out_stays : (names : List (List ℕ)) (result : Result (List Row) RecordFault) (a b : Work) → RecordsSources names a b result → b.out.told ≡ a.out.told
 out_stays [] result a b step = λ i. (step.rest i).out.told
 out_stays (name ∷ names) result a b step = λ i. (step.rest i).out.told
+
+-- what is known once the run of a load is kept and the caches cover it: what was recorded, and what is printed then
+pub record LoadedSo (partial : Bool) (names : List (List ℕ)) (a m : Work) (report : Report) : Type 0 where
+  pub number : ℕ
+  pub sources : List (List ℕ)
+  pub are_sources : AreSources names a.site.told a.input.told sources
+  pub are_bytes : All AreBytes sources
+  pub events : List Event
+  pub recorded : HasRecordedInTurn 0 sources events
+  pub at_end : ReadsInputFor names a.input m.input
+  pub kept : Goes a.folder.told m.folder.told (KeepsRunAndCaches number (run_of partial (run_bytes events)))
+  pub cached : Goes a.folder.told m.folder.told BringsCaches
+  pub out : m.out.told ≡ a.out.told
+  pub says : IsReport number [] (rows_of events) report
+
+pub loaded_so : (partial : Bool) (names : List (List ℕ)) (a o t g r e k m : Work) (found : Found) (rows : List Row) (report : Report)
+    → At work_folder Opens a o (Ok found)
+    → Still {E = RunsFault} (TakesRun (length (kinds_of found))) o t (Ok tt)
+    → At work_folder Begins t g (Ok tt)
+    → RecordsSources names g r (Ok rows)
+    → Still (Reports (length (kinds_of found)) [] rows) r e (Ok report)
+    → At work_folder (Keeps partial (length (kinds_of found))) e k (Ok tt)
+    → At work_folder (Refreshes (length (kinds_of found)) rows) k m (Ok tt)
+    → LoadedSo partial names a m report
+loaded_so partial names a o t g r e k m found rows report opened took begun read told kept refreshed =
+    let number = length (kinds_of found) in
+    let input : g.input ≡ a.input = (λ i. (begun.rest i).input) ∙ (λ i. (took.same i).input) ∙ (λ i. (opened.rest i).input) in
+    let input_left : m.input ≡ r.input = (λ i. (refreshed.rest i).input) ∙ (λ i. (kept.rest i).input) ∙ (λ i. (told.same i).input) in
+    let all = writes_run names rows g r read in
+    let begins : Goes o.folder.told g.folder.told Opened = subst (λ (f : Option Folder). Goes f g.folder.told Opened) (λ i. (took.same i).folder.told) begun.at.begun in
+    let grows : Goes g.folder.told e.folder.told (Grown all.run) = subst (λ (f : Option Folder). Goes g.folder.told f (Grown all.run)) (λ i. (sym told.same i).folder.told) all.written in
+    let site : g.site ≡ a.site = (λ i. (begun.rest i).site) ∙ (λ i. (took.same i).site) ∙ (λ i. (opened.rest i).site) in
+    let recorded : IsRunOf names a.site.told a.input.told all.run = subst (λ (s : Seen Files). IsRunOf names s.told a.input.told all.run) site (subst (λ (s : Seen (List ℕ)). IsRunOf names g.site.told s.told all.run) input all.is) in
+    let packets = have_in_turn 0 recorded.sources recorded.events recorded.few recorded.are_bytes recorded.recorded in
+    let rows_are : rows ≡ rows_of recorded.events = rows_of_written all.run recorded.events rows all.run_is packets.are_events packets.fit recorded.packets all.rows_are in
+    let run_is : all.run ≡ run_bytes recorded.events = recorded.packets in
+    let keeps : Goes o.folder.told m.folder.told (KeepsRunAndCaches number (run_of partial (run_bytes recorded.events))) =
+    subst (λ (l : List ℕ). Goes o.folder.told m.folder.told (KeepsRunAndCaches number (run_of partial l))) run_is
+    (goes_cached number (run_of partial all.run) rows o.folder.told k.folder m.folder refreshed.at all.rows_are
+    (run_kept number partial all.run o.folder.told e.folder.told k.folder.told (goes_writes o.folder.told g.folder.told e.folder.told all.run begins grows) kept.at.kept)) in
+    let quiet : Goes a.folder.told o.folder.told Rests = open_quiet a o (Ok found) opened.at in
+    record {
+      number = number;
+      sources = recorded.sources;
+      are_sources = recorded.are_sources;
+      are_bytes = recorded.are_bytes;
+      events = recorded.events;
+      recorded = recorded.recorded;
+      at_end = subst (λ (s : Seen (List ℕ)). ReadsInputFor names a.input s) (sym input_left) (subst (λ (s : Seen (List ℕ)). ReadsInputFor names s r.input) input all.at_end);
+      kept = kept_through number (run_of partial (run_bytes recorded.events)) a.folder.told o.folder.told m.folder.told quiet keeps;
+      cached = fresh_through number (run_of partial (run_bytes recorded.events)) a.folder.told o.folder.told m.folder.told quiet (surveyed_calm (kinds_of found) a.folder.told o.folder.told opened.at.found) keeps;
+      out = (λ i. (refreshed.rest i).out.told) ∙ (λ i. (kept.rest i).out.told) ∙ (λ i. (told.same i).out.told) ∙ out_stays names (Ok rows) g r read ∙ (λ i. (begun.rest i).out.told) ∙ (λ i. (took.same i).out.told) ∙ (λ i. (opened.rest i).out.told);
+      says = subst (λ (list : List Row). IsReport number [] list report) rows_are told.says.told;
+    }
 
 pub load_did : (partial : Bool) (names : List (List ℕ)) (a b : Work) (v : Verdict) → Loads partial names a b (Ok v) → LoadsAll partial names a b (verdict_code v)
 load_did partial names a b v loads =
@@ -111,39 +170,23 @@ load_did partial names a b v loads =
     let refreshed = then_did v kept.next in
     let printed = then_did v refreshed.next in
     let gives = printed.next in
-    let number = length (kinds_of opened.value) in
-    let input : begun.between.input ≡ a.input = (λ i. (begun.done.rest i).input) ∙ (λ i. (took.done.same i).input) ∙ (λ i. (opened.done.rest i).input) in
-    let input_left : b.input ≡ read.between.input = (λ i. (gives.same i).input) ∙ (λ i. (printed.done.rest i).input) ∙ (λ i. (refreshed.done.rest i).input) ∙ (λ i. (kept.done.rest i).input) ∙ (λ i. (told.done.same i).input) in
-    let all = writes_run names read.value begun.between read.between read.done in
-    let begins : Goes opened.between.folder.told begun.between.folder.told Opened = subst (λ (o : Option Folder). Goes o begun.between.folder.told Opened) (λ i. (took.done.same i).folder.told) begun.done.at.begun in
-    let grows : Goes begun.between.folder.told told.between.folder.told (Grown all.run) = subst (λ (o : Option Folder). Goes begun.between.folder.told o (Grown all.run)) (λ i. (sym told.done.same i).folder.told) all.written in
-    let folder_left : b.folder.told ≡ refreshed.between.folder.told = (λ i. (gives.same i).folder.told) ∙ (λ i. (printed.done.rest i).folder.told) in
-    let out : refreshed.between.out.told ≡ a.out.told = (λ i. (refreshed.done.rest i).out.told) ∙ (λ i. (kept.done.rest i).out.told) ∙ (λ i. (told.done.same i).out.told) ∙ out_stays names (Ok read.value) begun.between read.between read.done ∙ (λ i. (begun.done.rest i).out.told) ∙ (λ i. (took.done.same i).out.told) ∙ (λ i. (opened.done.rest i).out.told) in
-    let site : begun.between.site ≡ a.site = (λ i. (begun.done.rest i).site) ∙ (λ i. (took.done.same i).site) ∙ (λ i. (opened.done.rest i).site) in
-    let recorded : IsRunOf names a.site.told a.input.told all.run = subst (λ (s : Seen Files). IsRunOf names s.told a.input.told all.run) site (subst (λ (s : Seen (List ℕ)). IsRunOf names begun.between.site.told s.told all.run) input all.is) in
-    let packets = have_in_turn 0 recorded.sources recorded.events recorded.few recorded.are_bytes recorded.recorded in
-    let rows : read.value ≡ rows_of recorded.events = rows_of_written all.run recorded.events read.value all.run_is packets.are_events packets.fit recorded.packets all.rows_are in
-    let report : IsReport number [] (rows_of recorded.events) told.value = subst (λ (list : List Row). IsReport number [] list told.value) rows told.done.says.told in
-    let run_is : all.run ≡ run_bytes recorded.events = recorded.packets in
-    let keeps : Goes opened.between.folder.told b.folder.told (KeepsRunAndCaches number (run_of partial (run_bytes recorded.events))) =
-    subst (λ (l : List ℕ). Goes opened.between.folder.told b.folder.told (KeepsRunAndCaches number (run_of partial l))) run_is
-    (subst (λ (o : Option Folder). Goes opened.between.folder.told o (KeepsRunAndCaches number (run_of partial all.run))) (sym folder_left)
-    (goes_cached number (run_of partial all.run) read.value opened.between.folder.told kept.between.folder refreshed.between.folder refreshed.done.at all.rows_are
-    (run_kept number partial all.run opened.between.folder.told told.between.folder.told kept.between.folder.told (goes_writes opened.between.folder.told begun.between.folder.told told.between.folder.told all.run begins grows) kept.done.at.kept))) in
-    let quiet : Goes a.folder.told opened.between.folder.told Rests = open_quiet a opened.between (Ok opened.value) opened.done.at in
-    let stored = kept_through number (run_of partial (run_bytes recorded.events)) a.folder.told opened.between.folder.told b.folder.told quiet keeps in
-    let prints : Appends a.out.told b.out.told (report_of (rows_of recorded.events) number []) = appended {z = printed.between.out.told} out (λ i. (sym gives.same i).out.told) report.text printed.done.at.whole in
+    let m : Work = refreshed.between in
+    let all = loaded_so partial names a opened.between took.between begun.between read.between told.between kept.between m opened.value read.value told.value opened.done took.done begun.done read.done told.done kept.done refreshed.done in
+    let folder_left : b.folder.told ≡ m.folder.told = (λ i. (gives.same i).folder.told) ∙ (λ i. (printed.done.rest i).folder.told) in
+    let input_left : b.input ≡ m.input = (λ i. (gives.same i).input) ∙ (λ i. (printed.done.rest i).input) in
+    let stored : Goes a.folder.told b.folder.told (KeepsRunAndCaches all.number (run_of partial (run_bytes all.events))) = subst (λ (f : Option Folder). Goes a.folder.told f (KeepsRunAndCaches all.number (run_of partial (run_bytes all.events)))) (sym folder_left) all.kept in
+    let prints : Appends a.out.told b.out.told (report_of (rows_of all.events) all.number []) = appended {z = printed.between.out.told} all.out (λ i. (sym gives.same i).out.told) all.says.text printed.done.at.whole in
     record {
-      sources = recorded.sources;
-      are_sources = recorded.are_sources;
-      are_bytes = recorded.are_bytes;
-      events = recorded.events;
-      recorded = recorded.recorded;
-      at_end = subst (λ (s : Seen (List ℕ)). ReadsInputFor names a.input s) (sym input_left) (subst (λ (s : Seen (List ℕ)). ReadsInputFor names s read.between.input) input all.at_end);
-      cached = fresh_through number (run_of partial (run_bytes recorded.events)) a.folder.told opened.between.folder.told b.folder.told quiet (surveyed_calm (kinds_of opened.value) a.folder.told opened.between.folder.told opened.done.at.found) keeps;
-      stored = goes_weaker a.folder.told b.folder.told (KeepsRunAndCaches number (run_of partial (run_bytes recorded.events))) (AddsRun partial recorded.events) stored (adds_run partial number recorded.events);
-      printed = reports partial a.folder.told b.folder.told a.out.told b.out.told number recorded.events stored prints;
-      status = ap verdict_code (same_verdict gives.answer ∙ report.verdict) ∙ status_is (rows_of recorded.events);
+      sources = all.sources;
+      are_sources = all.are_sources;
+      are_bytes = all.are_bytes;
+      events = all.events;
+      recorded = all.recorded;
+      at_end = subst (λ (s : Seen (List ℕ)). ReadsInputFor names a.input s) (sym input_left) all.at_end;
+      cached = subst (λ (f : Option Folder). Goes a.folder.told f BringsCaches) (sym folder_left) all.cached;
+      stored = goes_weaker a.folder.told b.folder.told (KeepsRunAndCaches all.number (run_of partial (run_bytes all.events))) (AddsRun partial all.events) stored (adds_run partial all.number all.events);
+      printed = reports partial a.folder.told b.folder.told a.out.told b.out.told all.number all.events stored prints;
+      status = ap verdict_code (same_verdict gives.answer ∙ all.says.verdict) ∙ status_is (rows_of all.events);
     }
 
 -- ---- questions

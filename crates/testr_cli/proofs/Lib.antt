@@ -39,6 +39,7 @@ pub mod SuiteReach
 pub mod SuiteLeaves
 pub mod SuiteLaws
 pub mod SelfTestLaws
+pub mod PrintedLaws
 pub mod PromiseLemmas
 pub mod Performing
 pub mod SelfTestRows

@@ -8,6 +8,7 @@ use Rattle.run_ledger.specs.Refreshing.{KeepsSound}
 use Rattle.run_shelf.specs.Images.{PassesOld, PassesFormat, HasFormatBeside}
 use Rattle.testr_cli.specs.Answer.{refusal_code, code_of, place_in, may_have_kept, IsChildFault}
 use Rattle.testr_cli.specs.Outside.{Outside, Work, work_of, shown, work_out, Place, SomeRose, SameCounts, RisesAt}
+use Rattle.testr_cli.specs.Printed.{PrintsInPart}
 use Rattle.testr_cli.specs.Program.{Performs, Does, CanPerform, Leaves, Keeps, StartsPrograms, SomeFailed, IsPerformed, GivesUp, Answers, Promises, AnswersQuestion, TestrPromises}
 use Rattle.testr_cli.specs.Runs.{KeepsFiles, KeepsRepository, KeepsRuns}
 use Rattle.testr_cli.specs.Stops.{PassesTask, PassesLoad, HasLoadedRun}
@@ -27,6 +28,7 @@ use Rattle.testr_cli.proofs.DoneLaws.{init_made, init_passed, load_did, ask_did}
 use Rattle.testr_cli.proofs.KeepLemmas.{keeps_runs, init_keeps, init_repository, load_keeps}
 use Rattle.testr_cli.proofs.KeepingLaws.{Moves, quiet_moves}
 use Rattle.testr_cli.proofs.MomentLaws.{init_moves, init_sound, load_moves}
+use Rattle.testr_cli.proofs.PrintedLaws.{load_prints, ask_prints, list_prints, selftest_prints}
 use Rattle.testr_cli.proofs.RefusalLemmas.{codes, IsFault, of_part, of_child, faults, some_rose}
 use Rattle.testr_cli.proofs.Resting.{Rests, rests_same}
 use Rattle.testr_cli.proofs.SelfTestLaws.{selftest_beside, selftest_failed, selftest_never, selftest_did}
@@ -162,6 +164,15 @@ module _ (a b : Work) where
   did_of (run options) v done = run_did options a b v done
   did_of (selftest drawing) v done = selftest_did drawing a b v done
 
+  printed_of : (asked : Option Task) (outcome : Result Verdict Refusal) → Performs asked a b outcome → PrintsInPart asked a b
+  printed_of None outcome done = inl (λ i. (done.same i).out.told)
+  printed_of (Some init) outcome done = inl (λ i. (done.rest i).out.told)
+  printed_of (Some (load partial names)) outcome done = load_prints partial names a b outcome done
+  printed_of (Some (ask question)) outcome done = subst (PrintsInPart (Some (ask question)) a) (sym done.rest) (ask_prints question a.site a.spawner a.input (shown a.folder a.out) (shown b.folder b.out) outcome done.at)
+  printed_of (Some (list patterns)) outcome done = list_prints patterns a b outcome done
+  printed_of (Some (run options)) outcome done = (run_leaves options a b outcome done).printed
+  printed_of (Some (selftest drawing)) outcome done = selftest_prints drawing a b outcome done
+
   -- a task that starts no program has no fault of one
   no_child : (task : Task) (r : Refusal) → (StartsPrograms (Some task) → ⊥) → Performs (Some task) a b (Err r) → IsChildFault (Err r) → ⊥
   no_child task r starts done child = starts ((refused task r done).child child)
@@ -255,6 +266,7 @@ module _ (reading : Bool) (asked : Option Task) (before after : Outside) (answer
         no_command = λ none. inl ((usage_of a b answer asked outcome done code).1 none);
         fault = fault_of a b answer asked outcome done code;
         leaves = leaves_of before after asked outcome done;
+        prints = printed_of a b asked outcome done;
         kept = kept_of a b asked outcome done;
         repository = repository_of a b asked outcome done;
         any_moment = moments_of a b asked outcome done;
@@ -275,6 +287,7 @@ module _ (reading : Bool) (asked : Option Task) (before after : Outside) (answer
         no_command = λ none. inr (reads, five);
         fault = λ four. absurd (omega (arith, five, four));
         leaves = leaves_all before after asked gives.same;
+        prints = inl (λ i. (gives.same i).out.told);
         kept = λ not. same_keeps a b same asked;
         repository = same_repository a b same;
         any_moment = same_moments a b same asked;

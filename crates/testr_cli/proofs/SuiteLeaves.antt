@@ -101,7 +101,7 @@ some_first jobs refusal (Some s) None some = absurd some
 some_first jobs refusal (Some s) (Some t) some = record { done = some.done; more = some.more; jobs_are = some.jobs_are; outputs = some.outputs; started = some.started }
 
 -- the report, or a first part of it
-prefix_rows : (partial : Bool) (number : ℕ) (tags : List (List ℕ)) (events : List Event) (report : Report) (a b : Option Folder) (old new : Option (List ℕ)) → Goes a b (KeepsRunAndCaches number (run_of partial (run_bytes events))) → IsReport number tags (rows_of events) report → AppendsPrefix old new report.text
+pub prefix_rows : (partial : Bool) (number : ℕ) (tags : List (List ℕ)) (events : List Event) (report : Report) (a b : Option Folder) (old new : Option (List ℕ)) → Goes a b (KeepsRunAndCaches number (run_of partial (run_bytes events))) → IsReport number tags (rows_of events) report → AppendsPrefix old new report.text
     → IfSome a (λ s. (runs : List Run) → Shows s.disk.published runs → AppendsPrefix old new (report_of (rows_of events) (length runs) tags))
 prefix_rows partial number tags events report None b old new kept says prefix = tt
 prefix_rows partial number tags events report (Some s) None old new kept says prefix = absurd kept

@@ -31,6 +31,7 @@ pub mod Ask
 pub mod Sparing
 pub mod SuiteStops
 pub mod Stops
+pub mod Printed
 pub mod SuiteProgram
 pub mod Program
 pub mod Prospects

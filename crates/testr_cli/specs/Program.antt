@@ -23,6 +23,7 @@ use Rattle.testr_cli.specs.Files.{AreSources, HasRecordedInTurn}
 use Rattle.testr_cli.specs.Init.{Inits}
 use Rattle.testr_cli.specs.Load.{Loads}
 use Rattle.testr_cli.specs.Outside.{Outside, LeavesOutside, Work, work_of, work_folder, work_shown, SomeRose, RisesAt}
+use Rattle.testr_cli.specs.Printed.{PrintsInPart}
 use Rattle.testr_cli.specs.Recording.{most_bytes}
 use Rattle.testr_cli.specs.Refreshing.{BringsCaches}
 use Rattle.testr_cli.specs.RunSuite.{ListsSuite, RunsSuite}
@@ -209,6 +210,8 @@ pub record Promises (reading : Bool) (asked : Option Task) (before after : Outsi
   -- a part that is touched failed; or, where programs are started, one of them
   pub fault : answer ≡ 4 → SomeFailed asked (work_of before) (work_of after) ⊎ (StartsPrograms asked × IsChildFault answers.outcome)
   pub leaves : Leaves asked before after
+  -- nothing was printed, or a first part of what the task prints where it is done
+  pub prints : PrintsInPart asked (work_of before) (work_of after)
   -- reads give the files that they gave, whatever these are, unless a run was kept, or the call failed from its naming on
   pub kept : may_have_kept asked answers.outcome ≡ false → Goes before.folder.told after.folder.told (Keeps asked)
   pub repository : Goes before.folder.told after.folder.told KeepsRepository
