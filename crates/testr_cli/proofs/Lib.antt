@@ -28,6 +28,7 @@ pub mod DoneLaws
 pub mod PacketBytes
 pub mod MergeLaws
 pub mod SuiteDone
+pub mod CallLemmas
 pub mod CauseLaws
 pub mod SuiteCauses
 pub mod LeftIds

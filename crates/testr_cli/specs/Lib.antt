@@ -29,6 +29,7 @@ pub mod Init
 pub mod Load
 pub mod Ask
 pub mod Sparing
+pub mod SparingRun
 pub mod SuiteStops
 pub mod Stops
 pub mod Printed

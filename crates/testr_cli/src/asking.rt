@@ -1,12 +1,13 @@
 //! Asks the runs of a folder that was opened, with the help of the caches.
 
-ghost use Rattle.std.specs.Prelude.{◌≡◌, None, IfOk, IfSome};
+ghost use Rattle.std.specs.Prelude.{◌≡◌, None, length, IfOk, IfSome};
 ghost use Rattle.edge_io.specs.Steps.{Goes, Stays};
 ghost use Rattle.edge_io.specs.Causes.{RisesExactlyIf};
 ghost use Rattle.run_ledger.specs.Ledger.{IsFailingSet, AreTimes};
 ghost use Rattle.run_shelf.specs.Holds.{kinds_of, FitsWhereTold};
 ghost use Rattle.run_shelf.specs.Stores.{store_kinds, store_fault, FitsUnlessBroken};
 ghost use Rattle.testr_cli.specs.Asking.{FindsFailing, FindsTimes};
+ghost use Rattle.testr_cli.specs.SparingRun.{AsksByFew};
 ghost use Rattle.testr_cli.specs.Told.{tell_failed};
 ghost use Rattle.testr_cli.specs.Trusted.{SoundFailing, SoundTimes};
 
@@ -17,14 +18,16 @@ use run_shelf::{Found, Store};
 use std::alloc::Global;
 use sub_number::{IdList, TimeMap};
 
-/// The ids that fail by all of these runs, in the order of their bytes, told with the help of their cache.
+/// The ids that fail by all of these runs, in the order of their bytes, told with the help of their cache: in two calls of
+/// the folder, where both caches cover these runs.
 pub fn find_failing<H: Shelf>(
     alloc: Global,
     shelf: &mut H,
     found: &Found,
 ) -> Result<IdList, TellFault>
     requires { FitsWhereTold (kinds_of found.now) (H.seen shelf.old).told }
-    ensures { FindsFailing (H.seen shelf.old) (H.seen shelf.new) result }
+    ensures step { FindsFailing (H.seen shelf.old) (H.seen shelf.new) result }
+    ensures calls { AsksByFew (length (kinds_of found.now)) 2 (H.seen shelf.old).told (H.seen shelf.new).told (H.clock shelf.old) (H.clock shelf.new) }
 {
     let Ok(runs) = found.copy(alloc) else {
         return Err(TellFault::NoMemory);
@@ -41,6 +44,7 @@ fn failing_of<H: Shelf>(alloc: Global, store: &mut Store<'_, H>) -> Result<IdLis
     ensures same_reference { store.new.shelf.ghost_name ≡ store.old.shelf.ghost_name }
     ensures ids { IfOk result (λ ids. IfSome (H.seen store.old.shelf.now).told (λ s. SoundFailing s → IsFailingSet ids s)) }
     ensures count { RisesExactlyIf (H.seen store.old.shelf.now).faults (H.seen store.new.shelf.now).faults (tell_failed result) }
+    ensures calls { AsksByFew (length (store_kinds store.old)) 2 (H.seen store.old.shelf.now).told (H.seen store.new.shelf.now).told (H.clock store.old.shelf.now) (H.clock store.new.shelf.now) }
     ensures same { Goes (H.seen store.old.shelf.now).told (H.seen store.new.shelf.now).told Stays }
 {
     match failing(alloc, store) {
@@ -49,14 +53,16 @@ fn failing_of<H: Shelf>(alloc: Global, store: &mut Store<'_, H>) -> Result<IdLis
     }
 }
 
-/// The times of the ids in all of these runs, told with the help of their cache.
+/// The times of the ids in all of these runs, told with the help of their cache: in two calls of the folder, where both
+/// caches cover these runs.
 pub fn find_times<H: Shelf>(
     alloc: Global,
     shelf: &mut H,
     found: &Found,
 ) -> Result<TimeMap, TellFault>
     requires { FitsWhereTold (kinds_of found.now) (H.seen shelf.old).told }
-    ensures { FindsTimes (H.seen shelf.old) (H.seen shelf.new) result }
+    ensures step { FindsTimes (H.seen shelf.old) (H.seen shelf.new) result }
+    ensures calls { AsksByFew (length (kinds_of found.now)) 2 (H.seen shelf.old).told (H.seen shelf.new).told (H.clock shelf.old) (H.clock shelf.new) }
 {
     let Ok(runs) = found.copy(alloc) else {
         return Err(TellFault::NoMemory);
@@ -73,6 +79,7 @@ fn times_of<H: Shelf>(alloc: Global, store: &mut Store<'_, H>) -> Result<TimeMap
     ensures same_reference { store.new.shelf.ghost_name ≡ store.old.shelf.ghost_name }
     ensures times { IfOk result (λ times. IfSome (H.seen store.old.shelf.now).told (λ s. SoundTimes s → AreTimes times s)) }
     ensures count { RisesExactlyIf (H.seen store.old.shelf.now).faults (H.seen store.new.shelf.now).faults (tell_failed result) }
+    ensures calls { AsksByFew (length (store_kinds store.old)) 2 (H.seen store.old.shelf.now).told (H.seen store.new.shelf.now).told (H.clock store.old.shelf.now) (H.clock store.new.shelf.now) }
     ensures same { Goes (H.seen store.old.shelf.now).told (H.seen store.new.shelf.now).told Stays }
 {
     match times(alloc, store) {

@@ -11,6 +11,7 @@ ghost use Rattle.testr_cli.specs.Asking.{FindsTimes};
 ghost use Rattle.testr_cli.specs.Outside.{work};
 ghost use Rattle.testr_cli.specs.Perhaps.{when, Perhaps, in_list};
 ghost use Rattle.testr_cli.specs.Selecting.{Plans, shares_of_ids};
+ghost use Rattle.testr_cli.specs.SparingRun.{AsksByFew};
 
 use crate::Refusal;
 use crate::asking::find_times;
@@ -24,7 +25,8 @@ use sub_number::{IdList, NoMemory, TimeMap};
 use suite_plan::{jobs_of_lanes, share_out};
 use testr_conf::{Conf, JobFault};
 
-/// The jobs of a run's workers, in order, which are no more than a run may have. The groups are those of the configuration.
+/// The jobs of a run's workers, in order, which are no more than a run may have, made in two calls of the folder at most
+/// where both caches cover the runs that were found. The groups are those of the configuration.
 pub fn plan<H: Shelf>(
     alloc: Global,
     conf: &Conf,
@@ -42,6 +44,7 @@ pub fn plan<H: Shelf>(
         (in_list result) }
     ensures few { IfOk result (λ jobs. length jobs.items ≤ MOST_WORKERS) }
     ensures fits { OnOk result (FitsWhereTold (kinds_of found.now) (H.seen shelf.new).told) }
+    ensures calls { AsksByFew (length (kinds_of found.now)) 2 (H.seen shelf.old).told (H.seen shelf.new).told (H.clock shelf.old) (H.clock shelf.new) }
 {
     let times = known_times(alloc, selected.workers > 1, shelf, found)?;
     let shares = divide(alloc, groups, &times, selected)?;
@@ -72,6 +75,7 @@ fn known_times<H: Shelf>(
     requires { FitsWhereTold (kinds_of found.now) (H.seen shelf.old).told }
     ensures step { Perhaps (when wanted) (λ _. FindsTimes) (H.seen shelf.old) (H.seen shelf.new) result }
     ensures fits { OnOk result (FitsWhereTold (kinds_of found.now) (H.seen shelf.new).told) }
+    ensures calls { AsksByFew (length (kinds_of found.now)) 2 (H.seen shelf.old).told (H.seen shelf.new).told (H.clock shelf.old) (H.clock shelf.new) }
 {
     if !wanted {
         return Ok(None);

@@ -5,9 +5,11 @@ ghost use Rattle.edge_io.specs.Disk.{Folder};
 ghost use Rattle.edge_io.specs.Seen.{Seen};
 ghost use Rattle.outcome_fold.specs.Summed.{Sums};
 ghost use Rattle.outcome_fold.specs.declared.row.Row.{Row as ARow};
+ghost use Rattle.testr_cli.specs.Answer.{code_of};
 ghost use Rattle.testr_cli.specs.Outside.{work};
 ghost use Rattle.testr_cli.specs.RunSuite.{RunsBy, TellsRun, compiled_in};
-ghost use Rattle.testr_cli.specs.Suites.{run_options, is_part};
+ghost use Rattle.testr_cli.specs.SparingRun.{SparesRunOf};
+ghost use Rattle.testr_cli.specs.Suites.{run_options, is_part, is_partial as is_partial_run};
 ghost use Rattle.suite_plan.specs.Patterns.{Compiles};
 
 use crate::command::Command;
@@ -42,10 +44,11 @@ pub fn run<'a, R: Threads + Wait + Sync, H: Shelf, S: Spawner, F: Site, O: Sink>
     site: &mut F,
     out: &mut O,
 ) -> Result<Verdict, Refusal<'a>>
-    ensures { (input : Seen (List ℕ)) → RunsBy (run_options command.now) conf.now
+    ensures step { (input : Seen (List ℕ)) → RunsBy (run_options command.now) conf.now
         (work (H.seen shelf.old) (F.seen site.old) (S.seen spawner.old) input (O.seen out.old))
         (work (H.seen shelf.new) (F.seen site.new) (S.seen spawner.new) input (O.seen out.new))
         result }
+    ensures calls { SparesRunOf (is_partial_run (run_options command.now)) (H.seen shelf.old).told (H.seen shelf.new).told (code_of result) (H.clock shelf.old) (H.clock shelf.new) }
 {
     let found = open(alloc, shelf)?;
     take_run(&found)?;

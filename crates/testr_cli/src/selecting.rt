@@ -1,6 +1,6 @@
 //! Which tests a run is of, and in how many workers they run.
 
-ghost use Rattle.std.specs.Prelude.{◌≡◌, ℕ, List, IfOk, IfSome, OnOk};
+ghost use Rattle.std.specs.Prelude.{◌≡◌, ℕ, List, length, IfOk, IfSome, OnOk};
 ghost use Rattle.std.specs.List.{IsDistinct};
 ghost use Rattle.std.specs.Str.{bytes_eq};
 ghost use Rattle.edge_io.specs.Seen.{Seen};
@@ -12,6 +12,7 @@ ghost use Rattle.testr_cli.specs.Asking.{FindsFailing};
 ghost use Rattle.testr_cli.specs.Outside.{work};
 ghost use Rattle.testr_cli.specs.Perhaps.{when, Perhaps};
 ghost use Rattle.testr_cli.specs.Selecting.{CountsWorkers, Selects, needs_listing as is_listing_needed};
+ghost use Rattle.testr_cli.specs.SparingRun.{AsksByFew};
 ghost use Rattle.testr_cli.specs.Suites.{run_options};
 
 use crate::Refusal;
@@ -39,7 +40,8 @@ pub struct Selected {
     pub ids: Option<IdList>,
 }
 
-/// Selects the tests of a run and the number of its workers. The patterns are those of the command.
+/// Selects the tests of a run and the number of its workers, in two calls of the folder at most where both caches cover the
+/// runs that were found. The patterns are those of the command.
 pub fn select<'a, H: Shelf, S: Spawner, F: Site>(
     alloc: Global,
     conf: &Conf,
@@ -58,6 +60,7 @@ pub fn select<'a, H: Shelf, S: Spawner, F: Site>(
         result }
     ensures range { IfOk result (λ selected. IsInRange selected.workers) }
     ensures fits { OnOk result (FitsWhereTold (kinds_of found.now) (H.seen shelf.new).told) }
+    ensures calls { AsksByFew (length (kinds_of found.now)) 2 (H.seen shelf.old).told (H.seen shelf.new).told (H.clock shelf.old) (H.clock shelf.new) }
 {
     let listed = load_list(alloc, &command.load_list, site)?;
     let failing = failing_ids(alloc, command.failing, shelf, found)?;
@@ -98,6 +101,7 @@ fn failing_ids<H: Shelf>(
     requires { FitsWhereTold (kinds_of found.now) (H.seen shelf.old).told }
     ensures step { Perhaps (when wanted) (λ _. FindsFailing) (H.seen shelf.old) (H.seen shelf.new) result }
     ensures fits { OnOk result (FitsWhereTold (kinds_of found.now) (H.seen shelf.new).told) }
+    ensures calls { AsksByFew (length (kinds_of found.now)) 2 (H.seen shelf.old).told (H.seen shelf.new).told (H.clock shelf.old) (H.clock shelf.new) }
 {
     if !wanted {
         return Ok(None);

@@ -143,9 +143,10 @@ impl KeepFault {
     }
 }
 
-/// Begins a run.
+/// Begins a run, in one call of the folder.
 pub fn begin<H: Shelf>(shelf: &mut H) -> Result<(), KeepFault>
-    ensures { Begins (H.seen shelf.old) (H.seen shelf.new) result }
+    ensures step { Begins (H.seen shelf.old) (H.seen shelf.new) result }
+    ensures time { TicksUpTo 1 (H.clock shelf.old) (H.clock shelf.new) }
 {
     match begin_run(shelf) {
         Ok(()) => Ok(()),
@@ -153,7 +154,8 @@ pub fn begin<H: Shelf>(shelf: &mut H) -> Result<(), KeepFault>
     }
 }
 
-/// Keeps what was added as the run behind all others, and counts it among what was found.
+/// Keeps what was added as the run behind all others, in three calls of the folder at most, and counts it among what was
+/// found.
 pub fn keep<H: Shelf>(shelf: &mut H, found: &mut Found, partial: bool) -> Result<(), KeepFault>
     requires few { length (kinds_of found.old) < most_runs }
     requires room { HasRoom found.old }
@@ -162,6 +164,7 @@ pub fn keep<H: Shelf>(shelf: &mut H, found: &mut Found, partial: bool) -> Result
     ensures step { Keeps partial (length (kinds_of found.old)) (H.seen shelf.old) (H.seen shelf.new) result }
     ensures kinds { OnOk result (kinds_of found.new ≡ kinds_of found.old ++ partial ∷ []) }
     ensures fits { OnOk result (FitsWhereTold (kinds_of found.new) (H.seen shelf.new).told) }
+    ensures time { TicksUpTo 3 (H.clock shelf.old) (H.clock shelf.new) }
 {
     match finish_run(shelf, found, partial) {
         Ok(_) => Ok(()),

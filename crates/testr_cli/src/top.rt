@@ -8,6 +8,7 @@ ghost use Rattle.command_words.specs.Items.{texts};
 ghost use Rattle.testr_cli.specs.Outside.{outside, work};
 ghost use Rattle.testr_cli.specs.Program.{Performs, Tells, Answers, Promises, TestrPromises, ProgramPromises};
 ghost use Rattle.testr_cli.specs.Sparing.{SparesReads};
+ghost use Rattle.testr_cli.specs.SparingRun.{SparesRun};
 ghost use Rattle.testr_cli.specs.Tasks.{task_of, task_with, quiet_of};
 ghost use Rattle.testr_cli.specs.Words.{testr_word, asked_by};
 ghost use Rattle.testr_cli.specs.declared.command.Verb.TheVariants.{Load, Run, ListTests, SelfTest};
@@ -62,6 +63,7 @@ pub fn program<
         (outside (H.seen shelf.new) (F.seen site.new) (S.seen spawner.new) (I.seen input.new) (O.seen out.new) (E.seen err.new))
         result }
     ensures spares { (behind : List (List ℕ)) → texts words.now ≡ testr_word ∷ behind → SparesReads (asked_by behind) (H.seen shelf.old).told (H.clock shelf.old) (H.clock shelf.new) }
+    ensures spares_run { (behind : List (List ℕ)) → texts words.now ≡ testr_word ∷ behind → SparesRun (asked_by behind) (H.seen shelf.old).told (H.seen shelf.new).told result (H.clock shelf.old) (H.clock shelf.new) }
 {
     if !is_testr(words) {
         return filters(alloc, words, input, out, err);
@@ -110,6 +112,7 @@ pub fn testr<R: Threads + Wait + Sync, H: Shelf, S: Spawner, F: Site, I: Source,
         (outside (H.seen shelf.new) (F.seen site.new) (S.seen spawner.new) (I.seen input.new) (O.seen out.new) (E.seen err.new))
         result }
     ensures spares { SparesReads (asked_by (texts words.now)) (H.seen shelf.old).told (H.clock shelf.old) (H.clock shelf.new) }
+    ensures spares_run { SparesRun (asked_by (texts words.now)) (H.seen shelf.old).told (H.seen shelf.new).told result (H.clock shelf.old) (H.clock shelf.new) }
 {
     match reads(alloc, words) {
         Ok(Some(command)) => follow(rt, alloc, &command, shelf, spawner, site, input, out, err),
@@ -135,6 +138,7 @@ fn follow<R: Threads + Wait + Sync, H: Shelf, S: Spawner, F: Site, I: Source, O:
         (outside (H.seen shelf.new) (F.seen site.new) (S.seen spawner.new) (I.seen input.new) (O.seen out.new) (E.seen err.new))
         result }
     ensures spares { SparesReads (task_of command.now) (H.seen shelf.old).told (H.clock shelf.old) (H.clock shelf.new) }
+    ensures spares_run { SparesRun (task_of command.now) (H.seen shelf.old).told (H.seen shelf.new).told result (H.clock shelf.old) (H.clock shelf.new) }
 {
     match command.verb {
         Verb::Run => run_suite(rt, alloc, command, shelf, spawner, site, out, err),
@@ -177,10 +181,11 @@ fn run_suite<R: Threads + Wait + Sync, H: Shelf, S: Spawner, F: Site, O: Sink, E
     out: &mut O,
     err: &mut E,
 ) -> u8
-    ensures { (input : Seen (List ℕ)) → Answers false (task_with Run command.now)
+    ensures answers { (input : Seen (List ℕ)) → Answers false (task_with Run command.now)
         (outside (H.seen shelf.old) (F.seen site.old) (S.seen spawner.old) input (O.seen out.old) (E.seen err.old))
         (outside (H.seen shelf.new) (F.seen site.new) (S.seen spawner.new) input (O.seen out.new) (E.seen err.new))
         result }
+    ensures spares_run { SparesRun (task_with Run command.now) (H.seen shelf.old).told (H.seen shelf.new).told result (H.clock shelf.old) (H.clock shelf.new) }
 {
     match read_conf(alloc, site) {
         Ok(conf) => {

@@ -1,9 +1,9 @@
 //! Starts the workers of a run, and records them.
 
-ghost use Rattle.std.specs.Prelude.{◌≡◌, ◌≤◌, ◌<◌, ◌++◌, ◌∷◌, [], ℕ, List, length, map, IfOk, OnOk};
+ghost use Rattle.std.specs.Prelude.{◌≡◌, ◌≤◌, ◌<◌, ◌++◌, ◌∷◌, [], ℕ, List, length, map, IfOk, IfErr, OnOk};
 ghost use Rattle.std.specs.List.{range_with_len};
 ghost use Rattle.edge_io.specs.Steps.{HasDraft};
-ghost use Rattle.suite_run.specs.Recording.{RecordsLanes};
+ghost use Rattle.suite_run.specs.Recording.{AddsByFew, RecordsLanes};
 ghost use Rattle.suite_run.specs.Summed.{GivesSums};
 ghost use Rattle.worker_lane.specs.Lanes.{rest, lane_number};
 ghost use Rattle.edge_io.specs.Disk.{Files};
@@ -11,7 +11,9 @@ ghost use Rattle.edge_io.specs.Seen.{Seen};
 ghost use Rattle.run_shelf.specs.Holds.{kinds_of, HasRoom, FitsWhereTold};
 ghost use Rattle.run_shelf.specs.Repository.{most_runs};
 ghost use Rattle.testr_cli.specs.Outside.{work};
+ghost use Rattle.testr_cli.specs.Answer.{refusal_code};
 ghost use Rattle.testr_cli.specs.RunSuite.{Works, summary_in};
+ghost use Rattle.testr_cli.specs.SparingRun.{IsCovered, StoresByFew};
 
 use crate::Refusal;
 use crate::refreshing::refresh;
@@ -37,7 +39,8 @@ struct Ran {
 
 /// Starts a worker for each of the jobs, 64 at most, reads them to their ends, side by side, keeps what is recorded of them
 /// as the next run, whose rows are summed up as it is recorded, where these tags filter, and brings the caches up to it. It
-/// gives what is kept of the rows. It may wait for the workers.
+/// gives what is kept of the rows. It may wait for the workers. Where both caches cover the runs that were found, the folder
+/// is called 18 times at most, and once for each packet. No refusal of it has the status 3.
 pub fn run_workers<R: Threads + Wait + Sync, H: Shelf, S: Spawner>(
     rt: &R,
     alloc: Global,
@@ -52,10 +55,12 @@ pub fn run_workers<R: Threads + Wait + Sync, H: Shelf, S: Spawner>(
     requires free { length (kinds_of found) < most_runs }
     requires room { HasRoom found }
     requires fits { FitsWhereTold (kinds_of found) (H.seen shelf.old).told }
-    ensures { GivesSums filter_tags (λ rows. (site : Seen Files) (input out : Seen (List ℕ)) → Works partial (length (kinds_of found)) jobs.now
+    ensures step { GivesSums filter_tags (λ rows. (site : Seen Files) (input out : Seen (List ℕ)) → Works partial (length (kinds_of found)) jobs.now
         (work (H.seen shelf.old) site (S.seen spawner.old) input out)
         (work (H.seen shelf.new) site (S.seen spawner.new) input out)
         rows) result }
+    ensures calls { OnOk result (IsCovered (length (kinds_of found)) (H.seen shelf.old).told → StoresByFew 18 partial (H.seen shelf.old).told (H.seen shelf.new).told (H.clock shelf.old) (H.clock shelf.new)) }
+    ensures code { IfErr result (λ refusal. refusal_code refusal ≡ 3 → ⊥) }
 {
     begin(shelf)?;
     let lanes = start_lanes(alloc, spawner, jobs)?;
@@ -93,6 +98,7 @@ fn record_workers<R: Threads + Wait + Sync, C: Child + Send + Drop, H: Shelf>(
     requires fits { FitsWhereTold (kinds_of found) (H.seen shelf.old).told }
     requires draft { HasDraft (H.seen shelf.old).told }
     ensures step { GivesSums filter_tags (RecordsLanes (map (rest C.seen) lanes.items) (H.seen shelf.old) (H.seen shelf.new)) (summary_in result) }
+    ensures calls { OnOk result (AddsByFew (H.seen shelf.old).told (H.seen shelf.new).told (H.clock shelf.old) (H.clock shelf.new)) }
     ensures draft { OnOk result (HasDraft (H.seen shelf.new).told) }
     ensures fits { IfOk result (λ ran. FitsWhereTold (kinds_of ran.found) (H.seen shelf.new).told) }
     ensures kinds { IfOk result (λ ran. kinds_of ran.found ≡ kinds_of found) }

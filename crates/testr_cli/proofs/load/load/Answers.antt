@@ -18,13 +18,13 @@ pub returns-in_err-begin : goal.returns-in_err-begin
 returns-in_err-begin g c = λ spawner.
     part_done _ _ c.in_ok-found.ensures.step
     (still_done _ c.in_ok-take_run.ensures
-    (part_stops _ c.from_residual-in_err-begin.ensures.1 c.in_err-begin.ensures refl))
+    (part_stops _ c.from_residual-in_err-begin.ensures.1 c.in_err-begin.ensures.step refl))
 
 pub returns-in_err-summary : goal.returns-in_err-summary
 returns-in_err-summary g c = λ spawner.
     part_done _ _ c.in_ok-found.ensures.step
     (still_done _ c.in_ok-take_run.ensures
-    (part_done _ _ c.in_ok-begin.ensures
+    (part_done _ _ c.in_ok-begin.ensures.step
     (stopped _ c.from_residual-in_err-summary.ensures.1 (c.in_err-summary.ensures.step.holds spawner (g.O.Sink.seen c.args.out.now)))))
 
 pub returns-in_err-ending : goal.returns-in_err-ending
@@ -33,7 +33,7 @@ returns-in_err-ending g c =
     λ spawner.
     part_done _ _ c.in_ok-found.ensures.step
     (still_done _ c.in_ok-take_run.ensures
-    (part_done _ _ c.in_ok-begin.ensures
+    (part_done _ _ c.in_ok-begin.ensures.step
     (goes_on sums.rows _ (sums.holds spawner (g.O.Sink.seen c.args.out.now))
     (still_stops _ c.from_residual-in_err-ending.ensures.1 (reports_as c.runs.ensures (c.in_err-ending.ensures [] sums.rows sums.sums)) refl))))
 
@@ -43,7 +43,7 @@ returns-in_err-keep g c =
     λ spawner.
     part_done _ _ c.in_ok-found.ensures.step
     (still_done _ c.in_ok-take_run.ensures
-    (part_done _ _ c.in_ok-begin.ensures
+    (part_done _ _ c.in_ok-begin.ensures.step
     (goes_on sums.rows _ (sums.holds spawner (g.O.Sink.seen c.args.out.now))
     (still_done (report_shown (filter row_fails sums.rows) c.in_ok-ending.ending) (reports_as c.runs.ensures (c.in_ok-ending.ensures [] sums.rows sums.sums))
     (part_stops _ c.from_residual-in_err-keep.ensures.1 c.in_err-keep.ensures.step refl)))))
@@ -54,11 +54,11 @@ returns-in-Err g c =
     λ spawner.
     part_done _ _ c.in_ok-found.ensures.step
     (still_done _ c.in_ok-take_run.ensures
-    (part_done _ _ c.in_ok-begin.ensures
+    (part_done _ _ c.in_ok-begin.ensures.step
     (goes_on sums.rows _ (sums.holds spawner (g.O.Sink.seen c.args.out.now))
     (still_done (report_shown (filter row_fails sums.rows) c.in_ok-ending.ending) (reports_as c.runs.ensures (c.in_ok-ending.ensures [] sums.rows sums.sums))
     (part_done _ _ c.in_ok-keep.ensures.step
-    (stops c.in-Err.fault refl (record { at = refreshes_as _ _ _ c.in_ok-keep.ensures.kinds (c.in-Err.ensures [] sums.rows sums.sums); rest = refl })))))))
+    (stops c.in-Err.fault refl (record { at = refreshes_as _ _ _ c.in_ok-keep.ensures.kinds (c.in-Err.ensures.step [] sums.rows sums.sums); rest = refl })))))))
 
 pub returns-in_err-print_report : goal.returns-in_err-print_report
 returns-in_err-print_report g c =
@@ -66,11 +66,11 @@ returns-in_err-print_report g c =
     λ spawner.
     part_done _ _ c.in_ok-found.ensures.step
     (still_done _ c.in_ok-take_run.ensures
-    (part_done _ _ c.in_ok-begin.ensures
+    (part_done _ _ c.in_ok-begin.ensures.step
     (goes_on sums.rows _ (sums.holds spawner (g.O.Sink.seen c.args.out.now))
     (still_done (report_shown (filter row_fails sums.rows) c.in_ok-ending.ending) (reports_as c.runs.ensures (c.in_ok-ending.ensures [] sums.rows sums.sums))
     (part_done _ _ c.in_ok-keep.ensures.step
-    (part_done _ _ (refreshes_as _ _ _ c.in_ok-keep.ensures.kinds (c.in_default.ensures [] sums.rows sums.sums))
+    (part_done _ _ (refreshes_as _ _ _ c.in_ok-keep.ensures.kinds (c.in_default.ensures.step [] sums.rows sums.sums))
     (part_stops _ c.from_residual-in_err-print_report.ensures.1 (c.in_err-print_report.ensures [] sums.rows sums.sums) refl)))))))
 
 pub returns : goal.returns
@@ -79,10 +79,10 @@ returns g c =
     λ spawner.
     part_done _ _ c.in_ok-found.ensures.step
     (still_done _ c.in_ok-take_run.ensures
-    (part_done _ _ c.in_ok-begin.ensures
+    (part_done _ _ c.in_ok-begin.ensures.step
     (goes_on sums.rows _ (sums.holds spawner (g.O.Sink.seen c.args.out.now))
     (still_done (report_shown (filter row_fails sums.rows) c.in_ok-ending.ending) (reports_as c.runs.ensures (c.in_ok-ending.ensures [] sums.rows sums.sums))
     (part_done _ _ c.in_ok-keep.ensures.step
-    (part_done _ _ (refreshes_as _ _ _ c.in_ok-keep.ensures.kinds (c.in_default.ensures [] sums.rows sums.sums))
+    (part_done _ _ (refreshes_as _ _ _ c.in_ok-keep.ensures.kinds (c.in_default.ensures.step [] sums.rows sums.sums))
     (part_done _ _ (c.in_ok-print_report.ensures [] sums.rows sums.sums)
     gives)))))))

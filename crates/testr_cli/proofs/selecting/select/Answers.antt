@@ -1,6 +1,7 @@
 use Rattle.std.proofs.Common.{refl}
 use Rattle.testr_cli.specs.Steps.{goes_on}
 use Rattle.testr_cli.proofs.StepLemmas.{stopped, part_done, part_stops, still_done, still_stops, gives}
+use Rattle.testr_cli.proofs.CallLemmas.{asks_none}
 use Rattle.testr_cli.proofs.SelectLemmas.{perhaps_as, chooses_as}
 use Rattle.testr_cli.proofs.selecting.select.Goals as goal
 
@@ -41,3 +42,6 @@ returns-clause-step g c = λ input out.
     (part_done _ _ (perhaps_as c.needs_listing.ensures c.in_ok-listing.ensures.step)
     (still_done _ (chooses_as _ _ _ _ _ _ c.requires.patterns c.in_ok-ids.ensures)
     gives))))
+
+pub returns-in_err-listed-clause-calls : goal.returns-in_err-listed-clause-calls
+returns-in_err-listed-clause-calls g c = asks_none _ _ _ _

@@ -2,6 +2,7 @@ use Rattle.std.proofs.Common.{◌≡◌, ◌∷◌, true, false, drop, refl, sym
 use Rattle.std.proofs.lemmas.List.{take_rest}
 use Rattle.command_words.specs.Items.{texts}
 use Rattle.testr_cli.specs.Words.{names_testr, testr_word}
+use Rattle.testr_cli.proofs.CallLemmas.{of_words}
 use Rattle.testr_cli.proofs.SparingLemmas.{none_spare, behind_spare}
 use Rattle.testr_cli.proofs.PromiseLemmas.{testr_behind}
 use Rattle.testr_cli.proofs.WordsLemmas.{names_first, names_other}
@@ -16,6 +17,7 @@ returns-then-not-is_testr g c =
         filters = λ none. record { filtered = c.filters.ensures.promises; folder = refl; site = refl; spawner = refl };
       };
       spares = λ behind is. none_spare _ _ _ _ refl;
+      spares_run = λ behind is. absurd (names_other _ unnamed behind is);
     }
 
 pub returns : goal.returns
@@ -28,4 +30,5 @@ returns g c =
         filters = λ none. absurd (none (texts (drop 1 c.args.words.now)) first);
       };
       spares = λ behind is. behind_spare _ behind _ _ _ (ap (λ l. testr_word ∷ texts l) (take_rest c.args.words.now 1) ∙ sym first ∙ is) c.testr.ensures.spares;
+      spares_run = λ behind is. of_words _ behind _ _ _ _ _ (ap (λ l. testr_word ∷ texts l) (take_rest c.args.words.now 1) ∙ sym first ∙ is) c.testr.ensures.spares_run;
     }

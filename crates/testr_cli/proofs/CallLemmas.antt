@@ -1,0 +1,368 @@
+-- How many calls of the folder a run makes, one step after another.
+use Rattle.std.proofs.Common.{◌≡◌, ℕ, ◌+◌, ◌-◌, ◌<◌, ◌≤◌, Bool, true, false, Option, None, Some, IfSome, Result, Ok, Err, List, [], ◌∷◌, ◌++◌, length, drop, refl, sym, ap, subst, ◌∙◌, arith}
+use Rattle.std.specs.Prelude.{IsErrAnd, IfErr, IsSomeAnd, option_map, nat_le, if◌then◌else◌}
+use Rattle.std.specs.FinMap.{FinMap}
+use Rattle.std.proofs.lemmas.List.{drop_all, length-map}
+use Rattle.edge_io.specs.Disk.{Disk, Draft, Files, Folder}
+use Rattle.edge_io.specs.Moments.{LeavesOnly}
+use Rattle.edge_io.specs.Seen.{Seen}
+use Rattle.edge_io.specs.Steps.{Goes, Stays, Opened}
+use Rattle.edge_io.proofs.Going.{goes_then, goes_weaker}
+use Rattle.outcome_fold.specs.Order.{text_cmp}
+use Rattle.outcome_fold.specs.declared.row.Row.{Row}
+use Rattle.packet_codec.specs.declared.event.Event.{Event}
+use Rattle.run_ledger.specs.Cached.{ReadsSound, HoldsFailing, HoldsTimes}
+use Rattle.run_ledger.specs.Caches.{IsSound}
+use Rattle.run_ledger.specs.Costs.{asked_for_each, ReadsBehindCache}
+use Rattle.run_ledger.specs.Refreshing.{HoldBoth}
+use Rattle.run_shelf.specs.Drafts.{OfDraft, SameButDraft, Writes}
+use Rattle.run_shelf.specs.Holds.{FitsFolder}
+use Rattle.run_shelf.specs.Images.{KeepsRun}
+use Rattle.run_shelf.specs.Outcomes.{Surveys, TicksUpTo}
+use Rattle.run_shelf.specs.Repository.{Run, run_of, run_name, most_runs, Shows}
+use Rattle.run_shelf.specs.Sides.{side_name}
+use Rattle.run_shelf.specs.declared.side.Side.{Side}
+use Rattle.run_shelf.specs.declared.side.Side.TheVariants.{Failing, Times}
+use Rattle.run_shelf.proofs.DraftLemmas.{goes_writes, run_kept}
+use Rattle.run_shelf.proofs.NameLemmas.{side_differs}
+use Rattle.run_shelf.proofs.RunLemmas.{put_other}
+use Rattle.run_shelf.proofs.ShowsLemmas.{shown, kinds_of_runs}
+use Rattle.suite_run.specs.Recording.{AddsByFew, AddsRows}
+use Rattle.worker_lane.specs.declared.lot.Lot.{Lot}
+use Rattle.testr_cli.specs.Answer.{refusal_code, code_of}
+use Rattle.testr_cli.specs.Refreshing.{Refreshes}
+use Rattle.testr_cli.specs.RunSuite.{TellsRun}
+use Rattle.testr_cli.specs.Runs.{run_bytes, KeepsFiles, AddsRun}
+use Rattle.testr_cli.specs.Drawings.{drawing_of}
+use Rattle.testr_cli.specs.Outside.{Work}
+use Rattle.testr_cli.specs.SparingRun.{IsCoveredTo, IsCovered, AsksByFew, StoresByFew, RunsByFew, SparesRunOf, SparesRun}
+use Rattle.testr_cli.specs.Steps.{stops, goes_on}
+use Rattle.testr_cli.specs.Suites.{RunOptions, is_partial}
+use Rattle.testr_cli.specs.Tasks.{Task, load, run, selftest, task_with}
+use Rattle.testr_cli.specs.Words.{testr_word, asked_by}
+use Rattle.testr_cli.specs.declared.answer.Refusal.{Refusal}
+use Rattle.testr_cli.specs.declared.answer.Refusal.TheVariants.{Usage, Refresh, Start, Lanes}
+use Rattle.suite_run.specs.declared.recording.LanesRefusal.{LanesRefusal}
+use Rattle.suite_run.specs.declared.recording.LanesRefusal.TheVariants as lanes
+use Rattle.suite_run.specs.declared.starting.StartRefusal.{StartRefusal}
+use Rattle.suite_run.specs.declared.starting.StartRefusal.TheVariants as start
+use Rattle.testr_cli.specs.declared.told.TellFault.{TellFault}
+use Rattle.testr_cli.specs.declared.told.TellFault.TheVariants as tell_fault
+use Rattle.testr_cli.specs.declared.answer.Verdict.{Verdict}
+use Rattle.testr_cli.specs.declared.answer.Verdict.TheVariants.{Passed, Failed}
+use Rattle.testr_cli.specs.declared.command.Command.{Command}
+use Rattle.testr_cli.specs.declared.drawing.Drawing.{Drawing}
+use Rattle.testr_cli.specs.declared.command.Verb.{Verb}
+use Rattle.testr_cli.specs.declared.command.Verb.TheVariants as verb
+use Rattle.testr_cli.proofs.DoneLaws.{adds_run}
+use Rattle.testr_cli.proofs.RefusalLemmas.{codes}
+use Rattle.testr_cli.proofs.SoundLemmas.{KeepsRunAndCaches, goes_cached}
+
+-- ---- asking
+
+stays_here : (a : Option Folder) → Goes a a Stays
+stays_here None = tt
+stays_here (Some s) = refl
+
+stays_then : (a b c : Option Folder) → Goes a b Stays → Goes b c Stays → Goes a c Stays
+stays_then a b c first second = goes_then a b c Stays Stays Stays first second (λ s m t p q. q ∙ p)
+
+still_covered : (number : ℕ) (a b : Option Folder) → Goes a b Stays → IsCovered number a → IsCovered number b
+still_covered number None b stays covered = absurd covered
+still_covered number (Some s) None stays covered = absurd stays
+still_covered number (Some s) (Some t) stays covered = subst (IsCoveredTo number) (sym stays) covered
+
+-- nothing was called
+pub asks_none : (number calls : ℕ) (a : Option Folder) (now : ℕ) → AsksByFew number calls a a now now
+asks_none number calls a now = record { same = stays_here a; few = λ covered. omega arith }
+
+pub asks_then : (number i j : ℕ) (a b c : Option Folder) (x y z : ℕ) → AsksByFew number i a b x y → AsksByFew number j b c y z → AsksByFew number (i + j) a c x z
+asks_then number i j a b c x y z first second = record {
+  same = stays_then a b c first.same second.same;
+  few = λ covered. omega (arith, first.few covered, second.few (still_covered number a b first.same covered));
+}
+
+-- behind the runs that a cache covers, where these are all, none is read
+none_behind : (kinds : List Bool) (s : Folder) (before now : ℕ) → FitsFolder kinds s → ReadsBehindCache (length kinds) before now s → now ≤ before + 2
+none_behind kinds s before now fits reads =
+    let all = shown s.disk.published fits.repository in
+    let runs : List Run = all.0 in
+    let count : length kinds ≡ length runs = ap length (kinds_of_runs s.disk.published runs kinds all.1 fits.kinds_are) ∙ length-map runs (λ (run : Run). run.partial) in
+    let rest : drop (length kinds) runs ≡ [] = drop_all (length kinds) runs (omega (arith, count)) in
+    let asked : asked_for_each (drop (length kinds) runs) ≡ 0 = ap asked_for_each rest in
+    let few = reads runs all.1 in
+    omega (arith, few, asked)
+
+pub covered_failing : (kinds : List Bool) (told : Option Folder) (before now : ℕ) → IfSome told (FitsFolder kinds)
+    → (IfSome told ReadsSound → IfSome told (λ s. (covers : ℕ) (ids : List (List ℕ)) → HoldsFailing covers ids s → ReadsBehindCache covers before now s))
+    → IsCovered (length kinds) told → TicksUpTo 2 before now
+covered_failing kinds None before now fits spares covered = absurd covered
+covered_failing kinds (Some s) before now fits spares covered = none_behind kinds s before now fits (spares covered.sound (length kinds) covered.held.ids covered.held.failing)
+
+pub covered_times : (kinds : List Bool) (told : Option Folder) (before now : ℕ) → IfSome told (FitsFolder kinds)
+    → (IfSome told ReadsSound → IfSome told (λ s. (covers : ℕ) (times : FinMap text_cmp ℕ) → HoldsTimes covers times s → ReadsBehindCache covers before now s))
+    → IsCovered (length kinds) told → TicksUpTo 2 before now
+covered_times kinds None before now fits spares covered = absurd covered
+covered_times kinds (Some s) before now fits spares covered = none_behind kinds s before now fits (spares covered.sound (length kinds) covered.held.times covered.held.timed)
+
+-- ---- a run that is kept beside the caches
+
+some_bytes : (x y : List ℕ) → Some x ≡ Some y → x ≡ y
+some_bytes x y is = cc
+
+-- a draft that was begun and written has one list of bytes
+one_writing : (x y : List ℕ) (a r : Folder) → Writes x a r → Writes y a r → x ≡ y
+one_writing x y a r first second =
+    let bytes_in : Folder → Option (List ℕ) = λ f. option_map (λ (d : Draft). d.bytes) f.draft in
+    some_bytes x y (ap bytes_in (sym first ∙ second))
+
+-- what is said of the bytes of a run
+abbrev AddsBytes : Bool → List ℕ → Folder → Folder → Type 0
+AddsBytes partial bytes s t = (runs : List Run) → Shows s.disk.published runs → Shows t.disk.published (runs ++ run_of partial bytes ∷ []) × LeavesOnly (λ image. Shows image (runs ++ run_of partial bytes ∷ [])) t.disk
+
+-- so the runs of two lists of events of these bytes are one
+same_run : (partial : Bool) (events others : List Event) (a r f : Option Folder) → Goes a r (Writes (run_bytes events)) → Goes a r (Writes (run_bytes others)) → Goes a f (AddsRun partial events) → Goes a f (AddsRun partial others)
+same_run partial events others None r None first second adds = tt
+same_run partial events others None r (Some t) first second adds = absurd adds
+same_run partial events others (Some s) None f first second adds = absurd first
+same_run partial events others (Some s) (Some m) None first second adds = absurd adds
+same_run partial events others (Some s) (Some m) (Some t) first second adds = subst (λ (bytes : List ℕ). AddsBytes partial bytes s t) (one_writing (run_bytes events) (run_bytes others) s m first second) adds
+
+-- the run that was begun, recorded, kept, and taken into the caches
+stored_run : (partial : Bool) (number : ℕ) (rows : List Row) (rests : List (Option (List Lot))) (a b r : Option Folder) (k f : Seen Folder) (x y : ℕ)
+    → Goes a b Opened
+    → AddsRows rests b r rows
+    → Goes r k.told (OfDraft (λ bytes. KeepsRun number (run_of partial bytes)))
+    → Refreshes number rows k f (Ok tt)
+    → (adds : AddsByFew b r x y) → Goes a f.told (AddsRun partial adds.events)
+stored_run partial number rows rests a b r k f x y begun recorded kept refreshed adds =
+    let events : List Event = recorded.merge.events in
+    let run : List ℕ = run_bytes events in
+    let written = goes_writes a b r run begun recorded.merge.added in
+    let also = goes_writes a b r (run_bytes adds.events) begun adds.added in
+    let all : Goes a f.told (KeepsRunAndCaches number (run_of partial run)) = goes_cached number (run_of partial run) rows a k f refreshed recorded.rows_are (run_kept number partial run a r k.told written kept) in
+    same_run partial events adds.events a r f.told written also
+    (goes_weaker a f.told (KeepsRunAndCaches number (run_of partial run)) (AddsRun partial events) all (adds_run partial number events))
+
+-- ---- the caches, behind a run that was kept
+
+held_same : (number : ℕ) (s t : Folder) → t.disk ≡ s.disk → HoldBoth number s → HoldBoth number t
+held_same number s t same held = record {
+  ids = held.ids;
+  failing = record { bytes = held.failing.bytes; file = ap (λ (d : Disk). d.published (side_name Failing)) same ∙ held.failing.file; form = held.failing.form };
+  times = held.times;
+  timed = record { bytes = held.timed.bytes; file = ap (λ (d : Disk). d.published (side_name Times)) same ∙ held.timed.file; form = held.timed.form };
+}
+
+held_beside : (number : ℕ) (partial : Bool) (bytes : List ℕ) (s t : Folder) → number < most_runs → KeepsRun number (run_of partial bytes) s t → HoldBoth number s → HoldBoth number t
+held_beside number partial bytes s t few kept held = record {
+  ids = held.ids;
+  failing = record { bytes = held.failing.bytes; file = still Failing ∙ held.failing.file; form = held.failing.form };
+  times = held.times;
+  timed = record { bytes = held.timed.bytes; file = still Times ∙ held.timed.file; form = held.timed.form };
+}
+  where
+    still : (side : Side) → t.disk.published (side_name side) ≡ s.disk.published (side_name side)
+    still side =
+        ap (λ (d : Disk). d.published (side_name side)) kept.disk
+        ∙ put_other s.disk.published (run_name number partial) bytes (side_name side) (λ e. side_differs side number partial (omega (arith, few)) (sym e))
+
+then_held : (number : ℕ) (a b : Option Folder) (R : Folder → Folder → Type 0) → Goes a b R → ((s t : Folder) → R s t → HoldBoth number s → HoldBoth number t) → IsSomeAnd a (HoldBoth number) → IsSomeAnd b (HoldBoth number)
+then_held number None b R step keeps held = absurd held
+then_held number (Some s) None R step keeps held = absurd step
+then_held number (Some s) (Some t) R step keeps held = keeps s t step held
+
+held_first : (number : ℕ) (a : Option Folder) → IsCovered number a → IsSomeAnd a (HoldBoth number)
+held_first number None covered = covered
+held_first number (Some s) covered = covered.held
+
+held_behind : (number : ℕ) (partial : Bool) (a b r k : Option Folder) → number < most_runs → Goes a b Opened → Goes b r SameButDraft → Goes r k (OfDraft (λ bytes. KeepsRun number (run_of partial bytes))) → IsCovered number a → IsSomeAnd k (HoldBoth number)
+held_behind number partial a b r k few begun recorded kept covered =
+    let first = then_held number a b Opened begun (λ s t is. held_same number s t (ap (λ (f : Folder). f.disk) is)) (held_first number a covered) in
+    let second = then_held number b r SameButDraft recorded (λ s t same. held_same number s t same.disk) first in
+    then_held number r k (OfDraft (λ bytes. KeepsRun number (run_of partial bytes))) kept (λ s t of. held_beside number partial of.bytes s t few of.does) second
+
+ticks_held : (number last : ℕ) (k : Option Folder) (calls before now : ℕ) → last ≡ number → IfSome k (λ s. HoldBoth last s → TicksUpTo calls before now) → IsSomeAnd k (HoldBoth number) → TicksUpTo calls before now
+ticks_held number last None calls before now is ticks held = absurd held
+ticks_held number last (Some s) calls before now is ticks held = ticks (subst (λ (n : ℕ). HoldBoth n s) (sym is) held)
+
+-- one call begins the run, one adds each packet, three keep it, and fourteen bring the caches up to it
+pub works_by_few : (partial : Bool) (number last : ℕ) (rows : List Row) (rests : List (Option (List Lot))) (a b r : Option Folder) (k f : Seen Folder) (v w x y z : ℕ)
+    → number < most_runs
+    → Goes a b Opened
+    → TicksUpTo 1 v w
+    → AddsRows rests b r rows
+    → Goes b r SameButDraft
+    → AddsByFew b r w x
+    → Goes r k.told (OfDraft (λ bytes. KeepsRun number (run_of partial bytes)))
+    → TicksUpTo 3 x y
+    → Refreshes number rows k f (Ok tt)
+    → last ≡ number
+    → IfSome k.told (λ s. HoldBoth last s → TicksUpTo 14 y z)
+    → IsCovered number a → StoresByFew 18 partial a f.told v z
+works_by_few partial number last rows rests a b r k f v w x y z few begun one recorded same adds kept three refreshed last_is fourteen covered =
+    let brought : TicksUpTo 14 y z = ticks_held number last k.told 14 y z last_is fourteen (held_behind number partial a b r k.told few begun same kept covered) in
+    record {
+      events = adds.events;
+      are_events = adds.are_events;
+      fit = adds.fit;
+      stored = stored_run partial number rows rests a b r k f w x begun recorded kept refreshed adds;
+      few = omega (arith, one, adds.few, three, brought);
+    }
+
+-- ---- which status a refusal has
+
+-- the answer of a step that hands on a refusal
+pub handed : {T : Type 0} (result : Result T Refusal) (refusal : Refusal) → IsErrAnd result (λ given. given ≡ refusal) → (refusal_code refusal ≡ 3 → ⊥) → IfErr result (λ r. refusal_code r ≡ 3 → ⊥)
+handed (Ok value) refusal is other = tt
+handed (Err given) refusal is other = λ three. other (ap refusal_code (sym is) ∙ three)
+
+pub start_other : (fault : StartRefusal) → refusal_code (Start fault) ≡ 3 → ⊥
+start_other start.Spawn three = omega (arith, three)
+start_other start.NoMemory three = omega (arith, three)
+
+pub lanes_other : (fault : LanesRefusal) → refusal_code (Lanes fault) ≡ 3 → ⊥
+lanes_other (lanes.Shelf call) three = omega (arith, three)
+lanes_other lanes.NoMemory three = omega (arith, three)
+
+pub refresh_other : (fault : TellFault) → refusal_code (Refresh fault) ≡ 3 → ⊥
+refresh_other tell_fault.Shelf three = omega (arith, three)
+refresh_other tell_fault.NoMemory three = omega (arith, three)
+
+-- none has 0 or 1
+some_code : (r : Refusal) → 2 ≤ refusal_code r
+some_code (Usage fault) = omega arith
+some_code r = omega (arith, (codes r tt).least)
+
+pub refused : (result : Result Verdict Refusal) (refusal : Refusal) → IsErrAnd result (λ given. given ≡ refusal) → code_of result ≤ 1 → ⊥
+refused (Ok verdict) refusal is small = is
+refused (Err given) refusal is small = omega (arith, small, some_code given)
+
+pub told_refused : (refusal : Refusal) (answer : ℕ) → answer ≡ refusal_code refusal → answer ≤ 1 → ⊥
+told_refused refusal answer is small = omega (arith, is, small, some_code refusal)
+
+pub refused_so : (result : Result Verdict Refusal) (refusal : Refusal) → IsErrAnd result (λ given. given ≡ refusal) → (refusal_code refusal ≡ 3 → ⊥) → code_of result ≡ 3 → ⊥
+refused_so (Ok verdict) refusal is other three = is
+refused_so (Err given) refusal is other three = other (ap refusal_code (sym is) ∙ three)
+
+-- what tells of a run that is kept is no refusal of 3
+done_other : (verdict : Verdict) → code_of (Ok verdict) ≡ 3 → ⊥
+done_other Passed three = omega (arith, three)
+done_other Failed three = omega (arith, three)
+
+pub tells_other : (number : ℕ) (filter_tags : List (List ℕ)) (rows : List Row) (a b : Work) (result : Result Verdict Refusal) → TellsRun number filter_tags rows a b result → code_of result ≡ 3 → ⊥
+tells_other number filter_tags rows a b result (stops fault is says) three = omega (arith, ap code_of is, three)
+tells_other number filter_tags rows a b result (goes_on report m says (stops fault is prints)) three = omega (arith, ap code_of is, three)
+tells_other number filter_tags rows a b result (goes_on report m says (goes_on unit n prints gives)) three = done_other report.verdict (ap code_of (sym gives.answer) ∙ three)
+
+-- ---- the whole run
+
+-- it was refused before a worker was started
+by_eight : (partial : Bool) (old new : Option Folder) (answer before now : ℕ) → (answer ≤ 1 → ⊥) → TicksUpTo 8 before now → RunsByFew partial old new answer before now
+by_eight partial old new answer before now other few = record { done = λ small. absurd (other small); refused = λ three. few }
+
+pub early : (partial : Bool) (old new : Option Folder) (answer before now : ℕ) → (answer ≤ 1 → ⊥) → TicksUpTo 8 before now → SparesRunOf partial old new answer before now
+early partial None new answer before now other few = tt
+early partial (Some s) new answer before now other few = λ sound runs shows held. by_eight partial (Some s) new answer before now other few
+
+adds_before : (partial : Bool) (events : List Event) (a b c : Option Folder) → Goes a b KeepsFiles → Goes b c (AddsRun partial events) → Goes a c (AddsRun partial events)
+adds_before partial events a b c keeps adds = goes_then a b c KeepsFiles (AddsRun partial events) (AddsRun partial events) keeps adds (λ s m t same more runs shows. more runs (subst (λ (files : Files). Shows files runs) (sym same) shows))
+
+-- behind the look at the folder
+module _ (kinds : List Bool) (partial : Bool) (old opened : Option Folder) (before middle : ℕ) (survey : Goes old opened (Surveys kinds)) (four : TicksUpTo 4 before middle) where
+  covers : (s t : Folder) → Surveys kinds s t → ReadsSound s → (runs : List Run) → Shows s.disk.published runs → HoldBoth (length runs) s → IsCoveredTo (length kinds) t
+  covers s t looked sound runs shows held =
+      let same : t.disk.published ≡ s.disk.published = ap (λ (f : Folder). f.disk.published) looked.settled in
+      let shown_here : Shows t.disk.published runs = subst (λ (files : Files). Shows files runs) (sym same) shows in
+      let count : length runs ≡ length kinds = sym (ap length (kinds_of_runs t.disk.published runs kinds shown_here looked.fits.kinds_are) ∙ length-map runs (λ (run : Run). run.partial)) in
+      let so : HoldBoth (length kinds) s = subst (λ (n : ℕ). HoldBoth n s) count held in
+      record {
+        sound = subst IsSound (sym same) sound;
+        held = record {
+          ids = so.ids;
+          failing = record { bytes = so.failing.bytes; file = ap (λ (files : Files). files (side_name Failing)) same ∙ so.failing.file; form = so.failing.form };
+          times = so.times;
+          timed = record { bytes = so.timed.bytes; file = ap (λ (files : Files). files (side_name Times)) same ∙ so.timed.file; form = so.timed.form };
+        };
+      }
+
+  behind : (new : Option Folder) (answer now : ℕ) → (IsCovered (length kinds) opened → RunsByFew partial old new answer before now) → SparesRunOf partial old new answer before now
+  behind new answer now few = by old opened survey few
+    where
+      by : (a b : Option Folder) → Goes a b (Surveys kinds) → (IsCovered (length kinds) b → RunsByFew partial a new answer before now) → SparesRunOf partial a new answer before now
+      by None b looked f = tt
+      by (Some s) None looked f = absurd looked
+      by (Some s) (Some t) looked f = λ sound runs shows held. f (covers s t looked sound runs shows held)
+
+  -- it asked, and was refused
+  pub asked_first : (calls : ℕ) (asked new : Option Folder) (answer now : ℕ) → calls ≤ 4 → AsksByFew (length kinds) calls opened asked middle now → (answer ≤ 1 → ⊥) → SparesRunOf partial old new answer before now
+  asked_first calls asked new answer now most asks other = behind new answer now (λ covered. by_eight partial old new answer before now other (omega (arith, most, four, asks.few covered)))
+
+  -- it was refused behind that, with another status
+  pub refused_later : (new : Option Folder) (answer now : ℕ) → (answer ≤ 1 → ⊥) → (answer ≡ 3 → ⊥) → SparesRunOf partial old new answer before now
+  refused_later new answer now small three = behind new answer now (λ covered. record { done = λ is. absurd (small is); refused = λ is. absurd (three is) })
+
+  -- its run was stored
+  pub stored_later : (given : Bool) (asked new : Option Folder) (answer now last : ℕ) → given ≡ partial → AsksByFew (length kinds) 4 opened asked middle now → (IsCovered (length kinds) asked → StoresByFew 18 given asked new now last) → (answer ≡ 3 → ⊥) → SparesRunOf partial old new answer before last
+  stored_later given asked new answer now last is asks stores other = behind new answer last (λ covered.
+      let stored : StoresByFew 18 partial asked new now last = subst (λ (p : Bool). StoresByFew 18 p asked new now last) is (stores (still_covered (length kinds) opened asked asks.same covered)) in
+      let to_opened : Goes old opened KeepsFiles = goes_weaker old opened (Surveys kinds) KeepsFiles survey (λ s t looked. ap (λ (f : Folder). f.disk.published) looked.settled) in
+      let to_asked : Goes old asked KeepsFiles = goes_then old opened asked KeepsFiles Stays KeepsFiles to_opened asks.same (λ s m t p q. ap (λ (f : Folder). f.disk.published) q ∙ p) in
+      record {
+        done = λ small. record {
+          events = stored.events;
+          are_events = stored.are_events;
+          fit = stored.fit;
+          stored = adds_before partial stored.events old asked new to_asked stored.stored;
+          few = omega (arith, four, asks.few covered, stored.few);
+        };
+        refused = λ three. absurd (other three);
+      })
+
+-- ---- the command
+
+-- the status of an outcome
+pub as_told : (partial : Bool) (old new : Option Folder) (answer given before now : ℕ) → answer ≡ given → SparesRunOf partial old new given before now → SparesRunOf partial old new answer before now
+as_told partial old new answer given before now is spares = subst (λ (n : ℕ). SparesRunOf partial old new n before now) (sym is) spares
+
+same_options : (given options : RunOptions) → Some (run given) ≡ Some (run options) → given ≡ options
+same_options given options is = cc
+
+pub of_options : (given : RunOptions) (old new : Option Folder) (answer before now : ℕ) → SparesRunOf (is_partial given) old new answer before now → SparesRun (Some (run given)) old new answer before now
+of_options given old new answer before now spares = λ options is. subst (λ (o : RunOptions). SparesRunOf (is_partial o) old new answer before now) (same_options given options is) spares
+
+-- no call, and nothing done
+pub none_made : (asked : Option Task) (old new : Option Folder) (answer before now : ℕ) → (answer ≤ 1 → ⊥) → now ≡ before → SparesRun asked old new answer before now
+none_made asked old new answer before now other same = λ options is. early (is_partial options) old new answer before now other (omega (arith, same))
+
+no_load : (few : Bool) (c : Command) (options : RunOptions) → (if few then Some (load c.partial c.names) else None) ≡ Some (run options) → ⊥
+no_load true c options is = cc
+no_load false c options is = cc
+
+no_drawn : (drawn : Option Drawing) (options : RunOptions) → option_map selftest drawn ≡ Some (run options) → ⊥
+no_drawn None options is = cc
+no_drawn (Some drawing) options is = cc
+
+no_run : (v : Verb) (c : Command) (options : RunOptions) → (v ≡ verb.Run → ⊥) → task_with v c ≡ Some (run options) → ⊥
+no_run verb.Run c options other is = other refl
+no_run verb.Load c options other is = no_load (nat_le (length c.names) 64) c options is
+no_run verb.SelfTest c options other is = no_drawn (drawing_of c) options is
+no_run v c options other is = cc
+
+pub of_other : (v : Verb) (c : Command) (old new : Option Folder) (answer before now : ℕ) → (v ≡ verb.Run → ⊥) → SparesRun (task_with v c) old new answer before now
+of_other v c old new answer before now other = λ options is. absurd (no_run v c options other is)
+
+pub lists_not : (v : Verb) → v ≡ verb.ListTests → v ≡ verb.Run → ⊥
+lists_not v lists runs = cc
+
+pub draws_not : (v : Verb) → v ≡ verb.SelfTest → v ≡ verb.Run → ⊥
+draws_not v draws runs = cc
+
+pub of_asked : {asked read : Option Task} → asked ≡ read → (old new : Option Folder) (answer before now : ℕ) → SparesRun asked old new answer before now → SparesRun read old new answer before now
+of_asked is old new answer before now spares = subst (λ (o : Option Task). SparesRun o old new answer before now) is spares
+
+-- the words behind the same name
+pub of_words : (rest behind : List (List ℕ)) (old new : Option Folder) (answer before now : ℕ) → testr_word ∷ rest ≡ testr_word ∷ behind → SparesRun (asked_by rest) old new answer before now → SparesRun (asked_by behind) old new answer before now
+of_words rest behind old new answer before now is spares =
+    let same : rest ≡ behind = cc in
+    subst (λ (l : List (List ℕ)). SparesRun (asked_by l) old new answer before now) same spares
