@@ -26,6 +26,7 @@ use Rattle.testr_cli.specs.declared.answer.Verdict.{Verdict}
 use Rattle.testr_cli.specs.declared.answer.Refusal.{Refusal}
 use Rattle.testr_cli.specs.declared.answer.Refusal.TheVariants.{Usage, Init, Open, Runs, Record, Memory, Keep, Refresh, Tell, Print, Conf, Pattern, LoadList, Call, Table, Listing, Job, Start, Lanes, Report}
 
+-- the status of a refusal
 abbrev pub refusal_code : Refusal → ℕ
 refusal_code (Usage fault) = 2
 refusal_code (Init fault) = init_code fault
@@ -48,6 +49,7 @@ refusal_code (Start fault) = start_code fault
 refusal_code (Lanes fault) = lanes_code fault
 refusal_code (Report fault) = 5
 
+-- the line of a refusal
 abbrev pub refusal_text : Refusal → List ℕ
 refusal_text (Usage fault) = usage_text fault
 refusal_text (Init fault) = init_text fault
@@ -90,10 +92,12 @@ place_of (Start start.Spawn) = Some in_spawner
 place_of (Lanes (lanes.Shelf which)) = Some in_folder
 place_of refusal = None
 
+-- the status of an outcome
 abbrev pub code_of : Result Verdict Refusal → ℕ
 code_of (Ok verdict) = verdict_code verdict
 code_of (Err refusal) = refusal_code refusal
 
+-- the part whose call failed, where the outcome is such a fault
 abbrev pub place_in : Result Verdict Refusal → Option Place
 place_in (Ok verdict) = None
 place_in (Err refusal) = place_of refusal

@@ -28,10 +28,12 @@ PrintsAnswer question =
     Then Print (At shown_out (Prints told.text.items)) (λ _.
     Gives told.verdict))
 
+-- the step that answers a question: a copy of the run's bytes, or printed text
 abbrev pub AnswersOf : Found → Question → Step Shown Verdict Refusal
 AnswersOf found (Last true) = CopiesLast found
 AnswersOf found question = PrintsAnswer question
 
+-- the chain of a question
 abbrev pub Asks : Question → Step Shown Verdict Refusal
 Asks question =
     Then Open (At shown_folder Opens) (λ found.

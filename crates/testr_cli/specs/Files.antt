@@ -108,6 +108,7 @@ pub record RecordsInTurn (names : List (List ℕ)) (before after : Filed) (run :
   pub counts : NoneFailed before after
   pub files : after.site.told ≡ before.site.told
 
+-- all files were read and recorded, one after another, and these are the rows
 pub record RecordsAllFiles (names : List (List ℕ)) (rows : List Row) (before after : Filed) : Type 0 where
   pub run : List ℕ
   pub recorded : RecordsInTurn names before after run
@@ -124,6 +125,7 @@ pub record StopsAtFile (names : List (List ℕ)) (before after : Filed) (fault :
   pub recorded : RecordsInTurn done before between run
   pub cause : HasFileCause name between after fault
 
+-- why files are not recorded: one of them stops it, or memory is wanting
 abbrev pub HasFilesCause : List (List ℕ) → Filed → Filed → RecordFault → Type 0
 HasFilesCause names before after fault = StopsAtFile names before after fault ⊎ ((fault ≡ NoMemory) × NoneFailed before after)
 

@@ -8,6 +8,7 @@ use Rattle.testr_cli.specs.declared.answer.Verdict.TheVariants.{Passed}
 use Rattle.testr_cli.specs.declared.answer.Refusal.{Refusal}
 use Rattle.testr_cli.specs.declared.answer.Refusal.TheVariants.{Init}
 
+-- the chain of `init`
 abbrev pub Inits : Step (Seen Folder) Verdict Refusal
 Inits =
     Then Init Makes (λ _.

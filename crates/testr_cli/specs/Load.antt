@@ -11,6 +11,7 @@ use Rattle.testr_cli.specs.declared.answer.Verdict.{Verdict}
 use Rattle.testr_cli.specs.declared.answer.Refusal.{Refusal}
 use Rattle.testr_cli.specs.declared.answer.Refusal.TheVariants.{Open, Runs, Keep, Record, Memory, Refresh, Print}
 
+-- the chain of `load`
 abbrev pub Loads : Bool → List (List ℕ) → Step Work Verdict Refusal
 Loads partial names =
     Then Open (At work_folder Opens) (λ found.

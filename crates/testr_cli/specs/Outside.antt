@@ -6,6 +6,7 @@ use Rattle.edge_io.specs.Seen.{Seen}
 use Rattle.edge_io.specs.Spawners.{Spawning}
 use Rattle.testr_cli.specs.Steps.{Part}
 
+-- all that a command may touch, as it is seen at one moment
 pub record Outside : Type 0 where
   pub folder : Seen Folder
   pub site : Seen Files
@@ -14,6 +15,7 @@ pub record Outside : Type 0 where
   pub out : Seen (List ℕ)
   pub errors : Seen (List ℕ)
 
+-- the outside that is seen so
 abbrev pub outside : Seen Folder → Seen Files → Seen Spawning → Seen (List ℕ) → Seen (List ℕ) → Seen (List ℕ) → Outside
 outside folder site spawner input out errors = record { folder = folder; site = site; spawner = spawner; input = input; out = out; errors = errors }
 
@@ -32,9 +34,11 @@ pub record Work : Type 0 where
   pub input : Seen (List ℕ)
   pub out : Seen (List ℕ)
 
+-- the outside without the sink of errors, which is seen so
 abbrev pub work : Seen Folder → Seen Files → Seen Spawning → Seen (List ℕ) → Seen (List ℕ) → Work
 work folder site spawner input out = record { folder = folder; site = site; spawner = spawner; input = input; out = out }
 
+-- the outside without the sink of errors
 abbrev pub work_of : Outside → Work
 work_of w = work w.folder w.site w.spawner w.input w.out
 
@@ -43,6 +47,7 @@ pub record Shown : Type 0 where
   pub folder : Seen Folder
   pub out : Seen (List ℕ)
 
+-- folder and output, which are seen so
 abbrev pub shown : Seen Folder → Seen (List ℕ) → Shown
 shown folder out = record { folder = folder; out = out }
 
@@ -51,6 +56,7 @@ pub record Fed : Type 0 where
   pub folder : Seen Folder
   pub input : Seen (List ℕ)
 
+-- folder and input, which are seen so
 abbrev pub fed : Seen Folder → Seen (List ℕ) → Fed
 fed folder input = record { folder = folder; input = input }
 
@@ -59,6 +65,7 @@ pub record Filed : Type 0 where
   pub folder : Seen Folder
   pub site : Seen Files
 
+-- folder and files, which are seen so
 abbrev pub filed : Seen Folder → Seen Files → Filed
 filed folder site = record { folder = folder; site = site }
 
@@ -67,38 +74,49 @@ pub record Hands : Type 0 where
   pub spawner : Seen Spawning
   pub site : Seen Files
 
+-- spawner and files, which are seen so
 abbrev pub hands : Seen Spawning → Seen Files → Hands
 hands spawner site = record { spawner = spawner; site = site }
 
 -- ---- the parts
 
+-- the folder as a part of the work
 abbrev pub work_folder : Part Work (Seen Folder)
 work_folder = record { of = λ w. w.folder; put = λ w folder. record w { folder = folder }; of_put = λ _ _. refl }
 
+-- the files as a part of the work
 abbrev pub work_site : Part Work (Seen Files)
 work_site = record { of = λ w. w.site; put = λ w site. record w { site = site }; of_put = λ _ _. refl }
 
+-- the spawner as a part of the work
 abbrev pub work_spawner : Part Work (Seen Spawning)
 work_spawner = record { of = λ w. w.spawner; put = λ w spawner. record w { spawner = spawner }; of_put = λ _ _. refl }
 
+-- spawner and files as a part of the work
 abbrev pub work_hands : Part Work Hands
 work_hands = record { of = λ w. hands w.spawner w.site; put = λ w part. record w { spawner = part.spawner; site = part.site }; of_put = λ _ _. refl }
 
+-- folder and input as a part of the work
 abbrev pub work_fed : Part Work Fed
 work_fed = record { of = λ w. fed w.folder w.input; put = λ w part. record w { folder = part.folder; input = part.input }; of_put = λ _ _. refl }
 
+-- folder and files as a part of the work
 abbrev pub work_filed : Part Work Filed
 work_filed = record { of = λ w. filed w.folder w.site; put = λ w part. record w { folder = part.folder; site = part.site }; of_put = λ _ _. refl }
 
+-- the output as a part of the work
 abbrev pub work_out : Part Work (Seen (List ℕ))
 work_out = record { of = λ w. w.out; put = λ w out. record w { out = out }; of_put = λ _ _. refl }
 
+-- folder and output as a part of the work
 abbrev pub work_shown : Part Work Shown
 work_shown = record { of = λ w. shown w.folder w.out; put = λ w part. record w { folder = part.folder; out = part.out }; of_put = λ _ _. refl }
 
+-- the folder as a part of folder and output
 abbrev pub shown_folder : Part Shown (Seen Folder)
 shown_folder = record { of = λ w. w.folder; put = λ w folder. record w { folder = folder }; of_put = λ _ _. refl }
 
+-- the output as a part of folder and output
 abbrev pub shown_out : Part Shown (Seen (List ℕ))
 shown_out = record { of = λ w. w.out; put = λ w out. record w { out = out }; of_put = λ _ _. refl }
 

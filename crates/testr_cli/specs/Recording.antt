@@ -126,6 +126,7 @@ pub record Records (before after : Fed) (result : Result (List Row) RecordFault)
   pub refused : IfErr result (HasRecordCause before after)
   pub rests : Goes before.folder.told after.folder.told SameButDraft
 
+-- the status where the input is not recorded so
 abbrev pub record_code : RecordFault → ℕ
 record_code (Shelf call) = 4
 record_code Input = 4
@@ -135,6 +136,7 @@ record_code (NoFile name) = 3
 record_code (FileTooLong name) = 3
 record_code NoMemory = 5
 
+-- the line where the input is not recorded so
 abbrev pub record_text : RecordFault → List ℕ
 record_text (Shelf call) = codes "testr: fault of the repository folder\n"
 record_text Input = codes "testr: fault reading standard input\n"

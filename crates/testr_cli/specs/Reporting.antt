@@ -24,6 +24,7 @@ pub record IsReport (number : ℕ) (filter_tags : List (List ℕ)) (rows : List 
   pub text : report.text ≡ report_of rows number filter_tags
   pub verdict : report.verdict ≡ verdict_of rows
 
+-- the report of these rows is told, under the number of the run
 pub record Reports (number : ℕ) (filter_tags : List (List ℕ)) (rows : List Row) (result : Result Report NoMemory) : Type 0 where
   pub told : IfOk result (IsReport number filter_tags rows)
 
@@ -36,6 +37,7 @@ abbrev pub shown_with : {E : Type 0} → List Row → Result Ending E → Result
 shown_with failing (Ok ending) = Ok (report_shown failing ending)
 shown_with failing (Err fault) = Err fault
 
+-- the line where memory is wanting for the report
 abbrev pub memory_text : List ℕ
 memory_text = codes "testr: out of memory\n"
 
@@ -45,5 +47,6 @@ pub record Prints (text : List ℕ) (before after : Seen (List ℕ)) (result : R
   pub prefix : AppendsPrefix before.told after.told text
   pub count : HasCause before.faults after.faults result
 
+-- the line where the output is not written
 abbrev pub print_text : List ℕ
 print_text = codes "testr: fault writing output\n"

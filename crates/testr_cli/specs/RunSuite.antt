@@ -43,6 +43,7 @@ ListsBy patterns settings =
     Then Print (At work_out (Prints text)) (λ _.
     Gives Passed))))
 
+-- the chain of `list-tests`
 abbrev pub ListsSuite : Ids → Step Work Verdict Refusal
 ListsSuite patterns = Then Conf (At work_site ReadsConf) (ListsBy patterns)
 
@@ -87,5 +88,6 @@ RunsBy options settings =
     Then (λ refusal. refusal) (Works (is_partial options) (length (kinds_of found)) jobs) (λ rows.
     TellsRun (length (kinds_of found)) settings.filter_tags rows))))))
 
+-- the chain of `run`
 abbrev pub RunsSuite : RunOptions → Step Work Verdict Refusal
 RunsSuite options = Then Conf (At work_site ReadsConf) (RunsBy options)

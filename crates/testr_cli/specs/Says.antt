@@ -48,6 +48,7 @@ pub record SaysSlowest (all : Bool) (s : Folder) (text : List ℕ) (v : Verdict)
   pub text_is : text ≡ slowest_of rows all
   pub verdict_is : v ≡ verdict.Passed
 
+-- failed where an id is in the failing set
 abbrev pub verdict_of_failing : List (List ℕ) → Verdict
 verdict_of_failing [] = verdict.Passed
 verdict_of_failing (id ∷ ids) = verdict.Failed
@@ -59,6 +60,7 @@ pub record SaysFailing (list : Bool) (s : Folder) (text : List ℕ) (v : Verdict
   pub text_is : text ≡ failing_text_of ids list
   pub verdict_is : v ≡ verdict_of_failing ids
 
+-- the line with how many runs there are
 abbrev pub stats_of : ℕ → List ℕ
 stats_of count = codes "runs=" ++ decimal count ++ 10 ∷ []
 

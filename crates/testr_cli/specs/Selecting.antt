@@ -55,6 +55,7 @@ needs_listing options workers = not options.failing && not (is_some options.load
 pub record Chooses (patterns : Ids) (failing listed listing : Option Ids) (result : Result (Option Ids) NoMemory) : Type 0 where
   pub chosen : IfOk result (λ ids. ids ≡ chosen_ids patterns (base_ids failing listed listing))
 
+-- the steps that find which tests a run has, and in how many workers they run
 abbrev pub Selects : Settings → RunOptions → Step Work Selected Refusal
 Selects settings options =
     Then LoadList (At work_site (Perhaps options.load_list ReadsLoadList)) (λ listed.
@@ -66,6 +67,7 @@ Selects settings options =
 
 -- ---- what each worker is started with
 
+-- the times of ids, as a map
 abbrev pub Times : Type 0
 Times = FinMap text_cmp ℕ
 
@@ -73,6 +75,7 @@ Times = FinMap text_cmp ℕ
 abbrev pub shares_of_ids : (groups : Option (List ℕ)) → Option Times → Selected → Option (List Ids)
 shares_of_ids groups times selected = option_map (λ ids. shares_for (fin.get (unwrap_or times fin.empty)) groups ids selected.workers) selected.ids
 
+-- the share of each worker, where the tests are known
 pub record Divides (groups : Option (List ℕ)) (times : Option Times) (selected : Selected) (result : Result (Option (List Ids)) NoMemory) : Type 0 where
   pub shares : IfOk result (λ shares. shares ≡ shares_of_ids groups times selected)
 
@@ -81,6 +84,7 @@ pub record MakesJobs (settings : Settings) (shares : Option (List Ids)) (result 
   pub jobs : IfOk result (λ jobs. lane_jobs settings shares ≡ Ok jobs)
   pub refused : IfErr result (λ fault. (lane_jobs settings shares ≡ Err fault) ⊎ (fault ≡ job_fault.NoMemory))
 
+-- the steps that make the job of each worker
 abbrev pub Plans : Settings → Selected → Step Work (List Job) Refusal
 Plans settings selected =
     Then Tell (At work_folder (Perhaps (when (nat_lt 1 selected.workers)) (λ _. FindsTimes))) (λ times.

@@ -33,6 +33,7 @@ lane_of drawing lane = map (under lane) (events_of drawing.seed drawing.tests la
 abbrev pub events_in_turn : Drawing → List Event
 events_in_turn drawing = flat_map (lane_of drawing) (range_with_len 0 drawing.lanes)
 
+-- the rows of the drawn lanes, one lane after another
 abbrev pub rows_in_turn : Drawing → List Row
 rows_in_turn drawing = rows_of (events_in_turn drawing)
 
@@ -54,6 +55,7 @@ pub record IsSummary (rows : List Row) (told : Told) : Type 0 where
 pub record SumsUp (drawing : Drawing) (result : Result Told NoMemory) : Type 0 where
   pub told : IfOk result (IsSummary (rows_in_turn drawing))
 
+-- the chain of `selftest`
 abbrev pub TestsItself : Drawing → Step Work Verdict Refusal
 TestsItself drawing =
     Then Memory (Still (SumsUp drawing)) (λ told.

@@ -25,6 +25,7 @@ use Rattle.testr_cli.specs.declared.store.KeepFault.{KeepFault}
 
 -- ---- making a repository
 
+-- the step that makes a repository
 pub record Makes (before after : Seen Folder) (result : Result (Unit {0}) InitFault) : Type 0 where
   -- what reads give before is what a stop may leave then
   pub reads : IfSome before.told (λ s. IsImage s.disk s.disk.published)
@@ -33,16 +34,19 @@ pub record Makes (before after : Seen Folder) (result : Result (Unit {0}) InitFa
   pub any_moment : Goes before.told after.told PassesFormat
   pub count : RisesExactlyIf before.faults after.faults (init_failed result)
 
+-- the status where no repository is made
 abbrev pub init_code : InitFault → ℕ
 init_code init_fault.Exists = 3
 init_code (init_fault.Shelf call) = 4
 
+-- the line where no repository is made
 abbrev pub init_text : InitFault → List ℕ
 init_text init_fault.Exists = codes "testr: a repository is already here\n"
 init_text (init_fault.Shelf call) = codes "testr: fault of the repository folder\n"
 
 -- ---- opening it: which runs there are
 
+-- the step that looks which runs the folder has
 pub record Opens (before after : Seen Folder) (result : Result Found OpenFault) : Type 0 where
   pub found : IfOk result (λ found. Goes before.told after.told (Surveys (kinds_of found)))
   pub room : IfOk result HasRoom
@@ -50,6 +54,7 @@ pub record Opens (before after : Seen Folder) (result : Result Found OpenFault) 
   pub any_moment : Goes before.told after.told PassesOld
   pub count : RisesExactlyIf before.faults after.faults (open_failed result)
 
+-- the status where the folder has no such runs
 abbrev pub open_code : OpenFault → ℕ
 open_code open_fault.NoStore = 3
 open_code open_fault.UnknownFormat = 3
@@ -57,6 +62,7 @@ open_code (open_fault.Gap number) = 3
 open_code (open_fault.Shelf call) = 4
 open_code open_fault.NoMemory = 5
 
+-- the line where the folder has no such runs
 abbrev pub open_text : OpenFault → List ℕ
 open_text open_fault.NoStore = codes "testr: no repository here\n"
 open_text open_fault.UnknownFormat = codes "testr: unknown repository format\n"
@@ -76,12 +82,14 @@ pub record HasRunFor (question : Question) (runs : ℕ) (result : Result (Unit {
   pub some : OnOk result (OfLastRun question → 0 < runs)
   pub none : IfErr result (λ fault. (fault ≡ NoRuns) × OfLastRun question × (runs ≡ 0))
 
+-- the line where there are too many runs, or none
 abbrev pub runs_text : RunsFault → List ℕ
 runs_text Full = codes "testr: the repository is full\n"
 runs_text NoRuns = codes "testr: no runs\n"
 
 -- ---- beginning a run, and keeping it behind so many others
 
+-- the step that begins a draft
 pub record Begins (before after : Seen Folder) (result : Result (Unit {0}) KeepFault) : Type 0 where
   pub begun : OnOk result (Goes before.told after.told Opened)
   pub not_begun : OnErr result (Goes before.told after.told Dropped)
@@ -97,5 +105,6 @@ pub record Keeps (partial : Bool) (number : ℕ) (before after : Seen Folder) (r
   pub reads : IfSome after.told (λ s. IsImage s.disk s.disk.published)
   pub count : HasCause before.faults after.faults result
 
+-- the line where a run is not kept
 abbrev pub keep_text : List ℕ
 keep_text = codes "testr: fault of the repository folder\n"

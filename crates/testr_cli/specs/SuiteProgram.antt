@@ -67,6 +67,7 @@ abbrev pub calls_by : (parallel : Bool) → (asked : ℕ) → (count_job : Optio
 calls_by true zero (Some job) = 1
 calls_by parallel asked count_job = 0
 
+-- how many programs a run starts to ask for the number of workers
 abbrev pub calls_of : RunOptions → Settings → ℕ
 calls_of options settings = calls_by options.parallel options.concurrency (count_job_of settings)
 

@@ -21,6 +21,7 @@ pub record RunOptions : Type 0 where
 abbrev pub is_part : (called failing : Bool) → (load_list : Option (List ℕ)) → (patterns : List (List ℕ)) → Bool
 is_part called failing load_list patterns = called || (failing || (is_some load_list || not (nat_eq (length patterns) 0)))
 
+-- the run that is asked for is partial
 abbrev pub is_partial : RunOptions → Bool
 is_partial options = is_part options.partial options.failing options.load_list options.patterns
 

@@ -9,6 +9,7 @@ use Rattle.testr_cli.specs.declared.telling.Line.{Line}
 abbrev pub place_text : (name : List ℕ) → (number : ℕ) → List ℕ
 place_text name number = name ++ codes " line " ++ decimal number
 
+-- the bytes of a line's middle part
 abbrev pub part_text : Part → List ℕ
 part_text Nothing = []
 part_text (Number number) = decimal number
@@ -16,5 +17,6 @@ part_text (Status status) = signed_decimal status
 part_text (Name name) = name.now
 part_text (Place name number) = place_text name.now number
 
+-- the bytes of a line that is told
 abbrev pub line_text : Line → List ℕ
 line_text line = line.front.now ++ part_text line.part ++ line.rest.now

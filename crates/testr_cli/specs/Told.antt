@@ -26,6 +26,7 @@ abbrev pub fault_fails : TellFault → Bool
 fault_fails Shelf = true
 fault_fails NoMemory = false
 
+-- a call of the folder failed as the runs were asked
 abbrev pub tell_failed : {T : Type 0} → Result T TellFault → Bool
 tell_failed (Ok told) = false
 tell_failed (Err fault) = fault_fails fault
@@ -41,10 +42,12 @@ pub record Finds (question : Question) (before after : Seen Folder) (result : Re
   pub same : Goes before.told after.told Stays
   pub count : RisesExactlyIf before.faults after.faults (tell_failed result)
 
+-- the status where the runs do not tell
 abbrev pub tell_code : TellFault → ℕ
 tell_code Shelf = 4
 tell_code NoMemory = 5
 
+-- the line where the runs do not tell
 abbrev pub tell_text : TellFault → List ℕ
 tell_text Shelf = codes "testr: fault of the repository folder\n"
 tell_text NoMemory = codes "testr: out of memory\n"

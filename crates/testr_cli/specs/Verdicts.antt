@@ -10,6 +10,7 @@ use Rattle.testr_cli.specs.declared.answer.Verdict.TheVariants.{Passed, Failed}
 abbrev pub verdict_of : List Row → Verdict
 verdict_of rows = if list_any row_fails rows then Failed else Passed
 
+-- the status of a verdict
 abbrev pub verdict_code : Verdict → ℕ
 verdict_code Passed = 0
 verdict_code Failed = 1

@@ -18,6 +18,7 @@ use Rattle.testr_cli.specs.Drawings.{if_few}
 use Rattle.testr_cli.specs.declared.drawing.Drawing.{Drawing}
 use Rattle.testr_cli.specs.Tasks.{Task, task_of}
 
+-- the program's first word
 abbrev pub testr_word : List ℕ
 testr_word = codes "testr"
 
@@ -26,6 +27,7 @@ abbrev pub names_testr : List (List ℕ) → Bool
 names_testr [] = false
 names_testr (word ∷ words) = bytes_eq word testr_word
 
+-- the line where the words are no command
 abbrev pub usage_text : UsageFault → List ℕ
 usage_text Words = codes "testr: wrong usage\n"
 
@@ -36,12 +38,15 @@ and_then (Some value) next = next value
 
 -- ---- the options and names of each verb
 
+-- the option that tells the number of workers
 abbrev pub concurrency_word : List ℕ
 concurrency_word = codes "--concurrency"
 
+-- the option that names a load list
 abbrev pub load_list_word : List ℕ
 load_list_word = codes "--load-list"
 
+-- the verb that a word is
 abbrev pub verb_of : List ℕ → Option Verb
 verb_of word =
     if bytes_eq word (codes "init") then Some Init
@@ -70,6 +75,7 @@ run_kind word =
     else (if bytes_eq word concurrency_word || bytes_eq word load_list_word then Some Valued
     else None)
 
+-- which options a verb has
 abbrev pub kinds_of : Verb → List ℕ → Option Kind
 kinds_of Load word = only_flag (codes "--partial") word
 kinds_of Run word = run_kind word
@@ -85,6 +91,7 @@ most_names Run = None
 most_names ListTests = None
 most_names other = Some 0
 
+-- so many names are not more than the most, where there is a most
 abbrev pub may_have : Option ℕ → ℕ → Bool
 may_have None names = true
 may_have (Some most) names = nat_le names most
@@ -131,6 +138,7 @@ values_in key items = flat_map (λ item. option_to_list (value_of key item)) ite
 abbrev pub last_behind : Option (List ℕ) → List (List ℕ) → Option (List ℕ)
 last_behind before values = fold (λ stood value. Some value) before values
 
+-- the last of the values, where there is one
 abbrev pub last_of : List (List ℕ) → Option (List ℕ)
 last_of values = last_behind None values
 
@@ -146,6 +154,7 @@ number_of most value = if is_number most value then Some (digits_value 10 value)
 abbrev pub is_worker_count : List ℕ → Bool
 is_worker_count value = is_number MOST_WORKERS value
 
+-- the number of workers that the value is
 abbrev pub worker_count : List ℕ → Option ℕ
 worker_count value = number_of MOST_WORKERS value
 
@@ -238,12 +247,14 @@ command_of_names verb items =
     and_then (load_list_in items) (λ load_list.
     command_with verb items names workers load_list)))
 
+-- the command of this verb that the items ask for
 abbrev pub command_of_items : Verb → List Item → Option Command
 command_of_items SelfTest items = option_map command_of_drawing (drawing_in items)
 command_of_items other items = command_of_names other items
 
 -- ---- which command words are
 
+-- the command of this verb that the words ask for
 abbrev pub command_of_verb : List (List ℕ) → Verb → Option Command
 command_of_verb words verb = and_then (items_of (kinds_of verb) words) (command_of_items verb)
 

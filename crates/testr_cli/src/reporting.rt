@@ -19,7 +19,8 @@ use std::alloc::Global;
 use sub_number::NoMemory;
 use sub_text::{report_text, summary_from};
 
-/// How the report of a run ends. It is made before the run is kept, so that nothing that is printed behind that takes memory.
+/// How the report of a run ends. It is made before anything is printed, so that printing takes no memory; `load` makes it before
+/// the run is kept, too.
 #[derive(Drop)]
 pub struct Ending {
     /// The last two lines.
