@@ -13,15 +13,19 @@ fn hear(reader: &mut V1Reader, line: &[u8], text: &mut Vec<u8>) -> Option<()> {
 
 // Each line with its newline, which the last one may lack.
 fn hear_all(reader: &mut V1Reader, stream: &[u8], text: &mut Vec<u8>) -> Option<()> {
-    let mut rest = stream;
-    while let Some(place) = rest.iter().position(|byte| *byte == b'\n') {
-        hear(reader, &rest[..place + 1], text)?;
-        rest = &rest[place + 1..];
+    let mut place = 0;
+    for line in stream.split(|byte| *byte == b'\n') {
+        let end = line
+            .len()
+            .saturating_add(place)
+            .saturating_add(1)
+            .min(stream.len());
+        if place < end {
+            hear(reader, &stream[place..end], text)?;
+        }
+        place = end;
     }
-    if rest.is_empty() {
-        return Some(());
-    }
-    hear(reader, rest, text)
+    Some(())
 }
 
 fn end(reader: V1Reader, text: &mut Vec<u8>) -> Option<()> {
