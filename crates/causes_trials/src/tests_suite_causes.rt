@@ -268,6 +268,9 @@ const NO_OPTION: &[u8] = b"[DEFAULT]\ntest_command=run $IDOPTION\n";
 const TAKES_NONE: &[u8] = b"[DEFAULT]\ntest_command=run\n";
 
 fn hands(alloc: Global, conf: &[u8]) -> Option<Result<(), JobFault>> {
+    if conf.len() > 4_096 {
+        return None;
+    }
     let conf = Conf::read(alloc, conf).ok()?;
     Some(can_hand_ids(alloc, &conf))
 }
