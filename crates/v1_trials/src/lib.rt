@@ -4,8 +4,14 @@
 #![tactic(auto)]
 
 #[cfg(test)]
+mod heard;
+#[cfg(test)]
 mod shown;
 #[cfg(test)]
+mod tests_again;
+#[cfg(test)]
 mod tests_reading;
+#[cfg(test)]
+mod tests_sizes;
 #[cfg(test)]
 mod tests_writing;

@@ -22,7 +22,8 @@ fn show_stamp(stamp: Stamp, text: &mut Vec<u8>) -> Option<()> {
     put_instant(stamp.instant(), text).ok()
 }
 
-fn show_tags(tags: &Tags, text: &mut Vec<u8>) -> Option<()> {
+/// Appends the tags, each behind a `#`.
+pub(crate) fn show_tags(tags: &Tags, text: &mut Vec<u8>) -> Option<()> {
     for tag in tags.list() {
         text.extend_from_slice(b" #").ok()?;
         text.extend_from_slice(tag.bytes()).ok()?;

@@ -1,53 +1,19 @@
 //! Lines give events.
 
+use crate::heard::events_of;
 use crate::shown::show_all;
 use std::alloc::Global;
-use v1_bridge::{V1Reader, is_short};
-
-fn hear(reader: &mut V1Reader, line: &[u8], text: &mut Vec<u8>) -> Option<()> {
-    if !is_short(line) {
-        return None;
-    }
-    show_all(&reader.line(line).ok()?, text)
-}
-
-// Each line with its newline, which the last one may lack.
-fn hear_all(reader: &mut V1Reader, stream: &[u8], text: &mut Vec<u8>) -> Option<()> {
-    let mut place = 0;
-    for line in stream.split(|byte| *byte == b'\n') {
-        let end = line
-            .len()
-            .saturating_add(place)
-            .saturating_add(1)
-            .min(stream.len());
-        if place < end {
-            hear(reader, &stream[place..end], text)?;
-        }
-        place = end;
-    }
-    Some(())
-}
-
-fn end(reader: V1Reader, text: &mut Vec<u8>) -> Option<()> {
-    show_all(&reader.close().ok()?, text)
-}
-
-fn show_stream(alloc: Global, stream: &[u8], text: &mut Vec<u8>) -> Option<()> {
-    let mut reader = V1Reader::new(alloc);
-    hear_all(&mut reader, stream, text)?;
-    end(reader, text)
-}
 
 fn gives(alloc: Global, row: &Told) -> Option<bool> {
     let mut text = Vec::new(alloc);
-    show_stream(alloc, row.0, &mut text)?;
+    show_all(&events_of(alloc, row.0)?, &mut text)?;
     Some(text.as_slice() == row.1)
 }
 
 // A stream, and its events.
 type Told = (&'static [u8], &'static [u8]);
 
-const LINES: [Told; 12] = [
+const LINES: [Told; 15] = [
     (
         b"time: 1970-01-01 00:01:40Z\ntest: foo\ntags: x\ntime: 1970-01-01 00:01:41.5Z\nsuccess: foo\n",
         b"inprogress foo @1970-01-01 00:01:40.000000\nsuccess foo #x @1970-01-01 00:01:41.500000\n",
@@ -95,6 +61,18 @@ const LINES: [Told; 12] = [
     (
         b"test: a [\nfailure: a [\ntest: b\nfailure: a [ multipart\nsuccess: b",
         b"inprogress a [\nfail a [\ninprogress b\nunset <stdout:failure: a [ multipart\n\nsuccess b\n",
+    ),
+    (
+        b"time: 2106-02-07 06:28:15.123456789Z\ntest: a\nsuccess: a\ntest: b\ntime: 2000-02-29 00:00:00Z\nskip: b\n",
+        b"inprogress a @2106-02-07 06:28:15.123456\nsuccess a @2106-02-07 06:28:15.123456\ninprogress b @2106-02-07 06:28:15.123456\nskip b @2000-02-29 00:00:00.000000\n",
+    ),
+    (
+        b"time: 2100-02-29 00:00:00Z\ntime: 1970-01-01 00:00:00.Z\ntime: 1970-01-01T00:00:00Z\ntime: 197O-01-01 00:00:00Z\n",
+        b"unset <stdout:time: 2100-02-29 00:00:00Z\n\nunset <stdout:time: 1970-01-01 00:00:00.Z\n\nunset <stdout:time: 1970-01-01T00:00:00Z\n\nunset <stdout:time: 197O-01-01 00:00:00Z\n\n",
+    ),
+    (
+        b"test: \ntest: \xff\nsuccess: \ntest\nTest: a\n",
+        b"unset <stdout:test: \n\nunset <stdout:test: \xff\n\nunset <stdout:success: \n\nunset <stdout:test\n\nunset <stdout:Test: a\n\n",
     ),
 ];
 
@@ -161,111 +139,4 @@ fn parts_give_events(rt: HostRuntime) {
     for (place, row) in PARTS.iter().enumerate() {
         assert_eq!(rt; gives(rt.alloc(), row), Some(true), "row {place}");
     }
-}
-
-// So many bytes `a`.
-fn letters(alloc: Global, count: u32) -> Option<Vec<u8>> {
-    let mut bytes = Vec::new(alloc);
-    for _ in 0..count {
-        bytes.push(b'a').ok()?;
-    }
-    Some(bytes)
-}
-
-// The sizes of the files of the events, and how many events there are.
-fn sizes(reader: &mut V1Reader, piece: &[u8], last: bool) -> Option<(usize, usize)> {
-    if !is_short(piece) {
-        return None;
-    }
-    let events = reader.long(piece, last).ok()?;
-    let mut size = 0usize;
-    for event in events.as_slice() {
-        if let Some(file) = &event.file {
-            size = size.saturating_add(file.bytes.bytes().len());
-        }
-    }
-    Some((events.len(), size))
-}
-
-fn long_line(alloc: Global, last: &[u8]) -> Option<[(usize, usize); 2]> {
-    let mut reader = V1Reader::new(alloc);
-    let piece = letters(alloc, 65_536)?;
-    let first = sizes(&mut reader, &piece, false)?;
-    let second = sizes(&mut reader, last, true)?;
-    Some([first, second])
-}
-
-#[test]
-fn a_line_that_is_too_long_is_cut(rt: HostRuntime) {
-    assert_eq!(rt; long_line(rt.alloc(), b"a\n"), Some([(1, 65_536), (1, 1)]));
-    assert_eq!(rt; long_line(rt.alloc(), b"\n"), Some([(1, 65_536), (0, 0)]));
-    assert_eq!(rt; long_line(rt.alloc(), b""), Some([(1, 65_536), (0, 0)]));
-}
-
-// Whether all the lines were taken.
-fn lead(reader: &mut V1Reader, lines: &[&'static [u8]]) -> Option<()> {
-    for line in lines {
-        if !is_short(line) {
-            return None;
-        }
-        reader.line(line).ok()?;
-    }
-    Some(())
-}
-
-const CHUNK: [&[u8]; 5] = [
-    b"test: a\n",
-    b"failure: a [ multipart\n",
-    b"Content-Type: x\n",
-    b"f\n",
-    b"10001\r\n",
-];
-
-// A chunk of 65,537 bytes in one line, and the size behind it.
-fn long_chunk(alloc: Global) -> Option<[(usize, usize); 3]> {
-    let mut reader = V1Reader::new(alloc);
-    lead(&mut reader, &CHUNK)?;
-    let piece = letters(alloc, 65_536)?;
-    let first = sizes(&mut reader, &piece, false)?;
-    let second = sizes(&mut reader, b"a0\r\n", true)?;
-    let third = sizes(&mut reader, b"", true)?;
-    Some([first, second, third])
-}
-
-#[test]
-fn a_chunk_in_a_long_line_is_given_in_pieces(rt: HostRuntime) {
-    assert_eq!(rt; long_chunk(rt.alloc()), Some([(1, 65_536), (1, 1), (0, 0)]));
-}
-
-// The front, so many bytes `a`, and the end, as one line.
-fn line_of(alloc: Global, front: &[u8], count: u32, end: &[u8]) -> Option<Vec<u8>> {
-    let mut line = Vec::new(alloc);
-    line.extend_from_slice(front).ok()?;
-    for _ in 0..count {
-        line.push(b'a').ok()?;
-    }
-    line.extend_from_slice(end).ok()?;
-    Some(line)
-}
-
-// How many events the line gives.
-fn count_of(reader: &mut V1Reader, line: &[u8]) -> Option<usize> {
-    if !is_short(line) {
-        return None;
-    }
-    Some(reader.line(line).ok()?.len())
-}
-
-// How many events a line of tags gives whose one tag has so many bytes, behind one of 7 bytes.
-fn tags_given(alloc: Global, count: u32) -> Option<usize> {
-    let mut reader = V1Reader::new(alloc);
-    count_of(&mut reader, b"tags: worker0\n")?;
-    let line = line_of(alloc, b"tags: ", count, b"\n")?;
-    count_of(&mut reader, &line)
-}
-
-#[test]
-fn a_set_has_as_many_bytes_of_tags_as_it_may(rt: HostRuntime) {
-    assert_eq!(rt; tags_given(rt.alloc(), 65_529), Some(0));
-    assert_eq!(rt; tags_given(rt.alloc(), 65_530), Some(1));
 }
