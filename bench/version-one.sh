@@ -17,6 +17,7 @@ import random
 import re
 import subprocess
 import sys
+from datetime import datetime, timedelta
 
 import streams
 from cases import LIMIT, PROGRAM, case, check, main, need, new_folder, run, write
@@ -67,7 +68,7 @@ subunit.ByteStreamToStreamResult(io.BytesIO(sys.stdin.buffer.read()), non_subuni
 result.stopTestRun()
 print(json.dumps(told))
 """
-# Tells each test of a stream of version 1 so.
+# Tells each test of a stream of version 1 so, with the text of its files in place of these. Tags are those of the test alone.
 READER_OF_LINES = r"""
 import io, json, subunit, sys, testtools
 told = []
@@ -81,6 +82,8 @@ class Result(testtools.TestResult):
         self.own = (self.own | set(new)) - set(gone)
     def startTest(self, test):
         self.begun, self.own = self.now, set()
+    def stopTest(self, test):
+        pass
     def told(self, test, status, details=None):
         text = "".join(b"".join(details[name].iter_bytes()).decode("latin-1") for name in sorted(details or {}))
         times = [None if time is None else time.isoformat() for time in (self.begun, self.now)]
@@ -134,13 +137,33 @@ def suite(**files):
     return folder
 
 
+def are_same_times(ours, theirs):
+    """Python's reader of version 1 takes the fraction of a second as a floating number, and cuts what a million times it
+    is. So it may tell a microsecond less than the line does."""
+    if ours is None or theirs is None:
+        return ours is theirs
+    return timedelta(0) <= datetime.fromisoformat(ours) - datetime.fromisoformat(theirs) <= timedelta(microseconds=1)
+
+
 def same(ours, theirs):
-    """Both are lists of tests, in any order."""
+    """Both are lists of tests, in any order. Theirs were read by Python, which may have cut their times."""
     ours, theirs = ({test[0]: test for test in tests} for tests in (ours, theirs))
     check(ours.keys() == theirs.keys(), f"the ids differ: {sorted(ours.keys() ^ theirs.keys())[:5]}")
     for name, test in ours.items():
         for part, one, other in zip(("id", "status", "tags", "times", "files", "types"), test, theirs[name]):
-            check(one == other, f"{part} of {name}: {one!r:.300}, and not {other!r:.300}")
+            holds = all(map(are_same_times, one, other)) if part == "times" else one == other
+            check(holds, f"{part} of {name}: {one!r:.300}, and not {other!r:.300}")
+
+
+def with_last_times(told):
+    """The tests as lines of version 1 tell their times: a line stands until the next one, so a test that tells no time has
+    the last one that was told before."""
+    last = None
+    for test in told:
+        for place, time in enumerate(test[3]):
+            last = time or last
+            test[3][place] = last
+    return told
 
 
 def counts_of(told):
@@ -171,9 +194,8 @@ def a_run_of_testr():
     with open(os.path.join(folder, ".testrepository", "0"), "rb") as file:
         counts = a_stored_run(file.read(), called(folder, "/usr/bin/testr", "last", "--subunit"))
     line = called(folder, "/usr/bin/testr", "last").splitlines()[-1]
-    failures = counts.get("fail", 0) + counts.get("uxsuccess", 0)
-    skips = counts.get("skip", 0)
-    wanted = f"FAILED (id=0, failures={failures}, skips={skips})".encode()
+    # It counts no unexpected success as a failure.
+    wanted = f"FAILED (id=0, failures={counts['fail']}, skips={counts['skip']})".encode()
     check(line == wanted, f"last says {line!r}, and the stream {wanted!r}")
 
 
@@ -250,7 +272,8 @@ def python_reads_what_is_written():
     check(len(told) == len(tests), f"Python reads {len(told)} tests, and not {len(tests)}")
     for found, (name, status, tags, lines) in zip(told, tests):
         check(found[:3] == [name, status, tags], f"{found[:3]}, and not {[name, status, tags]}")
-        wanted = lines + (b"" if lines[-1:] == b"\n" or not lines else b"\n")
+        # A line of details that begins with a space and a bracket is read without the space, whoever wrote it.
+        wanted = re.sub(rb"(?m)^ \]", b"]", lines + (b"" if lines[-1:] == b"\n" or not lines else b"\n"))
         check(found[4].encode("latin-1") == wanted, f"the text of {name} is {found[4]!r:.100}, and not {wanted!r:.100}")
 
 
@@ -260,7 +283,7 @@ def python_writes_what_is_read():
     stream, tests = drawn(random.Random(SEED + 2), 500)
     lines = subprocess.run(["/usr/bin/subunit-2to1"], input=stream, capture_output=True, timeout=LIMIT)
     need(lines.returncode in (0, 1) and lines.stdout, "Debian's subunit-2to1 is not installed")
-    same(read_by(READER, filtered("subunit-1to2", lines.stdout)), read_by(READER, stream))
+    same(read_by(READER, filtered("subunit-1to2", lines.stdout)), with_last_times(read_by(READER, stream)))
 
 
 @case
