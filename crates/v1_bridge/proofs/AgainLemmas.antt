@@ -13,7 +13,7 @@ use Rattle.instants.specs.Calendar.{Day, day_of}
 use Rattle.instants.specs.Instants.{Moment, instant_text, day_text, clock_text, six_digits, four_digits, two_digits, last_digit, instant_of}
 use Rattle.v1_bridge.specs.declared.part.Part.{Part}
 use Rattle.v1_bridge.specs.declared.stage.Stage.TheVariants as stage
-use Rattle.v1_bridge.specs.Lines.{line_of, time_with, stamp_of}
+use Rattle.v1_bridge.specs.Lines.{line_of, time_with, stamp_at}
 use Rattle.v1_bridge.specs.TagWords.{is_name, is_text}
 use Rattle.v1_bridge.specs.Writing.{time_line, shown_byte, shown_id, test_line, is_plain, is_line_tag, behind_space, tag_words, tags_line}
 use Rattle.v1_bridge.specs.Cutting.{lines_of}
@@ -155,11 +155,11 @@ time_is n =
 -- what a line of time is, gives nothing, or an event that speaks of no test
 outer_time : (t : TestKey) (last : Option Stamp) (bytes : List ℕ) (m : Option Moment) → (given : List Event) × (now : Option Stamp) × (outside (outer last) bytes (time_with m) ≡ record { given = given; state = outer now }) × AreQuiet t given
 outer_time t last bytes None = (line_event bytes ∷ [], last, refl, (inl refl, tt))
-outer_time t last bytes (Some m) = ([], Some (stamp_of m), refl, tt)
+outer_time t last bytes (Some m) = ([], Some (stamp_at m), refl, tt)
 
 inner_time : (t : TestKey) (last : Option Stamp) (id : List ℕ) (names : List (List ℕ)) (bytes : List ℕ) (m : Option Moment) → (given : List Event) × (now : Option Stamp) × (within (inner last id names) (record { id = id; tags = names; details = None }) bytes (time_with m) ≡ record { given = given; state = inner now id names }) × AreQuiet t given
 inner_time t last id names bytes None = (line_event bytes ∷ [], last, refl, (inl refl, tt))
-inner_time t last id names bytes (Some m) = ([], Some (stamp_of m), refl, tt)
+inner_time t last id names bytes (Some m) = ([], Some (stamp_at m), refl, tt)
 
 -- a line where no test is open
 pub at_outer : (last : Option Stamp) (bytes : List ℕ) → IsShown bytes → step (outer last) (line (line_with bytes)) ≡ outside (outer last) bytes (line_of bytes)

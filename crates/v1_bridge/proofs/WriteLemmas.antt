@@ -15,7 +15,7 @@ use Rattle.outcome_fold.specs.Parts.{test_of, ended_by}
 use Rattle.outcome_fold.specs.Folded.{HasSeen}
 use Rattle.outcome_fold.specs.Order.{in_byte_order}
 use Rattle.outcome_fold.specs.EndedParts.{completed_part, part_completing, open_parts}
-use Rattle.v1_bridge.specs.Writing.{last_behind, note_text, event_text, completed_text, file_bytes, outside_bytes, part_text, parts_text, seen_with, events_behind, events_among, text_behind, text_so_far, last_byte, added_text, text_at_end, is_written, newline_behind, time_line, test_line, tags_line, outcome_word, outcome_line, shown_id, has_details, detail_lines, lines_of_part}
+use Rattle.v1_bridge.specs.Writing.{last_behind, note_text, event_text, completed_text, file_bytes, outside_bytes, part_text, parts_text, seen_with, events_behind, events_in, text_behind, text_so_far, last_byte, added_text, text_at_end, is_written, newline_behind, time_line, test_line, tags_line, outcome_word, outcome_line, shown_id, has_details, detail_lines, lines_of_part}
 
 pub last_then : (before : ℕ) (xs ys : List ℕ) → last_behind before (xs ++ ys) ≡ last_behind (last_behind before xs) ys
 last_then before [] ys = refl
@@ -81,23 +81,23 @@ of_part last seen e part is = by_test (test_of e) refl
     by_test (Some test) some = ap (completed_text last) is
 
 -- what is written of an event
-pub added_is : (notes : List Note) (e : Event) (last : ℕ) (text : List ℕ) → last ≡ last_byte notes → text ≡ event_text last (events_among notes) e (test_of e) → text ≡ added_text notes (note.Event e)
-added_is notes e last text at is = is ∙ ap (λ b. event_text b (events_among notes) e (test_of e)) at
+pub added_is : (notes : List Note) (e : Event) (last : ℕ) (text : List ℕ) → last ≡ last_byte notes → text ≡ event_text last (events_in notes) e (test_of e) → text ≡ added_text notes (note.Event e)
+added_is notes e last text at is = is ∙ ap (λ b. event_text b (events_in notes) e (test_of e)) at
 
 -- it is appended
-pub text_added : (notes : List Note) (e : Event) (last : ℕ) (old new text : List ℕ) → last ≡ last_byte notes → new ≡ old ++ text → text ≡ event_text last (events_among notes) e (test_of e) → new ≡ old ++ added_text notes (note.Event e)
+pub text_added : (notes : List Note) (e : Event) (last : ℕ) (old new text : List ℕ) → last ≡ last_byte notes → new ≡ old ++ text → text ≡ event_text last (events_in notes) e (test_of e) → new ≡ old ++ added_text notes (note.Event e)
 text_added notes e last old new text at more is = more ∙ ap (λ (l : List ℕ). old ++ l) (added_is notes e last text at is)
 
-pub last_added : (notes : List Note) (e : Event) (last now : ℕ) (text : List ℕ) → last ≡ last_byte notes → now ≡ last_behind last text → text ≡ event_text last (events_among notes) e (test_of e) → now ≡ last_byte (notes ++ note.Event e ∷ [])
+pub last_added : (notes : List Note) (e : Event) (last now : ℕ) (text : List ℕ) → last ≡ last_byte notes → now ≡ last_behind last text → text ≡ event_text last (events_in notes) e (test_of e) → now ≡ last_byte (notes ++ note.Event e ∷ [])
 last_added notes e last now text at after is = last_push notes (note.Event e) last text now at (added_is notes e last text at is) after
 
 -- the events that a fold has seen, with one more
-pub seen_more : (fold now : Fold) (notes : List Note) (e : Event) → now ≡ fold → HasSeen fold (events_among notes ++ e ∷ []) → HasSeen now (events_among (notes ++ note.Event e ∷ []))
-seen_more fold now notes e same seen = subst (λ (f : Fold). HasSeen f (events_among (notes ++ note.Event e ∷ []))) (sym same) (subst (HasSeen fold) (sym (events_push [] notes (note.Event e))) seen)
+pub seen_more : (fold now : Fold) (notes : List Note) (e : Event) → now ≡ fold → HasSeen fold (events_in notes ++ e ∷ []) → HasSeen now (events_in (notes ++ note.Event e ∷ []))
+seen_more fold now notes e same seen = subst (λ (f : Fold). HasSeen f (events_in (notes ++ note.Event e ∷ []))) (sym same) (subst (HasSeen fold) (sym (events_push [] notes (note.Event e))) seen)
 
 -- foreign bytes more
-pub seen_still : (fold now : Fold) (notes : List Note) (bytes : List ℕ) → now ≡ fold → HasSeen fold (events_among notes) → HasSeen now (events_among (notes ++ note.Foreign bytes ∷ []))
-seen_still fold now notes bytes same seen = subst (λ (f : Fold). HasSeen f (events_among (notes ++ note.Foreign bytes ∷ []))) (sym same) (subst (HasSeen fold) (sym (events_push [] notes (note.Foreign bytes))) seen)
+pub seen_still : (fold now : Fold) (notes : List Note) (bytes : List ℕ) → now ≡ fold → HasSeen fold (events_in notes) → HasSeen now (events_in (notes ++ note.Foreign bytes ∷ []))
+seen_still fold now notes bytes same seen = subst (λ (f : Fold). HasSeen f (events_in (notes ++ note.Foreign bytes ∷ []))) (sym same) (subst (HasSeen fold) (sym (events_push [] notes (note.Foreign bytes))) seen)
 
 -- the bytes of a file that is told or not
 pub file_is : (file : Option FilePart) (bytes : List ℕ) → ◌≡◌ {A = Option (List ℕ)} (Some bytes) (option_map (λ (file : FilePart). file.bytes) file) → bytes ≡ file_bytes file
@@ -114,7 +114,7 @@ outside_none None file none = none
 outside_none (Some id) file none = refl
 
 -- what is written at the end
-pub ends_with : (notes : List Note) (last : ℕ) (parts : List EndedPart) (old new : List ℕ) → last ≡ last_byte notes → parts ≡ open_parts (events_among notes) → new ≡ old ++ parts_text last parts → new ≡ old ++ text_at_end notes
+pub ends_with : (notes : List Note) (last : ℕ) (parts : List EndedPart) (old new : List ℕ) → last ≡ last_byte notes → parts ≡ open_parts (events_in notes) → new ≡ old ++ parts_text last parts → new ≡ old ++ text_at_end notes
 ends_with notes last parts old new at is more = more ∙ (λ i. old ++ parts_text (at i) (is i))
 
 -- one part more

@@ -40,13 +40,13 @@ abbrev pub nanos_fit : (nanos : ℕ) → min nanos 999999999 < 2 ^ 30
 nanos_fit nanos = lt_of_le_of_lt (min-le_right nanos 999999999) (lit< tt)
 
 -- the moment as an event tells it; its nanoseconds are fewer than 10^9
-abbrev pub stamp_of : Moment → Stamp
-stamp_of m = record { seconds = m.seconds; nanos = min m.nanos 999999999; nanos_fit = nanos_fit m.nanos }
+abbrev pub stamp_at : Moment → Stamp
+stamp_at m = record { seconds = m.seconds; nanos = min m.nanos 999999999; nanos_fit = nanos_fit m.nanos }
 
 -- a line of a time, where there is one
 abbrev pub time_with : Option Moment → Line
 time_with None = other
-time_with (Some moment) = time (stamp_of moment)
+time_with (Some moment) = time (stamp_at moment)
 
 -- a word that begins a test, a colon and a space, and what stands behind them
 abbrev pub test_of : List ℕ → Option (List ℕ)

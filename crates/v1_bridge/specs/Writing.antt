@@ -163,8 +163,8 @@ abbrev pub events_behind : List Event → List Note → List Event
 events_behind seen [] = seen
 events_behind seen (n ∷ notes) = events_behind (seen_with seen n) notes
 
-abbrev pub events_among : List Note → List Event
-events_among notes = events_behind [] notes
+abbrev pub events_in : List Note → List Event
+events_in notes = events_behind [] notes
 
 -- what is written of notes behind this byte, where these events came before them
 abbrev pub text_behind : ℕ → List Event → List Note → List ℕ
@@ -182,7 +182,7 @@ last_byte notes = last_behind 10 (text_so_far notes)
 
 -- what is written of one note more
 abbrev pub added_text : List Note → Note → List ℕ
-added_text notes n = note_text (last_byte notes) (events_among notes) n
+added_text notes n = note_text (last_byte notes) (events_in notes) n
 
 -- what is written of parts behind this byte
 abbrev pub parts_text : ℕ → List EndedPart → List ℕ
@@ -191,7 +191,7 @@ parts_text last (p ∷ parts) = part_text last p ++ parts_text (last_behind last
 
 -- what is written at the end: the open tests, by route and id
 abbrev pub text_at_end : List Note → List ℕ
-text_at_end notes = parts_text (last_byte notes) (open_parts (events_among notes))
+text_at_end notes = parts_text (last_byte notes) (open_parts (events_in notes))
 
 abbrev pub v1_text : List Note → List ℕ
 v1_text notes = text_so_far notes ++ text_at_end notes

@@ -129,14 +129,14 @@ fn time_with(instant: Option<Instant>) -> Line<'static>
     ensures within { (most : ℕ) → HasShortParts result most }
 {
     match instant {
-        Some(instant) => Line::Time(stamp_of(instant)),
+        Some(instant) => Line::Time(stamp_at(instant)),
         None => Line::Other,
     }
 }
 
-fn stamp_of(instant: Instant) -> Stamp
+fn stamp_at(instant: Instant) -> Stamp
     requires { instant.nanos < 1_000_000_000 }
-    ensures { result ≡ spec.stamp_of (meant instant) }
+    ensures { result ≡ spec.stamp_at (meant instant) }
 {
     Stamp {
         seconds: instant.seconds,
