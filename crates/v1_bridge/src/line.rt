@@ -74,6 +74,15 @@ pub(crate) fn content(line: &[u8]) -> &[u8]
     without_return(without_newline(line))
 }
 
+// Whether the word stands at the front of the line. The first two bytes tell most lines apart, so they are asked first.
+#[inline(always)]
+fn begins(line: &[u8], word: &[u8]) -> bool
+    requires { 2 ≤ length word.now }
+    ensures { result ≡ spec.begins word.now line.now }
+{
+    line.len() >= 2 && line[0] == word[0] && line[1] == word[1] && line.starts_with(word)
+}
+
 fn ended_as<'a>(how: Status, rest: &'a [u8]) -> Option<Outcome<'a>>
     ensures { option_map ended_meant result ≡ spec.ended_as how rest.now }
 {
@@ -84,25 +93,25 @@ fn ended_as<'a>(how: Status, rest: &'a [u8]) -> Option<Outcome<'a>>
 fn outcome_of(line: &[u8]) -> Option<Outcome<'_>>
     ensures { option_map ended_meant result ≡ spec.outcome_of line.now }
 {
-    if line.starts_with(b"success: ") {
+    if begins(line, b"success: ") {
         return ended_as(Status::Success, behind(line, 9));
     }
-    if line.starts_with(b"successful: ") {
+    if begins(line, b"successful: ") {
         return ended_as(Status::Success, behind(line, 12));
     }
-    if line.starts_with(b"failure: ") {
+    if begins(line, b"failure: ") {
         return ended_as(Status::Fail, behind(line, 9));
     }
-    if line.starts_with(b"error: ") {
+    if begins(line, b"error: ") {
         return ended_as(Status::Fail, behind(line, 7));
     }
-    if line.starts_with(b"skip: ") {
+    if begins(line, b"skip: ") {
         return ended_as(Status::Skip, behind(line, 6));
     }
-    if line.starts_with(b"xfail: ") {
+    if begins(line, b"xfail: ") {
         return ended_as(Status::XFail, behind(line, 7));
     }
-    if line.starts_with(b"uxsuccess: ") {
+    if begins(line, b"uxsuccess: ") {
         return ended_as(Status::UxSuccess, behind(line, 11));
     }
     None
@@ -113,10 +122,10 @@ fn test_of(line: &[u8]) -> Option<&[u8]>
     ensures meant { option_map (λ id. id.now) result ≡ spec.test_of line.now }
     ensures within { IfSome result (λ id. length id.now ≤ length line.now) }
 {
-    if line.starts_with(b"test: ") {
+    if begins(line, b"test: ") {
         return Some(behind(line, 6));
     }
-    if line.starts_with(b"testing: ") {
+    if begins(line, b"testing: ") {
         return Some(behind(line, 9));
     }
     None
@@ -191,13 +200,13 @@ fn other_of(line: &[u8]) -> Line<'_>
     ensures meant { line_meant result ≡ spec.other_of line.now }
     ensures within { HasShortParts result (length line.now) }
 {
-    if line.starts_with(b"time: ") {
+    if begins(line, b"time: ") {
         return time_with(instant_of(behind(line, 6)));
     }
-    if line.starts_with(b"tags: ") {
+    if begins(line, b"tags: ") {
         return Line::Tags(behind(line, 6));
     }
-    if line.starts_with(b"progress: ") {
+    if begins(line, b"progress: ") {
         return progress_with(behind(line, 10));
     }
     Line::Other

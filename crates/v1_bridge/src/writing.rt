@@ -1,6 +1,6 @@
 //! The lines of one part of a test.
 
-ghost use Rattle.std.specs.Prelude.{◌≡◌, ◌++◌, ◌∷◌, [], ◌+◌, ◌≤◌, ◌<◌, map, length, take, drop, nat_eq, OnOk};
+ghost use Rattle.std.specs.Prelude.{◌≡◌, ◌++◌, ◌∷◌, [], ◌+◌, ◌≤◌, ◌<◌, map, length, take, drop, nat_eq, IsTrue, OnOk};
 ghost use Rattle.std.specs.List.{list_all, list_any};
 ghost use Rattle.v1_bridge.specs.Writing as spec;
 ghost use Rattle.v1_bridge.specs.Cutting.{line_size as size_of_line};
@@ -44,24 +44,33 @@ fn put_replaced(id: &[u8], out: &mut Vec<u8>) -> Result<(), NoMemory>
     Ok(())
 }
 
-// Appends the id as a line shows it. Most ids are shown as they are.
-fn put_id(id: &[u8], out: &mut Vec<u8>) -> Result<(), NoMemory>
+// Whether the id is shown as it is, as most ids are.
+fn is_shown_as_it_is(id: &[u8]) -> bool
+    ensures { IsTrue result → spec.shown_id id.now ≡ id.now }
+{
+    id.len() > 0 && !id.iter().any(|byte| shown_byte(*byte) != *byte)
+}
+
+// Appends the id as a line shows it. Whether that is as it is was asked before, once for both lines that have the id.
+fn put_id(id: &[u8], as_it_is: bool, out: &mut Vec<u8>) -> Result<(), NoMemory>
+    requires { IsTrue as_it_is → spec.shown_id id.now ≡ id.now }
     ensures { OnOk result (out.new.items ≡ out.old.items ++ spec.shown_id id.now) }
 {
+    if as_it_is {
+        return put(id, out);
+    }
     if id.len() == 0 {
         return put(b"?", out);
     }
-    if id.iter().any(|byte| shown_byte(*byte) != *byte) {
-        return put_replaced(id, out);
-    }
-    put(id, out)
+    put_replaced(id, out)
 }
 
-fn put_test_line(id: &[u8], out: &mut Vec<u8>) -> Result<(), NoMemory>
+fn put_test_line(id: &[u8], as_it_is: bool, out: &mut Vec<u8>) -> Result<(), NoMemory>
+    requires { IsTrue as_it_is → spec.shown_id id.now ≡ id.now }
     ensures { OnOk result (out.new.items ≡ out.old.items ++ spec.test_line id.now) }
 {
     put(b"test: ", out)?;
-    put_id(id, out)?;
+    put_id(id, as_it_is, out)?;
     put(b"\n", out)
 }
 
@@ -224,11 +233,18 @@ fn put_details(how: Ended, text: &[u8], out: &mut Vec<u8>) -> Result<(), NoMemor
     put(b"]\n", out)
 }
 
-fn put_outcome(how: Ended, id: &[u8], text: &[u8], out: &mut Vec<u8>) -> Result<(), NoMemory>
+fn put_outcome(
+    how: Ended,
+    id: &[u8],
+    as_it_is: bool,
+    text: &[u8],
+    out: &mut Vec<u8>,
+) -> Result<(), NoMemory>
+    requires { IsTrue as_it_is → spec.shown_id id.now ≡ id.now }
     ensures { OnOk result (out.new.items ≡ out.old.items ++ spec.outcome_line how id.now text.now) }
 {
     put(outcome_word(how), out)?;
-    put_id(id, out)?;
+    put_id(id, as_it_is, out)?;
     put_details(how, text, out)
 }
 
@@ -243,9 +259,11 @@ pub(crate) fn put_part(part: EndedPart, out: &mut Vec<u8>) -> Result<(), NoMemor
         end,
     } = part;
     let Started { start, tags, text } = started;
+    let id = key.id.bytes();
+    let as_it_is = is_shown_as_it_is(id);
     put_time(start, out)?;
-    put_test_line(key.id.bytes(), out)?;
+    put_test_line(id, as_it_is, out)?;
     put_tags_line(in_order(tags).list(), out)?;
     put_time(end, out)?;
-    put_outcome(ended, key.id.bytes(), text.into_bytes().bytes(), out)
+    put_outcome(ended, id, as_it_is, text.into_bytes().bytes(), out)
 }
