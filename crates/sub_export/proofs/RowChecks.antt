@@ -71,6 +71,10 @@ without_failures = refl
 last_of_empty_file : (a : Attachment) → last_event (record { stamp = None; id = None; status = status.Unset; tags = []; attachment = Some a }) ≡ record { stamp = None; id = None; tags = None; runnable = true; status = status.Unset; mime = None; file = None; eof = true; route = None }
 last_of_empty_file a = refl
 
-attached : job_if (told_by (valued (codes "--attach-file") (codes "-") ∷ []) None) ≡ Some (record { stamp = None; id = None; status = status.Unset; tags = []; attachment = Some (record { name = codes "stdin"; mime = None }) })
+attached : job_if (told_by (valued (codes "--attach-file") (codes "-") ∷ []) None) ≡ Some (record { stamp = None; id = None; status = status.Unset; tags = []; attachment = Some (record { path = None; name = codes "stdin"; mime = None }) })
 unfolding canonical_fields longest_bytes
 attached = refl
+
+attached_by_name : job_if (told_by (valued (codes "--attach-file") (codes "log") ∷ []) None) ≡ Some (record { stamp = None; id = None; status = status.Unset; tags = []; attachment = Some (record { path = Some (codes "log"); name = codes "log"; mime = None }) })
+unfolding canonical_fields longest_bytes
+attached_by_name = refl

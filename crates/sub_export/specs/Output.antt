@@ -42,6 +42,10 @@ piece_of stamp id attachment bytes = record {
 abbrev pub piece_event : Job → List ℕ → Option Event
 piece_event job bytes = option_map (λ attachment. piece_of job.stamp job.id attachment bytes) job.attachment
 
+-- the path of the file that the job attaches, where it is not standard input
+abbrev pub path_of : Job → Option (List ℕ)
+path_of job = option_and_then (λ attachment. attachment.path) job.attachment
+
 -- the last event
 abbrev pub last_event : Job → Event
 last_event job = record {
@@ -151,18 +155,20 @@ pub record Told : Type 0 where
   pub mime : Option (List ℕ)
   pub time : Option (List ℕ)
 
--- only standard input is attached
-abbrev pub is_standard : Option (List ℕ) → Bool
-is_standard None = true
-is_standard (Some file) = bytes_eq file (codes "-")
-
 -- A status or a file is told. Tags stand beside a status, a name and a type beside a file.
 abbrev pub agrees : Told → Bool
 agrees t =
     (is_some t.verdict || is_some t.attached)
     && ((is_some t.verdict || length t.tags == 0)
-    && ((is_some t.attached || not (is_some t.name || is_some t.mime))
-    && is_standard t.attached))
+    && (is_some t.attached || not (is_some t.name || is_some t.mime)))
+
+-- the path of the file that is read; a dash stands for standard input, which has none
+abbrev pub path_named : List ℕ → Option (List ℕ)
+path_named file = if bytes_eq file (codes "-") then None else Some file
+
+-- the name that a file has of its own
+abbrev pub own_name : List ℕ → List ℕ
+own_name file = if bytes_eq file (codes "-") then codes "stdin" else file
 
 -- the job that is told so
 abbrev pub job_with : Told → Job
@@ -171,7 +177,7 @@ job_with t = record {
   id = option_map (λ v. v.id) t.verdict;
   status = unwrap_or (option_map (λ v. v.status) t.verdict) status.Unset;
   tags = t.tags;
-  attachment = option_map (λ file. record { name = unwrap_or t.name (codes "stdin"); mime = t.mime }) t.attached;
+  attachment = option_map (λ file. record { path = path_named file; name = unwrap_or t.name (own_name file); mime = t.mime }) t.attached;
 }
 
 -- the event is not too long for a packet

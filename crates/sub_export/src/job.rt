@@ -20,6 +20,8 @@ use sub_number::{Bytes, NoMemory, Text};
 /// A file whose pieces become events.
 #[derive(Drop)]
 pub(crate) struct Attachment {
+    /// The path of the file that is read, where it is not standard input.
+    pub path: Option<Text>,
     /// The name that it goes by.
     pub name: Text,
     /// Its type, where it is told.
@@ -157,14 +159,34 @@ fn job_fits(alloc: Global, job: &Job) -> Result<bool, NoMemory>
     longest_piece_fits(alloc, job.stamp, &job.id, &job.attachment)
 }
 
-// The name of the file, where none is told.
-fn name_or_stdin(alloc: Global, name: Option<&str>) -> Result<Text, NoMemory>
-    ensures { IfOk result (λ text. text ≡ unwrap_or (option_map (λ name. name.now) name.entry) (codes "stdin")) }
+// The name that a file has of its own.
+fn own_name(alloc: Global, file: &str) -> Result<Text, NoMemory>
+    ensures { IfOk result (λ text. text ≡ spec.own_name file.now) }
+{
+    if file == "-" {
+        return word_text(alloc, "stdin");
+    }
+    word_text(alloc, file)
+}
+
+// The name that a file goes by.
+fn name_or_own(alloc: Global, name: Option<&str>, file: &str) -> Result<Text, NoMemory>
+    ensures { IfOk result (λ text. text ≡ unwrap_or (option_map (λ name. name.now) name.entry) (spec.own_name file.now)) }
 {
     match name {
         Some(name) => word_text(alloc, name),
-        None => word_text(alloc, "stdin"),
+        None => own_name(alloc, file),
     }
+}
+
+// The path of the file that is read, where it is not standard input.
+fn path_named(alloc: Global, file: &str) -> Result<Option<Text>, NoMemory>
+    ensures { IfOk result (λ path. path ≡ spec.path_named file.now) }
+{
+    if file == "-" {
+        return Ok(None);
+    }
+    Ok(Some(word_text(alloc, file)?))
 }
 
 // The word as a text, where there is one.
@@ -197,30 +219,20 @@ fn agrees(told: &Told<'_>) -> bool
     (has_status || has_file)
         && (has_status || told.tags.list().is_empty())
         && (has_file || !(told.name.is_some() || told.mime.is_some()))
-        && is_standard(told.attached)
-}
-
-// Whether the file that is attached, where one is, is standard input.
-fn is_standard(file: Option<&str>) -> bool
-    ensures { result ≡ spec.is_standard (option_map (λ file. file.now) file.entry) }
-{
-    match file {
-        Some(file) => file == "-",
-        None => true,
-    }
 }
 
 // The attached file, where one is told.
 fn attachment_with(alloc: Global, told: &Told<'_>) -> Result<Option<Attachment>, NoMemory>
     ensures { IfOk result (λ attachment. attachment ≡ (spec.job_with (told_meant told.now)).attachment) }
 {
-    if told.attached.is_none() {
-        return Ok(None);
+    match told.attached {
+        Some(file) => Ok(Some(Attachment {
+            path: path_named(alloc, file)?,
+            name: name_or_own(alloc, told.name, file)?,
+            mime: text_if(alloc, told.mime)?,
+        })),
+        None => Ok(None),
     }
-    Ok(Some(Attachment {
-        name: name_or_stdin(alloc, told.name)?,
-        mime: text_if(alloc, told.mime)?,
-    }))
 }
 
 // The stamp of the time that is told, where one is.

@@ -1,6 +1,6 @@
 //! Events from words.
 
-ghost use Rattle.std.specs.Prelude.{◌≡◌, ◌≤◌, length, Some, IsTrue, IfOk, is_some};
+ghost use Rattle.std.specs.Prelude.{◌≡◌, ◌≤◌, length, Some, IsTrue, IfOk, is_some, option_map};
 ghost use Rattle.command_words.specs.Items.{texts};
 ghost use Rattle.packet_codec.specs.Canonical.{Fits};
 ghost use Rattle.sub_export.specs.Output as spec;
@@ -9,7 +9,7 @@ use crate::job::{Job, job_of, last_event, piece_of};
 use packet_codec::Event;
 use std::alloc::Global;
 use std::marker::Model;
-use sub_number::NoMemory;
+use sub_number::{NoMemory, Text};
 
 /// The events that words ask for. Contracts see it as what it tells of a test.
 #[derive(Drop)]
@@ -44,14 +44,24 @@ impl OutputJob {
         }
     }
 
-    /// Whether the standard input is attached.
+    /// Whether a file is attached.
     pub fn attaches(&self) -> bool
         ensures { result ≡ is_some self.now.attachment }
     {
         self.job.attachment.is_some()
     }
 
-    /// The event of a piece of the standard input.
+    /// The path of the file that is attached. None comes exactly where none is, or where it is standard input.
+    pub fn path(&self) -> Option<&Text>
+        ensures { option_map (λ path. path.now) result ≡ spec.path_of self.now }
+    {
+        match &self.job.attachment {
+            Some(attachment) => attachment.path.as_ref(),
+            None => None,
+        }
+    }
+
+    /// The event of a piece of the file.
     pub fn piece(&self, bytes: &[u8]) -> Result<Event, NoMemory>
         requires attaches { IsTrue (is_some self.now.attachment) }
         requires short { length bytes.now ≤ spec.piece_size }
