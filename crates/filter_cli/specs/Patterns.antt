@@ -1,7 +1,8 @@
 -- Patterns that a filter is given, and what is told of a bad one (docs/COMMANDS.md, "Refusals").
-use Rattle.std.specs.Prelude.{◌≡◌, ℕ, ⊤, All, List, [], ◌∷◌, ◌++◌, codes, slice_index_or, Result, Ok, Err}
+use Rattle.std.specs.Prelude.{ℕ, ⊤, All, List, [], ◌∷◌, ◌++◌, codes, Result, Ok, Err}
 use Rattle.event_sift.specs.declared.rules.Rules.{Rules}
-use Rattle.partition_times.specs.Patterns.{IsPattern, IsFirstBad}
+use Rattle.partition_times.specs.Patterns.{IsPattern}
+pub use Rattle.partition_times.specs.Patterns.{IsFirstBadText}
 use Rattle.filter_cli.specs.declared.selection.Selection.{Selection}
 use Rattle.filter_cli.specs.declared.patterns.PatternsFault.{PatternsFault}
 use Rattle.filter_cli.specs.declared.patterns.PatternsFault.TheVariants.{Bad, NoMemory}
@@ -19,12 +20,7 @@ rules_of selection = record {
   without_ids = selection.without_ids;
 }
 
--- the first bad one of the patterns, as they came
-pub record IsFirstBadText (patterns : List (List ℕ)) (text : List ℕ) : Type 0 where
-  pub index : ℕ
-  pub first : IsFirstBad patterns index
-  pub there : text ≡ slice_index_or patterns index []
-
+-- the patterns are refused so: the first bad one is named, or memory was wanting
 abbrev pub AreRefused : List (List ℕ) → PatternsFault → Type 0
 AreRefused patterns (Bad text) = IsFirstBadText patterns text
 AreRefused patterns NoMemory = ⊤

@@ -1,5 +1,5 @@
 -- What the options of `subunit-filter` and `subunit2csv` ask for (docs/COMMANDS.md, "subunit-filter", "subunit2csv").
-use Rattle.std.specs.Prelude.{ℕ, Bool, true, false, ◌||◌, Option, Some, None, List, [], ◌∷◌, codes, if◌then◌else◌}
+use Rattle.std.specs.Prelude.{ℕ, Bool, true, false, ◌||◌, Option, Some, None, List, codes, if◌then◌else◌}
 use Rattle.std.specs.List.{flat_map, fold}
 use Rattle.std.specs.Option.{option_to_list}
 use Rattle.std.specs.Str.{bytes_eq}
@@ -55,17 +55,18 @@ adds_to added.WithId option = bytes_eq option (codes "--with-id")
 adds_to added.WithoutId option = bytes_eq option (codes "--without-id")
 adds_to added.Pattern option = bytes_eq option (codes "--with-id") || bytes_eq option (codes "--without-id")
 
-abbrev pub value_in : Added → Item → Option (List ℕ)
-value_in a (flag given) = None
-value_in a (valued option value) = if adds_to a option then Some value else None
-value_in a (name word) = None
+-- the value that the item adds to this
+abbrev pub value_added : Added → Item → Option (List ℕ)
+value_added a (flag given) = None
+value_added a (valued option value) = if adds_to a option then Some value else None
+value_added a (name word) = None
 
--- the values, in the order of the words
-abbrev pub values_in : Added → List Item → List (List ℕ)
-values_in a items = flat_map (λ item. option_to_list (value_in a item)) items
+-- the values that the items add to this, in their order
+abbrev pub values_added : Added → List Item → List (List ℕ)
+values_added a items = flat_map (λ item. option_to_list (value_added a item)) items
 
 abbrev pub patterns_in : List Item → List (List ℕ)
-patterns_in items = values_in added.Pattern items
+patterns_in items = values_added added.Pattern items
 
 -- ---- all of it
 
@@ -77,10 +78,10 @@ selection_from success hidden items = record {
   skip = stands switch.Skip true items;
   xfail = stands switch.XFail true items;
   hidden = stands switch.Hidden hidden items;
-  with_tags = values_in added.WithTag items;
-  without_tags = values_in added.WithoutTag items;
-  with_ids = values_in added.WithId items;
-  without_ids = values_in added.WithoutId items;
+  with_tags = values_added added.WithTag items;
+  without_tags = values_added added.WithoutTag items;
+  with_ids = values_added added.WithId items;
+  without_ids = values_added added.WithoutId items;
   patterns = patterns_in items;
 }
 

@@ -43,11 +43,11 @@ fn has_refused(words: &[String]) -> bool
 fn is_refused(word: &str) -> bool
     ensures { result ≡ retagging.is_refused word.now }
 {
-    word.is_empty() || word == "-" || !is_text(word)
+    word.is_empty() || word == "-" || !is_word(word)
 }
 
 // Whether a word, which is UTF-8, has no NUL and is short enough for a text.
-fn is_text(word: &str) -> bool
+fn is_word(word: &str) -> bool
     ensures { result ≡ items.is_text word.now }
 {
     !word.as_bytes().contains(&0) && word.len() < 1 << 30

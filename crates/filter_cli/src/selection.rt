@@ -146,8 +146,8 @@ fn is_or_genuine(flag: &str, key: &str) -> bool
 }
 
 // The value of the item, where it is an option that adds to this.
-fn value_in<'a>(added: Added, item: &Item<'a>) -> Option<&'a str>
-    ensures { option_map (λ value. value.now) result ≡ selecting.value_in added (shown item.now) }
+fn value_added<'a>(added: Added, item: &Item<'a>) -> Option<&'a str>
+    ensures { option_map (λ value. value.now) result ≡ selecting.value_added added (shown item.now) }
 {
     match item {
         Item::Valued(name, value) if adds_to(added, name) => Some(value),
@@ -178,11 +178,11 @@ pub(crate) fn word_text(alloc: Global, word: &str) -> Result<Text, NoMemory>
 }
 
 fn tags_in(alloc: Global, added: Added, items: &[Item<'_>]) -> Result<Tags, NoMemory>
-    ensures { IfOk result (λ tags. tags ≡ selecting.values_in added (map shown items.now)) }
+    ensures { IfOk result (λ tags. tags ≡ selecting.values_added added (map shown items.now)) }
 {
     let mut tags = Tags::new(alloc);
     for item in items {
-        if let Some(value) = value_in(added, item) {
+        if let Some(value) = value_added(added, item) {
             tags.push(word_text(alloc, value)?)?;
         }
     }
@@ -190,11 +190,11 @@ fn tags_in(alloc: Global, added: Added, items: &[Item<'_>]) -> Result<Tags, NoMe
 }
 
 fn ids_in(alloc: Global, added: Added, items: &[Item<'_>]) -> Result<IdList, NoMemory>
-    ensures { IfOk result (λ ids. ids ≡ selecting.values_in added (map shown items.now)) }
+    ensures { IfOk result (λ ids. ids ≡ selecting.values_added added (map shown items.now)) }
 {
     let mut ids = IdList::new(alloc);
     for item in items {
-        if let Some(value) = value_in(added, item) {
+        if let Some(value) = value_added(added, item) {
             ids.push(word_text(alloc, value)?)?;
         }
     }
@@ -206,7 +206,7 @@ fn patterns_in(alloc: Global, items: &[Item<'_>]) -> Result<Patterns, NoMemory>
 {
     let mut patterns = Patterns::new(alloc);
     for item in items {
-        if let Some(value) = value_in(Added::Pattern, item) {
+        if let Some(value) = value_added(Added::Pattern, item) {
             patterns.push(word_text(alloc, value)?)?;
         }
     }

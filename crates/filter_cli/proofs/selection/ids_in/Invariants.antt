@@ -4,4 +4,4 @@ use Rattle.filter_cli.specs.Selecting as selecting
 use Rattle.filter_cli.proofs.selection.ids_in.Given as goal
 
 abbrev pub invariant-loop-item : goal.invariant-loop-item
-invariant-loop-item l = l.ids ≡ selecting.values_in l.added (map shown (take l.item-index l.items))
+invariant-loop-item l = l.ids ≡ selecting.values_added l.added (map shown (take l.item-index l.items))

@@ -4,4 +4,4 @@ use Rattle.filter_cli.specs.Selecting as selecting
 use Rattle.filter_cli.proofs.selection.tags_in.Given as goal
 
 abbrev pub invariant-loop-item : goal.invariant-loop-item
-invariant-loop-item l = l.tags ≡ selecting.values_in l.added (map shown (take l.item-index l.items))
+invariant-loop-item l = l.tags ≡ selecting.values_added l.added (map shown (take l.item-index l.items))
