@@ -1,5 +1,5 @@
 -- What is counted of tests as they end, whatever the order of their rows.
-use Rattle.std.proofs.Common.{◌≡◌, ℕ, ◌+◌, ◌≤◌, ◌<◌, Bool, true, false, true≢false, not, ◌&&◌, ◌||◌, cond, nat_lt, List, [], ◌∷◌, ◌++◌, map, count_by, filter, flat_map, length, refl, sym, ap, ◌∙◌, append-nil, arith}
+use Rattle.std.proofs.Common.{◌≡◌, ℕ, ◌+◌, ◌≤◌, Bool, true, false, true≢false, not, ◌&&◌, ◌||◌, cond, nat_lt, List, [], ◌∷◌, ◌++◌, map, count_by, filter, flat_map, length, refl, sym, ap, ◌∙◌, append-nil, arith}
 use Rattle.std.specs.List.{list_any}
 use Rattle.std.specs.Ordering.{eq_by_cmp}
 use Rattle.std.proofs.lemmas.List.Sums.{length-filter}
@@ -13,7 +13,7 @@ use Rattle.outcome_fold.specs.declared.row.Row.{Row}
 use Rattle.outcome_fold.specs.declared.row.Counts.{Counts}
 use Rattle.outcome_fold.specs.Order.{text_cmp, in_byte_order, among}
 use Rattle.outcome_fold.specs.Rows.{is_failure, completed_rows, open_rows, rows_of}
-use Rattle.outcome_fold.specs.Answers.{is_existing, is_skip, is_run, is_counted, passes, row_fails, is_skipped, seen_tags_of, counts_of, status_of}
+use Rattle.outcome_fold.specs.Answers.{is_existing, is_skip, is_run, is_counted, passes, row_fails, is_skipped, seen_tags_of, counts_of}
 use Rattle.outcome_fold.proofs.TotalLemmas.{total, total_is, total_append}
 use Rattle.outcome_fold.proofs.LawLemmas.{as_many}
 use Rattle.outcome_fold.proofs.SetLemmas.{same_order, order_append}

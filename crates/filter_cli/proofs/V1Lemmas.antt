@@ -1,5 +1,5 @@
 -- A reader of lines of version 1 at work.
-use Rattle.std.proofs.Common.{◌≡◌, ℕ, ◌+◌, ◌-◌, ◌<◌, ◌≤◌, Bool, true, false, List, [], ◌∷◌, ◌++◌, map, length, take, drop, refl, sym, ap, subst, ◌∙◌, arith, append_assoc, append-nil, length-append}
+use Rattle.std.proofs.Common.{◌≡◌, ℕ, ◌+◌, ◌<◌, ◌≤◌, Bool, true, false, List, [], ◌∷◌, ◌++◌, map, length, take, drop, refl, sym, ap, subst, ◌∙◌, arith, append_assoc, append-nil, length-append}
 use Rattle.std.specs.List.{concat, flat_map}
 use Rattle.std.proofs.lemmas.List.{map-append, take-append-drop}
 use Rattle.std.proofs.lemmas.List.Concat.{flat_map-append}
@@ -13,14 +13,14 @@ use Rattle.v1_bridge.specs.Kept.{HasRead}
 use Rattle.v1_bridge.proofs.LineLemmas.{newline_gone}
 use Rattle.v1_bridge.proofs.RunLemmas.{so_far_push}
 use Rattle.filter_cli.specs.Pipe.{Adds}
-use Rattle.filter_cli.specs.Lines.{IsPlain, ArePlain, ended, IsSplit, last_line}
+use Rattle.filter_cli.specs.Lines.{IsPlain, ended, last_line}
 use Rattle.filter_cli.specs.Events.{packets_of}
 use Rattle.filter_cli.specs.TapLaws.{packets_then}
 use Rattle.filter_cli.specs.Tapped.{AreFull, most_open, GivesPieces, IsLonger}
 use Rattle.filter_cli.specs.V1.{inputs_of_lines, all_inputs, IsV1Filtered}
 use Rattle.filter_cli.specs.V1Laws.{plain_line, long_line, short_line}
 use Rattle.filter_cli.specs.V1Fed.{HasHeard, Hears, last_input, HasFed, IsAddedTo}
-use Rattle.filter_cli.proofs.TapLemmas.{adds_then, adds_none, plain_then, lines_more, full_then, kind_behind}
+use Rattle.filter_cli.proofs.TapLemmas.{adds_then, plain_then, lines_more, full_then, kind_behind}
 
 -- ---- what a reader was given
 

@@ -1,6 +1,6 @@
 -- The laws that a filter owes, of a job whose file is the input.
-use Rattle.std.proofs.Common.{◌≡◌, ℕ, ◌+◌, ◌*◌, ◌<◌, List, [], ◌∷◌, ◌++◌, length, refl, sym, ap, ◌∙◌, append_assoc, arith}
-use Rattle.std.specs.List.{concat, filter, flat_map}
+use Rattle.std.proofs.Common.{◌≡◌, ℕ, List, [], ◌∷◌, ◌++◌, length, sym, ap, ◌∙◌, append_assoc, arith}
+use Rattle.std.specs.List.{concat, filter}
 use Rattle.std.specs.Option.{option_to_list}
 use Rattle.std.proofs.lemmas.List.Concat.{flat_map-append}
 use Rattle.packet_codec.specs.declared.event.Event.{Event}
@@ -10,7 +10,6 @@ use Rattle.sub_export.specs.declared.job.Job.{Job}
 use Rattle.sub_export.specs.Output.{piece_event, pieces_of, output_events, last_event}
 use Rattle.filter_cli.specs.Events.{packets_of}
 use Rattle.filter_cli.specs.Tap.{is_full}
-use Rattle.filter_cli.specs.Tapped.{AreFull}
 use Rattle.filter_cli.specs.TapLaws.{behind_pieces, full_are, some_pieces}
 use Rattle.filter_cli.specs.Attached.{events_of_pieces, IsOutputSeen, IsOutput, HasAttached}
 

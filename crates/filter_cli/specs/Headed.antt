@@ -1,6 +1,6 @@
 -- A text in front of what a filter writes. `takes`, `sees` and `ends` are the filter's: what was fed and written, the text
 -- that first bytes decide, and the text and status of a whole stream.
-use Rattle.std.specs.Prelude.{◌≡◌, ℕ, ◌<◌, Bool, true, false, List, [], ◌∷◌, ◌++◌, length}
+use Rattle.std.specs.Prelude.{◌≡◌, ℕ, ◌<◌, Bool, true, false, List, [], ◌∷◌, length}
 use Rattle.filter_cli.specs.Pipe.{Adds}
 
 -- Before the first byte nothing is decided. From the first byte on, the text is, and what the filter's bytes decide.

@@ -1,7 +1,6 @@
 -- The laws that a filter owes, of a text in front of what a filter writes.
-use Rattle.std.proofs.Common.{◌≡◌, ℕ, ◌<◌, Bool, true, false, List, [], ◌∷◌, ◌++◌, length, refl, sym, ap, subst, ◌∙◌, append_assoc, arith}
+use Rattle.std.proofs.Common.{◌≡◌, ℕ, Bool, true, false, List, [], ◌∷◌, ◌++◌, sym, ap, subst, ◌∙◌, append_assoc, arith}
 use Rattle.packet_codec.specs.Grammar.{AreBytes}
-use Rattle.filter_cli.specs.Pipe.{Adds}
 use Rattle.filter_cli.specs.Headed.{IsSeenBelow, IsWholeBelow, HasBelow}
 
 pub below_seen : (head : List ℕ) (begun : Bool) (takes sees : List ℕ → List ℕ → Type 0) → ((fed shown : List ℕ) → takes fed shown → sees fed shown) → (fed shown : List ℕ) → HasBelow head begun takes fed shown → IsSeenBelow head sees fed shown

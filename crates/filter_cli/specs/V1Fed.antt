@@ -1,5 +1,5 @@
 -- A reader of lines of version 1 at work.
-use Rattle.std.specs.Prelude.{◌≡◌, ℕ, ◌≤◌, Bool, true, false, List, [], ◌∷◌, ◌++◌, length, map}
+use Rattle.std.specs.Prelude.{◌≡◌, ℕ, ◌≤◌, Bool, true, false, List, ◌++◌, length, map}
 use Rattle.std.specs.List.{concat}
 use Rattle.v1_bridge.specs.declared.reader.V1Reader.{V1Reader}
 use Rattle.v1_bridge.specs.Reading.{Input, line, piece, front_piece, events_so_far}

@@ -1,5 +1,3 @@
-use Rattle.std.proofs.Common.{subst, sym, List, ℕ, []}
-use Rattle.sub_export.specs.declared.job.Job.{Job}
 use Rattle.filter_cli.proofs.AttachLemmas.{attached_none, output_prefix}
 use Rattle.filter_cli.proofs.attaching.attach_stream.Goals as goal
 
