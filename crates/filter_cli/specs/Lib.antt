@@ -23,6 +23,7 @@ pub mod Words
 -- The top call.
 pub mod Steps
 pub mod Outside
+pub mod FileReads
 pub mod Streams
 pub mod Telling
 pub mod Refusals

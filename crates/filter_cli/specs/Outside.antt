@@ -1,20 +1,38 @@
 -- The outside at one moment.
-use Rattle.std.specs.Prelude.{◌⊎◌, ℕ, List}
+use Rattle.std.specs.Prelude.{◌⊎◌, ℕ, List, refl}
 use Rattle.edge_io.specs.Causes.{Rose}
+use Rattle.edge_io.specs.Chains.{Part}
+use Rattle.edge_io.specs.Disk.{Files}
 use Rattle.edge_io.specs.Seen.{Seen}
 use Rattle.filter_cli.specs.Pipe.{Pipe, pipe}
 
 pub record Outside : Type 0 where
+  pub site : Seen Files
   pub input : Seen (List ℕ)
   pub out : Seen (List ℕ)
   pub errors : Seen (List ℕ)
 
-abbrev pub outside : Seen (List ℕ) → Seen (List ℕ) → Seen (List ℕ) → Outside
-outside input out errors = record { input = input; out = out; errors = errors }
+abbrev pub outside : Seen Files → Seen (List ℕ) → Seen (List ℕ) → Seen (List ℕ) → Outside
+outside site input out errors = record { site = site; input = input; out = out; errors = errors }
 
 -- all but the errors' sink: what a filter may touch
-abbrev pub pipe_of : Outside → Pipe
-pipe_of w = pipe w.input w.out
+pub record Reach : Type 0 where
+  pub site : Seen Files
+  pub pipe : Pipe
+
+abbrev pub reach : Seen Files → Seen (List ℕ) → Seen (List ℕ) → Reach
+reach site input out = record { site = site; pipe = pipe input out }
+
+abbrev pub reach_of : Outside → Reach
+reach_of w = reach w.site w.input w.out
+
+-- the input and the output
+abbrev pub reach_pipe : Part Reach Pipe
+reach_pipe = record {
+  of = λ r. r.pipe;
+  put = λ r part. record { site = r.site; pipe = part };
+  of_put = λ r part. refl;
+}
 
 -- a count of faults rose
 abbrev pub SomeRose : Pipe → Pipe → Type 0

@@ -4,23 +4,24 @@ use Rattle.std.specs.Io.KnownBytes.{Appends}
 use Rattle.edge_io.specs.Bytes.{AppendsPrefix}
 use Rattle.edge_io.specs.Causes.{Rose}
 use Rattle.edge_io.specs.Seen.{Seen}
-use Rattle.filter_cli.specs.Steps.{Step, Then, Still, Gives}
+use Rattle.filter_cli.specs.Steps.{Step, Then, Still, Gives, At}
 use Rattle.filter_cli.specs.Pipe.{Pipe}
 use Rattle.filter_cli.specs.Pumping.{Pumps}
 use Rattle.filter_cli.specs.Attached.{WritesAlone}
 use Rattle.filter_cli.specs.declared.pass.PumpFault.{PumpFault}
 use Rattle.filter_cli.specs.Patterns.{Compiles}
 use Rattle.filter_cli.specs.Words.{Reads}
-use Rattle.filter_cli.specs.Streams.{Writing, writing_of, unread_text, sees_by, ends_by, patterns_of}
+use Rattle.filter_cli.specs.Streams.{Writing, writing_of, unread_text, sees_by, ends_by, patterns_of, file_of}
 use Rattle.filter_cli.specs.Refusals.{usage_fault, name_in, refusal_line, code_of}
-use Rattle.filter_cli.specs.Outside.{Outside, pipe_of}
+use Rattle.filter_cli.specs.FileReads.{FeedsFile}
+use Rattle.filter_cli.specs.Outside.{Outside, Reach, reach_of, reach_pipe}
 use Rattle.filter_cli.specs.declared.asked.Asked.{Asked}
 use Rattle.filter_cli.specs.declared.refusal.UsageFault.{UsageFault}
 use Rattle.filter_cli.specs.declared.refusal.Refusal.{Refusal}
-use Rattle.filter_cli.specs.declared.refusal.Refusal.TheVariants.{Usage, Memory, Patterns, Pump}
+use Rattle.filter_cli.specs.declared.refusal.Refusal.TheVariants.{Usage, Memory, Patterns, Pump, Attach}
 
 -- words that are no filter are refused, and touch nothing
-pub record Refuses (fault : UsageFault) (before after : Pipe) (outcome : Result ℕ Refusal) : Type 0 where
+pub record Refuses (fault : UsageFault) (before after : Reach) (outcome : Result ℕ Refusal) : Type 0 where
   pub usage : outcome ≡ Err (Usage fault)
   pub same : after ≡ before
 
@@ -41,11 +42,16 @@ Passes asked = Then Pump (PumpsOrLeaves (unread_text asked) (writing_of asked)) 
 abbrev pub Checked : Asked → Step Pipe ℕ Refusal
 Checked asked = Then Patterns (Still (Compiles {A = Unit {0}} (patterns_of asked))) (λ _. Passes asked)
 
-abbrev pub Performs : UsageFault → Option Asked → Step Pipe ℕ Refusal
-Performs fault None = Refuses fault
-Performs fault (Some asked) = Checked asked
+-- A file that is read by its name stands in the place of the input. A filter that reads one has no patterns.
+abbrev pub Takes : Option (List ℕ) → Asked → Step Reach ℕ Refusal
+Takes None asked = At reach_pipe (Checked asked)
+Takes (Some name) asked = Then (Attach name) (FeedsFile name (sees_by (writing_of asked)) (ends_by (writing_of asked))) (λ status. Gives status)
 
-abbrev pub Filters : List (List ℕ) → Step Pipe ℕ Refusal
+abbrev pub Performs : UsageFault → Option Asked → Step Reach ℕ Refusal
+Performs fault None = Refuses fault
+Performs fault (Some asked) = Takes (file_of asked) asked
+
+abbrev pub Filters : List (List ℕ) → Step Reach ℕ Refusal
 Filters words = Then Memory (Still (Reads words)) (λ asked. Performs (usage_fault words) asked)
 
 -- the line of a refusal went to the errors' sink: whole, or in part where that sink failed
@@ -60,5 +66,5 @@ pub record Tells (name : List ℕ) (outcome : Result ℕ Refusal) (before after 
 -- one outcome, which the steps made, and its line and its status
 pub record Answers (words : List (List ℕ)) (before after : Outside) (answer : ℕ) : Type 0 where
   pub outcome : Result ℕ Refusal
-  pub done : Filters words (pipe_of before) (pipe_of after) outcome
+  pub done : Filters words (reach_of before) (reach_of after) outcome
   pub told : Tells (name_in words) outcome before.errors after.errors answer

@@ -1,19 +1,22 @@
 -- What a call of the filters promises.
-use Rattle.std.specs.Prelude.{◌≡◌, ◌⊎◌, ℕ, ◌≤◌, Option, None, Some, IfSome, IsSomeAnd, List, length, Result, Err}
+use Rattle.std.specs.Prelude.{◌≡◌, ◌⊎◌, ℕ, ◌≤◌, ⊤, Option, None, Some, IfSome, IsSomeAnd, List, length, Result, Err}
 use Rattle.std.specs.Io.KnownBytes.{Appends}
 use Rattle.edge_io.specs.Causes.{Rose}
+use Rattle.edge_io.specs.Disk.{Files}
 use Rattle.packet_codec.specs.Grammar.{AreBytes}
 use Rattle.edge_io.specs.Bytes.{AppendsPrefix}
-use Rattle.filter_cli.specs.Pipe.{Pipe, NoFault}
+use Rattle.filter_cli.specs.FileReads.{file_pipe, IsAbsent, LeavesRest, SaysMissing}
+use Rattle.filter_cli.specs.Pipe.{Pipe, pipe, NoFault}
 use Rattle.filter_cli.specs.Pumping.{PumpsAll, ReadFails, WriteFails, IsTooLong, most_bytes}
 use Rattle.filter_cli.specs.Tools.{tool_of}
 use Rattle.filter_cli.specs.Words.{asked_of}
-use Rattle.filter_cli.specs.Streams.{AsksFor, HasBadPattern, IsSeenBy, IsFilteredBy, text_unread}
-use Rattle.filter_cli.specs.Outside.{Outside, pipe_of, SomeRose}
+use Rattle.filter_cli.specs.Streams.{AsksFor, HasBadPattern, IsSeenBy, IsFilteredBy, text_unread, file_in}
+use Rattle.filter_cli.specs.Outside.{Outside, reach_of, SomeRose}
 use Rattle.filter_cli.specs.Program.{Answers}
 use Rattle.filter_cli.specs.declared.asked.Asked.{Asked}
 use Rattle.filter_cli.specs.declared.refusal.Refusal.{Refusal}
-use Rattle.filter_cli.specs.declared.refusal.Refusal.TheVariants.{Pump}
+use Rattle.filter_cli.specs.declared.refusal.Refusal.TheVariants.{Pump, Attach}
+use Rattle.filter_cli.specs.declared.file_loop.FileFault.TheVariants as file_fault
 use Rattle.filter_cli.specs.declared.pass.PumpFault.TheVariants as pump_fault
 
 -- ---- where the input is left unread
@@ -53,6 +56,8 @@ OutputFails words (Some text) = GiveFails text
 abbrev pub FaultsOf : List (List ℕ) → Result ℕ Refusal → Pipe → Pipe → Type 0
 FaultsOf words (Err (Pump pump_fault.Input)) = ReadFails (IsSeenBy words)
 FaultsOf words (Err (Pump pump_fault.Output)) = OutputFails words (text_unread words)
+FaultsOf words (Err (Attach name file_fault.Read)) = ReadFails (IsSeenBy words)
+FaultsOf words (Err (Attach name file_fault.Output)) = OutputFails words (text_unread words)
 FaultsOf words outcome = NoFault
 
 -- no refusal but a fault or want of memory has a cause
@@ -62,26 +67,61 @@ pub record CanFilter (words : List (List ℕ)) (before : Pipe) : Type 0 where
   -- words that leave the input unread ask nothing of it
   pub short : text_unread words ≡ None → IsSomeAnd before.input.told (λ bytes. length bytes ≤ most_bytes)
 
+-- ---- what is read: the input, or a file by its name
+
+-- what was read up to a place, and the output; of the input the place says nothing
+abbrev pub feed_of : Option (List ℕ) → (place : ℕ) → Outside → Pipe
+feed_of None place w = pipe w.input w.out
+feed_of (Some name) place w = file_pipe name place (reach_of w)
+
+-- What the words do not read stays as it was, and no file changes. Where there is no file of the name, nothing is written.
+abbrev pub Rests : Option (List ℕ) → Outside → Outside → Type 0
+Rests None before after = after.site ≡ before.site
+Rests (Some name) before after = LeavesRest name (reach_of before) (reach_of after)
+
+-- a file is to be read, and there is none of its name, where the files are told
+abbrev pub IsMissing : Option (List ℕ) → Option Files → Type 0
+IsMissing None told = ⊥
+IsMissing (Some name) told = IsAbsent name told
+
+-- where the files are told, and there is none of the name that is to be read, the status says so
+abbrev pub RefusesMissing : Option (List ℕ) → Outside → Outside → ℕ → Type 0
+RefusesMissing None before after answer = ⊤
+RefusesMissing (Some name) before after answer = IfSome before.site.told (λ files. files name ≡ None → SaysMissing before.site after.site answer)
+
+-- ---- the promises
+
+-- What each call of the filters promises of what these words read and write, by its outcome. `before` and `after` have what
+-- they read in the place of the input.
+pub record Feeds (words : List (List ℕ)) (outcome : Result ℕ Refusal) (before after : Pipe) (answer : ℕ) : Type 0 where
+  -- all that is read was read, and the text of it was written; the status is its status; or words that leave the input
+  -- unread wrote their text
+  pub done : answer ≤ 1 → IsDone words (text_unread words) before after answer
+  -- at every exit a first part of the text was written, and nothing else
+  pub prefix : IfSome before.input.told (λ bytes. AreBytes bytes → (text : List ℕ) (status : ℕ) → IsFilteredBy words bytes text status → AppendsPrefix before.out.told after.out.told text)
+  -- words that leave the input unread do so at every exit, and then a first part of their text was written
+  pub unread : (text : List ℕ) → text_unread words ≡ Some text → GivesFirst text before after
+  -- what is said of faults, by the outcome
+  pub faults : FaultsOf words outcome before after
+  pub fault : answer ≡ 4 → ((text_unread words ≡ None) × ReadFails (IsSeenBy words) before after) ⊎ OutputFails words (text_unread words) before after
+  -- it does not give up without a cause
+  pub completeness : CanFilter words before → (SomeRose before after → ⊥) → (answer ≤ 1) ⊎ (answer ≡ 5)
+
 -- What each call of the filters promises, for these words, from the outside before it to that after it.
 pub record Promises (words : List (List ℕ)) (before after : Outside) (answer : ℕ) : Type 0 where
   -- there is one outcome, which the steps made, and the status and the line on the errors' sink are its own
   pub answers : Answers words before after answer
   pub most : answer ≤ 5
-  -- the whole input was read, and the text of it was written; the status is its status; or words that leave the input
-  -- unread wrote their text
-  pub done : answer ≤ 1 → IsDone words (text_unread words) (pipe_of before) (pipe_of after) answer
-  -- at every exit a first part of the text was written, and nothing else
-  pub prefix : IfSome before.input.told (λ bytes. AreBytes bytes → (text : List ℕ) (status : ℕ) → IsFilteredBy words bytes text status → AppendsPrefix before.out.told after.out.told text)
-  -- words that leave the input unread do so at every exit, and then a first part of their text was written
-  pub unread : (text : List ℕ) → text_unread words ≡ Some text → GivesFirst text (pipe_of before) (pipe_of after)
+  -- some place of a file that is named: a site does not tell how far it was read
+  pub place : ℕ
+  pub feeds : Feeds words answers.outcome (feed_of (file_in words) 0 before) (feed_of (file_in words) place after) answer
+  pub rests : Rests (file_in words) before after
+  -- a file that is not there is refused
+  pub missing : RefusesMissing (file_in words) before after answer
   -- words that are no filter, and bad patterns, touch nothing
-  pub nothing : (asked_of words ≡ None) ⊎ HasBadPattern words → pipe_of after ≡ pipe_of before
+  pub nothing : (asked_of words ≡ None) ⊎ HasBadPattern words → reach_of after ≡ reach_of before
   pub usage : answer ≡ 2 → asked_of words ≡ None
   -- words that are no filter are refused as such, or memory was wanting to read those behind a filter's name
   pub refused : asked_of words ≡ None → (answer ≡ 2) ⊎ ((answer ≡ 5) × (tool_of words ≡ None → ⊥))
-  pub named : answer ≡ 3 → HasBadPattern words ⊎ IsTooLong (pipe_of before)
-  -- what is said of faults, by the outcome
-  pub faults : FaultsOf words answers.outcome (pipe_of before) (pipe_of after)
-  pub fault : answer ≡ 4 → ReadFails (IsSeenBy words) (pipe_of before) (pipe_of after) ⊎ OutputFails words (text_unread words) (pipe_of before) (pipe_of after)
-  -- it does not give up without a cause
-  pub completeness : CanFilter words (pipe_of before) → (SomeRose (pipe_of before) (pipe_of after) → ⊥) → (answer ≤ 1) ⊎ (answer ≡ 5)
+  -- a pattern is bad, or what is read is too long, or there is no file of the name
+  pub named : answer ≡ 3 → HasBadPattern words ⊎ ((text_unread words ≡ None) × (IsTooLong (feed_of (file_in words) 0 before) ⊎ IsMissing (file_in words) before.site.told))

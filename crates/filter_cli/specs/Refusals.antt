@@ -3,9 +3,11 @@ use Rattle.std.specs.Prelude.{ℕ, Option, None, Some, List, [], ◌∷◌, ◌+
 use Rattle.filter_cli.specs.declared.refusal.UsageFault.{UsageFault}
 use Rattle.filter_cli.specs.declared.refusal.UsageFault.TheVariants.{Tool, Words}
 use Rattle.filter_cli.specs.declared.refusal.Refusal.{Refusal}
-use Rattle.filter_cli.specs.declared.refusal.Refusal.TheVariants.{Usage, Memory, Patterns, Pump}
+use Rattle.filter_cli.specs.declared.refusal.Refusal.TheVariants.{Usage, Memory, Patterns, Pump, Attach}
 use Rattle.filter_cli.specs.declared.pass.PumpFault.{PumpFault}
 use Rattle.filter_cli.specs.declared.pass.PumpFault.TheVariants as pump_fault
+use Rattle.filter_cli.specs.declared.file_loop.FileFault.{FileFault}
+use Rattle.filter_cli.specs.declared.file_loop.FileFault.TheVariants as file_fault
 use Rattle.filter_cli.specs.declared.tool.Tool.{Tool as ATool}
 use Rattle.filter_cli.specs.Tools.{tool_of}
 use Rattle.filter_cli.specs.Patterns.{patterns_code, patterns_text}
@@ -39,17 +41,33 @@ pump_text pump_fault.TooLong = codes ": standard input is too long\n"
 pump_text pump_fault.Output = codes ": fault writing output\n"
 pump_text pump_fault.NoMemory = codes ": out of memory\n"
 
+abbrev pub file_code : FileFault → ℕ
+file_code file_fault.Read = 4
+file_code file_fault.NoFile = 3
+file_code file_fault.TooLong = 3
+file_code file_fault.Output = 4
+file_code file_fault.NoMemory = 5
+
+abbrev pub file_text : (file : List ℕ) → FileFault → List ℕ
+file_text file file_fault.Read = codes ": fault reading a file\n"
+file_text file file_fault.NoFile = codes ": no file " ++ (file ++ codes "\n")
+file_text file file_fault.TooLong = codes ": " ++ (file ++ codes " is too long\n")
+file_text file file_fault.Output = codes ": fault writing output\n"
+file_text file file_fault.NoMemory = codes ": out of memory\n"
+
 abbrev pub refusal_code : Refusal → ℕ
 refusal_code (Usage fault) = 2
 refusal_code (Memory fault) = 5
 refusal_code (Patterns fault) = patterns_code fault
 refusal_code (Pump fault) = pump_code fault
+refusal_code (Attach file fault) = file_code fault
 
 abbrev pub refusal_line : (name : List ℕ) → Refusal → List ℕ
 refusal_line name (Usage fault) = usage_line name fault
 refusal_line name (Memory fault) = name ++ codes ": out of memory\n"
 refusal_line name (Patterns fault) = name ++ patterns_text fault
 refusal_line name (Pump fault) = name ++ pump_text fault
+refusal_line name (Attach file fault) = name ++ file_text file fault
 
 abbrev pub code_of : Result ℕ Refusal → ℕ
 code_of (Ok status) = status

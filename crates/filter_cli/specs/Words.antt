@@ -5,12 +5,13 @@ use Rattle.std.specs.Option.{option_map, option_and_then}
 use Rattle.std.specs.Str.{bytes_eq}
 use Rattle.sub_number.specs.declared.memory.NoMemory.{NoMemory}
 use Rattle.command_words.specs.Items.{Item, flag, valued, name, items_of}
-use Rattle.sub_export.specs.Output.{job_of}
+use Rattle.sub_export.specs.declared.job.Job.{Job}
+use Rattle.sub_export.specs.Output.{job_of, path_of}
 use Rattle.filter_cli.specs.declared.ls.Listing.{Listing}
 use Rattle.filter_cli.specs.declared.tool.Tool.{Tool}
 use Rattle.filter_cli.specs.declared.tool.Tool.TheVariants as tool
 use Rattle.filter_cli.specs.declared.asked.Asked.{Asked}
-use Rattle.filter_cli.specs.declared.asked.Asked.TheVariants.{Filter, Tags, Ls, Stats, FromTap, ToTap, ToCsv, Output, FromV1, ToV1}
+use Rattle.filter_cli.specs.declared.asked.Asked.TheVariants.{Filter, Tags, Ls, Stats, FromTap, ToTap, ToCsv, Output, OutputFile, FromV1, ToV1}
 use Rattle.filter_cli.specs.Tools.{tool_of, tool_named, kind_in}
 use Rattle.filter_cli.specs.Selecting.{selection_of, csv_selection_of}
 use Rattle.filter_cli.specs.Retagging.{retagging_of}
@@ -56,8 +57,13 @@ asked_with t items = if list_any is_name items then None else asked_for t items
 abbrev pub asked_tags : List (List ℕ) → Option Asked
 asked_tags words = option_map Tags (retagging_of words)
 
+-- what a job is asked: with the path of a file, that file is read, and else the input, where it attaches one
+abbrev pub asked_with_file : Job → Option (List ℕ) → Asked
+asked_with_file job None = Output job
+asked_with_file job (Some path) = OutputFile job path
+
 abbrev pub asked_output : List (List ℕ) → Option Asked
-asked_output words = option_map Output (job_of words)
+asked_output words = option_map (λ job. asked_with_file job (path_of job)) (job_of words)
 
 abbrev pub asked_by_options : Tool → List (List ℕ) → Option Asked
 asked_by_options t words = option_and_then (asked_with t) (items_of (kind_in t) words)
