@@ -17,8 +17,11 @@ use Rattle.filter_cli.specs.Pipe.{Pipe, pipe}
 use Rattle.filter_cli.specs.Plan.{Plan, IsSeen, IsFiltered}
 use Rattle.filter_cli.specs.Pumping.{Pumps}
 use Rattle.filter_cli.specs.Tagging.{tags_plan, tags_plan_of}
-use Rattle.filter_cli.specs.Streams.{of_job, writing_of, unread_by, unread_text, patterns_of}
-use Rattle.filter_cli.specs.Program.{PumpsOrLeaves, Passes, Checked, Performs, Tells}
+use Rattle.filter_cli.specs.Streams.{of_job, writing_of, unread_by, unread_text, patterns_of, file_of}
+use Rattle.filter_cli.specs.FileReads.{FeedsFile}
+use Rattle.filter_cli.specs.Outside.{Reach}
+use Rattle.filter_cli.specs.declared.file_loop.FileFault.{FileFault}
+use Rattle.filter_cli.specs.Program.{PumpsOrLeaves, Passes, Checked, Takes, Performs, Tells}
 use Rattle.filter_cli.specs.declared.asked.Asked.{Asked}
 use Rattle.filter_cli.specs.declared.asked.Asked.TheVariants.{Output}
 use Rattle.filter_cli.specs.declared.pass.PumpFault.{PumpFault}
@@ -50,12 +53,12 @@ none_given k d lt = absurd (omega (arith, lt))
 
 -- ---- the same of another term of the same value
 
-pub performs_as : (fault given : UsageFault) (asked other : Option Asked) (before after : Pipe) (result : Result ℕ Refusal) → given ≡ fault → other ≡ asked → Performs given other before after result → Performs fault asked before after result
+pub performs_as : (fault given : UsageFault) (asked other : Option Asked) (before after : Reach) (result : Result ℕ Refusal) → given ≡ fault → other ≡ asked → Performs given other before after result → Performs fault asked before after result
 performs_as fault given asked other before after result fault_is is done =
     subst (λ (a : Option Asked). Performs fault a before after result) is (subst (λ (f : UsageFault). Performs f other before after result) fault_is done)
 
-pub checked_as : (asked given : Asked) (before after : Pipe) (result : Result ℕ Refusal) → given ≡ asked → Checked given before after result → Checked asked before after result
-checked_as asked given before after result is done = subst (λ (a : Asked). Checked a before after result) is done
+pub takes_as : (asked given : Asked) (before after : Reach) (result : Result ℕ Refusal) → given ≡ asked → Takes (file_of given) given before after result → Takes (file_of asked) asked before after result
+takes_as asked given before after result is done = subst (λ (a : Asked). Takes (file_of a) a before after result) is done
 
 pub tells_as : (name given : List ℕ) (outcome : Result ℕ Refusal) (before after : Seen (List ℕ)) (answer : ℕ) → given ≡ name → Tells given outcome before after answer → Tells name outcome before after answer
 tells_as name given outcome before after answer is tells = subst (λ (n : List ℕ). Tells n outcome before after answer) is tells
@@ -88,3 +91,11 @@ leaves_as job input before after result none written =
 
 pub tags_is : (tagger : Tagger) (add remove : List (List ℕ)) → tagger.add ≡ add → tagger.remove ≡ remove → tags_plan tagger ≡ tags_plan_of add remove
 tags_is tagger add remove add_is remove_is = ap (λ (l : List (List ℕ)). tags_plan_of l tagger.remove) add_is ∙ ap (tags_plan_of add) remove_is
+
+-- a file by the same name
+pub file_as : (name given : List ℕ) (sees : List ℕ → List ℕ → Type 0) (ends : List ℕ → List ℕ → ℕ → Type 0) (before after : Reach) (result : Result ℕ FileFault) → given ≡ name → FeedsFile given sees ends before after result → FeedsFile name sees ends before after result
+file_as name given sees ends before after result is feeds = subst (λ (n : List ℕ). FeedsFile n sees ends before after result) is feeds
+
+-- a job by the same value
+pub job_as : (job given : Job) (name : List ℕ) (before after : Reach) (result : Result ℕ FileFault) → given ≡ job → FeedsFile name (IsOutputSeen given) (IsOutput given) before after result → FeedsFile name (IsOutputSeen job) (IsOutput job) before after result
+job_as job given name before after result is feeds = subst (λ (j : Job). FeedsFile name (IsOutputSeen j) (IsOutput j) before after result) is feeds

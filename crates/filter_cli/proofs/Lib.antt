@@ -13,7 +13,9 @@ pub mod Prefixes
 pub mod ChainLemmas
 pub mod BadLemmas
 pub mod StatusLemmas
-pub mod Ways
+pub mod FileLemmas
+mod Ways
+mod Courses
 pub mod UnreadLemmas
 pub mod WritingLaws
 pub mod PromiseLemmas

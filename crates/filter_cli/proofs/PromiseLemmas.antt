@@ -8,11 +8,12 @@ use Rattle.filter_cli.specs.Pipe.{Pipe, NoFault}
 use Rattle.filter_cli.specs.Pumping.{PumpsAll, ReadFails, WriteFails, IsDue, IsTooLong, Pumps, most_bytes}
 use Rattle.filter_cli.specs.Tools.{tool_of}
 use Rattle.filter_cli.specs.Words.{asked_of}
-use Rattle.filter_cli.specs.Streams.{writing_of, unread_text, text_unread, sees_by, ends_by, AsksFor, HasBadPattern, IsSeenBy, IsFilteredBy}
-use Rattle.filter_cli.specs.Outside.{Outside, pipe_of, SomeRose}
+use Rattle.filter_cli.specs.Streams.{writing_of, unread_text, text_unread, file_in, sees_by, ends_by, AsksFor, HasBadPattern, IsSeenBy, IsFilteredBy}
+use Rattle.filter_cli.specs.FileReads.{file_pipe, IsAbsent}
+use Rattle.filter_cli.specs.Outside.{Outside, reach_of, SomeRose}
 use Rattle.filter_cli.specs.Refusals.{code_of}
 use Rattle.filter_cli.specs.Program.{Answers, LeavesUnread}
-use Rattle.filter_cli.specs.Promises.{CanFilter, FaultsOf, IsDone, OutputFails, GivesAll, GivesFirst, GiveFails, Promises}
+use Rattle.filter_cli.specs.Promises.{CanFilter, FaultsOf, IsDone, OutputFails, GivesAll, GivesFirst, GiveFails, feed_of, Rests, IsMissing, RefusesMissing, Feeds, Promises}
 use Rattle.filter_cli.specs.declared.asked.Asked.{Asked}
 use Rattle.filter_cli.specs.declared.refusal.Refusal.{Refusal}
 use Rattle.filter_cli.specs.declared.pass.PumpFault.{PumpFault}
@@ -23,7 +24,8 @@ use Rattle.filter_cli.proofs.StatusLemmas.{status_at_most}
 use Rattle.filter_cli.proofs.UnreadLemmas.{unread_whole, gives_first, gives_none, gives_all}
 use Rattle.filter_cli.proofs.WritingLaws.{by_front, by_one}
 use Rattle.std.specs.Option.{option_and_then}
-use Rattle.filter_cli.proofs.Ways.{Ways, by_usage, by_memory, by_bad, by_want, passed, by_input, by_length, by_output, by_room, gave, by_sink, by_space, filters_ways}
+use Rattle.filter_cli.proofs.Courses.{Course, FileWays, by_pipe, by_name, named_well, filters_course}
+use Rattle.filter_cli.proofs.Ways.{Ways, by_usage, by_memory, by_bad, by_want, passed, by_input, by_file_read, by_length, by_file_length, by_output, by_file_output, by_room, by_file_room, by_no_file, gave, by_sink, by_space}
 
 -- ---- of a filter, and of words that ask for it
 
@@ -109,32 +111,41 @@ not_too_long : (told : Option (List ℕ)) → IsSomeAnd told (λ bytes. length b
 not_too_long None short long = short
 not_too_long (Some bytes) short long = omega (arith, short, long)
 
+not_untold : (told : Option (List ℕ)) → IsSomeAnd told (λ bytes. length bytes ≤ most_bytes) → told ≡ None → ⊥
+not_untold None short none = short
+not_untold (Some bytes) short none = cc
+
 asked_not_none : (words : List (List ℕ)) (asked : Asked) → asked_of words ≡ Some asked → asked_of words ≡ None → ⊥
 asked_not_none words asked some none = let both : Some asked ≡ None = sym some ∙ none in cc
 
 -- ---- the promises
 
-module _ (words : List (List ℕ)) (a b : Pipe) (answer : ℕ) (outcome : Result ℕ Refusal) (code : answer ≡ code_of outcome) where
+module _ (words : List (List ℕ)) (missing : Type 0) (a b : Pipe) (answer : ℕ) (outcome : Result ℕ Refusal) (code : answer ≡ code_of outcome) where
   few : (asked : Asked) (status : ℕ) → outcome ≡ Ok status → PumpsAll (ends_by (writing_of asked)) a b status → answer ≤ 1
   few asked status is p =
       let same : answer ≡ status = code ∙ ap code_of is in
       omega (arith, same, status_at_most asked p.bytes p.text status p.whole)
 
-  most_of : Ways words a b outcome → answer ≤ 5
+  most_of : Ways words missing a b outcome → answer ≤ 5
   most_of (by_usage is named same) = let two = code ∙ ap code_of is in omega (arith, two)
   most_of (by_memory none is some same) = let five = code ∙ ap code_of is in omega (arith, five)
   most_of (by_bad text is bad same) = let three = code ∙ ap code_of is in omega (arith, three)
   most_of (by_want asked is named same) = let five = code ∙ ap code_of is in omega (arith, five)
   most_of (passed asked status is asks reads p) = omega (arith, few asked status is p)
   most_of (by_input asked is asks reads p) = let four = code ∙ ap code_of is in omega (arith, four)
+  most_of (by_file_read asked name is asks reads p) = let four = code ∙ ap code_of is in omega (arith, four)
   most_of (by_length asked is asks reads p) = let three = code ∙ ap code_of is in omega (arith, three)
+  most_of (by_file_length asked name is asks reads p) = let three = code ∙ ap code_of is in omega (arith, three)
   most_of (by_output asked is asks reads p) = let four = code ∙ ap code_of is in omega (arith, four)
+  most_of (by_file_output asked name is asks reads p) = let four = code ∙ ap code_of is in omega (arith, four)
   most_of (by_room asked is asks reads p) = let five = code ∙ ap code_of is in omega (arith, five)
+  most_of (by_file_room asked name is asks reads p) = let five = code ∙ ap code_of is in omega (arith, five)
+  most_of (by_no_file asked name is asks reads p untold none) = let three = code ∙ ap code_of is in omega (arith, three)
   most_of (gave asked text status is asks leaves p) = let zero_is = code ∙ ap code_of is ∙ p.written.0 in omega (arith, zero_is)
   most_of (by_sink asked text is asks leaves p) = let four = code ∙ ap code_of is in omega (arith, four)
   most_of (by_space asked text is asks leaves p) = let five = code ∙ ap code_of is in omega (arith, five)
 
-  done_of : Ways words a b outcome → answer ≤ 1 → IsDone words (text_unread words) a b answer
+  done_of : Ways words missing a b outcome → answer ≤ 1 → IsDone words (text_unread words) a b answer
   done_of (by_usage is named same) le = let two = code ∙ ap code_of is in absurd (omega (arith, two, le))
   done_of (by_memory none is some same) le = let five = code ∙ ap code_of is in absurd (omega (arith, five, le))
   done_of (by_bad text is bad same) le = let three = code ∙ ap code_of is in absurd (omega (arith, three, le))
@@ -143,39 +154,54 @@ module _ (words : List (List ℕ)) (a b : Pipe) (answer : ℕ) (outcome : Result
       let same : answer ≡ status = code ∙ ap code_of is in
       done_as words None a b answer reads (subst (PumpsAll (IsFilteredBy words) a b) (sym same) (all_as words asked asks a b status p))
   done_of (by_input asked is asks reads p) le = let four = code ∙ ap code_of is in absurd (omega (arith, four, le))
+  done_of (by_file_read asked name is asks reads p) le = let four = code ∙ ap code_of is in absurd (omega (arith, four, le))
   done_of (by_length asked is asks reads p) le = let three = code ∙ ap code_of is in absurd (omega (arith, three, le))
+  done_of (by_file_length asked name is asks reads p) le = let three = code ∙ ap code_of is in absurd (omega (arith, three, le))
   done_of (by_output asked is asks reads p) le = let four = code ∙ ap code_of is in absurd (omega (arith, four, le))
+  done_of (by_file_output asked name is asks reads p) le = let four = code ∙ ap code_of is in absurd (omega (arith, four, le))
   done_of (by_room asked is asks reads p) le = let five = code ∙ ap code_of is in absurd (omega (arith, five, le))
+  done_of (by_file_room asked name is asks reads p) le = let five = code ∙ ap code_of is in absurd (omega (arith, five, le))
+  done_of (by_no_file asked name is asks reads p untold none) le = let three = code ∙ ap code_of is in absurd (omega (arith, three, le))
   done_of (gave asked text status is asks leaves p) le =
       let same : answer ≡ status = code ∙ ap code_of is in
       done_as words (Some text) a b answer leaves (subst (GivesAll text a b) (sym same) (gives_all text a b status p))
   done_of (by_sink asked text is asks leaves p) le = let four = code ∙ ap code_of is in absurd (omega (arith, four, le))
   done_of (by_space asked text is asks leaves p) le = let five = code ∙ ap code_of is in absurd (omega (arith, five, le))
 
-  unread_of : Ways words a b outcome → (text : List ℕ) → text_unread words ≡ Some text → GivesFirst text a b
+  unread_of : Ways words missing a b outcome → (text : List ℕ) → text_unread words ≡ Some text → GivesFirst text a b
   unread_of (by_usage is named same) text some = gives_none text a b same
   unread_of (by_memory none is some_tool same) text some = gives_none text a b same
   unread_of (by_bad bad_one is bad same) text some = gives_none text a b same
   unread_of (by_want asked is named same) text some = gives_none text a b same
   unread_of (passed asked status is asks reads p) text some = absurd (not_reads words text some reads)
   unread_of (by_input asked is asks reads p) text some = absurd (not_reads words text some reads)
+  unread_of (by_file_read asked name is asks reads p) text some = absurd (not_reads words text some reads)
   unread_of (by_length asked is asks reads p) text some = absurd (not_reads words text some reads)
+  unread_of (by_file_length asked name is asks reads p) text some = absurd (not_reads words text some reads)
   unread_of (by_output asked is asks reads p) text some = absurd (not_reads words text some reads)
+  unread_of (by_file_output asked name is asks reads p) text some = absurd (not_reads words text some reads)
   unread_of (by_room asked is asks reads p) text some = absurd (not_reads words text some reads)
+  unread_of (by_file_room asked name is asks reads p) text some = absurd (not_reads words text some reads)
+  unread_of (by_no_file asked name is asks reads p untold none) text some = absurd (not_reads words text some reads)
   unread_of (gave asked shown status is asks leaves p) text some = subst (λ (t : List ℕ). GivesFirst t a b) (same_text words shown text leaves some) (gives_first shown a b (Ok status) p)
   unread_of (by_sink asked shown is asks leaves p) text some = subst (λ (t : List ℕ). GivesFirst t a b) (same_text words shown text leaves some) (gives_first shown a b (Err pump_fault.Output) p)
   unread_of (by_space asked shown is asks leaves p) text some = subst (λ (t : List ℕ). GivesFirst t a b) (same_text words shown text leaves some) (gives_first shown a b (Err pump_fault.NoMemory) p)
 
-  prefix_of : Ways words a b outcome → (bytes : List ℕ) → a.input.told ≡ Some bytes → AreBytes bytes → (text : List ℕ) (status : ℕ) → IsFilteredBy words bytes text status → AppendsPrefix a.out.told b.out.told text
+  prefix_of : Ways words missing a b outcome → (bytes : List ℕ) → a.input.told ≡ Some bytes → AreBytes bytes → (text : List ℕ) (status : ℕ) → IsFilteredBy words bytes text status → AppendsPrefix a.out.told b.out.told text
   prefix_of (by_usage is named same) bytes told are text status e = none_first a b text same
   prefix_of (by_memory none is some same) bytes told are text status e = none_first a b text same
   prefix_of (by_bad bad_one is bad same) bytes told are text status e = none_first a b text same
   prefix_of (by_want asked is named same) bytes told are text status e = none_first a b text same
   prefix_of (passed asked another is asks reads p) bytes told are text status e = first_of words asked asks a b (Ok another) p bytes told are text status e
   prefix_of (by_input asked is asks reads p) bytes told are text status e = first_of words asked asks a b (Err pump_fault.Input) p bytes told are text status e
+  prefix_of (by_file_read asked name is asks reads p) bytes told are text status e = first_of words asked asks a b (Err pump_fault.Input) p bytes told are text status e
   prefix_of (by_length asked is asks reads p) bytes told are text status e = first_of words asked asks a b (Err pump_fault.TooLong) p bytes told are text status e
+  prefix_of (by_file_length asked name is asks reads p) bytes told are text status e = first_of words asked asks a b (Err pump_fault.TooLong) p bytes told are text status e
   prefix_of (by_output asked is asks reads p) bytes told are text status e = first_of words asked asks a b (Err pump_fault.Output) p bytes told are text status e
+  prefix_of (by_file_output asked name is asks reads p) bytes told are text status e = first_of words asked asks a b (Err pump_fault.Output) p bytes told are text status e
   prefix_of (by_room asked is asks reads p) bytes told are text status e = first_of words asked asks a b (Err pump_fault.NoMemory) p bytes told are text status e
+  prefix_of (by_file_room asked name is asks reads p) bytes told are text status e = first_of words asked asks a b (Err pump_fault.NoMemory) p bytes told are text status e
+  prefix_of (by_no_file asked name is asks reads p untold none) bytes told are text status e = first_of words asked asks a b (Err pump_fault.NoMemory) p bytes told are text status e
   prefix_of (gave asked shown another is asks leaves p) bytes told are text status e = alone_of words asked asks a b shown (Ok another) leaves p bytes text status e
   prefix_of (by_sink asked shown is asks leaves p) bytes told are text status e = alone_of words asked asks a b shown (Err pump_fault.Output) leaves p bytes text status e
   prefix_of (by_space asked shown is asks leaves p) bytes told are text status e = alone_of words asked asks a b shown (Err pump_fault.NoMemory) leaves p bytes text status e
@@ -184,58 +210,78 @@ module _ (words : List (List ℕ)) (a b : Pipe) (answer : ℕ) (outcome : Result
   no_text asked asks (inl none) = asked_not_none words asked asks.named none
   no_text asked asks (inr bad) = asks_no_bad words asked asks bad
 
-  nothing_of : Ways words a b outcome → (asked_of words ≡ None) ⊎ HasBadPattern words → b ≡ a
+  nothing_of : Ways words missing a b outcome → (asked_of words ≡ None) ⊎ HasBadPattern words → b ≡ a
   nothing_of (by_usage is named same) none = same
   nothing_of (by_memory want is some same) none = same
   nothing_of (by_bad text is bad same) none = same
   nothing_of (by_want asked is named same) none = same
   nothing_of (passed asked status is asks reads p) none = absurd (no_text asked asks none)
   nothing_of (by_input asked is asks reads p) none = absurd (no_text asked asks none)
+  nothing_of (by_file_read asked name is asks reads p) none = absurd (no_text asked asks none)
   nothing_of (by_length asked is asks reads p) none = absurd (no_text asked asks none)
+  nothing_of (by_file_length asked name is asks reads p) none = absurd (no_text asked asks none)
   nothing_of (by_output asked is asks reads p) none = absurd (no_text asked asks none)
+  nothing_of (by_file_output asked name is asks reads p) none = absurd (no_text asked asks none)
   nothing_of (by_room asked is asks reads p) none = absurd (no_text asked asks none)
+  nothing_of (by_file_room asked name is asks reads p) none = absurd (no_text asked asks none)
+  nothing_of (by_no_file asked name is asks reads p untold absent) none = absurd (no_text asked asks none)
   nothing_of (gave asked text status is asks leaves p) none = absurd (no_text asked asks none)
   nothing_of (by_sink asked text is asks leaves p) none = absurd (no_text asked asks none)
   nothing_of (by_space asked text is asks leaves p) none = absurd (no_text asked asks none)
 
-  usage_of : Ways words a b outcome → answer ≡ 2 → asked_of words ≡ None
+  usage_of : Ways words missing a b outcome → answer ≡ 2 → asked_of words ≡ None
   usage_of (by_usage is named same) two = named
   usage_of (by_memory none is some same) two = let five = code ∙ ap code_of is in absurd (omega (arith, five, two))
   usage_of (by_bad text is bad same) two = let three = code ∙ ap code_of is in absurd (omega (arith, three, two))
   usage_of (by_want asked is named same) two = let five = code ∙ ap code_of is in absurd (omega (arith, five, two))
   usage_of (passed asked status is asks reads p) two = absurd (omega (arith, two, few asked status is p))
   usage_of (by_input asked is asks reads p) two = let four = code ∙ ap code_of is in absurd (omega (arith, four, two))
+  usage_of (by_file_read asked name is asks reads p) two = let four = code ∙ ap code_of is in absurd (omega (arith, four, two))
   usage_of (by_length asked is asks reads p) two = let three = code ∙ ap code_of is in absurd (omega (arith, three, two))
+  usage_of (by_file_length asked name is asks reads p) two = let three = code ∙ ap code_of is in absurd (omega (arith, three, two))
   usage_of (by_output asked is asks reads p) two = let four = code ∙ ap code_of is in absurd (omega (arith, four, two))
+  usage_of (by_file_output asked name is asks reads p) two = let four = code ∙ ap code_of is in absurd (omega (arith, four, two))
   usage_of (by_room asked is asks reads p) two = let five = code ∙ ap code_of is in absurd (omega (arith, five, two))
+  usage_of (by_file_room asked name is asks reads p) two = let five = code ∙ ap code_of is in absurd (omega (arith, five, two))
+  usage_of (by_no_file asked name is asks reads p untold none) two = let three = code ∙ ap code_of is in absurd (omega (arith, three, two))
   usage_of (gave asked text status is asks leaves p) two = let zero_is = code ∙ ap code_of is ∙ p.written.0 in absurd (omega (arith, zero_is, two))
   usage_of (by_sink asked text is asks leaves p) two = let four = code ∙ ap code_of is in absurd (omega (arith, four, two))
   usage_of (by_space asked text is asks leaves p) two = let five = code ∙ ap code_of is in absurd (omega (arith, five, two))
 
-  refused_of : Ways words a b outcome → asked_of words ≡ None → (answer ≡ 2) ⊎ ((answer ≡ 5) × (tool_of words ≡ None → ⊥))
+  refused_of : Ways words missing a b outcome → asked_of words ≡ None → (answer ≡ 2) ⊎ ((answer ≡ 5) × (tool_of words ≡ None → ⊥))
   refused_of (by_usage is named same) none = inl (code ∙ ap code_of is)
   refused_of (by_memory want is some same) none = inr (code ∙ ap code_of is, some)
   refused_of (by_bad text is bad same) none = absurd (asked_not_none words bad.asked bad.named none)
   refused_of (by_want asked is named same) none = absurd (asked_not_none words asked named none)
   refused_of (passed asked status is asks reads p) none = absurd (asked_not_none words asked asks.named none)
   refused_of (by_input asked is asks reads p) none = absurd (asked_not_none words asked asks.named none)
+  refused_of (by_file_read asked name is asks reads p) none = absurd (asked_not_none words asked asks.named none)
   refused_of (by_length asked is asks reads p) none = absurd (asked_not_none words asked asks.named none)
+  refused_of (by_file_length asked name is asks reads p) none = absurd (asked_not_none words asked asks.named none)
   refused_of (by_output asked is asks reads p) none = absurd (asked_not_none words asked asks.named none)
+  refused_of (by_file_output asked name is asks reads p) none = absurd (asked_not_none words asked asks.named none)
   refused_of (by_room asked is asks reads p) none = absurd (asked_not_none words asked asks.named none)
+  refused_of (by_file_room asked name is asks reads p) none = absurd (asked_not_none words asked asks.named none)
+  refused_of (by_no_file asked name is asks reads p untold absent) none = absurd (asked_not_none words asked asks.named none)
   refused_of (gave asked text status is asks leaves p) none = absurd (asked_not_none words asked asks.named none)
   refused_of (by_sink asked text is asks leaves p) none = absurd (asked_not_none words asked asks.named none)
   refused_of (by_space asked text is asks leaves p) none = absurd (asked_not_none words asked asks.named none)
 
-  named_of : Ways words a b outcome → answer ≡ 3 → HasBadPattern words ⊎ IsTooLong a
+  named_of : Ways words missing a b outcome → answer ≡ 3 → HasBadPattern words ⊎ ((text_unread words ≡ None) × (IsTooLong a ⊎ missing))
   named_of (by_usage is named same) three = let two = code ∙ ap code_of is in absurd (omega (arith, two, three))
   named_of (by_memory none is some same) three = let five = code ∙ ap code_of is in absurd (omega (arith, five, three))
   named_of (by_bad text is bad same) three = inl bad
   named_of (by_want asked is named same) three = let five = code ∙ ap code_of is in absurd (omega (arith, five, three))
   named_of (passed asked status is asks reads p) three = absurd (omega (arith, three, few asked status is p))
   named_of (by_input asked is asks reads p) three = let four = code ∙ ap code_of is in absurd (omega (arith, four, three))
-  named_of (by_length asked is asks reads p) three = inr p.told
+  named_of (by_file_read asked name is asks reads p) three = let four = code ∙ ap code_of is in absurd (omega (arith, four, three))
+  named_of (by_length asked is asks reads p) three = inr (reads, inl p.told)
+  named_of (by_file_length asked name is asks reads p) three = inr (reads, inl p.told)
   named_of (by_output asked is asks reads p) three = let four = code ∙ ap code_of is in absurd (omega (arith, four, three))
+  named_of (by_file_output asked name is asks reads p) three = let four = code ∙ ap code_of is in absurd (omega (arith, four, three))
   named_of (by_room asked is asks reads p) three = let five = code ∙ ap code_of is in absurd (omega (arith, five, three))
+  named_of (by_file_room asked name is asks reads p) three = let five = code ∙ ap code_of is in absurd (omega (arith, five, three))
+  named_of (by_no_file asked name is asks reads p untold none) three = inr (reads, inr none)
   named_of (gave asked text status is asks leaves p) three = let zero_is = code ∙ ap code_of is ∙ p.written.0 in absurd (omega (arith, zero_is, three))
   named_of (by_sink asked text is asks leaves p) three = let four = code ∙ ap code_of is in absurd (omega (arith, four, three))
   named_of (by_space asked text is asks leaves p) three = let five = code ∙ ap code_of is in absurd (omega (arith, five, three))
@@ -243,66 +289,139 @@ module _ (words : List (List ℕ)) (a b : Pipe) (answer : ℕ) (outcome : Result
   faults_as : (known : Result ℕ Refusal) → outcome ≡ known → FaultsOf words known a b → FaultsOf words outcome a b
   faults_as known is faults = subst (λ (o : Result ℕ Refusal). FaultsOf words o a b) (sym is) faults
 
-  faults_of : Ways words a b outcome → FaultsOf words outcome a b
+  faults_of : Ways words missing a b outcome → FaultsOf words outcome a b
   faults_of (by_usage is named same) = faults_as _ is (none_fault a b same)
   faults_of (by_memory none is some same) = faults_as _ is (none_fault a b same)
   faults_of (by_bad text is bad same) = faults_as _ is (none_fault a b same)
   faults_of (by_want asked is named same) = faults_as _ is (none_fault a b same)
   faults_of (passed asked status is asks reads p) = faults_as _ is p.faults
   faults_of (by_input asked is asks reads p) = faults_as _ is (reads_as words asked asks a b p)
+  faults_of (by_file_read asked name is asks reads p) = faults_as _ is (reads_as words asked asks a b p)
   faults_of (by_length asked is asks reads p) = faults_as _ is p.stops.faults
+  faults_of (by_file_length asked name is asks reads p) = faults_as _ is p.stops.faults
   faults_of (by_output asked is asks reads p) = faults_as _ is (fails_as words None a b reads (writes_as words asked asks a b p))
+  faults_of (by_file_output asked name is asks reads p) = faults_as _ is (fails_as words None a b reads (writes_as words asked asks a b p))
   faults_of (by_room asked is asks reads p) = faults_as _ is p.faults
+  faults_of (by_file_room asked name is asks reads p) = faults_as _ is p.faults
+  faults_of (by_no_file asked name is asks reads p untold none) = faults_as _ is p.faults
   faults_of (gave asked text status is asks leaves p) = faults_as _ is (gives_all text a b status p).faults
   faults_of (by_sink asked text is asks leaves p) = faults_as _ is (fails_as words (Some text) a b leaves (give_fails text a b p))
   faults_of (by_space asked text is asks leaves p) = faults_as _ is (record { input = ap (λ (s : Seen (List ℕ)). s.faults) p.unread; out = ap (λ (s : Seen (List ℕ)). s.faults) p.written })
 
-  fault_of : Ways words a b outcome → answer ≡ 4 → ReadFails (IsSeenBy words) a b ⊎ OutputFails words (text_unread words) a b
+  fault_of : Ways words missing a b outcome → answer ≡ 4 → ((text_unread words ≡ None) × ReadFails (IsSeenBy words) a b) ⊎ OutputFails words (text_unread words) a b
   fault_of (by_usage is named same) four = let two = code ∙ ap code_of is in absurd (omega (arith, two, four))
   fault_of (by_memory none is some same) four = let five = code ∙ ap code_of is in absurd (omega (arith, five, four))
   fault_of (by_bad text is bad same) four = let three = code ∙ ap code_of is in absurd (omega (arith, three, four))
   fault_of (by_want asked is named same) four = let five = code ∙ ap code_of is in absurd (omega (arith, five, four))
   fault_of (passed asked status is asks reads p) four = absurd (omega (arith, four, few asked status is p))
-  fault_of (by_input asked is asks reads p) four = inl (reads_as words asked asks a b p)
+  fault_of (by_input asked is asks reads p) four = inl (reads, reads_as words asked asks a b p)
+  fault_of (by_file_read asked name is asks reads p) four = inl (reads, reads_as words asked asks a b p)
   fault_of (by_length asked is asks reads p) four = let three = code ∙ ap code_of is in absurd (omega (arith, three, four))
+  fault_of (by_file_length asked name is asks reads p) four = let three = code ∙ ap code_of is in absurd (omega (arith, three, four))
   fault_of (by_output asked is asks reads p) four = inr (fails_as words None a b reads (writes_as words asked asks a b p))
+  fault_of (by_file_output asked name is asks reads p) four = inr (fails_as words None a b reads (writes_as words asked asks a b p))
   fault_of (by_room asked is asks reads p) four = let five = code ∙ ap code_of is in absurd (omega (arith, five, four))
+  fault_of (by_file_room asked name is asks reads p) four = let five = code ∙ ap code_of is in absurd (omega (arith, five, four))
+  fault_of (by_no_file asked name is asks reads p untold none) four = let three = code ∙ ap code_of is in absurd (omega (arith, three, four))
   fault_of (gave asked text status is asks leaves p) four = let zero_is = code ∙ ap code_of is ∙ p.written.0 in absurd (omega (arith, zero_is, four))
   fault_of (by_sink asked text is asks leaves p) four = inr (fails_as words (Some text) a b leaves (give_fails text a b p))
   fault_of (by_space asked text is asks leaves p) four = let five = code ∙ ap code_of is in absurd (omega (arith, five, four))
 
-  complete_of : Ways words a b outcome → CanFilter words a → (SomeRose a b → ⊥) → (answer ≤ 1) ⊎ (answer ≡ 5)
+  complete_of : Ways words missing a b outcome → CanFilter words a → (SomeRose a b → ⊥) → (answer ≤ 1) ⊎ (answer ≡ 5)
   complete_of (by_usage is named same) can still = absurd (asked_not_none words can.asked can.asks.named named)
   complete_of (by_memory none is some same) can still = inr (code ∙ ap code_of is)
   complete_of (by_bad text is bad same) can still = absurd (asks_no_bad words can.asked can.asks bad)
   complete_of (by_want asked is named same) can still = inr (code ∙ ap code_of is)
   complete_of (passed asked status is asks reads p) can still = inl (few asked status is p)
   complete_of (by_input asked is asks reads p) can still = absurd (still (inl p.rose))
+  complete_of (by_file_read asked name is asks reads p) can still = absurd (still (inl p.rose))
   complete_of (by_length asked is asks reads p) can still = absurd (not_too_long a.input.told (can.short reads) p.told)
+  complete_of (by_file_length asked name is asks reads p) can still = absurd (not_too_long a.input.told (can.short reads) p.told)
   complete_of (by_output asked is asks reads p) can still = absurd (still (inr p.rose))
+  complete_of (by_file_output asked name is asks reads p) can still = absurd (still (inr p.rose))
   complete_of (by_room asked is asks reads p) can still = inr (code ∙ ap code_of is)
+  complete_of (by_file_room asked name is asks reads p) can still = inr (code ∙ ap code_of is)
+  complete_of (by_no_file asked name is asks reads p untold none) can still = absurd (not_untold a.input.told (can.short reads) untold)
   complete_of (gave asked text status is asks leaves p) can still = let zero_is = code ∙ ap code_of is ∙ p.written.0 in inl (omega (arith, zero_is))
   complete_of (by_sink asked text is asks leaves p) can still = absurd (still (inr p.written.1))
   complete_of (by_space asked text is asks leaves p) can still = inr (code ∙ ap code_of is)
 
+module _ (words : List (List ℕ)) (answer : ℕ) (outcome : Result ℕ Refusal) (code : answer ≡ code_of outcome) where
+  feeds_of : (missing : Type 0) (a b : Pipe) → Ways words missing a b outcome → Feeds words outcome a b answer
+  feeds_of missing a b ways = record {
+    done = done_of words missing a b answer outcome code ways;
+    prefix = if_told a.input.told (λ bytes. AreBytes bytes → (text : List ℕ) (status : ℕ) → IsFilteredBy words bytes text status → AppendsPrefix a.out.told b.out.told text) (prefix_of words missing a b answer outcome code ways);
+    unread = unread_of words missing a b answer outcome code ways;
+    faults = faults_of words missing a b answer outcome code ways;
+    fault = fault_of words missing a b answer outcome code ways;
+    completeness = complete_of words missing a b answer outcome code ways;
+  }
+
+  -- all that is promised beside the answer, of words that read this file, or the input
+  record Rest (file : Option (List ℕ)) (before after : Outside) : Type 0 where
+    most : answer ≤ 5
+    place : ℕ
+    feeds : Feeds words outcome (feed_of file 0 before) (feed_of file place after) answer
+    rests : Rests file before after
+    missing : RefusesMissing file before after answer
+    nothing : (asked_of words ≡ None) ⊎ HasBadPattern words → reach_of after ≡ reach_of before
+    usage : answer ≡ 2 → asked_of words ≡ None
+    refused : asked_of words ≡ None → (answer ≡ 2) ⊎ ((answer ≡ 5) × (tool_of words ≡ None → ⊥))
+    named : answer ≡ 3 → HasBadPattern words ⊎ ((text_unread words ≡ None) × (IsTooLong (feed_of file 0 before) ⊎ IsMissing file before.site.told))
+
+  same_reach : (before after : Outside) → after.site ≡ before.site → (reach_of after).pipe ≡ (reach_of before).pipe → reach_of after ≡ reach_of before
+  same_reach before after site pipe = λ i. record { site = site i; pipe = pipe i }
+
+  rest_of_pipe : (before after : Outside) → after.site ≡ before.site → Ways words ⊥ (reach_of before).pipe (reach_of after).pipe outcome → Rest None before after
+  rest_of_pipe before after site ways =
+      let a = (reach_of before).pipe in
+      let b = (reach_of after).pipe in
+      record {
+        most = most_of words ⊥ a b answer outcome code ways;
+        place = 0;
+        feeds = feeds_of ⊥ a b ways;
+        rests = site;
+        missing = tt;
+        nothing = λ none. same_reach before after site (nothing_of words ⊥ a b answer outcome code ways none);
+        usage = usage_of words ⊥ a b answer outcome code ways;
+        refused = refused_of words ⊥ a b answer outcome code ways;
+        named = named_of words ⊥ a b answer outcome code ways;
+      }
+
+  rest_of_file : (before after : Outside) (name : List ℕ) → file_in words ≡ Some name → FileWays words name (reach_of before) (reach_of after) outcome → Rest (Some name) before after
+  rest_of_file before after name is w =
+      let a = file_pipe name 0 (reach_of before) in
+      let b = file_pipe name w.place (reach_of after) in
+      let absent = IsAbsent name before.site.told in
+      record {
+        most = most_of words absent a b answer outcome code w.ways;
+        place = w.place;
+        feeds = feeds_of absent a b w.ways;
+        rests = w.rest;
+        missing = subst (λ (n : ℕ). RefusesMissing (Some name) before after n) (sym code) w.missing;
+        nothing = λ none. absurd (named_well words name is none);
+        usage = usage_of words absent a b answer outcome code w.ways;
+        refused = refused_of words absent a b answer outcome code w.ways;
+        named = named_of words absent a b answer outcome code w.ways;
+      }
+
+  rest_of : (before after : Outside) → Course words (reach_of before) (reach_of after) outcome → Rest (file_in words) before after
+  rest_of before after (by_pipe is site ways) = subst (λ (o : Option (List ℕ)). Rest o before after) (sym is) (rest_of_pipe before after site ways)
+  rest_of before after (by_name name is ways) = subst (λ (o : Option (List ℕ)). Rest o before after) (sym is) (rest_of_file before after name is ways)
+
 pub promises : (words : List (List ℕ)) (before after : Outside) (answer : ℕ) → Answers words before after answer → Promises words before after answer
 promises words before after answer answers =
-    let a = pipe_of before in
-    let b = pipe_of after in
     let o = answers.outcome in
-    let code = answers.told.code in
-    let ways = filters_ways words a b o answers.done in
+    let rest = rest_of words answer o answers.told.code before after (filters_course words (reach_of before) (reach_of after) o answers.done) in
     record {
       answers = answers;
-      most = most_of words a b answer o code ways;
-      done = done_of words a b answer o code ways;
-      prefix = if_told before.input.told (λ bytes. AreBytes bytes → (text : List ℕ) (status : ℕ) → IsFilteredBy words bytes text status → AppendsPrefix before.out.told after.out.told text) (prefix_of words a b answer o code ways);
-      unread = unread_of words a b answer o code ways;
-      nothing = nothing_of words a b answer o code ways;
-      usage = usage_of words a b answer o code ways;
-      refused = refused_of words a b answer o code ways;
-      named = named_of words a b answer o code ways;
-      faults = faults_of words a b answer o code ways;
-      fault = fault_of words a b answer o code ways;
-      completeness = complete_of words a b answer o code ways;
+      most = rest.most;
+      place = rest.place;
+      feeds = rest.feeds;
+      rests = rest.rests;
+      missing = rest.missing;
+      nothing = rest.nothing;
+      usage = rest.usage;
+      refused = rest.refused;
+      named = rest.named;
     }

@@ -11,12 +11,12 @@ use Rattle.sub_export.specs.declared.job.Job.{Job}
 use Rattle.sub_export.specs.Output.{piece_of, pieces_of, output_events, last_event}
 use Rattle.filter_cli.specs.Attached.{WritesAlone, events_of_pieces}
 use Rattle.filter_cli.specs.Events.{packets_of}
-use Rattle.filter_cli.specs.Pipe.{Pipe, NoFault}
+use Rattle.filter_cli.specs.Pipe.{Pipe}
 use Rattle.filter_cli.specs.Program.{LeavesUnread}
 use Rattle.filter_cli.specs.Promises.{GivesAll, GivesFirst}
 use Rattle.filter_cli.specs.Streams.{writing_of, ends_by, unread_by, unread_text}
 use Rattle.filter_cli.specs.declared.asked.Asked.{Asked}
-use Rattle.filter_cli.specs.declared.asked.Asked.TheVariants.{Filter, Tags, Ls, Stats, FromTap, ToTap, ToCsv, Output, FromV1, ToV1}
+use Rattle.filter_cli.specs.declared.asked.Asked.TheVariants.{Filter, Tags, Ls, Stats, FromTap, ToTap, ToCsv, Output, OutputFile, FromV1, ToV1}
 use Rattle.filter_cli.specs.declared.pass.PumpFault.{PumpFault}
 use Rattle.filter_cli.specs.declared.pass.PumpFault.TheVariants as pump_fault
 use Rattle.filter_cli.proofs.Prefixes.{prefix_all}
@@ -48,6 +48,7 @@ unread_whole ToTap text bytes all status is w = absurd (cc)
 unread_whole FromV1 text bytes all status is w = absurd (cc)
 unread_whole ToV1 text bytes all status is w = absurd (cc)
 unread_whole (ToCsv selection) text bytes all status is w = absurd (cc)
+unread_whole (OutputFile job name) text bytes all status is w = absurd (cc)
 unread_whole (Output job) text bytes all status is w =
     let both = unread_job job job.attachment text refl is in
     w.0 ∙ output_alone job bytes both.0 ∙ both.1

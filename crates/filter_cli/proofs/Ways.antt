@@ -1,8 +1,7 @@
--- The ways in which a filter ends.
-use Rattle.std.proofs.Common.{◌≡◌, ℕ, Option, None, Some, Result, Ok, Err, List, refl, sym, ap, subst, ◌∙◌}
+-- The ways in which a filter ends. `missing` says that there is no file of the name that it is to read.
+use Rattle.std.proofs.Common.{◌≡◌, ℕ, Option, None, Some, Result, Ok, Err, List, sym, ap, subst}
 use Rattle.std.specs.Option.{option_and_then}
 use Rattle.filter_cli.specs.Steps.{Then, Gives}
-use Rattle.filter_cli.specs.Attached.{WritesAlone}
 use Rattle.sub_number.specs.declared.memory.NoMemory.{NoMemory}
 use Rattle.filter_cli.specs.Steps.{stops, goes_on}
 use Rattle.filter_cli.specs.Pipe.{Pipe}
@@ -11,29 +10,35 @@ use Rattle.filter_cli.specs.Tools.{tool_of}
 use Rattle.filter_cli.specs.Words.{asked_of}
 use Rattle.filter_cli.specs.Streams.{writing_of, unread_text, text_unread, sees_by, ends_by, AsksFor, HasBadPattern}
 use Rattle.filter_cli.specs.Refusals.{usage_fault}
-use Rattle.filter_cli.specs.Program.{LeavesUnread, PumpsOrLeaves, Passes, Checked, Performs, Filters}
+use Rattle.filter_cli.specs.Program.{LeavesUnread, PumpsOrLeaves, Passes, Checked}
 use Rattle.filter_cli.specs.declared.asked.Asked.{Asked}
 use Rattle.filter_cli.specs.declared.patterns.PatternsFault.TheVariants as patterns_fault
 use Rattle.filter_cli.specs.declared.pass.PumpFault.TheVariants as pump_fault
 use Rattle.filter_cli.specs.declared.refusal.Refusal.{Refusal}
-use Rattle.filter_cli.specs.declared.refusal.Refusal.TheVariants.{Usage, Memory, Patterns, Pump}
+use Rattle.filter_cli.specs.declared.refusal.Refusal.TheVariants.{Usage, Memory, Patterns, Pump, Attach}
+use Rattle.filter_cli.specs.declared.file_loop.FileFault.TheVariants as file_fault
 
-pub data Ways (words : List (List ℕ)) (a b : Pipe) (outcome : Result ℕ Refusal) : Type 0 where
-  by_usage : outcome ≡ Err (Usage (usage_fault words)) → asked_of words ≡ None → b ≡ a → Ways words a b outcome
-  by_memory : (none : NoMemory) → outcome ≡ Err (Memory none) → (tool_of words ≡ None → ⊥) → b ≡ a → Ways words a b outcome
-  by_bad : (text : List ℕ) → outcome ≡ Err (Patterns (patterns_fault.Bad text)) → HasBadPattern words → b ≡ a → Ways words a b outcome
-  by_want : (asked : Asked) → outcome ≡ Err (Patterns patterns_fault.NoMemory) → asked_of words ≡ Some asked → b ≡ a → Ways words a b outcome
-  passed : (asked : Asked) (status : ℕ) → outcome ≡ Ok status → AsksFor words asked → text_unread words ≡ None → PumpsAll (ends_by (writing_of asked)) a b status → Ways words a b outcome
-  by_input : (asked : Asked) → outcome ≡ Err (Pump pump_fault.Input) → AsksFor words asked → text_unread words ≡ None → ReadFails (sees_by (writing_of asked)) a b → Ways words a b outcome
-  by_length : (asked : Asked) → outcome ≡ Err (Pump pump_fault.TooLong) → AsksFor words asked → text_unread words ≡ None → PassesLimit (sees_by (writing_of asked)) a b → Ways words a b outcome
-  by_output : (asked : Asked) → outcome ≡ Err (Pump pump_fault.Output) → AsksFor words asked → text_unread words ≡ None → WriteFails (sees_by (writing_of asked)) (ends_by (writing_of asked)) a b → Ways words a b outcome
-  by_room : (asked : Asked) → outcome ≡ Err (Pump pump_fault.NoMemory) → AsksFor words asked → text_unread words ≡ None → StopsBefore (sees_by (writing_of asked)) a b → Ways words a b outcome
-  gave : (asked : Asked) (text : List ℕ) (status : ℕ) → outcome ≡ Ok status → AsksFor words asked → text_unread words ≡ Some text → LeavesUnread text a b (Ok status) → Ways words a b outcome
-  by_sink : (asked : Asked) (text : List ℕ) → outcome ≡ Err (Pump pump_fault.Output) → AsksFor words asked → text_unread words ≡ Some text → LeavesUnread text a b (Err pump_fault.Output) → Ways words a b outcome
-  by_space : (asked : Asked) (text : List ℕ) → outcome ≡ Err (Pump pump_fault.NoMemory) → AsksFor words asked → text_unread words ≡ Some text → LeavesUnread text a b (Err pump_fault.NoMemory) → Ways words a b outcome
+pub data Ways (words : List (List ℕ)) (missing : Type 0) (a b : Pipe) (outcome : Result ℕ Refusal) : Type 0 where
+  by_usage : outcome ≡ Err (Usage (usage_fault words)) → asked_of words ≡ None → b ≡ a → Ways words missing a b outcome
+  by_memory : (none : NoMemory) → outcome ≡ Err (Memory none) → (tool_of words ≡ None → ⊥) → b ≡ a → Ways words missing a b outcome
+  by_bad : (text : List ℕ) → outcome ≡ Err (Patterns (patterns_fault.Bad text)) → HasBadPattern words → b ≡ a → Ways words missing a b outcome
+  by_want : (asked : Asked) → outcome ≡ Err (Patterns patterns_fault.NoMemory) → asked_of words ≡ Some asked → b ≡ a → Ways words missing a b outcome
+  passed : (asked : Asked) (status : ℕ) → outcome ≡ Ok status → AsksFor words asked → text_unread words ≡ None → PumpsAll (ends_by (writing_of asked)) a b status → Ways words missing a b outcome
+  by_input : (asked : Asked) → outcome ≡ Err (Pump pump_fault.Input) → AsksFor words asked → text_unread words ≡ None → ReadFails (sees_by (writing_of asked)) a b → Ways words missing a b outcome
+  by_file_read : (asked : Asked) (name : List ℕ) → outcome ≡ Err (Attach name file_fault.Read) → AsksFor words asked → text_unread words ≡ None → ReadFails (sees_by (writing_of asked)) a b → Ways words missing a b outcome
+  by_length : (asked : Asked) → outcome ≡ Err (Pump pump_fault.TooLong) → AsksFor words asked → text_unread words ≡ None → PassesLimit (sees_by (writing_of asked)) a b → Ways words missing a b outcome
+  by_file_length : (asked : Asked) (name : List ℕ) → outcome ≡ Err (Attach name file_fault.TooLong) → AsksFor words asked → text_unread words ≡ None → PassesLimit (sees_by (writing_of asked)) a b → Ways words missing a b outcome
+  by_output : (asked : Asked) → outcome ≡ Err (Pump pump_fault.Output) → AsksFor words asked → text_unread words ≡ None → WriteFails (sees_by (writing_of asked)) (ends_by (writing_of asked)) a b → Ways words missing a b outcome
+  by_file_output : (asked : Asked) (name : List ℕ) → outcome ≡ Err (Attach name file_fault.Output) → AsksFor words asked → text_unread words ≡ None → WriteFails (sees_by (writing_of asked)) (ends_by (writing_of asked)) a b → Ways words missing a b outcome
+  by_room : (asked : Asked) → outcome ≡ Err (Pump pump_fault.NoMemory) → AsksFor words asked → text_unread words ≡ None → StopsBefore (sees_by (writing_of asked)) a b → Ways words missing a b outcome
+  by_file_room : (asked : Asked) (name : List ℕ) → outcome ≡ Err (Attach name file_fault.NoMemory) → AsksFor words asked → text_unread words ≡ None → StopsBefore (sees_by (writing_of asked)) a b → Ways words missing a b outcome
+  by_no_file : (asked : Asked) (name : List ℕ) → outcome ≡ Err (Attach name file_fault.NoFile) → AsksFor words asked → text_unread words ≡ None → StopsBefore (sees_by (writing_of asked)) a b → a.input.told ≡ None → missing → Ways words missing a b outcome
+  gave : (asked : Asked) (text : List ℕ) (status : ℕ) → outcome ≡ Ok status → AsksFor words asked → text_unread words ≡ Some text → LeavesUnread text a b (Ok status) → Ways words missing a b outcome
+  by_sink : (asked : Asked) (text : List ℕ) → outcome ≡ Err (Pump pump_fault.Output) → AsksFor words asked → text_unread words ≡ Some text → LeavesUnread text a b (Err pump_fault.Output) → Ways words missing a b outcome
+  by_space : (asked : Asked) (text : List ℕ) → outcome ≡ Err (Pump pump_fault.NoMemory) → AsksFor words asked → text_unread words ≡ Some text → LeavesUnread text a b (Err pump_fault.NoMemory) → Ways words missing a b outcome
 
-module _ (words : List (List ℕ)) (a b : Pipe) (outcome : Result ℕ Refusal) where
-  passes_ways : (asked : Asked) (unread : Option (List ℕ)) → AsksFor words asked → text_unread words ≡ unread → Then Pump (PumpsOrLeaves unread (writing_of asked)) (λ status. Gives status) a b outcome → Ways words a b outcome
+module _ (words : List (List ℕ)) (missing : Type 0) (a b : Pipe) (outcome : Result ℕ Refusal) where
+  passes_ways : (asked : Asked) (unread : Option (List ℕ)) → AsksFor words asked → text_unread words ≡ unread → Then Pump (PumpsOrLeaves unread (writing_of asked)) (λ status. Gives status) a b outcome → Ways words missing a b outcome
   passes_ways asked None asks reads (stops pump_fault.Input is step) = by_input asked is asks reads step
   passes_ways asked None asks reads (stops pump_fault.TooLong is step) = by_length asked is asks reads step
   passes_ways asked None asks reads (stops pump_fault.Output is step) = by_output asked is asks reads step
@@ -47,16 +52,8 @@ module _ (words : List (List ℕ)) (a b : Pipe) (outcome : Result ℕ Refusal) w
   passes_ways asked (Some text) asks leaves (goes_on status between gives next) =
       gave asked text status next.answer asks leaves (subst (λ (w : Pipe). LeavesUnread text a w (Ok status)) (sym next.same) gives)
 
-  checked_ways : (asked : Asked) → asked_of words ≡ Some asked → Checked asked a b outcome → Ways words a b outcome
+  pub checked_ways : (asked : Asked) → asked_of words ≡ Some asked → Checked asked a b outcome → Ways words missing a b outcome
   checked_ways asked named (stops (patterns_fault.Bad text) is step) = by_bad text is (record { asked = asked; named = named; text = text; bad = step.says }) step.same
   checked_ways asked named (stops patterns_fault.NoMemory is step) = by_want asked is named step.same
   checked_ways asked named (goes_on value between step next) =
       passes_ways asked (unread_text asked) (record { named = named; good = step.says }) (ap (option_and_then unread_text) named) (subst (λ (w : Pipe). Passes asked w b outcome) step.same next)
-
-  performs_ways : (asked : Option Asked) → asked_of words ≡ asked → Performs (usage_fault words) asked a b outcome → Ways words a b outcome
-  performs_ways None named done = by_usage done.usage named done.same
-  performs_ways (Some asked) named done = checked_ways asked named done
-
-  pub filters_ways : Filters words a b outcome → Ways words a b outcome
-  filters_ways (stops none is step) = by_memory none is step.says step.same
-  filters_ways (goes_on asked between step next) = performs_ways asked (sym step.says) (subst (λ (w : Pipe). Performs (usage_fault words) asked w b outcome) step.same next)

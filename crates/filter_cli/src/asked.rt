@@ -4,6 +4,7 @@ ghost use Rattle.std.specs.Prelude.{◌≡◌, map, IfOk};
 ghost use Rattle.std.specs.List.{list_any};
 ghost use Rattle.command_words.specs.Items.{texts};
 ghost use Rattle.command_words.specs.Code.{shown};
+ghost use Rattle.sub_export.specs.Output as output;
 ghost use Rattle.filter_cli.specs.Words as asking;
 
 use crate::ls::Listing;
@@ -13,7 +14,7 @@ use crate::tool::{Tool, tool_of};
 use command_words::{Item, read_items};
 use std::alloc::Global;
 use sub_export::OutputJob;
-use sub_number::NoMemory;
+use sub_number::{NoMemory, Text};
 
 /// A filter, with what it is asked to do.
 #[derive(Drop)]
@@ -32,8 +33,10 @@ pub enum Asked {
     ToTap,
     /// `subunit2csv`: the tests that are selected as records.
     ToCsv(Selection),
-    /// `subunit-output`: the events that words ask for.
+    /// `subunit-output`: the events that words ask for. The file that they attach, where they attach one, is the input.
     Output(OutputJob),
+    /// `subunit-output`: the same, with the file of this name.
+    OutputFile(OutputJob, Text),
     /// `subunit-1to2`: lines of version 1 as packets.
     FromV1,
     /// `subunit-2to1`: tests as lines of version 1.
@@ -81,8 +84,28 @@ fn read_output(alloc: Global, words: &[String]) -> Result<Option<Asked>, NoMemor
     ensures { IfOk result (λ asked. asked ≡ asking.asked_output (texts words.now)) }
 {
     match OutputJob::read(alloc, words)? {
-        Some(job) => Ok(Some(Asked::Output(job))),
+        Some(job) => Ok(Some(with_file(job)?)),
         None => Ok(None),
+    }
+}
+
+// The path of the file that the job attaches, where it is not standard input.
+fn path_of(job: &OutputJob) -> Result<Option<Text>, NoMemory>
+    ensures { IfOk result (λ path. path ≡ output.path_of job.now) }
+{
+    match job.path() {
+        Some(path) => Ok(Some(path.copy()?)),
+        None => Ok(None),
+    }
+}
+
+// The job with the file that it attaches by its name, where it does.
+fn with_file(job: OutputJob) -> Result<Asked, NoMemory>
+    ensures { IfOk result (λ asked. asked ≡ asking.asked_with_file job (output.path_of job)) }
+{
+    match path_of(&job)? {
+        Some(path) => Ok(Asked::OutputFile(job, path)),
+        None => Ok(Asked::Output(job)),
     }
 }
 

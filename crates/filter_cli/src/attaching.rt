@@ -1,16 +1,20 @@
 //! The input as the file of a job.
 
-ghost use Rattle.std.specs.Prelude.{◌≡◌, ◌∷◌, [], ◌++◌, ◌<◌, ◌≤◌, ℕ, List, IsTrue, is_some, length, OnOk, IfSome};
+ghost use Rattle.std.specs.Prelude.{◌≡◌, ◌∷◌, [], ◌++◌, ◌<◌, ◌≤◌, ℕ, List, length, OnOk, IfSome};
 ghost use Rattle.filter_cli.specs.Pumping.{Pumps, WritesFirst};
 ghost use Rattle.packet_codec.specs.Canonical.{canonical};
 ghost use Rattle.sub_export.specs.Output.{last_event, piece_size, pieces_of};
 ghost use Rattle.filter_cli.specs.Attached.{events_of_pieces, HasAttached, IsOutput, IsOutputSeen, WritesAlone};
+ghost use Rattle.edge_io.specs.Seen.{Seen};
 ghost use Rattle.filter_cli.specs.Events.{packets_of};
+ghost use Rattle.filter_cli.specs.FileReads.{FeedsFile};
+ghost use Rattle.filter_cli.specs.Outside.{reach};
 ghost use Rattle.filter_cli.specs.Pipe.{Adds, pipe};
 
+use crate::file_loop::{FileFault, pump_file};
 use crate::filter::Filter;
 use crate::pass::{PumpFault, pump};
-use edge_io::{Sink, Source, write_whole};
+use edge_io::{Sink, Site, Source, write_whole};
 use packet_codec::encode;
 use std::alloc::Global;
 use sub_export::OutputJob;
@@ -41,7 +45,6 @@ impl Attaching {
     // Takes the next bytes, and gives the piece that is full with them.
     fn add(&mut self, piece: &[u8], text: &mut Vec<u8>) -> Result<(), NoMemory>
         requires held { length self.old.held.items < 65536 }
-        requires attaches { IsTrue (is_some self.old.job.attachment) }
         requires piece { length piece.now ≤ 65536 }
         ensures held { OnOk result (length self.new.held.items < 65536) }
         ensures job { self.new.job ≡ self.old.job }
@@ -60,12 +63,14 @@ impl Attaching {
     }
 }
 
-// Appends the packet of a piece.
+// Appends the packet of a piece, where a file is attached.
 fn put_piece(job: &OutputJob, piece: &[u8], text: &mut Vec<u8>) -> Result<(), NoMemory>
-    requires attaches { IsTrue (is_some job.now.attachment) }
     requires short { length piece.now ≤ piece_size }
     ensures { OnOk result (text.new.items ≡ text.old.items ++ packets_of (events_of_pieces job.now (piece.now ∷ []))) }
 {
+    if !job.attaches() {
+        return Ok(());
+    }
     let event = job.piece(piece)?;
     encode(&event, text)?;
     Ok(())
@@ -73,7 +78,6 @@ fn put_piece(job: &OutputJob, piece: &[u8], text: &mut Vec<u8>) -> Result<(), No
 
 // Appends the packet of the last piece, where there is one.
 fn put_rest(job: &OutputJob, rest: &[u8], text: &mut Vec<u8>) -> Result<(), NoMemory>
-    requires attaches { IsTrue (is_some job.now.attachment) }
     requires short { length rest.now < piece_size }
     ensures { OnOk result (text.new.items ≡ text.old.items ++ packets_of (events_of_pieces job.now (pieces_of rest.now))) }
 {
@@ -102,7 +106,7 @@ impl Filter for Attaching {
 
     ghost has = { λ f. HasAttached f.job f.held.items };
 
-    ghost ready = { λ f. (length f.held.items < 65536) × IsTrue (is_some f.job.attachment) };
+    ghost ready = { λ f. length f.held.items < 65536 };
 
     fn feed(&mut self, piece: &[u8], text: &mut Vec<u8>) -> Result<(), NoMemory> {
         self.add(piece, text)
@@ -130,12 +134,24 @@ pub fn attach_stream<I: Source, O: Sink>(
     input: &mut I,
     out: &mut O,
 ) -> Result<u8, PumpFault>
-    requires { IsTrue (is_some job.attachment) }
     ensures pumps { Pumps (IsOutputSeen job) (IsOutput job) (pipe (I.seen input.old) (O.seen out.old)) (pipe (I.seen input.new) (O.seen out.new)) result }
     // At every exit a first part of the input's text was written, and nothing else.
     ensures prefix { IfSome (I.seen input.old).told (WritesFirst (IsOutput job) (O.seen out.old).told (O.seen out.new).told) }
 {
     pump(alloc, Attaching::new(alloc, job), input, out)
+}
+
+/// The same of the file of this name, in place of the input.
+pub fn attach_named<S: Site, O: Sink>(
+    alloc: Global,
+    job: OutputJob,
+    name: &str,
+    site: &mut S,
+    out: &mut O,
+) -> Result<u8, FileFault>
+    ensures { (input : Seen (List ℕ)) → FeedsFile name.now (IsOutputSeen job) (IsOutput job) (reach (S.seen site.old) input (O.seen out.old)) (reach (S.seen site.new) input (O.seen out.new)) result }
+{
+    pump_file(alloc, Attaching::new(alloc, job), name, site, out)
 }
 
 /// Gives the one event of a job that attaches nothing. No input is read. The status is 0.

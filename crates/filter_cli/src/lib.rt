@@ -12,7 +12,7 @@
 //! - `of_tap`, `open_line`, `packets`, `pass_tap`: lines of the Test Anything Protocol as packets
 //! - `headed`, `exporting`: a text in front of what a filter writes, and the records of tests below the names of their fields
 //! - `of_v1`, `pass_v1`, `subunit_to_v1`: lines of version 1 as packets, and tests as such lines
-//! - `attaching`: the events that words ask for, with the input as a file
+//! - `attaching`, `file_loop`: the events that words ask for, with the input as a file, or a file by its name
 //! - `event_laws`, `laws`: what filters write of all streams
 //!
 //! Its tests stand in a room above it, `filter_trials`.
@@ -22,6 +22,7 @@ mod asked;
 mod attaching;
 mod event_laws;
 mod exporting;
+mod file_loop;
 mod filter;
 mod headed;
 mod laws;
@@ -52,9 +53,10 @@ mod tool;
 mod top;
 
 pub use asked::{Asked, read_asked};
-pub use attaching::{attach_stream, give_event};
+pub use attaching::{attach_named, attach_stream, give_event};
 pub use event_laws::packets_of_streams;
 pub use exporting::{export_stream, records_of_streams};
+pub use file_loop::{FileFault, pump_file};
 pub use filter::Filter;
 pub use headed::Headed;
 pub use laws::{filtered_streams, lines_of_streams};

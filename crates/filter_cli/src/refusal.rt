@@ -2,13 +2,14 @@
 
 ghost use Rattle.std.specs.Prelude.{◌≡◌, ◌++◌};
 ghost use Rattle.filter_cli.specs.Patterns.{patterns_code, patterns_text};
-ghost use Rattle.filter_cli.specs.Refusals.{usage_line, pump_code, pump_text};
+ghost use Rattle.filter_cli.specs.Refusals.{usage_line, pump_code, pump_text, file_code, file_text};
 ghost use Rattle.filter_cli.specs.Telling.{line_text};
 
+use crate::file_loop::FileFault;
 use crate::pass::PumpFault;
 use crate::patterns::PatternsFault;
 use crate::telling::Line;
-use sub_number::NoMemory;
+use sub_number::{NoMemory, Text};
 
 /// Why words are no filter.
 #[derive(Clone, Copy, Debug, PartialEq, Eq)]
@@ -30,6 +31,8 @@ pub enum Refusal {
     Patterns(PatternsFault),
     /// The input was not filtered to its end.
     Pump(PumpFault),
+    /// The file of this name was not.
+    Attach(Text, FileFault),
 }
 
 impl From<NoMemory> for Refusal {
@@ -74,6 +77,7 @@ impl Refusal {
             Refusal::Memory(_) => 5,
             Refusal::Patterns(fault) => code_of_patterns(fault),
             Refusal::Pump(fault) => code_of_pump(*fault),
+            Refusal::Attach(_, fault) => code_of_file(*fault),
         }
     }
 
@@ -86,6 +90,7 @@ impl Refusal {
             Refusal::Memory(_) => Line::of(name, ": out of memory\n"),
             Refusal::Patterns(fault) => line_of_patterns(name, fault),
             Refusal::Pump(fault) => Line::of(name, text_of_pump(*fault)),
+            Refusal::Attach(file, fault) => line_of_file(name, file, *fault),
         }
     }
 }
@@ -140,5 +145,37 @@ fn text_of_pump(fault: PumpFault) -> &'static str
         PumpFault::TooLong => ": standard input is too long\n",
         PumpFault::Output => ": fault writing output\n",
         PumpFault::NoMemory => ": out of memory\n",
+    }
+}
+
+fn code_of_file(fault: FileFault) -> u8
+    ensures { result ≡ file_code fault }
+{
+    match fault {
+        FileFault::Read | FileFault::Output => 4,
+        FileFault::NoFile | FileFault::TooLong => 3,
+        FileFault::NoMemory => 5,
+    }
+}
+
+fn line_of_file<'a>(name: &'a str, file: &'a Text, fault: FileFault) -> Line<'a>
+    ensures { line_text result ≡ name.now ++ file_text file.now fault }
+{
+    match fault {
+        FileFault::Read => Line::of(name, ": fault reading a file\n"),
+        FileFault::NoFile => Line {
+            name,
+            front: ": no file ",
+            pattern: file.bytes(),
+            end: "\n",
+        },
+        FileFault::TooLong => Line {
+            name,
+            front: ": ",
+            pattern: file.bytes(),
+            end: " is too long\n",
+        },
+        FileFault::Output => Line::of(name, ": fault writing output\n"),
+        FileFault::NoMemory => Line::of(name, ": out of memory\n"),
     }
 }
