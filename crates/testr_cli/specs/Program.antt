@@ -228,11 +228,10 @@ pub record Promises (reading : Bool) (asked : Option Task) (before after : Outsi
 abbrev pub TestrPromises : List (List ℕ) → Outside → Outside → ℕ → Type 0
 TestrPromises words = Promises true (asked_by words)
 
--- what the filters do for the words, from the input to the output; the folder, the files and the spawner stay
+-- what the filters do for the words, from the files and the input to the output; the folder and the spawner stay
 pub record PromisesOfFilters (words : List (List ℕ)) (before after : Outside) (answer : ℕ) : Type 0 where
-  pub filtered : FilterPromises words (piped before.input before.out before.errors) (piped after.input after.out after.errors) answer
+  pub filtered : FilterPromises words (piped before.site before.input before.out before.errors) (piped after.site after.input after.out after.errors) answer
   pub folder : after.folder ≡ before.folder
-  pub site : after.site ≡ before.site
   pub spawner : after.spawner ≡ before.spawner
 
 -- What each call of the program promises for all its words: what `testr` does for those behind its name, and for others

@@ -66,7 +66,7 @@ pub fn program<
     ensures spares_run { (behind : List (List ℕ)) → texts words.now ≡ testr_word ∷ behind → SparesRun (asked_by behind) (H.seen shelf.old).told (H.seen shelf.new).told result (H.clock shelf.old) (H.clock shelf.new) }
 {
     if !is_testr(words) {
-        return filters(alloc, words, input, out, err);
+        return filters(alloc, words, site, input, out, err);
     }
     testr(
         rt,

@@ -14,7 +14,7 @@ returns-then-not-is_testr g c =
     record {
       promises = record {
         testr = λ behind is. absurd (names_other _ unnamed behind is);
-        filters = λ none. record { filtered = c.filters.ensures.promises; folder = refl; site = refl; spawner = refl };
+        filters = λ none. record { filtered = c.filters.ensures.promises; folder = refl; spawner = refl };
       };
       spares = λ behind is. none_spare _ _ _ _ refl;
       spares_run = λ behind is. absurd (names_other _ unnamed behind is);
