@@ -1,6 +1,6 @@
 // Calls of a filter by its words, over streams in memory.
 
-use edge_io::{ListSink, ListSource};
+use edge_io::{ListSink, ListSource, MapSite, Site};
 use filter_cli::filters;
 use std::alloc::Global;
 use sub_number::Bytes;
@@ -25,7 +25,20 @@ pub fn are_texts(out: &ListSink, err: &ListSink, text: &[u8], line: &[u8]) -> bo
     out.taken() == text && err.taken() == line
 }
 
-// The status of the words over the input.
+// The status of the words over the files and the input.
+pub fn ran_over<S: Site>(
+    alloc: Global,
+    words: &[&str],
+    site: &mut S,
+    input: &mut ListSource,
+    out: &mut ListSink,
+    err: &mut ListSink,
+) -> Option<u8> {
+    let words = owned(alloc, words)?;
+    Some(filters(alloc, &words, site, input, out, err))
+}
+
+// The same, where there are no files.
 pub fn ran(
     alloc: Global,
     words: &[&str],
@@ -33,8 +46,8 @@ pub fn ran(
     out: &mut ListSink,
     err: &mut ListSink,
 ) -> Option<u8> {
-    let words = owned(alloc, words)?;
-    Some(filters(alloc, &words, input, out, err))
+    let mut site = MapSite::new(alloc, Vec::new(alloc));
+    ran_over(alloc, words, &mut site, input, out, err)
 }
 
 // The reads that fail, and the writes.

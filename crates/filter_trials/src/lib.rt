@@ -1,7 +1,7 @@
 //! Tests of the filters: the Test Anything Protocol and version 1 both ways, and filters over streams in memory. No program uses it.
 //!
 //! They use the public names of the rooms alone, and stand above them, so that the proofs of a room are not made once more for
-//! its tests. Each file has the room in its name. `calls` has what they share.
+//! its tests. Each file has the room in its name. `calls` has what they share, and `slow_site` a file that is read a little at a time.
 #![tactic(auto)]
 
 #[cfg(test)]
@@ -12,6 +12,10 @@ mod tests_filter_cli;
 mod tests_filter_cli_events;
 #[cfg(test)]
 mod tests_filter_cli_export;
+#[cfg(test)]
+mod slow_site;
+#[cfg(test)]
+mod tests_filter_cli_files;
 #[cfg(test)]
 mod tests_filter_cli_tap;
 #[cfg(test)]

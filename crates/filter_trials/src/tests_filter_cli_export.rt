@@ -113,7 +113,7 @@ type Refused = (&'static [&'static str], &'static [u8], u8);
 
 const OUTPUT_USAGE: &[u8] = b"subunit-output: wrong usage\n";
 
-const REFUSED: [Refused; 8] = [
+const REFUSED: [Refused; 7] = [
     (&["subunit-output"], OUTPUT_USAGE, 2),
     (&["subunit-output", "--fail=a", "--skip=a"], OUTPUT_USAGE, 2),
     (
@@ -121,7 +121,6 @@ const REFUSED: [Refused; 8] = [
         OUTPUT_USAGE,
         2,
     ),
-    (&["subunit-output", "--attach-file=log"], OUTPUT_USAGE, 2),
     (&["subunit2csv", "x"], b"subunit2csv: wrong usage\n", 2),
     (
         &["subunit2csv", "--success"],

@@ -58,7 +58,7 @@ fn gives(alloc: Global, words: &[&str], piece: &[u8], wanted: &[u8]) -> bool {
 // Words, the bytes of the file, and the packets.
 type Output = (&'static [&'static str], &'static [u8], &'static [u8]);
 
-const OUTPUTS: [Output; 7] = [
+const OUTPUTS: [Output; 8] = [
     (
         &["--success=foo"],
         b"",
@@ -83,6 +83,11 @@ const OUTPUTS: [Output; 7] = [
         &["--attach-file=x", "--attach-file=-"],
         b"",
         b"\xb3\x21\x10\x08\x53\x15\x88\xdc",
+    ),
+    (
+        &["--attach-file=-", "--attach-file=x"],
+        b"boom",
+        b"\xb3\x21\x40\x0f\x01\x78\x04\x62\x6f\x6f\x6d\xbd\x87\x2b\xeb\xb3\x21\x10\x08\x53\x15\x88\xdc",
     ),
     (
         &[
@@ -114,14 +119,42 @@ fn words_make_events(rt: HostRuntime) {
     }
 }
 
-const REFUSED: [&[&str]; 12] = [
+// The path of the file that the words attach, or nothing.
+fn path_is(alloc: Global, words: &[&str], wanted: &[u8]) -> bool {
+    let Some(job) = job(alloc, words) else {
+        return false;
+    };
+    match job.path() {
+        Some(path) => path.bytes() == wanted,
+        None => wanted.is_empty(),
+    }
+}
+
+// Words, and the path of the file that they attach, or nothing.
+type Path = (&'static [&'static str], &'static [u8]);
+
+const PATHS: [Path; 4] = [
+    (&["--success=a"], b""),
+    (&["--attach-file=-"], b""),
+    (&["--attach-file=a/b", "--file-name=c"], b"a/b"),
+    (&["--attach-file=-", "--attach-file=./-"], b"./-"),
+];
+
+#[test]
+fn the_last_file_is_read_and_a_dash_is_none(rt: HostRuntime) {
+    let alloc = rt.alloc();
+    for (row, (words, wanted)) in PATHS.iter().enumerate() {
+        assert!(rt; path_is(alloc, words, wanted), "row {row}");
+    }
+}
+
+const REFUSED: [&[&str]; 11] = [
     &[],
     &["--fail=a", "--skip=a"],
     &["--fail=a", "--fail=a"],
     &["--tag=x", "--attach-file=-"],
     &["--success=a", "--file-name=x"],
     &["--success=a", "--mimetype=x"],
-    &["--attach-file=-", "--attach-file=x"],
     &["--success=a", "b"],
     &["--success"],
     &["--timestamp=1970-01-01 00:00:00Z"],
