@@ -1,0 +1,39 @@
+-- What the document of some rows tells, and of what characters it is (docs/FORMATS.md, "JUnit XML").
+use Rattle.std.specs.Prelude.{◌≡◌, ℕ, IsTrue, List, [], map}
+use Rattle.std.specs.List.{filter, list_all}
+use Rattle.std.specs.Str.{encode_utf8_all}
+use Rattle.outcome_fold.specs.declared.row.Ended.{Ended}
+use Rattle.outcome_fold.specs.declared.row.Ended.TheVariants as ended
+use Rattle.outcome_fold.specs.declared.row.Row.{Row}
+use Rattle.outcome_fold.specs.declared.row.Counts.{Counts}
+use Rattle.outcome_fold.specs.Answers.{is_run, counts_of}
+use Rattle.junit_xml.specs.Characters.{is_xml_char, shown}
+use Rattle.junit_xml.specs.Seconds.{seconds_of}
+use Rattle.junit_xml.specs.Documents.{reason_of}
+use Rattle.junit_xml.specs.Reading.{Verdict, passed, skipped, failed, Heading, Case, Document}
+
+-- What is told of how a test ended. Of one that passed no text is told, nor of one that was expected to fail and did.
+abbrev pub verdict_of : Ended → (text reason : List ℕ) → Verdict
+verdict_of ended.Exists text reason = passed
+verdict_of ended.Success text reason = passed
+verdict_of ended.UxSuccess text reason = failed ended.UxSuccess (shown text)
+verdict_of ended.Skip text reason = skipped (shown reason)
+verdict_of ended.Fail text reason = failed ended.Fail (shown text)
+verdict_of ended.XFail text reason = passed
+verdict_of ended.Open text reason = failed ended.Open (shown text)
+
+-- what is told of a row
+abbrev pub told_case : Row → Case
+told_case row = record { id = shown row.id; seconds = seconds_of row.nanos; verdict = verdict_of row.ended row.text (reason_of row) }
+
+-- what is told of counts
+abbrev pub told_counts : Counts → Heading
+told_counts counts = record { tests = counts.total; failures = counts.failed; skipped = counts.skipped; seconds = seconds_of counts.nanos }
+
+-- what is told of rows: their counts, and each row that is not `Exists`, in their order
+abbrev pub told_of : List Row → Document
+told_of rows = record { heading = told_counts (counts_of [] rows); cases = map told_case (filter is_run rows) }
+
+-- UTF-8 of characters that XML 1.0 allows
+abbrev pub IsXmlText : List ℕ → Type 0
+IsXmlText bytes = (chars : List ℕ) × (encode_utf8_all chars ≡ bytes) × IsTrue (list_all is_xml_char chars)

@@ -1,0 +1,169 @@
+//! Bytes as characters of a document.
+
+ghost use Rattle.std.specs.Prelude.{◌≡◌, ◌≤◌, ◌<◌, ◌++◌, None, IsTrue, take, drop, length, IfOk, OnOk};
+ghost use Rattle.std.specs.Option.{option_map};
+ghost use Rattle.bstr.specs.Utf8.{decoded, or_replacement};
+ghost use Rattle.junit_xml.specs.Characters as spec;
+
+use bstr::decode_utf8;
+use sub_number::NoMemory;
+
+/// U+FFFD in UTF-8.
+const REPLACEMENT: &[u8] = b"\xEF\xBF\xBD";
+
+/// Where bytes stand in a document.
+#[derive(Clone, Copy, Debug, PartialEq, Eq)]
+pub(crate) enum Place {
+    /// Between tags.
+    Text,
+    /// In an attribute's value.
+    Value,
+}
+
+// Whether XML 1.0 allows the character.
+fn is_xml_char(char: char) -> bool
+    ensures { result ≡ spec.is_xml_char char }
+{
+    matches!(
+        char,
+        '\t' | '\n'
+            | '\r'
+            | '\u{20}'..='\u{D7FF}'
+            | '\u{E000}'..='\u{FFFD}'
+            | '\u{10000}'..='\u{10FFFF}'
+    )
+}
+
+// What stands for a sign of the markup.
+fn markup_escape(char: char) -> Option<&'static [u8]>
+    ensures { option_map (λ text. text.now) result ≡ spec.markup_escape char }
+{
+    match char {
+        '&' => Some(b"&amp;"),
+        '<' => Some(b"&lt;"),
+        '>' => Some(b"&gt;"),
+        '"' => Some(b"&quot;"),
+        _ => None,
+    }
+}
+
+// What stands for a tab, a newline and a carriage return in a value.
+fn break_escape(char: char, place: Place) -> Option<&'static [u8]>
+    ensures { option_map (λ text. text.now) result ≡ spec.break_escape place char }
+{
+    match (place, char) {
+        (Place::Value, '\t') => Some(b"&#9;"),
+        (Place::Value, '\n') => Some(b"&#10;"),
+        (Place::Value, '\r') => Some(b"&#13;"),
+        _ => None,
+    }
+}
+
+// What stands for a character that is not written as it is.
+fn escape(char: char, place: Place) -> Option<&'static [u8]>
+    ensures { option_map (λ text. text.now) result ≡ spec.escape place char }
+{
+    if let Some(text) = markup_escape(char) {
+        return Some(text);
+    }
+    if let Some(text) = break_escape(char, place) {
+        return Some(text);
+    }
+    if is_xml_char(char) {
+        None
+    } else {
+        Some(REPLACEMENT)
+    }
+}
+
+// Whether the byte is a character of ASCII that is written as it is.
+#[inline(always)]
+fn is_plain(byte: u8, place: Place) -> bool
+    ensures { IsTrue result → (byte < 128) × (spec.escape place byte ≡ None) }
+{
+    match byte {
+        b'&' | b'<' | b'>' | b'"' => false,
+        b'\t' | b'\n' | b'\r' => place == Place::Text,
+        0x20..=0x7F => true,
+        _ => false,
+    }
+}
+
+// How many bytes the first character has, where it is written as it is; else none.
+fn char_size(bytes: &[u8], place: Place) -> usize
+    ensures within { result ≤ length bytes.now }
+    ensures plain { spec.written place bytes.now ≡ take result bytes.now ++ spec.written place (drop result bytes.now) }
+{
+    match decode_utf8(bytes) {
+        (Some(char), size) if escape(char, place).is_none() => size,
+        _ => 0,
+    }
+}
+
+// How many bytes at the front are characters that are written as they are. It may not be all of these.
+fn plain_size(bytes: &[u8], place: Place) -> usize
+    ensures within { result ≤ length bytes.now }
+    ensures plain { spec.written place bytes.now ≡ take result bytes.now ++ spec.written place (drop result bytes.now) }
+{
+    let mut size = 0;
+    while size < bytes.len() {
+        let more = if is_plain(bytes[size], place) {
+            1
+        } else {
+            char_size(&bytes[size..], place)
+        };
+        if more == 0 {
+            return size;
+        }
+        size += more;
+    }
+    size
+}
+
+// Appends the first character of the bytes, and gives how many of them it has. U+FFFD stands for a piece that is none.
+fn put_char(bytes: &[u8], place: Place, text: &mut Vec<u8>) -> Result<usize, NoMemory>
+    ensures size { IfOk result (λ size. size ≡ (decoded bytes.now).size) }
+    ensures ok { OnOk result (text.new.items ≡ text.old.items ++ spec.written_char place (or_replacement (decoded bytes.now).char)) }
+    ensures kept { take (length text.old.items) text.new.items ≡ text.old.items }
+{
+    let (found, size) = decode_utf8(bytes);
+    let Some(char) = found else {
+        text.extend_from_slice(REPLACEMENT)?;
+        return Ok(size);
+    };
+    match escape(char, place) {
+        Some(other) => text.extend_from_slice(other)?,
+        None => text.extend_from_slice(&bytes[..size])?,
+    }
+    Ok(size)
+}
+
+// Appends some of the first characters, at least one, and gives how many bytes they have.
+fn put_front(bytes: &[u8], place: Place, text: &mut Vec<u8>) -> Result<usize, NoMemory>
+    requires { 0 < length bytes.now }
+    ensures within { IfOk result (λ size. (0 < size) × (size ≤ length bytes.now)) }
+    ensures ok { IfOk result (λ size. text.new.items ++ spec.written place (drop size bytes.now) ≡ text.old.items ++ spec.written place bytes.now) }
+    ensures kept { take (length text.old.items) text.new.items ≡ text.old.items }
+{
+    let plain = plain_size(bytes, place);
+    text.extend_from_slice(&bytes[..plain])?;
+    if plain == bytes.len() {
+        return Ok(plain);
+    }
+    let size = put_char(&bytes[plain..], place, text)?;
+    Ok(plain + size)
+}
+
+/// Appends the bytes as they are written there: U+FFFD for each longest piece that is no UTF-8 and for each character that
+/// XML 1.0 does not allow, and a reference for each sign that has a meaning in the markup. What stands in the text stays,
+/// also where there is not enough memory.
+pub(crate) fn put_written(bytes: &[u8], place: Place, text: &mut Vec<u8>) -> Result<(), NoMemory>
+    ensures ok { OnOk result (text.new.items ≡ text.old.items ++ spec.written place bytes.now) }
+    ensures kept { take (length text.old.items) text.new.items ≡ text.old.items }
+{
+    let mut done = 0;
+    while done < bytes.len() {
+        done += put_front(&bytes[done..], place, text)?;
+    }
+    Ok(())
+}
