@@ -1,8 +1,8 @@
 -- The characters of a document (docs/FORMATS.md, "JUnit XML"; Extensible Markup Language 1.0, 2.2 and 2.4).
-use Rattle.std.specs.Prelude.{ℕ, Bool, ◌==◌, ◌&&◌, ◌||◌, nat_le, Option, Some, None, List, map, codes, if◌then◌else◌}
+use Rattle.std.specs.Prelude.{ℕ, Bool, ◌==◌, ◌&&◌, ◌||◌, nat_le, Option, Some, None, List, map, codes, encode_utf8, if◌then◌else◌}
 use Rattle.std.specs.List.{flat_map}
 use Rattle.std.specs.Option.{option_or, unwrap_or}
-use Rattle.std.specs.Str.{encode_utf8, encode_utf8_all}
+use Rattle.std.specs.Str.{encode_utf8_all}
 use Rattle.bstr.specs.Utf8.{replacement, lossy_chars}
 use Rattle.junit_xml.specs.declared.escaping.Place.{Place}
 use Rattle.junit_xml.specs.declared.escaping.Place.TheVariants as place

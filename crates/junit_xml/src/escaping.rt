@@ -100,18 +100,28 @@ fn char_size(bytes: &[u8], place: Place) -> usize
     }
 }
 
-// How many bytes at the front are characters that are written as they are. It may not be all of these.
+// The same of bytes that are some; a character of ASCII is told by its byte.
+#[inline(always)]
+fn front_size(bytes: &[u8], place: Place) -> usize
+    requires { 0 < length bytes.now }
+    ensures within { result ≤ length bytes.now }
+    ensures plain { spec.written place bytes.now ≡ take result bytes.now ++ spec.written place (drop result bytes.now) }
+{
+    if is_plain(bytes[0], place) {
+        1
+    } else {
+        char_size(bytes, place)
+    }
+}
+
+// How many bytes at the front are characters that are written as they are.
 fn plain_size(bytes: &[u8], place: Place) -> usize
     ensures within { result ≤ length bytes.now }
     ensures plain { spec.written place bytes.now ≡ take result bytes.now ++ spec.written place (drop result bytes.now) }
 {
     let mut size = 0;
     while size < bytes.len() {
-        let more = if is_plain(bytes[size], place) {
-            1
-        } else {
-            char_size(&bytes[size..], place)
-        };
+        let more = front_size(&bytes[size..], place);
         if more == 0 {
             return size;
         }
@@ -120,22 +130,19 @@ fn plain_size(bytes: &[u8], place: Place) -> usize
     size
 }
 
-// Appends the first character of the bytes, and gives how many of them it has. U+FFFD stands for a piece that is none.
-fn put_char(bytes: &[u8], place: Place, text: &mut Vec<u8>) -> Result<usize, NoMemory>
-    ensures size { IfOk result (λ size. size ≡ (decoded bytes.now).size) }
-    ensures ok { OnOk result (text.new.items ≡ text.old.items ++ spec.written_char place (or_replacement (decoded bytes.now).char)) }
-    ensures kept { take (length text.old.items) text.new.items ≡ text.old.items }
+// The first character as it is written, and how many bytes it has. U+FFFD stands for a piece that is none.
+fn front_char(bytes: &[u8], place: Place) -> (&[u8], usize)
+    ensures text { result.0.now ≡ spec.written_char place (or_replacement (decoded bytes.now).char) }
+    ensures size { result.1 ≡ (decoded bytes.now).size }
 {
     let (found, size) = decode_utf8(bytes);
-    let Some(char) = found else {
-        text.extend_from_slice(REPLACEMENT)?;
-        return Ok(size);
-    };
-    match escape(char, place) {
-        Some(other) => text.extend_from_slice(other)?,
-        None => text.extend_from_slice(&bytes[..size])?,
+    match found {
+        Some(char) => match escape(char, place) {
+            Some(other) => (other, size),
+            None => (&bytes[..size], size),
+        },
+        None => (REPLACEMENT, size),
     }
-    Ok(size)
 }
 
 // Appends some of the first characters, at least one, and gives how many bytes they have.
@@ -150,7 +157,8 @@ fn put_front(bytes: &[u8], place: Place, text: &mut Vec<u8>) -> Result<usize, No
     if plain == bytes.len() {
         return Ok(plain);
     }
-    let size = put_char(&bytes[plain..], place, text)?;
+    let (char, size) = front_char(&bytes[plain..], place);
+    text.extend_from_slice(char)?;
     Ok(plain + size)
 }
 
