@@ -3,6 +3,7 @@ use Rattle.std.proofs.Common.{◌≡◌, ℕ, ◌<◌, ◌≤◌, ◌^◌, Bool,
 use Rattle.std.specs.Prelude.{Option, codes, not, ◌&&◌, ◌==◌, if◌then◌else◌}
 use Rattle.std.specs.List.{slice_split, list_all, flat_map, fold, filter, join_with_byte, count_by}
 use Rattle.std.specs.Option.{option_and_then}
+use Rattle.std.specs.Fmt.{decimal}
 use Rattle.std.proofs.lemmas.Bool.{cases_Bool, cond-true, cond-false, and_from, cond_both}
 use Rattle.std.proofs.lemmas.List.{append-nil}
 use Rattle.std.proofs.lemmas.List.Concat.{flat_map-append}
@@ -58,9 +59,6 @@ fronted part = 60 ∷ part
 
 -- The text is the parts.
 
-attribute_is : (front name value : List ℕ) → front ++ attribute name value ≡ (front ++ (codes " " ++ (name ++ codes "="))) ++ 34 ∷ value ++ 34 ∷ []
-attribute_is front name value = simp append_assoc refl
-
 inside_is : (how : Ended) (text reason : List ℕ) → inside_of how text reason ≡ flat_map fronted (inside_parts how text reason)
 inside_is ended.Exists text reason = refl
 inside_is ended.Success text reason = refl
@@ -70,8 +68,13 @@ inside_is ended.Fail text reason = simp append_assoc refl
 inside_is ended.XFail text reason = refl
 inside_is ended.Open text reason = simp append_assoc refl
 
+case_line_is : (class name seconds : List ℕ)
+    → tag_line (codes "testcase" ++ attribute (codes "classname") class ++ attribute (codes "name") name ++ attribute (codes "time") seconds)
+    ≡ 60 ∷ (join_with_byte 34 (codes "testcase classname=" ∷ class ∷ codes " name=" ∷ name ∷ codes " time=" ∷ seconds ∷ [] ∷ []) ++ 62 ∷ 10 ∷ [])
+case_line_is class name seconds = simp append_assoc refl
+
 begin_is : (row : Row) → case_begin row ≡ fronted (case_part row)
-begin_is row = simp append_assoc refl
+begin_is row = case_line_is (written Value (class_of row.id)) (written Value (name_of row.id)) (seconds_of row.nanos)
 
 case_is : (row : Row) → case_text row ≡ flat_map fronted (case_parts row)
 case_is row =
@@ -94,8 +97,13 @@ rows_are (row ∷ rows) =
     ap (λ l. l ++ flat_map case_of rows) (row_is row) ∙ ap (λ l. flat_map fronted (row_parts row) ++ l) (rows_are rows)
     ∙ sym (flat_map-append fronted (row_parts row) (flat_map row_parts rows))
 
+suite_line_is : (tests failures skips seconds : List ℕ)
+    → tag_line (codes "testsuite" ++ attribute (codes "name") [] ++ attribute (codes "tests") tests ++ attribute (codes "failures") failures ++ attribute (codes "errors") (codes "0") ++ attribute (codes "skipped") skips ++ attribute (codes "time") seconds)
+    ≡ 60 ∷ (join_with_byte 34 (codes "testsuite name=" ∷ [] ∷ codes " tests=" ∷ tests ∷ codes " failures=" ∷ failures ∷ codes " errors=" ∷ codes "0" ∷ codes " skipped=" ∷ skips ∷ codes " time=" ∷ seconds ∷ [] ∷ []) ++ 62 ∷ 10 ∷ [])
+suite_line_is tests failures skips seconds = simp append_assoc refl
+
 suite_is : (counts : Counts) → suite_begin counts ≡ fronted (suite_part counts)
-suite_is counts = simp append_assoc refl
+suite_is counts = suite_line_is (decimal counts.total) (decimal counts.failed) (decimal counts.skipped) (seconds_of counts.nanos)
 
 document_is : (rows : List Row) → junit_of rows ≡ flat_map fronted (document_parts rows)
 document_is rows =

@@ -73,7 +73,7 @@ point_at id some =
     let within : size < length front = omega (arith, length-take (length front - suffix_len (λ x. not (is_point x)) front - 1) front) in
     let here : get_or front size 0 ≡ 46 = eqb-true (get_or front size 0) 46 (last_passes is_point front some) in
     let stands : size < position_or_len is_opening id = omega (arith, within, length-take (position_or_len is_opening id) id) in
-    sym (get_or-take (position_or_len is_opening id) size id 0 stands) ∙ here
+    sym (get_or-take (position_or_len is_opening id) id size 0 stands) ∙ here
 
 -- an id is its class, a point and its name
 parted : (id : List ℕ) → 0 < class_size id → id ≡ class_of id ++ 46 ∷ drop (class_size id + 1) id
@@ -91,6 +91,7 @@ encoded_append [] ys = refl
 encoded_append (x ∷ xs) ys = ap (λ t. encode_utf8 x ++ t) (encoded_append xs ys) ∙ sym (append_assoc (encode_utf8 x) (encode_utf8_all xs) (encode_utf8_all ys))
 
 shown_parted : (class name : List ℕ) → shown (class ++ 46 ∷ name) ≡ shown class ++ 46 ∷ shown name
+unfolding lib.Utf8.encode
 shown_parted class name =
     let point : lossy_chars (46 ∷ name) ≡ 46 ∷ lossy_chars name =
     ap (λ l. lossy_chars (l ++ name)) (sym (encode_ascii 46 (omega arith))) ∙ lossy_chars-front (46 ∷ []) name refl in

@@ -43,17 +43,17 @@ plain_allowed (x ∷ xs) all =
 
 -- such characters are a text
 plain_xml : (xs : List ℕ) → list_all is_plain_xml xs ≡ true → IsXmlText xs
-plain_xml xs all = (xs, (plain_spelled xs all, plain_allowed xs all))
+plain_xml xs all = (xs, plain_spelled xs all, plain_allowed xs all)
 
 both_xml : (xs ys : List ℕ) → IsXmlText xs → IsXmlText ys → IsXmlText (xs ++ ys)
 both_xml xs ys first second = (
   first.0 ++ second.0,
-  (encoded_append first.0 second.0 ∙ ap (λ (l : List ℕ). l ++ encode_utf8_all second.0) first.1 ∙ ap (λ (l : List ℕ). xs ++ l) second.2,
-  list_all-append is_xml_char first.0 second.0 ∙ and_from (list_all is_xml_char first.0) (list_all is_xml_char second.0) first.2 second.2),
+  encoded_append first.0 second.0 ∙ ap (λ (l : List ℕ). l ++ encode_utf8_all second.0) first.1 ∙ ap (λ (l : List ℕ). xs ++ l) second.1,
+  list_all-append is_xml_char first.0 second.0 ∙ and_from (list_all is_xml_char first.0) (list_all is_xml_char second.0) first.2 second.2,
 )
 
 all_xml : {A : Type 0} (f : A → List ℕ) → ((x : A) → IsXmlText (f x)) → (xs : List A) → IsXmlText (flat_map f xs)
-all_xml f each [] = ([], (refl, refl))
+all_xml f each [] = ([], refl, refl)
 all_xml f each (x ∷ xs) = both_xml (f x) (flat_map f xs) (each x) (all_xml f each xs)
 
 -- a number and a time
@@ -74,8 +74,8 @@ char_xml stands char =
     by_char (λ w _. IsXmlText w) stands char
     (plain_xml (codes "&amp;") refl) (plain_xml (codes "&lt;") refl) (plain_xml (codes "&gt;") refl) (plain_xml (codes "&quot;") refl)
     (plain_xml (codes "&#9;") refl) (plain_xml (codes "&#10;") refl) (plain_xml (codes "&#13;") refl)
-    (replacement ∷ [], (append-nil (encode_utf8 replacement), refl))
-    (λ allowed _ _. (char ∷ [], (append-nil (encode_utf8 char), and_from (is_xml_char char) true allowed refl)))
+    (replacement ∷ [], append-nil (encode_utf8 replacement), refl)
+    (λ allowed _ _. (char ∷ [], append-nil (encode_utf8 char), and_from (is_xml_char char) true allowed refl))
 
 written_xml : (stands : Place) (bytes : List ℕ) → IsXmlText (written stands bytes)
 written_xml stands bytes = all_xml (written_char stands) (char_xml stands) (lossy_chars bytes)

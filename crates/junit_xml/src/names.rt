@@ -1,6 +1,6 @@
 //! The two names of a test.
 
-ghost use Rattle.std.specs.Prelude.{◌≡◌, ◌≤◌, length};
+ghost use Rattle.std.specs.Prelude.{◌≡◌, ◌<◌, length};
 ghost use Rattle.junit_xml.specs.Documents as spec;
 
 use memchr::{memchr2, memrchr};
@@ -18,7 +18,7 @@ fn front_of(id: &[u8]) -> &[u8]
 // How many bytes the class has.
 fn class_size(id: &[u8]) -> usize
     ensures size { result ≡ spec.class_size id.now }
-    ensures within { result ≤ length id.now }
+    ensures within { 0 < result → result < length id.now }
 {
     match memrchr(b'.', front_of(id)) {
         Some(place) => place,
