@@ -1,6 +1,6 @@
 //! Texts of tests that look like markup, and bytes that are no UTF-8.
 
-use crate::written::put_case;
+use crate::written::{Told, put_case};
 use outcome_fold::Ended;
 use std::alloc::Global;
 
@@ -48,10 +48,11 @@ fn put_wanted(written: &[u8], out: &mut Vec<u8>) -> Option<()> {
 }
 
 fn is_written(alloc: Global, text: &'static [u8], written: &[u8]) -> bool {
+    let told: Told = (b"a", Ended::Fail, None, text);
     let mut wanted = Vec::new(alloc);
     let mut out = Vec::new(alloc);
     put_wanted(written, &mut wanted).is_some()
-        && put_case(alloc, &(b"a", Ended::Fail, None, text), &mut out).is_some()
+        && put_case(alloc, &told, &mut out).is_some()
         && out.as_slice() == wanted.as_slice()
 }
 
@@ -59,6 +60,6 @@ fn is_written(alloc: Global, text: &'static [u8], written: &[u8]) -> bool {
 fn no_text_breaks_its_failure(rt: HostRuntime) {
     let alloc = rt.alloc();
     for (number, (text, written)) in TEXTS.iter().enumerate() {
-        assert!(rt; is_written(alloc, text, written), "text {number}");
+        assert!(rt; is_written(alloc, *text, written), "text {number}");
     }
 }

@@ -68,10 +68,29 @@ inside_is ended.Fail text reason = simp append_assoc refl
 inside_is ended.XFail text reason = refl
 inside_is ended.Open text reason = simp append_assoc refl
 
+-- appends of values in one order and in the other
+
+left_three : (a l b m d q c n : List ℕ) → ((((a ++ q) ++ (l ++ b ++ q)) ++ (m ++ d ++ q)) ++ c) ++ n ≡ a ++ (q ++ (l ++ (b ++ (q ++ (m ++ (d ++ (q ++ (c ++ n))))))))
+left_three a l b m d q c n = simp append_assoc refl
+
+right_three : (a l b m d q c n : List ℕ) → (a ++ (q ++ (l ++ (b ++ (q ++ (m ++ (d ++ q))))))) ++ (c ++ n) ≡ a ++ (q ++ (l ++ (b ++ (q ++ (m ++ (d ++ (q ++ (c ++ n))))))))
+right_three a l b m d q c n = simp append_assoc refl
+
+left_four : (a l b e m d k f q c n : List ℕ) → ((((((a ++ q) ++ (l ++ b ++ q)) ++ e) ++ (m ++ d ++ q)) ++ (k ++ f ++ q)) ++ c) ++ n
+    ≡ a ++ (q ++ (l ++ (b ++ (q ++ (e ++ (m ++ (d ++ (q ++ (k ++ (f ++ (q ++ (c ++ n))))))))))))
+left_four a l b e m d k f q c n = simp append_assoc refl
+
+right_four : (a l b e m d k f q c n : List ℕ) → (a ++ (q ++ (l ++ (b ++ (q ++ (e ++ (m ++ (d ++ (q ++ (k ++ (f ++ q))))))))))) ++ (c ++ n)
+    ≡ a ++ (q ++ (l ++ (b ++ (q ++ (e ++ (m ++ (d ++ (q ++ (k ++ (f ++ (q ++ (c ++ n))))))))))))
+right_four a l b e m d k f q c n = simp append_assoc refl
+
 case_line_is : (class name seconds : List ℕ)
     → tag_line (codes "testcase" ++ attribute (codes "classname") class ++ attribute (codes "name") name ++ attribute (codes "time") seconds)
     ≡ 60 ∷ (join_with_byte 34 (codes "testcase classname=" ∷ class ∷ codes " name=" ∷ name ∷ codes " time=" ∷ seconds ∷ [] ∷ []) ++ 62 ∷ 10 ∷ [])
-case_line_is class name seconds = simp append_assoc refl
+case_line_is class name seconds =
+    ap (λ (l : List ℕ). codes "<testcase classname=\"" ++ l)
+    (left_three class (codes " name=\"") name (codes " time=\"") seconds (codes "\"") (codes ">") (codes "\n")
+    ∙ sym (right_three class (codes " name=\"") name (codes " time=\"") seconds (codes "\"") (codes ">") (codes "\n")))
 
 begin_is : (row : Row) → case_begin row ≡ fronted (case_part row)
 begin_is row = case_line_is (written Value (class_of row.id)) (written Value (name_of row.id)) (seconds_of row.nanos)
@@ -100,7 +119,10 @@ rows_are (row ∷ rows) =
 suite_line_is : (tests failures skips seconds : List ℕ)
     → tag_line (codes "testsuite" ++ attribute (codes "name") [] ++ attribute (codes "tests") tests ++ attribute (codes "failures") failures ++ attribute (codes "errors") (codes "0") ++ attribute (codes "skipped") skips ++ attribute (codes "time") seconds)
     ≡ 60 ∷ (join_with_byte 34 (codes "testsuite name=" ∷ [] ∷ codes " tests=" ∷ tests ∷ codes " failures=" ∷ failures ∷ codes " errors=" ∷ codes "0" ∷ codes " skipped=" ∷ skips ∷ codes " time=" ∷ seconds ∷ [] ∷ []) ++ 62 ∷ 10 ∷ [])
-suite_line_is tests failures skips seconds = simp append_assoc refl
+suite_line_is tests failures skips seconds =
+    ap (λ (l : List ℕ). codes "<testsuite name=\"\" tests=\"" ++ l)
+    (left_four tests (codes " failures=\"") failures (codes " errors=\"0\"") (codes " skipped=\"") skips (codes " time=\"") seconds (codes "\"") (codes ">") (codes "\n")
+    ∙ sym (right_four tests (codes " failures=\"") failures (codes " errors=\"0\"") (codes " skipped=\"") skips (codes " time=\"") seconds (codes "\"") (codes ">") (codes "\n")))
 
 suite_is : (counts : Counts) → suite_begin counts ≡ fronted (suite_part counts)
 suite_is counts = suite_line_is (decimal counts.total) (decimal counts.failed) (decimal counts.skipped) (seconds_of counts.nanos)

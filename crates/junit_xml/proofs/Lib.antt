@@ -7,4 +7,5 @@ pub mod TagLemmas
 pub mod LawLemmas
 pub mod XmlLemmas
 pub mod WritingLemmas
+pub mod AppendLemmas
 mod RowChecks

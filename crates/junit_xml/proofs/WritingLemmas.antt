@@ -1,8 +1,8 @@
 -- Bytes are written run by run.
-use Rattle.std.proofs.Common.{◌≡◌, ℕ, ◌+◌, ◌-◌, ◌<◌, ◌≤◌, List, [], ◌∷◌, ◌++◌, length, take, drop, get_or, None, Some, encode_utf8, refl, sym, ◌∙◌, ap, arith, append_assoc}
+use Rattle.std.proofs.Common.{◌≡◌, ℕ, ◌+◌, ◌-◌, ◌<◌, ◌≤◌, List, [], ◌∷◌, ◌++◌, length, take, drop, get_or, None, Some, Bool, true, false, true≢false, encode_utf8, refl, sym, ◌∙◌, ap, arith, append_assoc}
 use Rattle.std.specs.Prelude.{Option}
 use Rattle.std.specs.List.{flat_map}
-use Rattle.std.specs.Option.{unwrap_or, option_map}
+use Rattle.std.specs.Option.{unwrap_or, option_map, is_some}
 use Rattle.std.proofs.Math.Seq.{take-add}
 use Rattle.std.proofs.lemmas.List.{append-nil, take_at, drop-drop, drop_all, drop_more, length-append, length-drop}
 use Rattle.bstr.specs.Utf8.{Decoded, good, decoded, or_replacement, replacement, lossy_chars}
@@ -43,6 +43,17 @@ char_plain stands bytes char size found width none =
     ∙ ap (λ (l : List ℕ). l ++ written stands (drop (decoded bytes).size bytes)) (sym (char_bytes bytes char size found width))
     ∙ ap (λ (n : ℕ). take size bytes ++ written stands (drop n bytes)) (sym width)
 
+-- it is its own written form
+pub char_written : (stands : Place) (bytes : List ℕ) (char size : ℕ) → Some char ≡ (decoded bytes).char → size ≡ (decoded bytes).size → None ≡ escape stands char
+    → take size bytes ≡ written_char stands (or_replacement (decoded bytes).char)
+char_written stands bytes char size found width none =
+    char_bytes bytes char size found width ∙ ap (λ o. unwrap_or o (encode_utf8 char)) none ∙ ap (λ o. written_char stands (or_replacement o)) found
+
+-- no escape was found, so there is none
+pub no_escape : {A : Type 0} (f : A → List ℕ) (o : Option A) (e : Option (List ℕ)) → is_some o ≡ false → option_map f o ≡ e → e ≡ None
+no_escape f None e none is = sym is
+no_escape f (Some x) e none is = absurd (true≢false none)
+
 pub within_char : (bytes : List ℕ) (size : ℕ) → size ≡ (decoded bytes).size → size ≤ length bytes
 within_char [] size width = omega (arith, width)
 within_char (byte ∷ bytes) size width = omega (arith, width, (piece-bounds (byte ∷ bytes) (omega arith)).2)
@@ -55,9 +66,12 @@ byte_plain stands (byte ∷ bytes) some small none =
     let read : decoded (byte ∷ bytes) ≡ good byte 1 = value-1 (length (byte ∷ bytes)) byte (get_or (byte ∷ bytes) 1 0) (get_or (byte ∷ bytes) 2 0) (get_or (byte ∷ bytes) 3 0) (some, small) in
     char_plain stands (byte ∷ bytes) byte 1 (sym (ap (λ (p : Decoded). p.char) read)) (sym (ap (λ (p : Decoded). p.size) read)) none
 
--- U+FFFD is written as it is
-pub replacement_written : (stands : Place) → 0xEF ∷ 0xBF ∷ 0xBD ∷ [] ≡ written_char stands replacement
+-- U+FFFD, and that it is written as it is
+pub replacement_spelled : 0xEF ∷ 0xBF ∷ 0xBD ∷ [] ≡ encode_utf8 replacement
 unfolding encode
+replacement_spelled = refl
+
+pub replacement_written : (stands : Place) → encode_utf8 replacement ≡ written_char stands replacement
 replacement_written place.Text = refl
 replacement_written place.Value = refl
 

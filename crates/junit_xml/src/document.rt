@@ -65,7 +65,8 @@ fn put_case_begin(row: &Row, text: &mut Vec<u8>) -> Result<(), NoMemory>
     text.extend_from_slice(b"<testcase")?;
     put_attribute(b"classname", class, text)?;
     put_attribute(b"name", name, text)?;
-    put_time(u128::from(row.nanos.unwrap_or(0)), text)
+    put_time(u128::from(row.nanos.unwrap_or(0)), text)?;
+    Ok(())
 }
 
 // A failure of this kind, with its text.
@@ -153,7 +154,8 @@ fn put_head(counts: Counts, text: &mut Vec<u8>) -> Result<(), NoMemory>
     put_count(b"failures", counts.failed, text)?;
     text.extend_from_slice(b" errors=\"0\"")?;
     put_count(b"skipped", counts.skipped, text)?;
-    put_time(counts.nanos.unwrap_or(0), text)
+    put_time(counts.nanos.unwrap_or(0), text)?;
+    Ok(())
 }
 
 // The whole document.

@@ -1,15 +1,12 @@
 //! Bytes as characters of a document.
 
-ghost use Rattle.std.specs.Prelude.{◌≡◌, ◌≤◌, ◌<◌, ◌++◌, None, IsTrue, take, drop, length, IfOk, OnOk};
+ghost use Rattle.std.specs.Prelude.{◌≡◌, ◌≤◌, ◌<◌, ◌++◌, None, IsTrue, take, drop, length, encode_utf8, IfOk, OnOk};
 ghost use Rattle.std.specs.Option.{option_map};
-ghost use Rattle.bstr.specs.Utf8.{decoded, or_replacement};
+ghost use Rattle.bstr.specs.Utf8.{decoded, or_replacement, replacement};
 ghost use Rattle.junit_xml.specs.Characters as spec;
 
 use bstr::decode_utf8;
 use sub_number::NoMemory;
-
-/// U+FFFD in UTF-8.
-const REPLACEMENT: &[u8] = b"\xEF\xBF\xBD";
 
 /// Where bytes stand in a document.
 #[derive(Clone, Copy, Debug, PartialEq, Eq)]
@@ -59,6 +56,13 @@ fn break_escape(char: char, place: Place) -> Option<&'static [u8]>
     }
 }
 
+// U+FFFD in UTF-8.
+fn sign_of_none() -> &'static [u8]
+    ensures { result.now ≡ encode_utf8 replacement }
+{
+    b"\xEF\xBF\xBD"
+}
+
 // What stands for a character that is not written as it is.
 fn escape(char: char, place: Place) -> Option<&'static [u8]>
     ensures { option_map (λ text. text.now) result ≡ spec.escape place char }
@@ -72,7 +76,7 @@ fn escape(char: char, place: Place) -> Option<&'static [u8]>
     if is_xml_char(char) {
         None
     } else {
-        Some(REPLACEMENT)
+        Some(sign_of_none())
     }
 }
 
@@ -141,7 +145,7 @@ fn front_char(bytes: &[u8], place: Place) -> (&[u8], usize)
             Some(other) => (other, size),
             None => (&bytes[..size], size),
         },
-        None => (REPLACEMENT, size),
+        None => (sign_of_none(), size),
     }
 }
 

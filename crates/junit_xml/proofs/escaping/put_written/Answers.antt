@@ -22,5 +22,5 @@ returns c = record {
   kept = c.loop-done.invariant.kept;
 }
 
-pub returns-in_err-done : goal.returns-in_err-done
-returns-in_err-done c = kept_twice _ _ _ c.loop-done.invariant.kept c.in_err-done.ensures.kept
+pub returns-in_err-done-clause-kept : goal.returns-in_err-done-clause-kept
+returns-in_err-done-clause-kept c = kept_twice _ _ _ c.loop-done.invariant.kept c.in_err-done.ensures.kept
