@@ -1,9 +1,9 @@
 //! The tags of a document.
 
-ghost use Rattle.std.specs.Prelude.{◌≡◌, ◌++◌, take, length, codes, OnOk, OnErr};
+ghost use Rattle.std.specs.Prelude.{◌≡◌, [], ◌++◌, take, length, codes, OnOk, OnErr};
 ghost use Rattle.std.specs.List.{flat_map};
 ghost use Rattle.std.specs.Fmt.{decimal};
-ghost use Rattle.outcome_fold.specs.Answers.{is_run};
+ghost use Rattle.outcome_fold.specs.Answers.{is_run, counts_of};
 ghost use Rattle.junit_xml.specs.declared.escaping.Place.TheVariants.{Value};
 ghost use Rattle.junit_xml.specs.Characters.{written};
 ghost use Rattle.junit_xml.specs.Seconds.{printed_seconds};
@@ -15,6 +15,7 @@ use crate::seconds::put_seconds;
 use itoa::Buffer;
 use outcome_fold::{Counts, Ended, Row, Rows};
 use packet_codec::Tags;
+use std::alloc::Global;
 use sub_number::NoMemory;
 
 // Of each function that is not public: what stands in the text stays, also where there is not enough memory.
@@ -130,15 +131,24 @@ fn is_run(row: &Row) -> bool
     row.ended != Ended::Exists
 }
 
+// The case of a row, if it has one.
+fn put_row(row: &Row, text: &mut Vec<u8>) -> Result<(), NoMemory>
+    ensures ok { OnOk result (text.new.items ≡ text.old.items ++ spec.case_of row.now) }
+    ensures kept { take (length text.old.items) text.new.items ≡ text.old.items }
+{
+    if !is_run(row) {
+        return Ok(());
+    }
+    put_case(row, text)
+}
+
 // The cases of rows.
 fn put_cases(rows: &[Row], text: &mut Vec<u8>) -> Result<(), NoMemory>
     ensures ok { OnOk result (text.new.items ≡ text.old.items ++ flat_map spec.case_of rows.now) }
     ensures kept { take (length text.old.items) text.new.items ≡ text.old.items }
 {
     for row in rows {
-        if is_run(row) {
-            put_case(row, text)?;
-        }
+        put_row(row, text)?;
     }
     Ok(())
 }
@@ -158,13 +168,20 @@ fn put_head(counts: Counts, text: &mut Vec<u8>) -> Result<(), NoMemory>
     Ok(())
 }
 
+// How many rows there are, and how long they took. No tag leaves one out.
+fn counts_in(alloc: Global, rows: &Rows) -> Counts
+    ensures { result ≡ counts_of [] rows.now }
+{
+    rows.counts(&Tags::new(alloc))
+}
+
 // The whole document.
 fn put_document(rows: &Rows, text: &mut Vec<u8>) -> Result<(), NoMemory>
     ensures ok { OnOk result (text.new.items ≡ text.old.items ++ spec.junit_of rows.now) }
     ensures kept { take (length text.old.items) text.new.items ≡ text.old.items }
 {
     let alloc = *text.allocator();
-    put_head(rows.counts(&Tags::new(alloc)), text)?;
+    put_head(counts_in(alloc, rows), text)?;
     put_cases(rows.list(), text)?;
     text.extend_from_slice(b"</testsuite>\n")?;
     Ok(())
@@ -189,11 +206,8 @@ pub fn junit_case(row: &Row, out: &mut Vec<u8>) -> Result<(), NoMemory>
     ensures ok { OnOk result (out.new.items ≡ out.old.items ++ spec.case_of row.now) }
     ensures err { OnErr result (out.new.items ≡ out.old.items) }
 {
-    if !is_run(row) {
-        return Ok(());
-    }
     let before = out.len();
-    let done = put_case(row, out);
+    let done = put_row(row, out);
     if done.is_err() {
         out.truncate(before);
     }
