@@ -30,8 +30,8 @@ returns-clause-ok c =
     let second = more old (front ++ class_text class) _ _ (name_text name) first c.in_ok-put_attribute-2.ensures.ok in
     more old (front ++ class_text class ++ name_text name) _ _ (attribute (codes "time") (printed_seconds c.from.result) ++ codes ">\n") second
     (c.in_ok-put_time.ensures.ok ∙ append_assoc c.put_attribute-2.new.text.items (attribute (codes "time") (printed_seconds c.from.result)) (codes ">\n"))
-    ∙ ap (λ (l : List ℕ). old ++ whole l name c.from.result) c.names_of.ensures.class
-    ∙ ap (λ (l : List ℕ). old ++ whole (class_of row.id) l c.from.result) c.names_of.ensures.name
+    ∙ ap (λ (l : List ℕ). old ++ whole l name c.from.result) (c.names_of.ensures.class ∙ ap class_of c.bytes.ensures.bytes)
+    ∙ ap (λ (l : List ℕ). old ++ whole (class_of row.id) l c.from.result) (c.names_of.ensures.name ∙ ap name_of c.bytes.ensures.bytes)
     ∙ ap (λ (n : ℕ). old ++ whole (class_of row.id) (name_of row.id) n) (c.from.ensures ∙ c.unwrap_or.ensures)
     ∙ ap (λ (l : List ℕ). old ++ l) (in_two (front ++ class_text (class_of row.id) ++ name_text (name_of row.id)) (attribute (codes "time") (seconds_of row.nanos)) (codes ">") (codes "\n"))
 
