@@ -36,6 +36,7 @@ FILTERS = {
     "subunit-tags": [["added", "-removed"]],
     "subunit2tap": [[]],
     "subunit2csv": [[]],
+    "subunit2junitxml": [[]],
     "subunit-2to1": [[]],
 }
 FROM_TAP = {"tap2subunit": [[]]}

@@ -11,6 +11,7 @@ pub mod PlanLaws
 pub mod Events
 pub mod Ls
 pub mod Stats
+pub mod Junit
 pub mod Filtering
 pub mod Tagging
 pub mod Tally

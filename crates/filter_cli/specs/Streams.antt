@@ -9,13 +9,14 @@ use Rattle.sub_export.specs.Output.{last_event}
 use Rattle.sub_export.specs.Records.{csv_head_text}
 use Rattle.partition_times.specs.Patterns.{IsPattern}
 use Rattle.filter_cli.specs.declared.asked.Asked.{Asked}
-use Rattle.filter_cli.specs.declared.asked.Asked.TheVariants.{Filter, Tags, Ls, Stats, FromTap, ToTap, ToCsv, Output, OutputFile, FromV1, ToV1}
+use Rattle.filter_cli.specs.declared.asked.Asked.TheVariants.{Filter, Tags, Ls, Stats, FromTap, ToTap, ToCsv, ToJunit, Output, OutputFile, FromV1, ToV1}
 use Rattle.filter_cli.specs.Attached.{IsOutputSeen, IsOutput}
 use Rattle.filter_cli.specs.Exporting.{csv_plan}
 use Rattle.filter_cli.specs.Headed.{IsSeenBelow, IsWholeBelow}
 use Rattle.filter_cli.specs.Plan.{Plan, IsSeen, IsFiltered}
 use Rattle.filter_cli.specs.Ls.{ls_plan}
 use Rattle.filter_cli.specs.Stats.{stats_plan}
+use Rattle.filter_cli.specs.Junit.{junit_plan}
 use Rattle.filter_cli.specs.Filtering.{filter_plan}
 use Rattle.filter_cli.specs.Tagging.{tags_plan_of}
 use Rattle.filter_cli.specs.Tap.{IsTapSeen, IsTapFiltered}
@@ -41,6 +42,7 @@ writing_of Stats = of_notes stats_plan
 writing_of FromTap = of_tap_lines
 writing_of ToTap = of_notes tap_plan
 writing_of (ToCsv selection) = below_head csv_head_text (csv_plan (keeps (rules_of selection)))
+writing_of ToJunit = of_notes junit_plan
 writing_of (Output job) = of_job job
 writing_of (OutputFile job name) = of_job job
 writing_of FromV1 = of_v1_lines
@@ -71,6 +73,7 @@ patterns_of Stats = []
 patterns_of FromTap = []
 patterns_of ToTap = []
 patterns_of (ToCsv selection) = selection.patterns
+patterns_of ToJunit = []
 patterns_of (Output job) = []
 patterns_of (OutputFile job name) = []
 patterns_of FromV1 = []
@@ -91,6 +94,7 @@ unread_text Stats = None
 unread_text FromTap = None
 unread_text ToTap = None
 unread_text (ToCsv selection) = None
+unread_text ToJunit = None
 unread_text (Output job) = unread_by job job.attachment
 unread_text (OutputFile job name) = None
 unread_text FromV1 = None
@@ -111,6 +115,7 @@ file_of Stats = None
 file_of FromTap = None
 file_of ToTap = None
 file_of (ToCsv selection) = None
+file_of ToJunit = None
 file_of (Output job) = None
 file_of (OutputFile job name) = Some name
 file_of FromV1 = None

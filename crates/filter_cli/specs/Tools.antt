@@ -19,8 +19,9 @@ converter_named name =
     if bytes_eq name (codes "tap2subunit") then Some tool.FromTap
     else (if bytes_eq name (codes "subunit2tap") then Some tool.ToTap
     else (if bytes_eq name (codes "subunit2csv") then Some tool.ToCsv
+    else (if bytes_eq name (codes "subunit2junitxml") then Some tool.ToJunit
     else (if bytes_eq name (codes "subunit-output") then Some tool.Output
-    else v1_tool_named name)))
+    else v1_tool_named name))))
 
 abbrev pub tool_named : List ℕ → Option Tool
 tool_named name =
@@ -73,6 +74,10 @@ is_csv_switch name =
 abbrev pub csv_kind : List ℕ → Option Kind
 csv_kind name = if is_csv_switch name then Some Flag else (if is_addition name then Some Valued else None)
 
+-- the one flag of `subunit2junitxml`, which changes nothing
+abbrev pub junit_kind : List ℕ → Option Kind
+junit_kind name = if bytes_eq name (codes "--no-passthrough") then Some Flag else None
+
 -- How an option of a filter is written; none where the filter has no such option. The words of `subunit-output` are read
 -- where their events are made.
 abbrev pub kind_in : Tool → List ℕ → Option Kind
@@ -83,6 +88,7 @@ kind_in tool.Stats name = None
 kind_in tool.FromTap name = None
 kind_in tool.ToTap name = None
 kind_in tool.ToCsv name = csv_kind name
+kind_in tool.ToJunit name = junit_kind name
 kind_in tool.Output name = None
 kind_in tool.FromV1 name = None
 kind_in tool.ToV1 name = None

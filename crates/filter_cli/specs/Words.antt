@@ -11,7 +11,7 @@ use Rattle.filter_cli.specs.declared.ls.Listing.{Listing}
 use Rattle.filter_cli.specs.declared.tool.Tool.{Tool}
 use Rattle.filter_cli.specs.declared.tool.Tool.TheVariants as tool
 use Rattle.filter_cli.specs.declared.asked.Asked.{Asked}
-use Rattle.filter_cli.specs.declared.asked.Asked.TheVariants.{Filter, Tags, Ls, Stats, FromTap, ToTap, ToCsv, Output, OutputFile, FromV1, ToV1}
+use Rattle.filter_cli.specs.declared.asked.Asked.TheVariants.{Filter, Tags, Ls, Stats, FromTap, ToTap, ToCsv, ToJunit, Output, OutputFile, FromV1, ToV1}
 use Rattle.filter_cli.specs.Tools.{tool_of, tool_named, kind_in}
 use Rattle.filter_cli.specs.Selecting.{selection_of, csv_selection_of}
 use Rattle.filter_cli.specs.Retagging.{retagging_of}
@@ -46,6 +46,7 @@ asked_for tool.Stats items = Some Stats
 asked_for tool.FromTap items = Some FromTap
 asked_for tool.ToTap items = Some ToTap
 asked_for tool.ToCsv items = Some (ToCsv (csv_selection_of items))
+asked_for tool.ToJunit items = Some ToJunit
 asked_for tool.Output items = None
 asked_for tool.FromV1 items = Some FromV1
 asked_for tool.ToV1 items = Some ToV1
@@ -77,6 +78,7 @@ asked_behind tool.Stats words = asked_by_options tool.Stats words
 asked_behind tool.FromTap words = asked_by_options tool.FromTap words
 asked_behind tool.ToTap words = asked_by_options tool.ToTap words
 asked_behind tool.ToCsv words = asked_by_options tool.ToCsv words
+asked_behind tool.ToJunit words = asked_by_options tool.ToJunit words
 asked_behind tool.Output words = asked_output words
 asked_behind tool.FromV1 words = asked_by_options tool.FromV1 words
 asked_behind tool.ToV1 words = asked_by_options tool.ToV1 words

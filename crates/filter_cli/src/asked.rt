@@ -33,6 +33,8 @@ pub enum Asked {
     ToTap,
     /// `subunit2csv`: the tests that are selected as records.
     ToCsv(Selection),
+    /// `subunit2junitxml`: tests as a document for build servers.
+    ToJunit,
     /// `subunit-output`: the events that words ask for. The file that they attach, where they attach one, is the input.
     Output(OutputJob),
     /// `subunit-output`: the same, with the file of this name.
@@ -123,6 +125,7 @@ fn asked_with(alloc: Global, tool: Tool, items: &[Item<'_>]) -> Result<Option<As
         Tool::FromTap => Ok(Some(Asked::FromTap)),
         Tool::ToTap => Ok(Some(Asked::ToTap)),
         Tool::ToCsv => Ok(Some(Asked::ToCsv(csv_selection_of(alloc, items)?))),
+        Tool::ToJunit => Ok(Some(Asked::ToJunit)),
         Tool::FromV1 => Ok(Some(Asked::FromV1)),
         Tool::ToV1 => Ok(Some(Asked::ToV1)),
         // Their words are read elsewhere.

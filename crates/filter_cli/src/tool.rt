@@ -23,6 +23,8 @@ pub enum Tool {
     ToTap,
     /// `subunit2csv`
     ToCsv,
+    /// `subunit2junitxml`
+    ToJunit,
     /// `subunit-output`
     Output,
     /// `subunit-1to2`
@@ -73,6 +75,9 @@ fn converter_named(name: &str) -> Option<Tool>
     if name == "subunit2csv" {
         return Some(Tool::ToCsv);
     }
+    if name == "subunit2junitxml" {
+        return Some(Tool::ToJunit);
+    }
     if name == "subunit-output" {
         return Some(Tool::Output);
     }
@@ -100,6 +105,7 @@ impl OptionTable for Tool {
             Tool::Filter => filter_kind(name),
             Tool::Ls => ls_kind(name),
             Tool::ToCsv => csv_kind(name),
+            Tool::ToJunit => junit_kind(name),
             Tool::Tags | Tool::Stats | Tool::FromTap | Tool::ToTap | Tool::Output => None,
             Tool::FromV1 | Tool::ToV1 => None,
         }
@@ -157,6 +163,16 @@ fn csv_kind(name: &str) -> Option<Kind>
     }
     if is_addition(name) {
         return Some(Kind::Valued);
+    }
+    None
+}
+
+// Its one flag changes nothing, since foreign bytes are dropped without it, too.
+fn junit_kind(name: &str) -> Option<Kind>
+    ensures { result ≡ tools.junit_kind name.now }
+{
+    if name == "--no-passthrough" {
+        return Some(Kind::Flag);
     }
     None
 }

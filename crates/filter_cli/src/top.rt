@@ -23,6 +23,7 @@ use crate::retagging::Retagging;
 use crate::selection::Selection;
 use crate::sifting::filter_stream;
 use crate::stats::Stats;
+use crate::subunit_to_junit::SubunitToJunit;
 use crate::subunit_to_tap::SubunitToTap;
 use crate::subunit_to_v1::SubunitToV1;
 use crate::tagging::tag_stream;
@@ -109,6 +110,7 @@ fn pass<S: Site, I: Source, O: Sink>(
         Asked::FromTap => read_tap(alloc, input, out),
         Asked::ToTap => write_tap(alloc, input, out),
         Asked::ToCsv(selection) => export(alloc, selection, input, out),
+        Asked::ToJunit => write_junit(alloc, input, out),
         Asked::Output(job) => give(alloc, job, input, out),
         Asked::OutputFile(job, name) => attach_file(alloc, job, name, site, out),
         Asked::FromV1 => read_v1(alloc, input, out),
@@ -179,6 +181,18 @@ fn write_tap<I: Source, O: Sink>(alloc: Global, input: &mut I, out: &mut O) -> R
     ensures { Checked wanted.ToTap (pipe (I.seen input.old) (O.seen out.old)) (pipe (I.seen input.new) (O.seen out.new)) result }
 {
     let status = pass_notes(alloc, SubunitToTap::new(alloc), input, out)?;
+    Ok(status)
+}
+
+// `subunit2junitxml`
+fn write_junit<I: Source, O: Sink>(
+    alloc: Global,
+    input: &mut I,
+    out: &mut O,
+) -> Result<u8, Refusal>
+    ensures { Checked wanted.ToJunit (pipe (I.seen input.old) (O.seen out.old)) (pipe (I.seen input.new) (O.seen out.new)) result }
+{
+    let status = pass_notes(alloc, SubunitToJunit::new(alloc), input, out)?;
     Ok(status)
 }
 

@@ -17,6 +17,8 @@ mod slow_site;
 #[cfg(test)]
 mod tests_filter_cli_files;
 #[cfg(test)]
+mod tests_filter_cli_junit;
+#[cfg(test)]
 mod tests_filter_cli_tap;
 #[cfg(test)]
 mod tests_filter_cli_v1;

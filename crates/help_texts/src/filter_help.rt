@@ -10,6 +10,7 @@ pub fn of_filter(name: &str) -> Option<&'static str> {
         "tap2subunit" => Some(FROM_TAP),
         "subunit2tap" => Some(TO_TAP),
         "subunit2csv" => Some(TO_CSV),
+        "subunit2junitxml" => Some(TO_JUNIT),
         "subunit-output" => Some(OUTPUT),
         "subunit-1to2" => Some(FROM_V1),
         "subunit-2to1" => Some(TO_V1),
@@ -105,6 +106,15 @@ Of these tests only those:
   --without-id=PATTERN       in whose id the pattern is not found; where it is repeated, none of the patterns
 Statuses: 2 wrong usage, 3 a bad pattern, 4 a fault of the outside, 5 out of memory.
 Example: subunit2csv --no-success < stream
+";
+
+const TO_JUNIT: &str = "\
+usage: subunit2junitxml [--no-passthrough]
+Reads a Subunit v2 stream from standard input and writes at its end a document of JUnit XML, for build servers: how many
+tests there were, failed and were skipped, and a case for each. Other bytes are left out, with --no-passthrough or without.
+Status 0 where no test failed, 1 where one did.
+Statuses: 2 wrong usage, 4 a fault of the outside, 5 out of memory.
+Example: subunit2junitxml < stream > junit.xml
 ";
 
 const OUTPUT: &str = "\

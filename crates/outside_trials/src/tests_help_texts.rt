@@ -55,7 +55,7 @@ fn help_is_for_its_words_alone(rt: HostRuntime) -> Result<(), Fail> {
     Ok(())
 }
 
-const FILTERS: [&str; 10] = [
+const FILTERS: [&str; 11] = [
     "subunit-filter",
     "subunit-tags",
     "subunit-ls",
@@ -63,6 +63,7 @@ const FILTERS: [&str; 10] = [
     "tap2subunit",
     "subunit2tap",
     "subunit2csv",
+    "subunit2junitxml",
     "subunit-output",
     "subunit-1to2",
     "subunit-2to1",

@@ -44,6 +44,11 @@ returns-in_ok-csv_selection_of-in-ToCsv c =
     ∙ ap (λ (t : Tool). asked_for t (map shown c.args.items.now)) (sym c.in-ToCsv.is)
     ∙ sym (unnamed_so c.args.tool c.args.items.now _ c.has_name.ensures c.if-has_name.false)
 
+pub returns-in-ToJunit : goal.returns-in-ToJunit
+returns-in-ToJunit c =
+    ap (λ (t : Tool). asked_for t (map shown c.args.items.now)) (sym c.in-ToJunit.is)
+    ∙ sym (unnamed_so c.args.tool c.args.items.now _ c.has_name.ensures c.if-has_name.false)
+
 pub returns-in-FromV1 : goal.returns-in-FromV1
 returns-in-FromV1 c =
     ap (λ (t : Tool). asked_for t (map shown c.args.items.now)) (sym c.in-FromV1.is)

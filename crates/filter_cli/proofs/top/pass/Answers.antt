@@ -23,6 +23,9 @@ returns-in-ToTap g c = takes_as _ _ _ _ _ (sym c.in-ToTap.is) (record { at = c.w
 pub returns-in-ToCsv : goal.returns-in-ToCsv
 returns-in-ToCsv g c = takes_as _ _ _ _ _ (sym c.in-ToCsv.is) (record { at = c.export.ensures; rest = refl })
 
+pub returns-in-ToJunit : goal.returns-in-ToJunit
+returns-in-ToJunit g c = takes_as _ _ _ _ _ (sym c.in-ToJunit.is) (record { at = c.write_junit.ensures; rest = refl })
+
 pub returns-in-Output : goal.returns-in-Output
 returns-in-Output g c = takes_as _ _ _ _ _ (sym c.in-Output.is) (record { at = c.give.ensures; rest = refl })
 
