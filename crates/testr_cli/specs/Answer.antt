@@ -11,8 +11,9 @@ use Rattle.testr_cli.specs.Store.{init_code, init_text, open_code, open_text, ru
 use Rattle.testr_cli.specs.Recording.{record_code, record_text}
 use Rattle.testr_cli.specs.Reporting.{memory_text, print_text}
 use Rattle.testr_cli.specs.Told.{tell_code, tell_text}
-use Rattle.testr_cli.specs.SuiteTexts.{conf_code, conf_text, pattern_code, pattern_text, list_code, list_text, call_code, call_text, table_code, table_text, listing_code, listing_text, job_code, job_text, start_code, start_text, lanes_code, lanes_text}
+use Rattle.testr_cli.specs.SuiteTexts.{conf_code, conf_text, pattern_code, pattern_text, list_code, list_text, call_code, call_text, table_code, table_text, listing_code, listing_text, job_code, job_text, start_code, start_text, lanes_code, lanes_text, search_code, search_text}
 use Rattle.testr_cli.specs.Verdicts.{verdict_code}
+use Rattle.suite_causes.specs.declared.searching.SearchFault.TheVariants as search_fault
 use Rattle.suite_plan.specs.declared.calling.CallRefusal.TheVariants as call
 use Rattle.suite_plan.specs.declared.conf_file.ConfRefusal.TheVariants as conf
 use Rattle.suite_plan.specs.declared.listing.ListingRefusal.TheVariants as listing
@@ -24,7 +25,7 @@ use Rattle.testr_cli.specs.declared.recording.RecordFault.TheVariants as record_
 use Rattle.testr_cli.specs.declared.told.TellFault.TheVariants as tell_fault
 use Rattle.testr_cli.specs.declared.answer.Verdict.{Verdict}
 use Rattle.testr_cli.specs.declared.answer.Refusal.{Refusal}
-use Rattle.testr_cli.specs.declared.answer.Refusal.TheVariants.{Usage, Init, Open, Runs, Record, Memory, Keep, Refresh, Tell, Print, Conf, Pattern, LoadList, Call, Table, Listing, Job, Start, Lanes, Report}
+use Rattle.testr_cli.specs.declared.answer.Refusal.TheVariants.{Usage, Init, Open, Runs, Record, Memory, Keep, Refresh, Tell, Print, Conf, Pattern, LoadList, Call, Table, Listing, Job, Start, Lanes, Report, Suspects, Ran, Search}
 
 -- the status of a refusal
 abbrev pub refusal_code : Refusal → ℕ
@@ -48,6 +49,9 @@ refusal_code (Job fault) = job_code fault
 refusal_code (Start fault) = start_code fault
 refusal_code (Lanes fault) = lanes_code fault
 refusal_code (Report fault) = 5
+refusal_code (Suspects fault) = 5
+refusal_code (Ran fault) = tell_code fault
+refusal_code (Search fault) = search_code fault
 
 -- the line of a refusal
 abbrev pub refusal_text : Refusal → List ℕ
@@ -71,6 +75,9 @@ refusal_text (Job fault) = job_text fault
 refusal_text (Start fault) = start_text fault
 refusal_text (Lanes fault) = lanes_text fault
 refusal_text (Report fault) = memory_text
+refusal_text (Suspects fault) = memory_text
+refusal_text (Ran fault) = tell_text fault
+refusal_text (Search fault) = search_text fault
 
 -- the part whose call failed, where the refusal is a fault
 abbrev pub place_of : Refusal → Option Place
@@ -90,6 +97,8 @@ place_of (Table table.Site) = Some in_site
 place_of (Listing listing.Spawn) = Some in_spawner
 place_of (Start start.Spawn) = Some in_spawner
 place_of (Lanes (lanes.Shelf which)) = Some in_folder
+place_of (Ran tell_fault.Shelf) = Some in_folder
+place_of (Search search_fault.Spawn) = Some in_spawner
 place_of refusal = None
 
 -- the status of an outcome
@@ -117,9 +126,13 @@ load_may_have_kept (Err (Refresh fault)) = true
 load_may_have_kept (Err (Print fault)) = true
 load_may_have_kept outcome = false
 
--- The same of a run of the project's tests, whose report is made behind the naming: so there may have been no memory for it.
+-- The same of a run of the project's tests, whose report is made behind the naming, and behind which causes are looked for: so
+-- there may have been no memory for it, or that search may have refused.
 abbrev pub run_may_have_kept : Result Verdict Refusal → Bool
 run_may_have_kept (Err (Report fault)) = true
+run_may_have_kept (Err (Suspects fault)) = true
+run_may_have_kept (Err (Ran fault)) = true
+run_may_have_kept (Err (Search fault)) = true
 run_may_have_kept outcome = load_may_have_kept outcome
 
 -- The same of each task. No other than these two shows a run that was not shown before.
@@ -128,8 +141,9 @@ may_have_kept (Some (load partial names)) = load_may_have_kept
 may_have_kept (Some (run options)) = run_may_have_kept
 may_have_kept asked = λ outcome. false
 
--- the program that lists the tests, or the one that tells how many workers there are, was not read to its end
+-- the program that lists the tests, the one that tells how many workers there are, or that of a probe was not read to its end
 abbrev pub IsChildFault : Result Verdict Refusal → Type 0
 IsChildFault (Err (Call call.Child)) = ⊤
 IsChildFault (Err (Listing listing.Child)) = ⊤
+IsChildFault (Err (Search search_fault.Child)) = ⊤
 IsChildFault outcome = ⊥

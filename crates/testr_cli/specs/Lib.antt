@@ -23,6 +23,7 @@ pub mod Telling
 pub mod SuiteTexts
 pub mod Answer
 pub mod Selecting
+pub mod Causes
 pub mod RunSuite
 pub mod SelfTest
 pub mod Init

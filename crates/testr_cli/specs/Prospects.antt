@@ -1,12 +1,13 @@
 -- What the steps that select the tests of a run may find: how many workers, and which ids.
-use Rattle.std.specs.Prelude.{◌≡◌, ℕ, Option, Ok}
+use Rattle.std.specs.Prelude.{◌≡◌, ℕ, Option, List, Ok}
 use Rattle.edge_io.specs.Disk.{Files}
 use Rattle.edge_io.specs.Spawners.{Spawning}
 use Rattle.edge_io.specs.Steps.{Goes}
+use Rattle.edge_io.specs.declared.job.Job.{Job}
 use Rattle.testr_conf.specs.Settings.{Settings}
 use Rattle.testr_cli.specs.Outside.{Work}
 use Rattle.testr_cli.specs.Runs.{KeepsFiles}
-use Rattle.testr_cli.specs.Selecting.{CountsWorkers, Selects}
+use Rattle.testr_cli.specs.Selecting.{CountsWorkers, Selects, Plans}
 use Rattle.testr_cli.specs.Suites.{RunOptions}
 use Rattle.testr_cli.specs.declared.selecting.Selected.{Selected}
 
@@ -26,3 +27,9 @@ pub record MaySelect (settings : Settings) (options : RunOptions) (before : Work
   pub children_are : start.spawner.told ≡ before.spawner.told
   pub selecting : Work
   pub selects : Selects settings options start selecting (Ok selected)
+
+-- These jobs may be made for the workers, over this outside, and this is the outside then.
+pub record MayPlan (settings : Settings) (options : RunOptions) (before : Work) (jobs : List Job) (planning : Work) : Type 0 where
+  pub selected : Selected
+  pub may : MaySelect settings options before selected
+  pub plans : Plans settings options.find_causes selected may.selecting planning (Ok jobs)

@@ -13,6 +13,7 @@ use Rattle.suite_plan.specs.Listing.{ListsTests}
 use Rattle.suite_plan.specs.Patterns.{Compiles}
 use Rattle.suite_run.specs.Recording.{RecordsLanes}
 use Rattle.suite_run.specs.Starting.{StartsLanes}
+use Rattle.testr_cli.specs.Causes.{FindsCauses}
 use Rattle.testr_cli.specs.Outside.{Work, work_folder, work_site, work_spawner, work_out}
 use Rattle.testr_cli.specs.Refreshing.{Refreshes}
 use Rattle.testr_cli.specs.Reporting.{Reports, Prints}
@@ -22,6 +23,7 @@ use Rattle.testr_cli.specs.Store.{Opens, TakesRun, Begins, Keeps}
 use Rattle.testr_cli.specs.Suites.{RunOptions, is_partial}
 use Rattle.suite_plan.specs.declared.patterns.Compiled.{Compiled}
 use Rattle.testr_cli.specs.declared.run.Asked.{Asked}
+use Rattle.testr_cli.specs.declared.working.Kept.{Kept}
 use Rattle.testr_cli.specs.declared.working.Ran.{Ran}
 use Rattle.testr_cli.specs.declared.answer.Verdict.{Verdict}
 use Rattle.testr_cli.specs.declared.answer.Verdict.TheVariants.{Passed}
@@ -65,12 +67,24 @@ abbrev pub summary_in : {E : Type 0} → Result Ran E → Result Summary E
 summary_in (Ok ran) = Ok ran.summary
 summary_in (Err refusal) = Err refusal
 
+-- the same of what is known of a run that is kept
+abbrev pub kept_in : {E : Type 0} → Result Kept E → Result Summary E
+kept_in (Ok kept) = Ok kept.summary
+kept_in (Err refusal) = Err refusal
+
 -- the report of the run of these rows and this number is made and printed
 abbrev pub TellsRun : (number : ℕ) → (filter_tags : Ids) → List Row → Step Work Verdict Refusal
 TellsRun number filter_tags rows =
     Then Report (Still (Reports number filter_tags rows)) (λ report.
     Then Print (At work_out (Prints report.text)) (λ _.
     Gives report.verdict))
+
+-- the report, and then the search for causes, where it is asked for; the verdict is that of the report
+abbrev pub TellsAndFinds : (find_causes : Bool) → Settings → (number : ℕ) → List Row → Step Work Verdict Refusal
+TellsAndFinds find_causes settings number rows =
+    Then (λ refusal. refusal) (TellsRun number settings.filter_tags rows) (λ verdict.
+    Then (λ refusal. refusal) (FindsCauses find_causes settings number rows) (λ _.
+    Gives verdict))
 
 -- the answer, of what is asked the patterns alone
 abbrev pub compiled_in : {E : Type 0} → Result Asked E → Result Compiled E
@@ -84,9 +98,9 @@ RunsBy options settings =
     Then Runs (Still (TakesRun (length (kinds_of found)))) (λ _.
     Then Pattern (Still (Compiles options.patterns settings.group_regex)) (λ _.
     Then (λ refusal. refusal) (Selects settings options) (λ selected.
-    Then (λ refusal. refusal) (Plans settings selected) (λ jobs.
+    Then (λ refusal. refusal) (Plans settings options.find_causes selected) (λ jobs.
     Then (λ refusal. refusal) (Works (is_partial options) (length (kinds_of found)) jobs) (λ rows.
-    TellsRun (length (kinds_of found)) settings.filter_tags rows))))))
+    TellsAndFinds options.find_causes settings (length (kinds_of found)) rows))))))
 
 -- the chain of `run`
 abbrev pub RunsSuite : RunOptions → Step Work Verdict Refusal

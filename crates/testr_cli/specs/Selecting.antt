@@ -1,5 +1,5 @@
 -- The steps of `run` that say which tests run, in how many workers, and what each worker is started with.
-use Rattle.std.specs.Prelude.{◌≡◌, ◌⊎◌, ℕ, zero, suc, Bool, true, false, not, ◌&&◌, ◌||◌, nat_lt, min, is_some, Option, Some, None, List, length, Result, Ok, Err, IfOk, IfErr}
+use Rattle.std.specs.Prelude.{◌≡◌, ◌⊎◌, ℕ, zero, suc, Bool, true, false, not, ◌&&◌, ◌||◌, nat_lt, min, is_some, Option, Some, None, List, [], length, Result, Ok, Err, IfOk, IfErr, OnOk}
 use Rattle.std.specs.FinMap as fin
 use Rattle.std.specs.FinMap.{FinMap}
 use Rattle.std.specs.Option.{option_map, unwrap_or}
@@ -9,6 +9,7 @@ use Rattle.sub_number.specs.declared.memory.NoMemory.{NoMemory}
 use Rattle.testr_conf.specs.Settings.{Settings}
 use Rattle.testr_conf.specs.declared.fault.JobFault.{JobFault}
 use Rattle.testr_conf.specs.declared.fault.JobFault.TheVariants as job_fault
+use Rattle.suite_causes.specs.Searching.{CanHandIds, probe_job}
 use Rattle.suite_plan.specs.Calling.{CallsOut}
 pub use Rattle.suite_plan.specs.Choosing.{Ids}
 use Rattle.suite_plan.specs.Choosing.{base_ids, chosen_ids}
@@ -84,10 +85,18 @@ pub record MakesJobs (settings : Settings) (shares : Option (List Ids)) (result 
   pub jobs : IfOk result (λ jobs. lane_jobs settings shares ≡ Ok jobs)
   pub refused : IfErr result (λ fault. (lane_jobs settings shares ≡ Err fault) ⊎ (fault ≡ job_fault.NoMemory))
 
--- the steps that make the job of each worker
-abbrev pub Plans : Settings → Selected → Step Work (List Job) Refusal
-Plans settings selected =
+-- Where causes are looked for, ids can be handed to a probe, or the option that is missing for it is told. Where they are not, it
+-- is not asked.
+pub record HandsIds (asked : Bool) (settings : Settings) (result : Result (Unit {0}) JobFault) : Type 0 where
+  pub handed : asked ≡ true → OnOk result (CanHandIds settings)
+  pub refused : IfErr result (λ fault. (asked ≡ true) × ((probe_job settings [] ≡ Err fault) ⊎ (fault ≡ job_fault.NoMemory)))
+  pub exactly : asked ≡ true → IfErr (probe_job settings []) (λ fault. (result ≡ Err fault) ⊎ (result ≡ Err job_fault.NoMemory))
+
+-- the steps that make the job of each worker, and ask for that of a probe where causes are looked for
+abbrev pub Plans : Settings → (find_causes : Bool) → Selected → Step Work (List Job) Refusal
+Plans settings find_causes selected =
     Then Tell (At work_folder (Perhaps (when (nat_lt 1 selected.workers)) (λ _. FindsTimes))) (λ times.
     Then Memory (Still (Divides settings.group_regex times selected)) (λ shares.
     Then JobRefused (Still (MakesJobs settings shares)) (λ jobs.
-    Gives jobs)))
+    Then JobRefused (Still (HandsIds find_causes settings)) (λ _.
+    Gives jobs))))

@@ -1,5 +1,6 @@
--- How many calls of the folder a run takes where both caches cover all runs (docs/FORMATS.md, "Caches").
-use Rattle.std.specs.Prelude.{◌≡◌, ℕ, ◌+◌, ◌≤◌, Bool, Option, Some, IfSome, IsSomeAnd, All, List, length}
+-- How many calls of the folder a run takes where both caches cover all runs (docs/FORMATS.md, "Caches"). Where causes are looked
+-- for, the run is read as well, and nothing is said of how often.
+use Rattle.std.specs.Prelude.{◌≡◌, ℕ, ◌+◌, ◌≤◌, Bool, false, Option, Some, IfSome, IsSomeAnd, All, List, length}
 use Rattle.edge_io.specs.Disk.{Folder}
 use Rattle.edge_io.specs.Steps.{Goes, Stays}
 use Rattle.packet_codec.specs.Canonical.{IsEvent, Fits}
@@ -45,6 +46,6 @@ pub record RunsByFew (partial : Bool) (old new : Option Folder) (answer before n
 abbrev pub SparesRunOf : (partial : Bool) (old new : Option Folder) (answer before now : ℕ) → Type 0
 SparesRunOf partial old new answer before now = IfSome old (λ s. ReadsSound s → (runs : List Run) → Shows s.disk.published runs → HoldBoth (length runs) s → RunsByFew partial old new answer before now)
 
--- the same of what was asked for, where it is a run
+-- the same of what was asked for, where it is a run without a search for causes
 abbrev pub SparesRun : Option Task → (old new : Option Folder) → (answer before now : ℕ) → Type 0
-SparesRun asked old new answer before now = (options : RunOptions) → asked ≡ Some (run options) → SparesRunOf (is_partial options) old new answer before now
+SparesRun asked old new answer before now = (options : RunOptions) → asked ≡ Some (run options) → options.find_causes ≡ false → SparesRunOf (is_partial options) old new answer before now

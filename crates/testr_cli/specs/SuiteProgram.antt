@@ -11,6 +11,7 @@ use Rattle.outcome_fold.specs.Rows.{rows_of}
 use Rattle.partition_times.specs.Patterns.{IsPattern}
 use Rattle.run_shelf.specs.Repository.{Run, Shows, most_runs}
 use Rattle.sub_text.specs.Texts.{report_of}
+use Rattle.suite_causes.specs.Searching.{CanHandIds}
 use Rattle.suite_plan.specs.Calling.{TellsNumber}
 use Rattle.suite_plan.specs.Choosing.{Ids, chosen_of}
 use Rattle.suite_plan.specs.ConfFile.{GivesSettings}
@@ -23,7 +24,8 @@ use Rattle.testr_conf.specs.Settings.{Settings}
 use Rattle.testr_cli.specs.Outside.{Work}
 use Rattle.testr_cli.specs.Refreshing.{BringsCaches}
 use Rattle.testr_cli.specs.Runs.{HasRuns, AddsRun}
-use Rattle.testr_cli.specs.Prospects.{MayCount, MaySelect}
+use Rattle.testr_cli.specs.Causes.{ProbesEnd, SearchesAll}
+use Rattle.testr_cli.specs.Prospects.{MayCount, MaySelect, MayPlan}
 use Rattle.testr_cli.specs.Selecting.{needs_listing}
 use Rattle.testr_cli.specs.Suites.{RunOptions, is_partial}
 use Rattle.testr_cli.specs.Workers.{RunsWorkers}
@@ -49,13 +51,15 @@ pub record ListsAll (patterns : Ids) (before after : Work) (answer : ℕ) : Type
 -- started; their outputs are the workers'. Whatever runs the folder showed, it shows one run more, and so does what each
 -- later stop leaves: its packets are those of events that are each under one of the lanes, and where the outputs are told
 -- they are a merge of what is recorded of each: all of it, once and in order under its lane. The report of the run's rows
--- was printed and the status is theirs; both are those of the workers read one after another. Where the files were sound,
--- the caches are those of all runs.
+-- was printed and the status is theirs; both are those of the workers read one after another. Where causes are looked for, each
+-- test that fails was searched behind that, and its line stands behind the report. Where the files were sound, the caches are
+-- those of all runs.
 pub record RunsAll (options : RunOptions) (before after : Work) (answer : ℕ) : Type 0 where
   pub workers : RunsWorkers options before after
   pub stored : Goes before.folder.told after.folder.told (AddsRun (is_partial options) workers.events)
   pub cached : Goes before.folder.told after.folder.told BringsCaches
-  pub printed : IfSome before.folder.told (λ s. (runs : List Run) → Shows s.disk.published runs → Appends before.out.told after.out.told (report_of (rows_of workers.events) (length runs) workers.planned.settings.filter_tags))
+  pub printed : IfSome before.folder.told (λ s. (runs : List Run) → Shows s.disk.published runs → Appends before.out.told after.out.told (report_of (rows_of workers.events) (length runs) workers.planned.settings.filter_tags ++ workers.lines))
+  pub found : SearchesAll options.find_causes workers.planned.settings workers.events workers.lines before.folder.told workers.worked.spawner.told after.spawner.told
   pub status : answer ≡ status_of (rows_of workers.events)
   pub input : after.input ≡ before.input
 
@@ -99,7 +103,8 @@ pub record CanList (patterns : Ids) (before : Work) : Type 0 where
 
 -- The same of a run. There is room for one, the list of ids can be read, so can the table of processors where the number of
 -- workers is neither said nor called out. Where the tests are listed, by the number of workers that was found, there is a
--- listing, and it ends with 0. Where ids are left to run, they can be handed to a worker.
+-- listing, and it ends with 0. Where ids are left to run, they can be handed to a worker. Where causes are looked for, ids can be
+-- handed to a probe, and no probe's child is broken.
 pub record CanRun (options : RunOptions) (before : Work) : Type 0 where
   pub settings : Settings
   pub conf : IsSomeAnd before.site.told (GivesSettings settings)
@@ -112,3 +117,5 @@ pub record CanRun (options : RunOptions) (before : Work) : Type 0 where
   pub job : (workers : ℕ) → MayCount settings options before.site.told before.spawner.told workers → needs_listing options workers ≡ true → IsOk (list_job_of settings)
   pub ends : (workers : ℕ) → MayCount settings options before.site.told before.spawner.told workers → needs_listing options workers ≡ true → IsSomeAnd before.spawner.told (EndsWell (calls_of options settings))
   pub handed : (selected : Selected) → MaySelect settings options before selected → IfSome selected.ids (CanHand settings)
+  pub hands_ids : options.find_causes ≡ true → CanHandIds settings
+  pub probes : options.find_causes ≡ true → (jobs : List Job) (planning : Work) → MayPlan settings options before jobs planning → IfSome planning.spawner.told (ProbesEnd (length jobs))

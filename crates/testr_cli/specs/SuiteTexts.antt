@@ -1,6 +1,8 @@
 -- What the refusals of the steps of `run` and `list-tests` say, and their statuses (docs/COMMANDS.md, "Refusals").
 use Rattle.std.specs.Prelude.{ℕ, List, ◌++◌, codes}
 use Rattle.std.specs.Fmt.{decimal, signed_decimal}
+use Rattle.suite_causes.specs.declared.searching.SearchFault.{SearchFault}
+use Rattle.suite_causes.specs.declared.searching.SearchFault.TheVariants as search_fault
 use Rattle.suite_plan.specs.declared.calling.CallRefusal.{CallRefusal}
 use Rattle.suite_plan.specs.declared.calling.CallRefusal.TheVariants as call
 use Rattle.suite_plan.specs.declared.conf_file.ConfRefusal.{ConfRefusal}
@@ -179,3 +181,17 @@ lanes_code lanes.NoMemory = 5
 abbrev pub lanes_text : LanesRefusal → List ℕ
 lanes_text (lanes.Shelf which) = codes "testr: fault of the repository folder\n"
 lanes_text lanes.NoMemory = short_text
+
+-- ---- the search for causes
+
+-- the status where a search comes to no verdict
+abbrev pub search_code : SearchFault → ℕ
+search_code search_fault.Spawn = 4
+search_code search_fault.Child = 4
+search_code search_fault.NoMemory = 5
+
+-- the line where a search comes to no verdict
+abbrev pub search_text : SearchFault → List ℕ
+search_text search_fault.Spawn = spawn_text
+search_text search_fault.Child = child_text
+search_text search_fault.NoMemory = short_text

@@ -10,6 +10,8 @@ pub record RunOptions : Type 0 where
   pub failing : Bool
   -- the tests run side by side
   pub parallel : Bool
+  -- the tests that make others fail are looked for
+  pub find_causes : Bool
   -- on how many workers; 0 where it is not said
   pub concurrency : ℕ
   -- the file of the ids that are wanted
@@ -31,6 +33,7 @@ run_options command = record {
   partial = command.partial;
   failing = command.failing;
   parallel = command.parallel;
+  find_causes = command.find_causes;
   concurrency = command.concurrency;
   load_list = command.load_list;
   patterns = command.names;

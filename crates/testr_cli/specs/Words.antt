@@ -66,7 +66,7 @@ only_flag key word = if bytes_eq word key then Some Flag else None
 
 -- the flags of `run`
 abbrev pub is_run_flag : List ℕ → Bool
-is_run_flag word = bytes_eq word (codes "--partial") || (bytes_eq word (codes "--failing") || bytes_eq word (codes "--parallel"))
+is_run_flag word = bytes_eq word (codes "--partial") || (bytes_eq word (codes "--failing") || (bytes_eq word (codes "--parallel") || bytes_eq word (codes "--find-causes")))
 
 -- the options of `run`
 abbrev pub run_kind : List ℕ → Option Kind
@@ -208,6 +208,7 @@ command_of_drawing drawing = record {
   partial = false;
   failing = false;
   parallel = false;
+  find_causes = false;
   concurrency = 0;
   load_list = None;
   list = false;
@@ -228,6 +229,7 @@ command_with verb items names workers load_list = if may_have (most_names verb) 
   partial = has_flag (codes "--partial") items;
   failing = has_flag (codes "--failing") items;
   parallel = has_flag (codes "--parallel") items;
+  find_causes = has_flag (codes "--find-causes") items;
   concurrency = workers;
   load_list = load_list;
   list = has_flag (codes "--list") items;

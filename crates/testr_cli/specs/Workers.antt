@@ -1,7 +1,6 @@
--- The workers of a run: why their jobs are these, which of them were started, what is recorded of their outputs, and what
--- was printed of that.
+-- The workers of a run: why their jobs are these, which of them were started, what is recorded of their outputs, what was
+-- searched behind that, and what was printed.
 use Rattle.std.specs.Prelude.{◌≡◌, ◌⊎◌, ℕ, ◌≤◌, IfSome, All, List, ◌++◌, length, Ok}
-use Rattle.edge_io.specs.Bytes.{AppendsPrefix}
 use Rattle.edge_io.specs.Children.{Output}
 use Rattle.edge_io.specs.Spawners.{Spawning}
 use Rattle.edge_io.specs.Steps.{Goes}
@@ -17,6 +16,7 @@ use Rattle.suite_plan.specs.ConfFile.{GivesSettings}
 use Rattle.suite_run.specs.Starting.{StartsAll}
 use Rattle.testr_conf.specs.Settings.{Settings}
 use Rattle.worker_mux.specs.Outputs.{lists_from}
+use Rattle.testr_cli.specs.Causes.{SearchesSome, TakesFirst}
 use Rattle.testr_cli.specs.Outside.{Work, work_folder}
 use Rattle.testr_cli.specs.Runs.{KeepsFiles}
 use Rattle.testr_cli.specs.Selecting.{Selects, Plans}
@@ -37,18 +37,20 @@ pub record HasPlanned (options : RunOptions) (before planning : Work) (jobs : Li
   pub selecting : Work
   pub selects : Selects settings options opened selecting (Ok selected)
   -- the jobs were made
-  pub plans : Plans settings selected selecting planning (Ok jobs)
+  pub plans : Plans settings options.find_causes selected selecting planning (Ok jobs)
   pub few : length jobs ≤ 64
 
 -- These jobs were started, in this order, and no others behind the choice of the tests; the first outputs to come then are
 -- the workers', and what comes later is left. There are events, each under one of the lanes; where the outputs are told they
--- are a merge of what is recorded of each: all of it, once and in order under its lane, and nothing else.
+-- are a merge of what is recorded of each: all of it, once and in order under its lane, and nothing else. Behind the workers,
+-- where causes are looked for, some first tests of those that fail were searched, and nothing else was started.
 pub record RunsWorkers (options : RunOptions) (before after : Work) : Type 0 where
   pub jobs : List Job
   pub planning : Work
   pub planned : HasPlanned options before planning jobs
   pub outputs : List Output
-  pub started : Goes planning.spawner.told after.spawner.told (StartsAll jobs outputs)
+  pub worked : Work
+  pub started : Goes planning.spawner.told worked.spawner.told (StartsAll jobs outputs)
   pub events : List Event
   pub are_events : All IsEvent events
   pub fit : All Fits events
@@ -56,6 +58,9 @@ pub record RunsWorkers (options : RunOptions) (before after : Work) : Type 0 whe
   pub merged : IfSome before.spawner.told (λ _. IsMerge events (lists_from 0 outputs))
   -- so they say the same as the events of the outputs one after another
   pub in_turn : IfSome before.spawner.told (λ _. SaySame events (joined (lists_from 0 outputs)))
+  -- and what was searched behind them, with the lines of the tests that came to a verdict
+  pub lines : List ℕ
+  pub probed : SearchesSome options.find_causes planned.settings events lines before.folder.told worked.spawner.told after.spawner.told
 
 -- ---- at every exit
 
@@ -76,14 +81,15 @@ pub record StartsFirst (options : RunOptions) (before after : Work) : Type 0 whe
   pub outputs : List Output
   pub started : Goes planning.spawner.told after.spawner.told (StartsAll done outputs)
 
--- Before the workers two may be started: the one that tells how many there are, and the one that lists the tests.
+-- Before the workers two may be started: the one that tells how many there are, and the one that lists the tests. Then come the
+-- workers, and behind all of them the probes.
 abbrev pub StartsInOrder : RunOptions → Work → Work → Type 0
-StartsInOrder options before after = Goes before.spawner.told after.spawner.told (AsksFew 2) ⊎ StartsFirst options before after
+StartsInOrder options before after = Goes before.spawner.told after.spawner.told (AsksFew 2) ⊎ (StartsFirst options before after ⊎ RunsWorkers options before after)
 
--- the output took a first part of the report of the workers' run
+-- the output took a first part of the report of the workers' run, or all of it and a first part of the lines behind it
 pub record PrintsFirst (options : RunOptions) (before after : Work) : Type 0 where
   pub workers : RunsWorkers options before after
-  pub printed : IfSome before.folder.told (λ s. (runs : List Run) → Shows s.disk.published runs → AppendsPrefix before.out.told after.out.told (report_of (rows_of workers.events) (length runs) workers.planned.settings.filter_tags))
+  pub printed : IfSome before.folder.told (λ s. (runs : List Run) → Shows s.disk.published runs → TakesFirst (report_of (rows_of workers.events) (length runs) workers.planned.settings.filter_tags) workers.lines workers.worked.spawner.told after.spawner.told before.out.told after.out.told)
 
 -- What a run has started and printed at each exit.
 pub record LeavesRun (options : RunOptions) (before after : Work) : Type 0 where

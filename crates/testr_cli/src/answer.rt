@@ -12,6 +12,7 @@ use crate::told::TellFault;
 use crate::words::UsageFault;
 use run_shelf::{InitFault, OpenFault};
 use sub_number::NoMemory;
+use suite_causes::SearchFault;
 use suite_plan::{
     CallRefusal, ConfRefusal, ListRefusal, ListingRefusal, PatternRefusal, TableRefusal,
 };
@@ -84,6 +85,12 @@ pub enum Refusal<'a> {
     Lanes(LanesRefusal),
     /// There is not enough memory for the report of the run, which is kept.
     Report(NoMemory),
+    /// There is not enough memory for the search for causes. The run is kept, and its report was printed.
+    Suspects(NoMemory),
+    /// What ran before a test was not read. The run is kept, and its report was printed.
+    Ran(TellFault),
+    /// The search for a cause came to no verdict. The run is kept, and its report was printed.
+    Search(SearchFault),
 }
 
 impl<'a> From<InitFault> for Refusal<'a> {
@@ -282,9 +289,9 @@ impl<'a> Refusal<'a> {
             Refusal::Open(fault) => fault.code(),
             Refusal::Runs(_) => 3,
             Refusal::Record(fault) => fault.code(),
-            Refusal::Refresh(fault) | Refusal::Tell(fault) => fault.code(),
+            Refusal::Refresh(fault) | Refusal::Tell(fault) | Refusal::Ran(fault) => fault.code(),
             Refusal::Keep(_) | Refusal::Print(_) => 4,
-            Refusal::Memory(_) | Refusal::Report(_) => 5,
+            Refusal::Memory(_) | Refusal::Report(_) | Refusal::Suspects(_) => 5,
             Refusal::Conf(refusal) => refusal.code(),
             Refusal::Pattern(refusal) => refusal.code(),
             Refusal::LoadList(refusal) => refusal.code(),
@@ -294,6 +301,7 @@ impl<'a> Refusal<'a> {
             Refusal::Job(fault) => fault.code(),
             Refusal::Start(refusal) => refusal.code(),
             Refusal::Lanes(refusal) => refusal.code(),
+            Refusal::Search(fault) => fault.code(),
         }
     }
 
@@ -307,9 +315,11 @@ impl<'a> Refusal<'a> {
             Refusal::Open(fault) => fault.line(),
             Refusal::Runs(fault) => fault.line(),
             Refusal::Record(fault) => fault.line(),
-            Refusal::Memory(_) | Refusal::Report(_) => Line::of("testr: out of memory\n"),
+            Refusal::Memory(_) | Refusal::Report(_) | Refusal::Suspects(_) => {
+                Line::of("testr: out of memory\n")
+            }
             Refusal::Keep(fault) => fault.line(),
-            Refusal::Refresh(fault) | Refusal::Tell(fault) => fault.line(),
+            Refusal::Refresh(fault) | Refusal::Tell(fault) | Refusal::Ran(fault) => fault.line(),
             Refusal::Print(fault) => fault.line(),
             Refusal::Conf(refusal) => refusal.line(),
             Refusal::Pattern(refusal) => refusal.line(),
@@ -320,6 +330,7 @@ impl<'a> Refusal<'a> {
             Refusal::Job(fault) => fault.line(),
             Refusal::Start(refusal) => refusal.line(),
             Refusal::Lanes(refusal) => refusal.line(),
+            Refusal::Search(fault) => fault.line(),
         }
     }
 }

@@ -38,6 +38,8 @@ pub struct Command {
     pub parallel: bool,
     /// How many workers run them; 0 where the words do not say it.
     pub concurrency: u32,
+    /// The tests that make others fail are looked for.
+    pub find_causes: bool,
     /// The file of the ids that are wanted.
     pub load_list: Option<Text>,
     /// Ids alone are printed.

@@ -9,6 +9,7 @@
 //! - `command`, `drawing`, `words`, `values`: which words are a command
 //! - `store`, `recording`, `files`, `refreshing`, `reporting`, `printing`, `told`, `copying`, `asking`: the steps, each with why it refuses
 //! - `selecting`, `planning`, `working`: which tests run, what each worker is started with, and the workers themselves
+//! - `causes`: which test makes another one fail
 //! - `answer`, `suite_refusals`, `telling`: statuses and refusals by step, and the lines that tell of them
 //! - `init`, `load`, `ask`, `run`, `list`, `selftest`: the commands, each a chain of steps
 //! - `top`: `program`, `testr` and `quiet`
@@ -20,6 +21,7 @@
 mod answer;
 mod ask;
 mod asking;
+mod causes;
 mod command;
 mod copying;
 mod drawing;

@@ -1,6 +1,7 @@
 //! What each worker of a run is started with.
 
-ghost use Rattle.std.specs.Prelude.{◌≡◌, ◌≤◌, ◌⊎◌, ℕ, List, length, IfOk, IfErr, IfSome, OnOk};
+ghost use Rattle.std.specs.Prelude.{◌≡◌, ◌≤◌, ◌⊎◌, ℕ, List, length, true, IfOk, IfErr, IfSome, OnOk};
+ghost use Rattle.suite_causes.specs.Searching.{CanHandIds};
 ghost use Rattle.suite_plan.specs.LaneJobs.{lane_jobs};
 ghost use Rattle.suite_plan.specs.Processors.{IsInRange};
 ghost use Rattle.suite_plan.specs.declared.sharing.TheConstants.{MOST_WORKERS};
@@ -10,7 +11,7 @@ ghost use Rattle.run_shelf.specs.Holds.{kinds_of, FitsWhereTold};
 ghost use Rattle.testr_cli.specs.Asking.{FindsTimes};
 ghost use Rattle.testr_cli.specs.Outside.{work};
 ghost use Rattle.testr_cli.specs.Perhaps.{when, Perhaps, in_list};
-ghost use Rattle.testr_cli.specs.Selecting.{Plans, shares_of_ids};
+ghost use Rattle.testr_cli.specs.Selecting.{HandsIds, Plans, shares_of_ids};
 ghost use Rattle.testr_cli.specs.SparingRun.{AsksByFew};
 
 use crate::Refusal;
@@ -22,15 +23,18 @@ use partition_times::Groups;
 use run_shelf::Found;
 use std::alloc::Global;
 use sub_number::{IdList, NoMemory, TimeMap};
+use suite_causes::can_hand_ids;
 use suite_plan::{jobs_of_lanes, share_out};
 use testr_conf::{Conf, JobFault};
 
 /// The jobs of a run's workers, in order, which are no more than a run may have, made in two calls of the folder at most
-/// where both caches cover the runs that were found. The groups are those of the configuration.
+/// where both caches cover the runs that were found. The groups are those of the configuration. Where causes are looked for, ids
+/// can be handed to a probe, or it is refused.
 pub fn plan<H: Shelf>(
     alloc: Global,
     conf: &Conf,
     groups: &Groups,
+    find_causes: bool,
     selected: Selected,
     shelf: &mut H,
     found: &Found,
@@ -38,10 +42,11 @@ pub fn plan<H: Shelf>(
     requires groups { groups.now ≡ conf.now.group_regex }
     requires range { IsInRange selected.workers }
     requires fits { FitsWhereTold (kinds_of found.now) (H.seen shelf.old).told }
-    ensures step { (site : _) → (spawner : _) → (input out : Seen (List ℕ)) → Plans conf.now selected
+    ensures step { (site : _) → (spawner : _) → (input out : Seen (List ℕ)) → Plans conf.now find_causes selected
         (work (H.seen shelf.old) site spawner input out)
         (work (H.seen shelf.new) site spawner input out)
         (in_list result) }
+    ensures handed { find_causes ≡ true → OnOk result (CanHandIds conf.now) }
     ensures few { IfOk result (λ jobs. length jobs.items ≤ MOST_WORKERS) }
     ensures fits { OnOk result (FitsWhereTold (kinds_of found.now) (H.seen shelf.new).told) }
     ensures calls { AsksByFew (length (kinds_of found.now)) 2 (H.seen shelf.old).told (H.seen shelf.new).told (H.clock shelf.old) (H.clock shelf.new) }
@@ -49,7 +54,18 @@ pub fn plan<H: Shelf>(
     let times = known_times(alloc, selected.workers > 1, shelf, found)?;
     let shares = divide(alloc, groups, &times, selected)?;
     let jobs = jobs_of(alloc, conf, &shares)?;
+    hand_ids(alloc, conf, find_causes)?;
     Ok(jobs)
+}
+
+// Where causes are looked for, asks whether ids can be handed to a probe.
+fn hand_ids(alloc: Global, conf: &Conf, find_causes: bool) -> Result<(), JobFault>
+    ensures { HandsIds find_causes conf.now result }
+{
+    if !find_causes {
+        return Ok(());
+    }
+    can_hand_ids(alloc, conf)
 }
 
 // The jobs of the shares, which are no more than a run may have workers, or that of all tests where there are none.

@@ -1,4 +1,5 @@
-//! Prints the report of a run from where its rows stand, through a buffer, so that no text of them all is made.
+//! Prints the report of a run, and the lines of its causes, from where their parts stand, through a buffer, so that no text of
+//! them all is made.
 
 ghost use Rattle.std.specs.Prelude.{ℕ, List};
 ghost use Rattle.std.specs.List.{filter, flat_map};
@@ -6,6 +7,7 @@ ghost use Rattle.outcome_fold.specs.Answers.{row_fails};
 ghost use Rattle.outcome_fold.specs.Summed.{Sums};
 ghost use Rattle.outcome_fold.specs.declared.row.Row.{Row as ARow};
 ghost use Rattle.sub_text.specs.Texts.{failure_of, part_bytes};
+ghost use Rattle.suite_causes.specs.Lines.{line_bytes};
 ghost use Rattle.testr_cli.specs.Reporting.{Prints, report_shown};
 ghost use Rattle.testr_cli.specs.Printing.{Passes};
 
@@ -14,6 +16,7 @@ use arrayvec::ArrayVec;
 use edge_io::{PIECE, Sink};
 use outcome_fold::{Row, Summary};
 use sub_text::failure_parts;
+use suite_causes::CauseLine;
 
 /// Prints the report of a run: the texts of those of its rows that fail, of which this is kept, and then how it ends. It takes
 /// no memory.
@@ -27,6 +30,18 @@ pub fn print_report<O: Sink>(
     let mut gathered: ArrayVec<u8, PIECE> = ArrayVec::new();
     put_failures(out, &mut gathered, summary.failing())?;
     put(out, &mut gathered, &ending.lines)?;
+    print(out, gathered.as_slice())
+}
+
+/// Prints the line of a test whose cause was searched. It takes no memory.
+pub(crate) fn print_line<O: Sink>(out: &mut O, line: &CauseLine<'_>) -> Result<(), PrintFault>
+    ensures { Prints (line_bytes line.now) (O.seen out.old) (O.seen out.new) result }
+{
+    let mut gathered: ArrayVec<u8, PIECE> = ArrayVec::new();
+    put(out, &mut gathered, line.test)?;
+    put(out, &mut gathered, line.said)?;
+    put(out, &mut gathered, line.cause)?;
+    put(out, &mut gathered, b"\n")?;
     print(out, gathered.as_slice())
 }
 

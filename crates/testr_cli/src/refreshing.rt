@@ -32,6 +32,7 @@ pub fn refresh<H: Shelf>(
     requires some { 0 < length (kinds_of found) }
     requires fits { FitsWhereTold (kinds_of found) (H.seen shelf.old).told }
     ensures step { (filter_tags : List (List ℕ)) (rows : List ARow) → Sums filter_tags rows summary.now → Refreshes (length (kinds_of found) - 1) rows (H.seen shelf.old) (H.seen shelf.new) result }
+    ensures fits { OnOk result (FitsWhereTold (kinds_of found) (H.seen shelf.new).told) }
     ensures calls { IfSome (H.seen shelf.old).told (λ s. HoldBoth (length (kinds_of found) - 1) s → TicksUpTo 14 (H.clock shelf.old) (H.clock shelf.new)) }
 {
     let mut store = Store::attach(shelf, found);
@@ -50,6 +51,7 @@ fn refresh_store<H: Shelf>(
     requires fits { FitsUnlessBroken (store_kinds store.old) (store_fault store.old) (H.seen store.old.shelf.now).told }
     ensures same_reference { store.new.shelf.ghost_name ≡ store.old.shelf.ghost_name }
     ensures step { (filter_tags : List (List ℕ)) (rows : List ARow) → Sums filter_tags rows summary.now → Refreshes (length (store_kinds store.old) - 1) rows (H.seen store.old.shelf.now) (H.seen store.new.shelf.now) result }
+    ensures fits { OnOk result (FitsWhereTold (store_kinds store.old) (H.seen store.new.shelf.now).told) }
     ensures calls { IfSome (H.seen store.old.shelf.now).told (λ s. HoldBoth (length (store_kinds store.old) - 1) s → TicksUpTo 14 (H.clock store.old.shelf.now) (H.clock store.new.shelf.now)) }
 {
     match refresh_behind(alloc, store, summary) {

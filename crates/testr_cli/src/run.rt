@@ -1,28 +1,33 @@
 //! `testr run`.
 
-ghost use Rattle.std.specs.Prelude.{◌≡◌, ℕ, List, IfOk};
-ghost use Rattle.edge_io.specs.Disk.{Folder};
+ghost use Rattle.std.specs.Prelude.{◌≡◌, ◌<◌, ℕ, List, length, true, false, IfOk, IfSome};
+ghost use Rattle.edge_io.specs.Disk.{Files, Folder};
 ghost use Rattle.edge_io.specs.Seen.{Seen};
 ghost use Rattle.outcome_fold.specs.Summed.{Sums};
 ghost use Rattle.outcome_fold.specs.declared.row.Row.{Row as ARow};
 ghost use Rattle.testr_cli.specs.Answer.{code_of};
 ghost use Rattle.testr_cli.specs.Outside.{work};
-ghost use Rattle.testr_cli.specs.RunSuite.{RunsBy, TellsRun, compiled_in};
+ghost use Rattle.run_shelf.specs.Holds.{kinds_of, FitsWhereTold};
+ghost use Rattle.suite_causes.specs.Searching.{CanHandIds};
+ghost use Rattle.testr_cli.specs.Causes.{FindsCauses};
+ghost use Rattle.testr_cli.specs.RunSuite.{RunsBy, TellsAndFinds, TellsRun, compiled_in};
 ghost use Rattle.testr_cli.specs.SparingRun.{SparesRunOf};
 ghost use Rattle.testr_cli.specs.Suites.{run_options, is_part, is_partial as is_partial_run};
 ghost use Rattle.suite_plan.specs.Patterns.{Compiles};
 
+use crate::causes::find_causes;
 use crate::command::Command;
 use crate::planning::plan;
 use crate::printing::print_report;
 use crate::reporting::end_report;
 use crate::selecting::select;
 use crate::store::{open, take_run};
-use crate::working::run_workers;
+use crate::working::{Kept, run_workers};
 use crate::{Refusal, Verdict};
 use edge_io::{Shelf, Sink, Site, Spawner};
 use outcome_fold::{Summary, copies_of};
 use packet_codec::Tags;
+use run_shelf::Found;
 use std::alloc::Global;
 use std::mem::forget;
 use std::sync::Wait;
@@ -48,7 +53,7 @@ pub fn run<'a, R: Threads + Wait + Sync, H: Shelf, S: Spawner, F: Site, O: Sink>
         (work (H.seen shelf.old) (F.seen site.old) (S.seen spawner.old) input (O.seen out.old))
         (work (H.seen shelf.new) (F.seen site.new) (S.seen spawner.new) input (O.seen out.new))
         result }
-    ensures calls { SparesRunOf (is_partial_run (run_options command.now)) (H.seen shelf.old).told (H.seen shelf.new).told (code_of result) (H.clock shelf.old) (H.clock shelf.new) }
+    ensures calls { command.now.find_causes ≡ false → SparesRunOf (is_partial_run (run_options command.now)) (H.seen shelf.old).told (H.seen shelf.new).told (code_of result) (H.clock shelf.old) (H.clock shelf.new) }
 {
     let found = open(alloc, shelf)?;
     take_run(&found)?;
@@ -64,21 +69,107 @@ pub fn run<'a, R: Threads + Wait + Sync, H: Shelf, S: Spawner, F: Site, O: Sink>
         spawner,
         site,
     )?;
-    let jobs = plan(alloc, conf, &asked.compiled.groups, selected, shelf, &found)?;
-    let summary = run_workers(
+    let jobs = plan(
+        alloc,
+        conf,
+        &asked.compiled.groups,
+        command.find_causes,
+        selected,
+        shelf,
+        &found,
+    )?;
+    let kept = run_workers(
         rt,
         alloc,
         &jobs,
         asked.partial,
+        command.find_causes,
         shelf,
         found,
         spawner,
         asked.filter_tags,
     )?;
-    let answer = tell_run(alloc, number, &summary, out);
+    let Kept { found, summary } = kept;
+    let answer = tell_and_find(
+        alloc,
+        conf,
+        command.find_causes,
+        number,
+        found,
+        &summary,
+        shelf,
+        spawner,
+        out,
+    );
     // The program ends here, and the system takes the memory back in one piece.
     forget(summary);
     answer
+}
+
+// Prints the report of the run of this number, which is kept, and of whose rows this is; and then, where causes are looked for,
+// searches for what makes each test that fails do so. These are the runs that there are, where there was memory for them.
+fn tell_and_find<H: Shelf, S: Spawner, O: Sink>(
+    alloc: Global,
+    conf: &Conf,
+    find_causes: bool,
+    number: u32,
+    found: Option<Found>,
+    summary: &Summary,
+    shelf: &mut H,
+    spawner: &mut S,
+    out: &mut O,
+) -> Result<Verdict, Refusal<'static>>
+    requires handed { find_causes ≡ true → CanHandIds conf.now }
+    requires known { IfSome found (λ runs. number < length (kinds_of runs)) }
+    requires fits { IfSome found (λ runs. FitsWhereTold (kinds_of runs) (H.seen shelf.old).told) }
+    ensures step { (site : Seen Files) → (input : Seen (List ℕ)) → (rows : List ARow) → Sums conf.now.filter_tags rows summary.now → TellsAndFinds find_causes conf.now number rows
+        (work (H.seen shelf.old) site (S.seen spawner.old) input (O.seen out.old))
+        (work (H.seen shelf.new) site (S.seen spawner.new) input (O.seen out.new))
+        result }
+    ensures same { find_causes ≡ false → H.seen shelf.new ≡ H.seen shelf.old }
+    ensures time { find_causes ≡ false → H.clock shelf.new ≡ H.clock shelf.old }
+{
+    let verdict = tell_run(alloc, number, summary, out)?;
+    find_where_asked(
+        alloc,
+        conf,
+        find_causes,
+        number,
+        found,
+        summary,
+        shelf,
+        spawner,
+        out,
+    )?;
+    Ok(verdict)
+}
+
+// The search for causes, where it is asked for.
+fn find_where_asked<H: Shelf, S: Spawner, O: Sink>(
+    alloc: Global,
+    conf: &Conf,
+    asked: bool,
+    number: u32,
+    found: Option<Found>,
+    summary: &Summary,
+    shelf: &mut H,
+    spawner: &mut S,
+    out: &mut O,
+) -> Result<(), Refusal<'static>>
+    requires handed { asked ≡ true → CanHandIds conf.now }
+    requires known { IfSome found (λ runs. number < length (kinds_of runs)) }
+    requires fits { IfSome found (λ runs. FitsWhereTold (kinds_of runs) (H.seen shelf.old).told) }
+    ensures step { (site : Seen Files) → (input : Seen (List ℕ)) → (filter_tags : List (List ℕ)) (rows : List ARow) → Sums filter_tags rows summary.now → FindsCauses asked conf.now number rows
+        (work (H.seen shelf.old) site (S.seen spawner.old) input (O.seen out.old))
+        (work (H.seen shelf.new) site (S.seen spawner.new) input (O.seen out.new))
+        result }
+    ensures same { asked ≡ false → H.seen shelf.new ≡ H.seen shelf.old }
+    ensures time { asked ≡ false → H.clock shelf.new ≡ H.clock shelf.old }
+{
+    if !asked {
+        return Ok(());
+    }
+    find_causes(alloc, conf, number, found, summary, shelf, spawner, out)
 }
 
 // What the command and the configuration say before anything is read.

@@ -1,11 +1,16 @@
 //! Laws of the refusals of `run` and `list-tests`.
 
-ghost use Rattle.std.specs.Prelude.{◌≡◌, ◌⊎◌, ℕ, ℤ, List, Option, Result, Ok, Err, None, IsSome, IsSomeAnd, IsOk, IsErr, All};
+ghost use Rattle.std.specs.Prelude.{◌≡◌, ◌⊎◌, ℕ, ℤ, List, Option, Result, Ok, Err, None, true, [], IsSome, IsSomeAnd, IsOk, IsErr, All};
 ghost use Rattle.edge_io.specs.Disk.{Files};
 ghost use Rattle.edge_io.specs.Seen.{Seen};
 ghost use Rattle.edge_io.specs.Spawners.{Spawning};
 ghost use Rattle.edge_io.specs.declared.job.Job.{Job as AJob};
 ghost use Rattle.partition_times.specs.Patterns.{IsPattern};
+ghost use Rattle.isolation_bisect.specs.declared.found.Found.{Found as AFound};
+ghost use Rattle.suite_causes.specs.Analysis.{UsesNoBroken};
+ghost use Rattle.suite_causes.specs.Searching.{Searches, probe_job};
+ghost use Rattle.suite_causes.specs.declared.searching.SearchFault.{SearchFault as ASearchFault};
+ghost use Rattle.suite_causes.specs.declared.searching.SearchFault.TheVariants as search_fault;
 ghost use Rattle.suite_plan.specs.Calling.{CallsOut, TellsNone};
 ghost use Rattle.suite_plan.specs.Choosing.{Ids};
 ghost use Rattle.suite_plan.specs.ConfFile.{ReadsConf, GivesFault, conf_name, refused_conf};
@@ -33,7 +38,7 @@ ghost use Rattle.testr_conf.specs.declared.fault.ConfFault.{ConfFault as AConfFa
 ghost use Rattle.testr_conf.specs.declared.fault.JobFault.{JobFault as AJobFault};
 ghost use Rattle.testr_conf.specs.declared.fault.JobFault.TheVariants as job;
 ghost use Rattle.testr_cli.specs.ExactSuite.{Comes, NextMeets, IsNamedBad, ListEnds, IsListAbsent, IsListTooLong, IsNoId};
-ghost use Rattle.testr_cli.specs.Selecting.{MakesJobs};
+ghost use Rattle.testr_cli.specs.Selecting.{HandsIds, MakesJobs};
 
 /// Where the cause of a named refusal of a step of `run` or `list-tests` is there, the step refuses by that name, unless a
 /// call failed or memory was wanting before. That it comes only there is what the step itself says. So each comes exactly
@@ -65,4 +70,8 @@ pub fn suite_refusals_are_exact()
         → (status : ℤ) → IsOk (list_job_of settings) → NextMeets (HasFailed status) before → Comes (listing.Failed status) listing.Spawn listing.NoMemory result }
     ensures no_option { (settings : Settings) (shares : Option (List Ids)) (fault : AJobFault) (result : Result (List AJob) AJobFault) → MakesJobs settings shares result
         → lane_jobs settings shares ≡ Err fault → (result ≡ Err fault) ⊎ (result ≡ Err job.NoMemory) }
+    ensures no_id_option { (settings : Settings) (fault : AJobFault) (result : Result (Unit {0}) AJobFault) → HandsIds true settings result
+        → probe_job settings [] ≡ Err fault → (result ≡ Err fault) ⊎ (result ≡ Err job.NoMemory) }
+    ensures probe_broken { (settings : Settings) (candidates : Ids) (test : List ℕ) (before after : Seen Spawning) (result : Result AFound ASearchFault) → Searches settings candidates test before after result
+        → IsSomeAnd before.told (λ s. UsesNoBroken test candidates s.outputs → ⊥) → Comes search_fault.Child search_fault.Spawn search_fault.NoMemory result }
 {}

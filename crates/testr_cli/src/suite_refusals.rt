@@ -6,6 +6,7 @@ ghost use Rattle.testr_cli.specs.SuiteTexts.{key_text};
 ghost use Rattle.testr_cli.specs.Telling.{line_text};
 
 use crate::telling::{Line, Part, Refuses};
+use suite_causes::SearchFault;
 use suite_plan::{
     CallRefusal, ConfRefusal, ListRefusal, ListingRefusal, PatternRefusal, TableRefusal,
 };
@@ -280,6 +281,29 @@ impl<'a> Refuses<'a> for LanesRefusal {
         match self {
             LanesRefusal::Shelf(_) => Line::of("testr: fault of the repository folder\n"),
             LanesRefusal::NoMemory => Line::of(OUT_OF_MEMORY),
+        }
+    }
+}
+
+impl<'a> Refuses<'a> for SearchFault {
+    ghost use Rattle.testr_cli.specs.SuiteTexts.{search_code, search_text};
+
+    ghost status = { search_code };
+
+    ghost text = { search_text };
+
+    fn code(self) -> u8 {
+        match self {
+            SearchFault::Spawn | SearchFault::Child => 4,
+            SearchFault::NoMemory => 5,
+        }
+    }
+
+    fn line(self) -> Line<'a> {
+        match self {
+            SearchFault::Spawn => Line::of(FAULT_OF_A_START),
+            SearchFault::Child => Line::of(FAULT_OF_A_CHILD),
+            SearchFault::NoMemory => Line::of(OUT_OF_MEMORY),
         }
     }
 }

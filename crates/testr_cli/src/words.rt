@@ -120,7 +120,10 @@ fn run_option(name: &str) -> Option<Kind>
 fn is_run_flag(name: &str) -> bool
     ensures { result ≡ is_flag_of_run name.now }
 {
-    name == "--partial" || name == "--failing" || name == "--parallel"
+    name == "--partial"
+        || name == "--failing"
+        || name == "--parallel"
+        || name == "--find-causes"
 }
 
 // The command of this verb and the words behind it.
@@ -153,6 +156,7 @@ fn drawing_command(alloc: Global, items: &[Item<'_>]) -> Option<Command>
         partial: false,
         failing: false,
         parallel: false,
+        find_causes: false,
         concurrency: 0,
         load_list: None,
         list: false,
@@ -212,6 +216,7 @@ fn command_of_names(
         partial: has(items, "--partial"),
         failing: has(items, "--failing"),
         parallel: has(items, "--parallel"),
+        find_causes: has(items, "--find-causes"),
         concurrency,
         load_list,
         list: has(items, "--list"),

@@ -1,6 +1,6 @@
 //! Starts the workers of a run, and records them.
 
-ghost use Rattle.std.specs.Prelude.{◌≡◌, ◌≤◌, ◌<◌, ◌++◌, ◌∷◌, [], ℕ, List, length, map, IfOk, IfErr, OnOk};
+ghost use Rattle.std.specs.Prelude.{◌≡◌, ◌≤◌, ◌<◌, ◌++◌, ◌∷◌, [], ℕ, List, length, map, IfOk, IfErr, IfSome, OnOk};
 ghost use Rattle.std.specs.List.{range_with_len};
 ghost use Rattle.edge_io.specs.Steps.{HasDraft};
 ghost use Rattle.suite_run.specs.Recording.{AddsByFew, RecordsLanes};
@@ -12,7 +12,7 @@ ghost use Rattle.run_shelf.specs.Holds.{kinds_of, HasRoom, FitsWhereTold};
 ghost use Rattle.run_shelf.specs.Repository.{most_runs};
 ghost use Rattle.testr_cli.specs.Outside.{work};
 ghost use Rattle.testr_cli.specs.Answer.{refusal_code};
-ghost use Rattle.testr_cli.specs.RunSuite.{Works, summary_in};
+ghost use Rattle.testr_cli.specs.RunSuite.{Works, kept_in, summary_in};
 ghost use Rattle.testr_cli.specs.SparingRun.{IsCovered, StoresByFew};
 
 use crate::Refusal;
@@ -28,6 +28,15 @@ use std::thread::Threads;
 use suite_run::{LanesRefusal, record_lanes, start_lanes};
 use worker_lane::Lane;
 
+/// What is known of a run that is kept.
+#[derive(Drop)]
+pub struct Kept {
+    /// The runs that there are with it, where they are wanted and there was memory for them.
+    pub found: Option<Found>,
+    /// What is kept of its rows.
+    pub summary: Summary,
+}
+
 // What was recorded of the workers.
 #[derive(Drop)]
 struct Ran {
@@ -39,18 +48,19 @@ struct Ran {
 
 /// Starts a worker for each of the jobs, 64 at most, reads them to their ends, side by side, keeps what is recorded of them
 /// as the next run, whose rows are summed up as it is recorded, where these tags filter, and brings the caches up to it. It
-/// gives what is kept of the rows. It may wait for the workers. Where both caches cover the runs that were found, the folder
+/// gives what is kept of the rows, and the runs that there are then where these are wanted. It may wait for the workers. Where both caches cover the runs that were found, the folder
 /// is called 18 times at most, and once for each packet. No refusal of it has the status 3.
 pub fn run_workers<R: Threads + Wait + Sync, H: Shelf, S: Spawner>(
     rt: &R,
     alloc: Global,
     jobs: &[Job],
     partial: bool,
+    wanted: bool,
     shelf: &mut H,
     found: Found,
     spawner: &mut S,
     filter_tags: Tags,
-) -> Result<Summary, Refusal<'static>>
+) -> Result<Kept, Refusal<'static>>
     requires few { length jobs.now ≤ 64 }
     requires free { length (kinds_of found) < most_runs }
     requires room { HasRoom found }
@@ -58,8 +68,10 @@ pub fn run_workers<R: Threads + Wait + Sync, H: Shelf, S: Spawner>(
     ensures step { GivesSums filter_tags (λ rows. (site : Seen Files) (input out : Seen (List ℕ)) → Works partial (length (kinds_of found)) jobs.now
         (work (H.seen shelf.old) site (S.seen spawner.old) input out)
         (work (H.seen shelf.new) site (S.seen spawner.new) input out)
-        rows) result }
+        rows) (kept_in result) }
     ensures calls { OnOk result (IsCovered (length (kinds_of found)) (H.seen shelf.old).told → StoresByFew 18 partial (H.seen shelf.old).told (H.seen shelf.new).told (H.clock shelf.old) (H.clock shelf.new)) }
+    ensures found { IfOk result (λ kept. IfSome kept.found (λ runs. kinds_of runs ≡ kinds_of found ++ partial ∷ [])) }
+    ensures fits { IfOk result (λ kept. IfSome kept.found (λ runs. FitsWhereTold (kinds_of runs) (H.seen shelf.new).told)) }
     ensures code { IfErr result (λ refusal. refusal_code refusal ≡ 3 → ⊥) }
 {
     begin(shelf)?;
@@ -74,9 +86,26 @@ pub fn run_workers<R: Threads + Wait + Sync, H: Shelf, S: Spawner>(
         filter_tags,
     )?;
     keep(shelf, &mut found, partial)?;
+    let runs = copy_where(alloc, wanted, &found);
     match refresh(alloc, shelf, found, &summary) {
-        Ok(()) => Ok(summary),
+        Ok(()) => Ok(Kept {
+            found: runs,
+            summary,
+        }),
         Err(fault) => Err(Refusal::Refresh(fault)),
+    }
+}
+
+// The runs that were found, where they are wanted and there is memory for them.
+fn copy_where(alloc: Global, wanted: bool, found: &Found) -> Option<Found>
+    ensures { IfSome result (λ runs. kinds_of runs ≡ kinds_of found.now) }
+{
+    if !wanted {
+        return None;
+    }
+    match found.copy(alloc) {
+        Ok(runs) => Some(runs),
+        Err(_) => None,
     }
 }
 
