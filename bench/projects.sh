@@ -316,6 +316,35 @@ def a_suite_of_python_runs():
     check_clean(folder)
 
 
+# A suite of 40 tests, of which one leaves what makes another one fail.
+LETTERS = "abcdefghijklmnopqrstuvwxyz"
+ORDERED = [*LETTERS, *(f"a{letter}" for letter in LETTERS[:14])]
+
+
+def ordered_suite():
+    lines = ["import unittest", "", "left = []", "", "", "class Order(unittest.TestCase):"]
+    for name in ORDERED:
+        body = {"b": "left.append('b')", "k": "self.assertEqual(left, [])"}.get(name, "pass")
+        lines += [f"    def test_{name}(self):", f"        {body}", ""]
+    return "\n".join(lines).encode()
+
+
+@case
+def a_cause_among_40_tests_of_python_is_named():
+    need_command("run")
+    there = os.path.exists(PYTHON) and subprocess.run([PYTHON, "-c", "import subunit, testtools"], capture_output=True).returncode == 0
+    need(there, "python3-subunit and python3-testtools are not installed")
+    folder = project(conf=SUITE_CONF)
+    write(folder, "test_order.py", ordered_suite())
+    status, out, err = run(folder, "run", "--find-causes")
+    lines = out.decode().splitlines()
+    check(status == 1 and err == b"", f"the run answers {(status, out, err)}")
+    check(lines[-2] == "FAILED (id=0, failures=1)", f"the report ends with {lines[-2:]}")
+    check(lines[-1] == "test_order.Order.test_k: caused by test_order.Order.test_b", f"the cause is {lines[-1]}")
+    check_answer(run(folder, "stats"), 0, b"runs=1\n", "stats")
+    check_clean(folder)
+
+
 def drawn(seed, lanes, tests):
     """The summary of drawn outputs, by the rule of docs/FORMATS.md."""
     state, failed, skipped, millis = seed % 2**31, 0, 0, 0

@@ -92,7 +92,7 @@ Example: testr load < stream
 ";
 
 const RUN: &str = "\
-usage: testr run [--partial] [--failing] [--parallel] [--concurrency=N] [--load-list=FILE] [PATTERN..]
+usage: testr run [--partial] [--failing] [--parallel] [--concurrency=N] [--load-list=FILE] [--find-causes] [PATTERN..]
 Runs the tests of the project, as the file .testr.conf of the current folder says, keeps what they print as the next run,
 and prints its report. Status 0 where no test failed, 1 where one did.
   --partial         the run is marked as one of a part of the tests; so it is with --failing, --load-list and a PATTERN
@@ -101,6 +101,7 @@ and prints its report. Status 0 where no test failed, 1 where one did.
   PATTERN..         only tests in whose ids one of these regular expressions is found
   --parallel        in several workers at once
   --concurrency=N   in N workers, at most 64; without it, or with 0, as test_run_concurrency says, or as many as processors
+  --find-causes     behind the report, looks for the test that makes each failing one fail, by runs of some of the tests
 Example: testr run --parallel
 ";
 

@@ -13,6 +13,8 @@ mod configured;
 #[cfg(test)]
 mod tests_caches;
 #[cfg(test)]
+mod tests_causes;
+#[cfg(test)]
 mod tests_children;
 #[cfg(test)]
 mod tests_limits;

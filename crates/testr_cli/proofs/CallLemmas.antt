@@ -31,7 +31,8 @@ use Rattle.suite_run.specs.Recording.{AddsByFew, AddsRows}
 use Rattle.worker_lane.specs.declared.lot.Lot.{Lot}
 use Rattle.testr_cli.specs.Answer.{refusal_code, code_of}
 use Rattle.testr_cli.specs.Refreshing.{Refreshes}
-use Rattle.testr_cli.specs.RunSuite.{TellsRun}
+use Rattle.testr_cli.specs.RunSuite.{TellsRun, TellsAndFinds}
+use Rattle.testr_conf.specs.Settings.{Settings}
 use Rattle.testr_cli.specs.Runs.{run_bytes, KeepsFiles, AddsRun}
 use Rattle.testr_cli.specs.Drawings.{drawing_of}
 use Rattle.testr_cli.specs.Outside.{Work}
@@ -54,6 +55,7 @@ use Rattle.testr_cli.specs.declared.command.Command.{Command}
 use Rattle.testr_cli.specs.declared.drawing.Drawing.{Drawing}
 use Rattle.testr_cli.specs.declared.command.Verb.{Verb}
 use Rattle.testr_cli.specs.declared.command.Verb.TheVariants as verb
+use Rattle.testr_cli.proofs.ChainLemmas.{gives_not}
 use Rattle.testr_cli.proofs.DoneLaws.{adds_run}
 use Rattle.testr_cli.proofs.RefusalLemmas.{codes}
 use Rattle.testr_cli.proofs.SoundLemmas.{KeepsRunAndCaches, goes_cached}
@@ -255,6 +257,12 @@ tells_other number filter_tags rows a b result (stops fault is says) three = ome
 tells_other number filter_tags rows a b result (goes_on report m says (stops fault is prints)) three = omega (arith, ap code_of is, three)
 tells_other number filter_tags rows a b result (goes_on report m says (goes_on unit n prints gives)) three = done_other report.verdict (ap code_of (sym gives.answer) ∙ three)
 
+-- so is what searches for no causes behind that
+pub finds_other : (settings : Settings) (number : ℕ) (rows : List Row) (a b : Work) (result : Result Verdict Refusal) → TellsAndFinds false settings number rows a b result → code_of result ≡ 3 → ⊥
+finds_other settings number rows a b result (stops fault is tells) three = tells_other number settings.filter_tags rows a b (Err fault) tells (sym (ap code_of is) ∙ three)
+finds_other settings number rows a b result (goes_on verdict m tells (stops fault is gives)) three = gives_not m b fault gives
+finds_other settings number rows a b result (goes_on verdict m tells (goes_on none k gives ends)) three = done_other verdict (ap code_of (sym ends.answer) ∙ three)
+
 -- ---- the whole run
 
 -- it was refused before a worker was started
@@ -328,12 +336,12 @@ as_told partial old new answer given before now is spares = subst (λ (n : ℕ).
 same_options : (given options : RunOptions) → Some (run given) ≡ Some (run options) → given ≡ options
 same_options given options is = cc
 
-pub of_options : (given : RunOptions) (old new : Option Folder) (answer before now : ℕ) → SparesRunOf (is_partial given) old new answer before now → SparesRun (Some (run given)) old new answer before now
-of_options given old new answer before now spares = λ options is. subst (λ (o : RunOptions). SparesRunOf (is_partial o) old new answer before now) (same_options given options is) spares
+pub of_options : (given : RunOptions) (old new : Option Folder) (answer before now : ℕ) → (given.find_causes ≡ false → SparesRunOf (is_partial given) old new answer before now) → SparesRun (Some (run given)) old new answer before now
+of_options given old new answer before now spares = λ options is. subst (λ (o : RunOptions). o.find_causes ≡ false → SparesRunOf (is_partial o) old new answer before now) (same_options given options is) spares
 
 -- no call, and nothing done
 pub none_made : (asked : Option Task) (old new : Option Folder) (answer before now : ℕ) → (answer ≤ 1 → ⊥) → now ≡ before → SparesRun asked old new answer before now
-none_made asked old new answer before now other same = λ options is. early (is_partial options) old new answer before now other (omega (arith, same))
+none_made asked old new answer before now other same = λ options is off. early (is_partial options) old new answer before now other (omega (arith, same))
 
 no_load : (few : Bool) (c : Command) (options : RunOptions) → (if few then Some (load c.partial c.names) else None) ≡ Some (run options) → ⊥
 no_load true c options is = cc

@@ -86,7 +86,7 @@ kept_through number run a b c quiet kept = goes_then a b c Rests (KeepsRunAndCac
   fresh = λ calm sound. keeps.fresh (rests_calm s m calm rests) (subst IsSound (sym rests.files) sound);
 })
 
-shows_more : (files image : Files) (number : ℕ) (run : Run) (runs : List Run) → HasRunAndCaches files number run image → Shows files runs → Shows image (runs ++ run ∷ [])
+pub shows_more : (files image : Files) (number : ℕ) (run : Run) (runs : List Run) → HasRunAndCaches files number run image → Shows files runs → Shows image (runs ++ run ∷ [])
 shows_more files image number run runs has shows = shows_still has.between image has.but (runs ++ run ∷ []) (has.beside.shows runs shows)
 
 pub adds_run : (partial : Bool) (number : ℕ) (events : List Event) (s t : Folder) → KeepsRunAndCaches number (run_of partial (run_bytes events)) s t → AddsRun partial events s t

@@ -1,5 +1,5 @@
 -- Where the cause of a named refusal of a step of `run` or `list-tests` is there, it comes.
-use Rattle.std.proofs.Common.{◌≡◌, ◌⊎◌, inl, inr, ℕ, ℤ, ◌<◌, ◌≤◌, pos, Option, None, Some, IfSome, IsSome, IsSomeAnd, IfOk, IfErr, IsOk, IsErr, All, Result, Ok, Err, List, [], ◌∷◌, length, slice_index_or, refl, sym, ap, subst, ◌∙◌, arith}
+use Rattle.std.proofs.Common.{◌≡◌, ◌⊎◌, inl, inr, ℕ, ℤ, ◌<◌, ◌≤◌, pos, true, Option, None, Some, IfSome, IsSome, IsSomeAnd, IfOk, IfErr, IsOk, IsErr, All, Result, Ok, Err, List, [], ◌∷◌, length, slice_index_or, refl, sym, ap, subst, ◌∙◌, arith}
 use Rattle.edge_io.specs.Children.{Output}
 use Rattle.edge_io.specs.Disk.{Files}
 use Rattle.edge_io.specs.Seen.{Seen}
@@ -8,6 +8,12 @@ use Rattle.edge_io.specs.Steps.{Goes}
 use Rattle.edge_io.specs.declared.child.Finish.{Finish}
 use Rattle.edge_io.specs.declared.child.Finish.TheVariants.{Exit}
 use Rattle.edge_io.specs.declared.job.Job.{Job}
+use Rattle.isolation_bisect.specs.declared.found.Found.{Found}
+use Rattle.suite_causes.specs.Analysis.{UsesNoBroken}
+use Rattle.suite_causes.specs.Searching.{Searches, SearchesSo, probe_job}
+use Rattle.suite_causes.specs.declared.searching.SearchFault.{SearchFault}
+use Rattle.suite_causes.specs.declared.searching.SearchFault.TheVariants as search_fault
+use Rattle.suite_causes.proofs.AnalysisLemmas.{none_broken}
 use Rattle.suite_plan.specs.Calling.{TellsNumber, TellsNone, CallsSo, HasCallCause, CallsOut}
 use Rattle.suite_plan.specs.Children.{IsBroken, StartsFor}
 use Rattle.suite_plan.specs.Choosing.{Ids}
@@ -44,8 +50,8 @@ use Rattle.testr_conf.specs.declared.fault.JobFault.TheVariants as job_fault
 use Rattle.testr_conf.specs.declared.ids.IdsFault.{IdsFault}
 use Rattle.testr_conf.specs.declared.ids.IdsFault.TheVariants.{NotText}
 use Rattle.testr_cli.specs.ExactSuite.{Comes, NextMeets, IsNamedBad, ListEnds, IsListAbsent, IsListTooLong, IsNoId}
-use Rattle.testr_cli.specs.Selecting.{MakesJobs}
-use Rattle.testr_cli.proofs.SuiteCauses.{not_too_much, same_text, not_fault, regex_never, not_ok}
+use Rattle.testr_cli.specs.Selecting.{HandsIds, MakesJobs}
+use Rattle.testr_cli.proofs.SuiteCauses.{from_both, not_too_much, same_text, not_fault, regex_never, not_ok}
 use Rattle.testr_cli.proofs.SuiteNever.{no_number}
 
 -- ---- files
@@ -317,3 +323,14 @@ no_option settings shares fault result makes refused = by result makes.jobs make
         let both : ◌≡◌ {A = Result (List Job) JobFault} (Ok jobs) (Err fault) = sym is ∙ refused in
         absurd cc
     by (Err other) is cause = told other cause
+
+pub no_id_option : (settings : Settings) (fault : JobFault) (result : Result (Unit {0}) JobFault) → HandsIds true settings result → probe_job settings [] ≡ Err fault → (result ≡ Err fault) ⊎ (result ≡ Err job_fault.NoMemory)
+no_id_option settings fault result hands refused = subst (λ (job : Result Job JobFault). IfErr job (λ f. (result ≡ Err f) ⊎ (result ≡ Err job_fault.NoMemory))) refused (hands.exactly refl)
+
+-- ---- the search for causes
+
+pub probe_broken : (settings : Settings) (candidates : Ids) (test : List ℕ) (before after : Seen Spawning) (result : Result Found SearchFault) → Searches settings candidates test before after result → IsSomeAnd before.told (λ s. UsesNoBroken test candidates s.outputs → ⊥) → Comes search_fault.Child search_fault.Spawn search_fault.NoMemory result
+probe_broken settings candidates test before after (Ok found) searches broken = absurd (from_both before.told after.told (λ s. UsesNoBroken test candidates s.outputs → ⊥) (SearchesSo settings candidates test found) broken searches.found (λ s t never so. never (none_broken settings candidates test found s t so)))
+probe_broken settings candidates test before after (Err search_fault.Spawn) searches broken = inr (inl refl)
+probe_broken settings candidates test before after (Err search_fault.Child) searches broken = inl refl
+probe_broken settings candidates test before after (Err search_fault.NoMemory) searches broken = inr (inr refl)

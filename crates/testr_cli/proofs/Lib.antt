@@ -27,10 +27,12 @@ pub mod SuiteJobs
 pub mod DoneLaws
 pub mod PacketBytes
 pub mod MergeLaws
+pub mod FindLemmas
 pub mod SuiteDone
 pub mod CallLemmas
 pub mod CauseLaws
 pub mod SuiteCauses
+pub mod ProbeCauses
 pub mod LeftIds
 pub mod SuiteNever
 pub mod KeepLemmas
@@ -47,6 +49,7 @@ pub mod SelfTestRows
 pub mod SelectLemmas
 pub mod PlanLemmas
 pub mod RunLemmas
+pub mod FindingLemmas
 pub mod ValueLemmas
 mod ExactLemmas
 mod ExactFiles

@@ -38,8 +38,7 @@ use Rattle.testr_cli.proofs.AskLemmas.{either}
 use Rattle.testr_cli.proofs.CommandLaws.{of_shown}
 use Rattle.testr_cli.proofs.CopyLemmas.{bytes_said}
 use Rattle.testr_cli.proofs.DoneLaws.{LoadedSo, loaded_so, out_stays}
-use Rattle.testr_cli.proofs.Resting.{surveyed_fits}
-use Rattle.testr_cli.proofs.SuiteDone.{goes_ends}
+use Rattle.testr_cli.proofs.Resting.{surveyed_fits, goes_ends}
 use Rattle.testr_cli.proofs.SuiteLeaves.{prefix_rows}
 
 -- ---- one step after another

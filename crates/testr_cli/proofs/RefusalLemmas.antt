@@ -6,6 +6,9 @@ use Rattle.run_shelf.specs.declared.faults.InitFault.{InitFault}
 use Rattle.run_shelf.specs.declared.faults.InitFault.TheVariants as init_fault
 use Rattle.run_shelf.specs.declared.faults.OpenFault.{OpenFault}
 use Rattle.run_shelf.specs.declared.faults.OpenFault.TheVariants as open_fault
+use Rattle.suite_causes.specs.Searching.{search_failed}
+use Rattle.suite_causes.specs.declared.searching.SearchFault.{SearchFault}
+use Rattle.suite_causes.specs.declared.searching.SearchFault.TheVariants as search_fault
 use Rattle.suite_plan.specs.Calling.{call_failed}
 use Rattle.suite_plan.specs.ConfFile.{conf_failed}
 use Rattle.suite_plan.specs.Listing.{listing_failed}
@@ -33,7 +36,7 @@ use Rattle.testr_cli.specs.Answer.{refusal_code, place_of, IsChildFault}
 use Rattle.testr_cli.specs.Outside.{Work, Place, in_folder, in_site, in_spawner, in_input, in_out, RisesAt, SomeRose, of_folder, of_site, of_spawner, of_input, of_out}
 use Rattle.testr_cli.specs.Told.{fault_fails}
 use Rattle.testr_cli.specs.declared.answer.Refusal.{Refusal}
-use Rattle.testr_cli.specs.declared.answer.Refusal.TheVariants.{Usage, Init, Open, Record, Keep, Refresh, Tell, Print, Conf, Pattern, LoadList, Call, Table, Listing, Job, Start, Lanes}
+use Rattle.testr_cli.specs.declared.answer.Refusal.TheVariants.{Usage, Init, Open, Record, Keep, Refresh, Tell, Print, Conf, Pattern, LoadList, Call, Table, Listing, Job, Start, Lanes, Ran, Search}
 use Rattle.testr_cli.specs.declared.recording.RecordFault.TheVariants as record_fault
 use Rattle.testr_cli.specs.declared.told.TellFault.{TellFault}
 use Rattle.testr_cli.specs.declared.told.TellFault.TheVariants as tell_fault
@@ -64,6 +67,8 @@ codes (Listing listing.Spawn) named = record { least = omega arith; most = omega
 codes (Job job.NoMemory) named = record { least = omega arith; most = omega arith }
 codes (Start start.Spawn) named = record { least = omega arith; most = omega arith }
 codes (Lanes lanes.NoMemory) named = record { least = omega arith; most = omega arith }
+codes (Ran tell_fault.Shelf) named = record { least = omega arith; most = omega arith }
+codes (Search search_fault.Spawn) named = record { least = omega arith; most = omega arith }
 codes refusal named = record { least = omega arith; most = omega arith }
 
 -- a part failed, or a child
@@ -92,6 +97,9 @@ faults (Listing listing.Child) four = of_child tt
 faults (Job job.NoMemory) four = absurd (omega (arith, four))
 faults (Start start.Spawn) four = of_part in_spawner refl
 faults (Lanes (lanes.Shelf which)) four = of_part in_folder refl
+faults (Ran tell_fault.Shelf) four = of_part in_folder refl
+faults (Search search_fault.Spawn) four = of_part in_spawner refl
+faults (Search search_fault.Child) four = of_child tt
 faults refusal four = absurd (omega (arith, four))
 
 pub some_rose : (place : Place) (a b : Work) → RisesAt (Some place) a b → SomeRose a b
@@ -118,6 +126,15 @@ tell_place tell_fault.NoMemory = refl
 pub refresh_place : (fault : TellFault) → place_of (Refresh fault) ≡ cond (fault_fails fault) (Some in_folder) None
 refresh_place tell_fault.Shelf = refl
 refresh_place tell_fault.NoMemory = refl
+
+pub ran_place : (fault : TellFault) → place_of (Ran fault) ≡ cond (fault_fails fault) (Some in_folder) None
+ran_place tell_fault.Shelf = refl
+ran_place tell_fault.NoMemory = refl
+
+pub search_place : (T : Type 0) (fault : SearchFault) → place_of (Search fault) ≡ cond (search_failed {T = T} (Err fault)) (Some in_spawner) None
+search_place T search_fault.Spawn = refl
+search_place T search_fault.Child = refl
+search_place T search_fault.NoMemory = refl
 
 pub lanes_place : (T : Type 0) (fault : LanesRefusal) → place_of (Lanes fault) ≡ cond (lanes_failed {T = T} (Err fault)) (Some in_folder) None
 lanes_place T lanes.NoMemory = refl

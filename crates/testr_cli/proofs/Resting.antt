@@ -20,6 +20,18 @@ use Rattle.testr_cli.specs.Runs.{KeepsFiles}
 use Rattle.testr_cli.specs.Store.{Opens, Begins}
 use Rattle.testr_cli.specs.declared.store.KeepFault.{KeepFault}
 
+-- ---- states that are told
+
+-- a step between the same states
+pub goes_ends : {S : Type 0} {a b x y : Option S} (R : S → S → Type 0) → a ≡ x → b ≡ y → Goes a b R → Goes x y R
+goes_ends {a = a} {y = y} R first last step = subst (λ o. Goes o y R) first (subst (λ o. Goes a o R) last step)
+
+pub stays_is : {S : Type 0} (a b : Option S) → Goes a b Stays → b ≡ a
+stays_is None None stays = refl
+stays_is None (Some t) stays = absurd stays
+stays_is (Some s) None stays = absurd stays
+stays_is (Some s) (Some t) stays = ap Some stays
+
 -- ---- the disk of the last moment
 
 final : List Disk → Disk → Disk

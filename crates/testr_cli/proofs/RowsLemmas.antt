@@ -16,11 +16,11 @@ use Rattle.testr_cli.specs.Files.{HasRecordedInTurn}
 use Rattle.testr_cli.specs.Runs.{run_bytes}
 
 -- bytes have one list of events
-one_events : (bytes : List ℕ) (some others : List Event) → AreBytes bytes → HasEvents bytes some → HasEvents bytes others → some ≡ others
+pub one_events : (bytes : List ℕ) (some others : List Event) → AreBytes bytes → HasEvents bytes some → HasEvents bytes others → some ≡ others
 one_events bytes some others are (notes, has, some_are) (notes', has', others_are) =
     some_are ∙ ap events_of (has.made ∙ ap notes_of (one_cut has.pieces has'.pieces bytes are has.cut has'.cut) ∙ sym has'.made) ∙ sym others_are
 
-written : (events : List Event) → All IsEvent events → All Fits events → HasEvents (run_bytes events) events
+pub written : (events : List Event) → All IsEvent events → All Fits events → HasEvents (run_bytes events) events
 written events are fit = (_, record { pieces = packets_of events; cut = cut_of_written events are fit; made = sym (notes_of_packets events) }, sym (events_of_packets events))
 
 -- the rows of a run are those of the events whose packets it is

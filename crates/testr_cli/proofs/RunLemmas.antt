@@ -1,10 +1,10 @@
 -- What the steps of a run are given may be other terms of the same values.
-use Rattle.std.proofs.Common.{◌≡◌, ℕ, Bool, Result, List, subst}
+use Rattle.std.proofs.Common.{◌≡◌, ℕ, ◌<◌, Bool, false, Option, None, Some, IfSome, Result, List, [], ◌∷◌, ◌++◌, length, length-append, ap, subst, arith}
 use Rattle.edge_io.specs.declared.job.Job.{Job}
 use Rattle.outcome_fold.specs.declared.row.Row.{Row}
-use Rattle.suite_plan.specs.Choosing.{Ids}
+use Rattle.testr_conf.specs.Settings.{Settings}
 use Rattle.testr_cli.specs.Outside.{Work}
-use Rattle.testr_cli.specs.RunSuite.{Works, TellsRun}
+use Rattle.testr_cli.specs.RunSuite.{Works, TellsAndFinds}
 use Rattle.testr_cli.specs.declared.answer.Refusal.{Refusal}
 use Rattle.testr_cli.specs.declared.answer.Verdict.{Verdict}
 
@@ -12,6 +12,18 @@ pub works_as : {given partial : Bool} {number : ℕ} {given_jobs jobs : List Job
 works_as {given = given} {number = number} {jobs = jobs} {a = a} {b = b} {result = result} is jobs_are works =
     subst (λ (p : Bool). Works p number jobs a b result) is (subst (λ (l : List Job). Works given number l a b result) jobs_are works)
 
-pub tells_as : {given number : ℕ} {given_tags tags : Ids} {rows : List Row} {a b : Work} {result : Result Verdict Refusal} → given ≡ number → given_tags ≡ tags → TellsRun given given_tags rows a b result → TellsRun number tags rows a b result
-tells_as {number = number} {given_tags = given_tags} {rows = rows} {a = a} {b = b} {result = result} is tags_are tells =
-    subst (λ (t : Ids). TellsRun number t rows a b result) tags_are (subst (λ (n : ℕ). TellsRun n given_tags rows a b result) is tells)
+pub finds_as : {asked : Bool} {settings : Settings} {given number : ℕ} {rows : List Row} {a b : Work} {result : Result Verdict Refusal} → given ≡ number → TellsAndFinds asked settings given rows a b result → TellsAndFinds asked settings number rows a b result
+finds_as {asked = asked} {settings = settings} {rows = rows} {a = a} {b = b} {result = result} is tells =
+    subst (λ (n : ℕ). TellsAndFinds asked settings n rows a b result) is tells
+
+-- what is so of a value, where there is one
+pub where_some : {A : Type 0} (o : Option A) (P Q : A → Type 0) → IfSome o P → ((x : A) → P x → Q x) → IfSome o Q
+where_some None P Q is each = tt
+where_some (Some x) P Q is each = each x is
+
+-- there is the run of this number among these and one more
+pub known_among : (given kinds : List Bool) (partial : Bool) (number : ℕ) → given ≡ kinds ++ partial ∷ [] → number ≡ length kinds → number < length given
+known_among given kinds partial number is count = omega (arith, ap length is, length-append kinds (partial ∷ []), count)
+
+pub finds_step : (asked : Bool) {settings : Settings} {number : ℕ} {rows : List Row} {a b : Work} {result : Result Verdict Refusal} → asked ≡ false → TellsAndFinds asked settings number rows a b result → TellsAndFinds false settings number rows a b result
+finds_step asked {settings = settings} {number = number} {rows = rows} {a = a} {b = b} {result = result} off finds = subst (λ (o : Bool). TellsAndFinds o settings number rows a b result) off finds

@@ -1,7 +1,8 @@
 -- What `list-tests` and `run` have done, from their chains.
-use Rattle.std.proofs.Common.{◌≡◌, ℕ, zero, suc, ◌≤◌, nat_lt, Bool, true, false, Option, None, Some, IfSome, Result, Ok, Err, List, length, All, refl, sym, ap, subst, ◌∙◌}
+use Rattle.std.proofs.Common.{◌≡◌, ℕ, zero, suc, ◌≤◌, nat_lt, Bool, true, false, Option, None, Some, IfSome, Result, Ok, Err, List, ◌++◌, length, All, refl, sym, ap, subst, ◌∙◌}
 use Rattle.std.specs.Prelude.{⊤}
 use Rattle.std.specs.Io.KnownBytes.{Appends}
+use Rattle.std.proofs.KnownBytes.{Appends-trans}
 use Rattle.edge_io.specs.Children.{Output}
 use Rattle.edge_io.specs.Disk.{Folder}
 use Rattle.edge_io.specs.Seen.{Seen}
@@ -33,6 +34,7 @@ use Rattle.testr_cli.specs.RunSuite.{ListsSuite, RunsSuite, Works, TellsRun}
 use Rattle.testr_cli.specs.Runs.{run_bytes, KeepsFiles, AddsRun}
 use Rattle.testr_cli.specs.Selecting.{UsesCalled, CountsWorkers, Selects, Plans}
 use Rattle.testr_cli.specs.Steps.{Step, Then, Gives, At}
+use Rattle.testr_cli.specs.Causes.{SearchesAll}
 use Rattle.testr_cli.specs.SuiteProgram.{ListsAll, RunsAll}
 use Rattle.testr_cli.specs.Suites.{RunOptions, is_partial}
 use Rattle.testr_cli.specs.Verdicts.{verdict_code}
@@ -44,17 +46,15 @@ use Rattle.testr_cli.proofs.ChainLemmas.{then_did}
 use Rattle.testr_cli.proofs.DoneLaws.{appended, same_verdict, status_is, kept_through, adds_run}
 use Rattle.testr_cli.proofs.MergeLaws.{AreOfOutputs, have_outputs, of_outputs}
 use Rattle.testr_cli.proofs.PacketBytes.{packets_bytes}
-use Rattle.testr_cli.proofs.Resting.{Rests}
-use Rattle.testr_cli.proofs.SoundLemmas.{IsCalm, KeepsRunAndCaches, surveyed_calm, goes_cached, fresh_through}
+use Rattle.testr_cli.proofs.Resting.{Rests, goes_ends, stays_is}
+use Rattle.testr_cli.proofs.FindLemmas.{TellsEvents, tells_behind, causes_still, causes_input, causes_did, all_some}
+use Rattle.testr_cli.proofs.KeepingLaws.{keeps_moves}
+use Rattle.testr_cli.proofs.SoundLemmas.{IsCalm, PassesAll, KeepsRunAndCaches, surveyed_calm, goes_cached, fresh_through}
 use Rattle.testr_cli.proofs.RowsLemmas.{rows_of_written}
 use Rattle.testr_cli.proofs.StepLaws.{open_quiet}
 use Rattle.testr_cli.proofs.SuiteJobs.{selected_range, few_jobs}
 
 -- ---- `list-tests`
-
--- a step between the same states
-pub goes_ends : {S : Type 0} {a b x y : Option S} (R : S → S → Type 0) → a ≡ x → b ≡ y → Goes a b R → Goes x y R
-goes_ends {a = a} {y = y} R first last step = subst (λ o. Goes o y R) first (subst (λ o. Goes a o R) last step)
 
 pub list_did : (patterns : Ids) (a b : Work) (v : Verdict) → ListsSuite patterns a b (Ok v) → ListsAll patterns a b (verdict_code v)
 list_did patterns a b v lists =
@@ -83,14 +83,8 @@ list_did patterns a b v lists =
 same_value : {A E : Type 0} {x y : A} → ◌≡◌ {A = Result A E} (Ok x) (Ok y) → x ≡ y
 same_value is = cc
 
-stays_is : {S : Type 0} (a b : Option S) → Goes a b Stays → b ≡ a
-stays_is None None stays = refl
-stays_is None (Some t) stays = absurd stays
-stays_is (Some s) None stays = absurd stays
-stays_is (Some s) (Some t) stays = ap Some stays
-
 -- what is told stays told
-abbrev StaysTold : {S : Type 0} → Option S → Option S → Type 0
+abbrev pub StaysTold : {S : Type 0} → Option S → Option S → Type 0
 StaysTold a b = Goes a b (λ s t. ⊤)
 
 same_told : {S : Type 0} (a b : Option S) → b ≡ a → StaysTold a b
@@ -110,11 +104,11 @@ where_told None X Y f is = tt
 where_told (Some s) X Y f is = f is
 
 -- the folder, the input and the output are as before, and a spawner that is told stays told
-record Leaves (a b : Work) : Type 0 where
-  folder : b.folder.told ≡ a.folder.told
+pub record Leaves (a b : Work) : Type 0 where
+  pub folder : b.folder.told ≡ a.folder.told
   input : b.input ≡ a.input
   out : b.out.told ≡ a.out.told
-  told : StaysTold a.spawner.told b.spawner.told
+  pub told : StaysTold a.spawner.told b.spawner.told
 
 leaves_same : (a b : Work) → b ≡ a → Leaves a b
 leaves_same a b same = record {
@@ -124,7 +118,7 @@ leaves_same a b same = record {
   told = same_told a.spawner.told b.spawner.told (λ i. (same i).spawner.told);
 }
 
-leaves_then : (a m b : Work) → Leaves a m → Leaves m b → Leaves a b
+pub leaves_then : (a m b : Work) → Leaves a m → Leaves m b → Leaves a b
 leaves_then a m b first second = record {
   folder = second.folder ∙ first.folder;
   input = second.input ∙ first.input;
@@ -188,7 +182,7 @@ workers_leave settings true zero a b number calls =
     let told : StaysTold a.spawner.told called.between.spawner.told = goes_weaker a.spawner.told called.between.spawner.told (CallsSo settings called.value) (λ s t. ⊤) called.done.at.told (λ s t calls. tt) in
     leaves_then a called.between b (leaves_spawner a called.between called.done.rest told) (called_leaves called.value called.between b number called.next)
 
-select_leaves : (settings : Settings) (options : RunOptions) (a b : Work) (selected : Selected) → Selects settings options a b (Ok selected) → Leaves a b
+pub select_leaves : (settings : Settings) (options : RunOptions) (a b : Work) (selected : Selected) → Selects settings options a b (Ok selected) → Leaves a b
 select_leaves settings options a b selected selects =
     let listed = then_did selected selects in
     let failing = then_did selected listed.next in
@@ -202,13 +196,14 @@ select_leaves settings options a b selected selects =
     let to_end = leaves_same listing.between b (chosen.next.same ∙ chosen.done.same) in
     leaves_then a listed.between b to_listed (leaves_then listed.between failing.between b to_failing (leaves_then failing.between counted.between b to_counted (leaves_then counted.between listing.between b to_listing to_end)))
 
-plan_leaves : (settings : Settings) (selected : Selected) (a b : Work) (jobs : List Job) → Plans settings selected a b (Ok jobs) → Leaves a b
-plan_leaves settings selected a b jobs plans =
+pub plan_leaves : (settings : Settings) (asked : Bool) (selected : Selected) (a b : Work) (jobs : List Job) → Plans settings asked selected a b (Ok jobs) → Leaves a b
+plan_leaves settings asked selected a b jobs plans =
     let timed = then_did jobs plans in
     let divided = then_did jobs timed.next in
     let made = then_did jobs divided.next in
+    let handed = then_did jobs made.next in
     let to_timed = leaves_folder a timed.between timed.done.rest (perhaps_same FindsTimes (when (nat_lt 1 selected.workers)) a.folder timed.between.folder (Ok timed.value) (λ answer found. found.same) timed.done.at) in
-    leaves_then a timed.between b to_timed (leaves_same timed.between b (made.next.same ∙ made.done.same ∙ divided.done.same))
+    leaves_then a timed.between b to_timed (leaves_same timed.between b (handed.next.same ∙ handed.done.same ∙ made.done.same ∙ divided.done.same))
 
 -- ---- the workers
 
@@ -222,8 +217,9 @@ pub record Worked (partial : Bool) (number : ℕ) (jobs : List Job) (rows : List
   pub of_workers : IfSome a.spawner.told (λ _. AreOfOutputs events outputs)
   pub rows_are : rows ≡ rows_of events
   pub kept : Goes a.folder.told b.folder.told (KeepsRunAndCaches number (run_of partial (run_bytes events)))
+  pub passes : IfSome a.folder.told IsCalm → Goes a.folder.told b.folder.told (PassesAll number (run_of partial (run_bytes events)))
   input : b.input ≡ a.input
-  out : b.out.told ≡ a.out.told
+  pub out : b.out.told ≡ a.out.told
 
 pub work_did : (partial : Bool) (number : ℕ) (jobs : List Job) (a b : Work) (rows : List Row) → length jobs ≤ 64 → Works partial number jobs a b (Ok rows) → Worked partial number jobs rows a b
 work_did partial number jobs a b rows few works =
@@ -252,22 +248,23 @@ work_did partial number jobs a b rows few works =
       kept = goes_ends (KeepsRunAndCaches number (run_of partial run)) refl (λ i. (sym gives.same i).folder.told)
           (goes_cached number (run_of partial run) recorded.value a.folder.told kept.between.folder refreshed.between.folder refreshed.done.at recorded.done.at.recorded.rows_are
           (run_kept number partial run a.folder.told recorded.between.folder.told kept.between.folder.told written kept.done.at.kept));
+      passes = λ calm. keeps_moves partial number run recorded.value (Gives recorded.value) (λ x y r ends i. (ends.same i).folder) a.folder.told recorded.done.at.recorded.rows_are calm recorded.between b (Ok rows) written recorded.next;
       input = (λ i. (gives.same i).input) ∙ (λ i. (refreshed.done.rest i).input) ∙ (λ i. (kept.done.rest i).input) ∙ (λ i. (recorded.done.rest i).input) ∙ (λ i. (started.done.rest i).input) ∙ (λ i. (begun.done.rest i).input);
       out = (λ i. (gives.same i).out.told) ∙ (λ i. (refreshed.done.rest i).out.told) ∙ (λ i. (kept.done.rest i).out.told) ∙ (λ i. (recorded.done.rest i).out.told) ∙ (λ i. (started.done.rest i).out.told) ∙ (λ i. (begun.done.rest i).out.told);
     }
 
 -- ---- the report
 
-record ToldSo (number : ℕ) (filter_tags : Ids) (rows : List Row) (a b : Work) (v : Verdict) : Type 0 where
-  report : Report
-  says : IsReport number filter_tags rows report
-  folder : b.folder.told ≡ a.folder.told
-  spawner : b.spawner.told ≡ a.spawner.told
+pub record ToldSo (number : ℕ) (filter_tags : Ids) (rows : List Row) (a b : Work) (v : Verdict) : Type 0 where
+  pub report : Report
+  pub says : IsReport number filter_tags rows report
+  pub folder : b.folder.told ≡ a.folder.told
+  pub spawner : b.spawner.told ≡ a.spawner.told
   input : b.input ≡ a.input
-  printed : Appends a.out.told b.out.told report.text
+  pub printed : Appends a.out.told b.out.told report.text
   verdict : v ≡ report.verdict
 
-tell_did : (number : ℕ) (filter_tags : Ids) (rows : List Row) (a b : Work) (v : Verdict) → TellsRun number filter_tags rows a b (Ok v) → ToldSo number filter_tags rows a b v
+pub tell_did : (number : ℕ) (filter_tags : Ids) (rows : List Row) (a b : Work) (v : Verdict) → TellsRun number filter_tags rows a b (Ok v) → ToldSo number filter_tags rows a b v
 tell_did number filter_tags rows a b v tells =
     let made = then_did v tells in
     let printed = then_did v made.next in
@@ -282,12 +279,13 @@ tell_did number filter_tags rows a b v tells =
       verdict = same_verdict gives.answer;
     }
 
-prints_rows : (partial : Bool) (number : ℕ) (filter_tags : Ids) (events : List Event) (report : Report) (a b : Option Folder) (printed new : Option (List ℕ)) → Goes a b (KeepsRunAndCaches number (run_of partial (run_bytes events))) → IsReport number filter_tags (rows_of events) report → Appends printed new report.text
-    → IfSome a (λ s. (runs : List Run) → Shows s.disk.published runs → Appends printed new (report_of (rows_of events) (length runs) filter_tags))
-prints_rows partial number filter_tags events report None b printed new kept says appends = tt
-prints_rows partial number filter_tags events report (Some s) None printed new kept says appends = absurd kept
-prints_rows partial number filter_tags events report (Some s) (Some t) printed new kept says appends = λ runs shows.
-    subst (λ n. Appends printed new (report_of (rows_of events) n filter_tags)) (kept.reads.beside.counts runs shows) (subst (Appends printed new) says.text appends)
+-- what is so of the text of the report, where the folder is told, is so of the report of the run's rows
+pub rows_told : (partial : Bool) (number : ℕ) (tags : Ids) (events : List Event) (report : Report) (P : List ℕ → Type 0) (a b : Option Folder) → Goes a b (KeepsRunAndCaches number (run_of partial (run_bytes events))) → IsReport number tags (rows_of events) report → IfSome a (λ _. P report.text)
+    → IfSome a (λ s. (runs : List Run) → Shows s.disk.published runs → P (report_of (rows_of events) (length runs) tags))
+rows_told partial number tags events report P None b kept says told = tt
+rows_told partial number tags events report P (Some s) None kept says told = absurd kept
+rows_told partial number tags events report P (Some s) (Some t) kept says told = λ runs shows.
+    subst (λ n. P (report_of (rows_of events) n tags)) (kept.reads.beside.counts runs shows) (subst P says.text told)
 
 -- ---- the run theorem
 
@@ -306,10 +304,16 @@ run_did options a b v runs =
     let partial : Bool = is_partial options in
     let kinds : List Bool = kinds_of found.value in
     let begin : Work = compiled.between in
-    let few : length planned.value ≤ 64 = few_jobs conf.value selected.value selected.between planned.between planned.value (selected_range conf.value options begin selected.between selected.value selected.done) planned.done in
-    let before = leaves_then begin selected.between planned.between (select_leaves conf.value options begin selected.between selected.value selected.done) (plan_leaves conf.value selected.value selected.between planned.between planned.value planned.done) in
+    let few : length planned.value ≤ 64 = few_jobs conf.value options.find_causes selected.value selected.between planned.between planned.value (selected_range conf.value options begin selected.between selected.value selected.done) planned.done in
+    let before = leaves_then begin selected.between planned.between (select_leaves conf.value options begin selected.between selected.value selected.done) (plan_leaves conf.value options.find_causes selected.value selected.between planned.between planned.value planned.done) in
     let work = work_did partial (length kinds) planned.value planned.between worked.between worked.value few worked.done in
-    let tell = tell_did (length kinds) conf.value.filter_tags worked.value worked.between b v worked.next in
+    let told = then_did v worked.next in
+    let finds = then_did v told.next in
+    let gives = finds.next in
+    let here : Work = told.between in
+    let there : Work = finds.between in
+    let tell = tell_did (length kinds) conf.value.filter_tags worked.value worked.between here told.value told.done in
+    let found_folder : b.folder.told ≡ here.folder.told = (λ i. (gives.same i).folder.told) ∙ causes_still options.find_causes conf.value (length kinds) worked.value here there (Ok finds.value) finds.done in
     let run : Run = run_of partial (run_bytes work.events) in
     let calm : begin ≡ found.between = compiled.done.same ∙ took.done.same in
     let site : conf.between.site ≡ a.site = seen_same a.site conf.between.site conf.done.at.same (conf.done.at.count.stands refl) in
@@ -317,13 +321,23 @@ run_did options a b v runs =
     let opened : begin ≡ work_folder.put a begin.folder = calm ∙ found.done.rest ∙ (λ i. work_folder.put (first i) found.between.folder) ∙ (λ i. work_folder.put a (sym calm i).folder) in
     let quiet : Goes a.folder.told begin.folder.told Rests = goes_ends Rests (λ i. (first i).folder.told) (λ i. (sym calm i).folder.told) (open_quiet conf.between found.between (Ok found.value) found.done.at) in
     let kept : Goes begin.folder.told worked.between.folder.told (KeepsRunAndCaches (length kinds) run) = goes_ends (KeepsRunAndCaches (length kinds) run) before.folder refl work.kept in
-    let keeps : Goes begin.folder.told b.folder.told (KeepsRunAndCaches (length kinds) run) = goes_ends (KeepsRunAndCaches (length kinds) run) refl (sym tell.folder) kept in
+    let keeps : Goes begin.folder.told b.folder.told (KeepsRunAndCaches (length kinds) run) = goes_ends (KeepsRunAndCaches (length kinds) run) refl (sym (found_folder ∙ tell.folder)) kept in
     let stored : Goes a.folder.told b.folder.told (KeepsRunAndCaches (length kinds) run) = kept_through (length kinds) run a.folder.told begin.folder.told b.folder.told quiet keeps in
     let at_rest : IfSome begin.folder.told IsCalm = subst (λ (w : Work). IfSome w.folder.told IsCalm) (sym calm) (surveyed_calm kinds conf.between.folder.told found.between.folder.told found.done.at.found) in
     let says : IsReport (length kinds) conf.value.filter_tags (rows_of work.events) tell.report = subst (λ (l : List Row). IsReport (length kinds) conf.value.filter_tags l tell.report) work.rows_are tell.says in
     let workers_here = told_before begin.spawner.told planned.between.spawner.told (λ s t. ⊤) (AreOfOutputs work.events work.outputs) before.told work.of_workers in
     let workers : IfSome a.spawner.told (λ _. AreOfOutputs work.events work.outputs) = subst (λ (o : Option Spawning). IfSome o (λ _. AreOfOutputs work.events work.outputs)) (λ i. (opened i).spawner.told) workers_here in
     let out : worked.between.out.told ≡ a.out.told = work.out ∙ before.out ∙ (λ i. (opened i).out.told) in
+    let tells : Goes a.folder.told here.folder.told (λ s t. TellsEvents (length kinds) work.events t) =
+    goes_ends (λ s t. TellsEvents (length kinds) work.events t) refl (sym tell.folder) (tells_behind partial (length kinds) work.events a.folder.told begin.folder.told worked.between.folder.told Rests work.are_events work.fit quiet at_rest kept) in
+    let causes = causes_did conf.value (length kinds) work.events here there finds.value options.find_causes worked.value a.folder.told work.rows_are tells finds.done in
+    let searched : SearchesAll options.find_causes conf.value work.events causes.lines a.folder.told worked.between.spawner.told b.spawner.told =
+    subst (λ (o : Option Spawning). SearchesAll options.find_causes conf.value work.events causes.lines a.folder.told o b.spawner.told) tell.spawner
+    (subst (λ (o : Option Spawning). SearchesAll options.find_causes conf.value work.events causes.lines a.folder.told here.spawner.told o) (sym (λ i. (gives.same i).spawner.told)) causes.found) in
+    let report_out : Appends a.out.told here.out.told tell.report.text = subst (λ (o : Option (List ℕ)). Appends o here.out.told tell.report.text) out tell.printed in
+    let all_out : IfSome a.folder.told (λ _. Appends a.out.told b.out.told (tell.report.text ++ causes.lines)) =
+    where_told a.folder.told (Appends here.out.told there.out.told causes.lines) (Appends a.out.told b.out.told (tell.report.text ++ causes.lines))
+    (λ lines_out. subst (λ (o : Option (List ℕ)). Appends a.out.told o (tell.report.text ++ causes.lines)) (sym (λ i. (gives.same i).out.told)) (Appends-trans a.out.told here.out.told there.out.told tell.report.text causes.lines report_out lines_out)) causes.printed in
     record {
       workers = record {
         jobs = planned.value;
@@ -341,17 +355,21 @@ run_did options a b v runs =
           few = few;
         };
         outputs = work.outputs;
-        started = goes_ends (StartsAll planned.value work.outputs) refl (sym tell.spawner) work.started;
+        worked = worked.between;
+        started = work.started;
         events = work.events;
         are_events = work.are_events;
         fit = work.fit;
         of_lanes = work.of_lanes;
         merged = where_told a.spawner.told (AreOfOutputs work.events work.outputs) _ (λ are. are.merged) workers;
         in_turn = where_told a.spawner.told (AreOfOutputs work.events work.outputs) _ (λ are. are.in_turn) workers;
+        lines = causes.lines;
+        probed = all_some options.find_causes conf.value work.events causes.lines a.folder.told worked.between.spawner.told b.spawner.told searched;
       };
       cached = fresh_through (length kinds) run a.folder.told begin.folder.told b.folder.told quiet at_rest keeps;
       stored = goes_weaker a.folder.told b.folder.told (KeepsRunAndCaches (length kinds) run) (AddsRun partial work.events) stored (adds_run partial (length kinds) work.events);
-      printed = prints_rows partial (length kinds) conf.value.filter_tags work.events tell.report a.folder.told b.folder.told a.out.told b.out.told stored says (subst (λ (o : Option (List ℕ)). Appends o b.out.told tell.report.text) out tell.printed);
-      status = ap verdict_code (tell.verdict ∙ says.verdict) ∙ status_is (rows_of work.events);
-      input = tell.input ∙ work.input ∙ before.input ∙ (λ i. (opened i).input);
+      printed = rows_told partial (length kinds) conf.value.filter_tags work.events tell.report (λ text. Appends a.out.told b.out.told (text ++ causes.lines)) a.folder.told b.folder.told stored says all_out;
+      found = searched;
+      status = ap verdict_code (same_verdict gives.answer ∙ tell.verdict ∙ says.verdict) ∙ status_is (rows_of work.events);
+      input = (λ i. (gives.same i).input) ∙ causes_input options.find_causes conf.value (length kinds) worked.value here there (Ok finds.value) finds.done ∙ tell.input ∙ work.input ∙ before.input ∙ (λ i. (opened i).input);
     }

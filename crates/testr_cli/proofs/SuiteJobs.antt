@@ -84,13 +84,14 @@ lane_count settings (Some shares) jobs few is = omega (arith, few, from_count se
 same_jobs : (a b : List Job) → ◌≡◌ {A = Result (List Job) Refusal} (Ok a) (Ok b) → a ≡ b
 same_jobs a b is = cc
 
-pub few_jobs : (settings : Settings) (selected : Selected) (a b : Work) (jobs : List Job) → IsInRange selected.workers → Plans settings selected a b (Ok jobs) → length jobs ≤ 64
-few_jobs settings selected a b jobs range plans =
+pub few_jobs : (settings : Settings) (asked : Bool) (selected : Selected) (a b : Work) (jobs : List Job) → IsInRange selected.workers → Plans settings asked selected a b (Ok jobs) → length jobs ≤ 64
+few_jobs settings asked selected a b jobs range plans =
     let known = then_did jobs plans in
     let divided = then_did jobs known.next in
     let made = then_did jobs divided.next in
+    let handed = then_did jobs made.next in
     let few : IfSome divided.value (λ list. length list ≤ 64) = subst (λ (s : Option (List Ids)). IfSome s (λ list. length list ≤ 64)) (sym divided.done.says.shares) (few_by_ids settings.group_regex known.value selected range) in
-    subst (λ (l : List Job). length l ≤ 64) (sym (same_jobs _ _ made.next.answer)) (lane_count settings divided.value made.value few made.done.says.jobs)
+    subst (λ (l : List Job). length l ≤ 64) (sym (same_jobs _ _ handed.next.answer)) (lane_count settings divided.value made.value few made.done.says.jobs)
 
 -- ---- the number of workers
 

@@ -1,12 +1,16 @@
 -- What is true where `run`, `list-tests` and `selftest` refuse, and at each of their exits, from their chains: one line a
 -- step, in the chains' order.
-use Rattle.std.proofs.Common.{◌≡◌, ℕ, zero, suc, Bool, true, false, cond, Option, None, Some, Ok, Err, List, refl, subst}
+use Rattle.std.proofs.Common.{◌≡◌, ℕ, zero, suc, Bool, true, false, cond, Option, None, Some, Ok, Err, List, [], ◌∷◌, refl, subst}
 use Rattle.std.specs.Prelude.{⊤}
 use Rattle.edge_io.specs.Causes.{RisesExactlyIf}
 use Rattle.edge_io.specs.Seen.{Seen}
 use Rattle.edge_io.specs.declared.job.Job.{Job}
 use Rattle.outcome_fold.specs.declared.row.Row.{Row}
 use Rattle.sub_number.specs.declared.memory.NoMemory.{NoMemory}
+use Rattle.isolation_bisect.specs.declared.found.Found.{Found}
+use Rattle.suite_causes.specs.Searching.{Searches}
+use Rattle.suite_causes.specs.declared.searching.SearchFault.{SearchFault}
+use Rattle.suite_causes.specs.declared.suspects.Suspect.{Suspect}
 use Rattle.suite_plan.specs.Calling.{CallsOut}
 use Rattle.suite_plan.specs.ConfFile.{ReadsConf}
 use Rattle.suite_plan.specs.Listing.{ListsTests}
@@ -25,9 +29,10 @@ use Rattle.suite_run.specs.declared.starting.StartRefusal.{StartRefusal}
 use Rattle.testr_conf.specs.Settings.{Settings}
 use Rattle.testr_conf.specs.declared.fault.JobFault.{JobFault}
 use Rattle.worker_lane.specs.declared.lot.Lot.{Lot}
+use Rattle.testr_cli.specs.Causes.{candidates_in, FindsAmong, FindsCause, FindsEach, FindsCauses}
 use Rattle.testr_cli.specs.Outside.{Work, work_folder, work_site, work_spawner, in_site, in_spawner, SameCounts, RisesAt}
 use Rattle.testr_cli.specs.Perhaps.{Perhaps, not_asked, did, refused}
-use Rattle.testr_cli.specs.RunSuite.{ListsBy, ListsSuite, Works, TellsRun, RunsBy, RunsSuite}
+use Rattle.testr_cli.specs.RunSuite.{ListsBy, ListsSuite, Works, TellsRun, TellsAndFinds, RunsBy, RunsSuite}
 use Rattle.testr_cli.specs.Selecting.{UsesCalled, UsesAsked, CountsWorkers, Selects, Plans}
 use Rattle.testr_cli.specs.SelfTest.{TestsItself}
 use Rattle.testr_cli.specs.Steps.{Step, Gives}
@@ -39,7 +44,7 @@ use Rattle.testr_cli.specs.declared.drawing.Drawing.{Drawing}
 use Rattle.testr_cli.specs.declared.selecting.Selected.{Selected}
 use Rattle.testr_cli.specs.declared.told.TellFault.{TellFault}
 use Rattle.testr_cli.proofs.ChainLemmas.{IsRefused, Counts, Refuses, then_counts, then_refuses, gives_refuses}
-use Rattle.testr_cli.proofs.RefusalLemmas.{tell_place, lanes_place, conf_place, list_place, table_place, call_place, listing_place, start_place}
+use Rattle.testr_cli.proofs.RefusalLemmas.{tell_place, ran_place, search_place, lanes_place, conf_place, list_place, table_place, call_place, listing_place, start_place}
 use Rattle.testr_cli.proofs.StepLaws.{folder_same, folder_counts, placed, still_counts, still_refuses, runs_refuse, memory_refuses, open_counts, open_refuses, begin_counts, begin_refuses, keep_counts, keep_refuses, refresh_counts, refresh_refuses, print_counts, print_refuses}
 
 abbrev all : Work → Work
@@ -76,6 +81,9 @@ module _ (a b : Work) where
   module _ (rest : b ≡ work_folder.put a b.folder) where
     tell_refuses : (fault : TellFault) → RisesExactlyIf a.folder.faults b.folder.faults (fault_fails fault) → IsRefused ⊤ (refusal.Tell fault) a b
     tell_refuses fault count = placed a b (refusal.Tell fault) tt (λ c. tt) (tell_place fault) (folder_counts a b _ count rest)
+
+    ran_refuses : (fault : TellFault) → RisesExactlyIf a.folder.faults b.folder.faults (fault_fails fault) → IsRefused ⊤ (refusal.Ran fault) a b
+    ran_refuses fault count = placed a b (refusal.Ran fault) tt (λ c. tt) (ran_place fault) (folder_counts a b _ count rest)
 
     lanes_refuse : (rests : List (Option (List Lot))) (fault : LanesRefusal) → RecordsLanes rests a.folder b.folder (Err fault) → IsRefused ⊤ (refusal.Lanes fault) a b
     lanes_refuse rests fault records = placed a b (refusal.Lanes fault) tt (λ c. tt) (lanes_place (List Row) fault) (folder_counts a b _ records.sum rest)
@@ -114,6 +122,9 @@ module _ (a b : Work) where
     start_refuses : (jobs : List Job) (fault : StartRefusal) → StartsLanes jobs a.spawner b.spawner (Err fault) → IsRefused ⊤ (refusal.Start fault) a b
     start_refuses jobs fault starts = placed a b (refusal.Start fault) tt (λ c. tt) (start_place (List (Option (List Lot))) fault) (spawner_counts _ starts.sum)
 
+    search_refuses : (settings : Settings) (candidates : List (List ℕ)) (test : List ℕ) (fault : SearchFault) → Searches settings candidates test a.spawner b.spawner (Err fault) → IsRefused ⊤ (refusal.Search fault) a b
+    search_refuses settings candidates test fault searches = placed a b (refusal.Search fault) tt (λ c. tt) (search_place Found fault) (spawner_counts _ searches.count)
+
   -- ---- steps that touch nothing
 
   pattern_refuses : (fault : PatternRefusal) → b ≡ a → IsRefused ⊤ (refusal.Pattern fault) a b
@@ -121,6 +132,9 @@ module _ (a b : Work) where
 
   untold_refuses : (fault : NoMemory) → b ≡ a → IsRefused ⊤ (refusal.Report fault) a b
   untold_refuses fault = still_refuses a b (refusal.Report fault) tt (λ c. tt) refl
+
+  suspects_refuse : (fault : NoMemory) → b ≡ a → IsRefused ⊤ (refusal.Suspects fault) a b
+  suspects_refuse fault = still_refuses a b (refusal.Suspects fault) tt (λ c. tt) refl
 
   job_refuses : (fault : JobFault) → b ≡ a → IsRefused ⊤ (refusal.Job fault) a b
   job_refuses fault = still_refuses a b (refusal.Job fault) tt (λ c. tt) refl
@@ -173,19 +187,21 @@ select_counts settings options =
     then_counts all (λ a b v s. still_counts a b s.same) (λ ids.
     value_counts)))))
 
-plan_refuses : (settings : Settings) (selected : Selected) → SuiteRefuses (λ r. r) (Plans settings selected)
-plan_refuses settings selected =
+plan_refuses : (settings : Settings) (asked : Bool) (selected : Selected) → SuiteRefuses (λ r. r) (Plans settings asked selected)
+plan_refuses settings asked selected =
     then_refuses all (λ a b v s. folder_same a b s.rest (perhaps_stands (λ _ x y times finds. finds.count.stands refl) a.folder b.folder v s.at)) (λ a b e s. perhaps_refused a.folder b.folder (λ (f : TellFault). IsRefused ⊤ (refusal.Tell f) a b) (λ _ f finds. tell_refuses a b s.rest f finds.count) e s.at) (λ times.
     then_refuses all (λ a b v s. still_counts a b s.same) (λ a b e s. memory_refuses a b e s.same) (λ shares.
     then_refuses all (λ a b v s. still_counts a b s.same) (λ a b e s. job_refuses a b e s.same) (λ jobs.
-    value_refuses)))
+    then_refuses all (λ a b v s. still_counts a b s.same) (λ a b e s. job_refuses a b e s.same) (λ _.
+    value_refuses))))
 
-plan_counts : (settings : Settings) (selected : Selected) → Counts all (Plans settings selected)
-plan_counts settings selected =
+plan_counts : (settings : Settings) (asked : Bool) (selected : Selected) → Counts all (Plans settings asked selected)
+plan_counts settings asked selected =
     then_counts all (λ a b v s. folder_same a b s.rest (perhaps_stands (λ _ x y times finds. finds.count.stands refl) a.folder b.folder v s.at)) (λ times.
     then_counts all (λ a b v s. still_counts a b s.same) (λ shares.
     then_counts all (λ a b v s. still_counts a b s.same) (λ jobs.
-    value_counts)))
+    then_counts all (λ a b v s. still_counts a b s.same) (λ _.
+    value_counts))))
 
 -- ---- the workers, and the report
 
@@ -219,6 +235,62 @@ report_counts number filter_tags rows =
     then_counts all (λ a b v s. print_counts a b _ v s.at s.rest) (λ _.
     value_counts))
 
+-- ---- the search for causes
+
+among_refuses : (settings : Settings) (test : List ℕ) (candidates : List (List ℕ)) → SuiteRefuses (λ r. r) (FindsAmong settings test candidates)
+among_refuses settings test candidates =
+    then_refuses all (λ a b v s. spawner_same a b s.rest (s.at.count.stands refl)) (λ a b e s. search_refuses a b s.rest settings candidates test e s.at) (λ found.
+    then_refuses all (λ a b v s. print_counts a b _ v s.at s.rest) (λ a b e s. print_refuses a b _ e s.at s.rest) (λ _.
+    value_refuses))
+
+among_counts : (settings : Settings) (test : List ℕ) (candidates : List (List ℕ)) → Counts all (FindsAmong settings test candidates)
+among_counts settings test candidates =
+    then_counts all (λ a b v s. spawner_same a b s.rest (s.at.count.stands refl)) (λ found.
+    then_counts all (λ a b v s. print_counts a b _ v s.at s.rest) (λ _.
+    value_counts))
+
+cause_refuses : (settings : Settings) (number : ℕ) (one : Suspect) → SuiteRefuses (λ r. r) (FindsCause settings number one)
+cause_refuses settings number one =
+    then_refuses all (λ a b v s. folder_same a b s.rest (s.at.count.stands refl)) (λ a b e s. ran_refuses a b s.rest e s.at.count) (λ ids.
+    among_refuses settings one.id (candidates_in one.id ids))
+
+cause_counts : (settings : Settings) (number : ℕ) (one : Suspect) → Counts all (FindsCause settings number one)
+cause_counts settings number one =
+    then_counts all (λ a b v s. folder_same a b s.rest (s.at.count.stands refl)) (λ ids.
+    among_counts settings one.id (candidates_in one.id ids))
+
+each_refuses : (settings : Settings) (number : ℕ) (left : List Suspect) → SuiteRefuses (λ r. r) (FindsEach settings number left)
+each_refuses settings number [] = value_refuses
+each_refuses settings number (one ∷ more) = then_refuses all (cause_counts settings number one) (cause_refuses settings number one) (λ _. each_refuses settings number more)
+
+each_counts : (settings : Settings) (number : ℕ) (left : List Suspect) → Counts all (FindsEach settings number left)
+each_counts settings number [] = value_counts
+each_counts settings number (one ∷ more) = then_counts all (cause_counts settings number one) (λ _. each_counts settings number more)
+
+causes_refuse : (asked : Bool) (settings : Settings) (number : ℕ) (rows : List Row) → SuiteRefuses (λ r. r) (FindsCauses asked settings number rows)
+causes_refuse false settings number rows = value_refuses
+causes_refuse true settings number rows =
+    then_refuses all (λ a b v s. still_counts a b s.same) (λ a b e s. suspects_refuse a b e s.same) (λ suspects.
+    each_refuses settings number suspects)
+
+causes_count : (asked : Bool) (settings : Settings) (number : ℕ) (rows : List Row) → Counts all (FindsCauses asked settings number rows)
+causes_count false settings number rows = value_counts
+causes_count true settings number rows =
+    then_counts all (λ a b v s. still_counts a b s.same) (λ suspects.
+    each_counts settings number suspects)
+
+finds_refuse : (asked : Bool) (settings : Settings) (number : ℕ) (rows : List Row) → SuiteRefuses (λ r. r) (TellsAndFinds asked settings number rows)
+finds_refuse asked settings number rows =
+    then_refuses all (report_counts number settings.filter_tags rows) (report_refuses number settings.filter_tags rows) (λ verdict.
+    then_refuses all (causes_count asked settings number rows) (causes_refuse asked settings number rows) (λ _.
+    value_refuses))
+
+finds_count : (asked : Bool) (settings : Settings) (number : ℕ) (rows : List Row) → Counts all (TellsAndFinds asked settings number rows)
+finds_count asked settings number rows =
+    then_counts all (report_counts number settings.filter_tags rows) (λ verdict.
+    then_counts all (causes_count asked settings number rows) (λ _.
+    value_counts))
+
 -- ---- the commands
 
 list_by_refuses : (patterns : List (List ℕ)) (settings : Settings) → SuiteRefuses (λ r. r) (ListsBy patterns settings)
@@ -243,9 +315,9 @@ run_by_refuses options settings =
     then_refuses all (λ a b v s. still_counts a b s.same) (λ a b e s. runs_refuse a b e s.same) (λ _.
     then_refuses all (λ a b v s. still_counts a b s.same) (λ a b e s. pattern_refuses a b e s.same) (λ _.
     then_refuses all (select_counts settings options) (select_refuses settings options) (λ selected.
-    then_refuses all (plan_counts settings selected) (plan_refuses settings selected) (λ jobs.
+    then_refuses all (plan_counts settings options.find_causes selected) (plan_refuses settings options.find_causes selected) (λ jobs.
     then_refuses all (work_counts _ _ jobs) (work_refuses _ _ jobs) (λ rows.
-    report_refuses _ settings.filter_tags rows))))))
+    finds_refuse options.find_causes settings _ rows))))))
 
 run_by_counts : (options : RunOptions) (settings : Settings) → Counts all (RunsBy options settings)
 run_by_counts options settings =
@@ -253,9 +325,9 @@ run_by_counts options settings =
     then_counts all (λ a b v s. still_counts a b s.same) (λ _.
     then_counts all (λ a b v s. still_counts a b s.same) (λ _.
     then_counts all (select_counts settings options) (λ selected.
-    then_counts all (plan_counts settings selected) (λ jobs.
+    then_counts all (plan_counts settings options.find_causes selected) (λ jobs.
     then_counts all (work_counts _ _ jobs) (λ rows.
-    report_counts _ settings.filter_tags rows))))))
+    finds_count options.find_causes settings _ rows))))))
 
 pub list_refused : (patterns : List (List ℕ)) → SuiteRefuses (λ r. r) (ListsSuite patterns)
 list_refused patterns = then_refuses all (λ a b v s. site_same a b s.rest (s.at.count.stands refl)) (λ a b e s. conf_refuses a b s.rest e s.at) (list_by_refuses patterns)

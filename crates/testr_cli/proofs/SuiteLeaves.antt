@@ -1,5 +1,7 @@
 -- What a run leaves at each exit, from its workers on: what was started and printed, and what a stop at each moment leaves.
-use Rattle.std.proofs.Common.{◌≡◌, ◌⊎◌, inl, inr, ℕ, Bool, Option, None, Some, IfSome, Result, Ok, Err, List, [], ◌++◌, length, All, refl, sym, subst, ◌∙◌}
+use Rattle.std.proofs.Common.{◌≡◌, ◌⊎◌, inl, inr, ℕ, Bool, Option, None, Some, IfSome, Result, Ok, Err, List, [], ◌++◌, length, All, refl, sym, subst, ◌∙◌, arith}
+use Rattle.std.specs.Io.KnownBytes.{Appends}
+use Rattle.std.proofs.KnownBytes.{Appends-nil, Appends-trans}
 use Rattle.std.proofs.lemmas.List.{append-nil}
 use Rattle.edge_io.specs.Bytes.{AppendsPrefix}
 use Rattle.edge_io.specs.Children.{Output}
@@ -19,6 +21,7 @@ use Rattle.run_shelf.specs.Repository.{Run, run_of, Shows}
 use Rattle.run_shelf.proofs.DraftLemmas.{goes_writes}
 use Rattle.sub_text.specs.Texts.{report_of}
 use Rattle.suite_run.specs.Recording.{RecordsLanes}
+use Rattle.testr_conf.specs.Settings.{Settings}
 use Rattle.suite_run.specs.Starting.{StartsAll, StartsSome, StartsLanes}
 use Rattle.suite_run.specs.declared.starting.StartRefusal.{StartRefusal}
 use Rattle.worker_lane.specs.declared.lot.Lot.{Lot}
@@ -26,7 +29,8 @@ use Rattle.worker_mux.specs.Runs.{AddsMerge}
 use Rattle.testr_cli.specs.Outside.{Work, work_folder, work_spawner}
 use Rattle.testr_cli.specs.Refreshing.{Refreshes}
 use Rattle.testr_cli.specs.Reporting.{Report, IsReport}
-use Rattle.testr_cli.specs.RunSuite.{Works, TellsRun, RunsSuite}
+use Rattle.testr_cli.specs.Causes.{FindsCauses, SearchesSome, TakesFirst}
+use Rattle.testr_cli.specs.RunSuite.{Works, TellsRun, TellsAndFinds, RunsSuite}
 use Rattle.testr_cli.specs.Runs.{run_bytes, HasRunAndCaches, KeepsRepository}
 use Rattle.testr_cli.specs.Steps.{Then, stops, goes_on, Gives, At}
 use Rattle.testr_cli.specs.Store.{Begins, Keeps}
@@ -36,14 +40,15 @@ use Rattle.testr_cli.specs.Workers.{RunsWorkers, AsksFew, StartsInOrder, PrintsF
 use Rattle.testr_cli.specs.declared.answer.Verdict.{Verdict}
 use Rattle.testr_cli.specs.declared.answer.Refusal.{Refusal}
 use Rattle.testr_cli.specs.declared.answer.Refusal.TheVariants.{Lanes, Keep, Refresh}
-use Rattle.testr_cli.proofs.ChainLemmas.{IsQuiet}
+use Rattle.testr_cli.proofs.ChainLemmas.{IsQuiet, gives_not}
 use Rattle.testr_cli.proofs.DoneLaws.{kept_through}
 use Rattle.testr_cli.proofs.KeepingLaws.{keeps_moves, Moves, run_moves as run_passes}
 use Rattle.testr_cli.proofs.MergeLaws.{HaveOutputs, AreOfOutputs, have_outputs, of_outputs}
-use Rattle.testr_cli.proofs.Resting.{Rests, rests_then, rests_of_same}
+use Rattle.testr_cli.proofs.Resting.{Rests, rests_then, rests_of_same, goes_ends}
 use Rattle.testr_cli.proofs.SoundLemmas.{PassesAll, KeepsRunAndCaches, rests_repository, rests_sound}
 use Rattle.testr_cli.proofs.StepLaws.{begin_quiet}
-use Rattle.testr_cli.proofs.SuiteDone.{Worked, work_did, goes_ends, told_before, where_told}
+use Rattle.testr_cli.proofs.FindLemmas.{TellsEvents, TakesPart, tells_behind, causes_still, causes_left, none_searched, so_told}
+use Rattle.testr_cli.proofs.SuiteDone.{Worked, work_did, tell_did, rows_told, told_before, where_told}
 use Rattle.testr_cli.proofs.SuiteQuiet.{spawner_quiet}
 use Rattle.testr_cli.proofs.SuiteReach.{Reached, GoesOnWith, reaches}
 
@@ -74,11 +79,6 @@ module _ (partial : Bool) (number : ℕ) where
   works_out jobs a b result (goes_on _ m begun (goes_on rests k started (goes_on rows l recorded next))) =
       ends_out rows l b result next ∙ (λ i. (recorded.rest i).out.told) ∙ (λ i. (started.rest i).out.told) ∙ (λ i. (begun.rest i).out.told)
 
-  tells_children : (tags : List (List ℕ)) (rows : List Row) (a b : Work) (result : Result Verdict Refusal) → TellsRun number tags rows a b result → b.spawner.told ≡ a.spawner.told
-  tells_children tags rows a b result (stops fault is step) = λ i. (step.same i).spawner.told
-  tells_children tags rows a b result (goes_on report m step (stops fault is printed)) = (λ i. (printed.rest i).spawner.told) ∙ (λ i. (step.same i).spawner.told)
-  tells_children tags rows a b result (goes_on report m step (goes_on _ k printed gives)) = (λ i. (gives.same i).spawner.told) ∙ (λ i. (printed.rest i).spawner.told) ∙ (λ i. (step.same i).spawner.told)
-
   tells_folder : (tags : List (List ℕ)) (rows : List Row) (a b : Work) (result : Result Verdict Refusal) → TellsRun number tags rows a b result → b.folder.told ≡ a.folder.told
   tells_folder tags rows a b result (stops fault is step) = λ i. (step.same i).folder.told
   tells_folder tags rows a b result (goes_on report m step (stops fault is printed)) = (λ i. (printed.rest i).folder.told) ∙ (λ i. (step.same i).folder.told)
@@ -103,10 +103,7 @@ some_first jobs refusal (Some s) (Some t) some = record { done = some.done; more
 -- the report, or a first part of it
 pub prefix_rows : (partial : Bool) (number : ℕ) (tags : List (List ℕ)) (events : List Event) (report : Report) (a b : Option Folder) (old new : Option (List ℕ)) → Goes a b (KeepsRunAndCaches number (run_of partial (run_bytes events))) → IsReport number tags (rows_of events) report → AppendsPrefix old new report.text
     → IfSome a (λ s. (runs : List Run) → Shows s.disk.published runs → AppendsPrefix old new (report_of (rows_of events) (length runs) tags))
-prefix_rows partial number tags events report None b old new kept says prefix = tt
-prefix_rows partial number tags events report (Some s) None old new kept says prefix = absurd kept
-prefix_rows partial number tags events report (Some s) (Some t) old new kept says prefix = λ runs shows.
-    subst (λ n. AppendsPrefix old new (report_of (rows_of events) n tags)) (kept.reads.beside.counts runs shows) (subst (AppendsPrefix old new) says.text prefix)
+prefix_rows partial number tags events report a b old new kept says prefix = rows_told partial number tags events report (AppendsPrefix old new) a b kept says (so_told a (AppendsPrefix old new report.text) prefix)
 
 -- ---- from the jobs on
 
@@ -153,6 +150,7 @@ module _ (options : RunOptions) (a : Work) (reached : Reached options a) (end : 
       planning = start;
       planned = reached.planned;
       outputs = have.outputs;
+      worked = end;
       started = goes_ends (StartsAll jobs have.outputs) begin ended have.all;
       events = adds.events;
       are_events = adds.are_events;
@@ -160,10 +158,12 @@ module _ (options : RunOptions) (a : Work) (reached : Reached options a) (end : 
       of_lanes = subst (λ (n : ℕ). All (IsOfLaneBelow n) adds.events) started.at.count adds.of_lanes;
       merged = where_told a.spawner.told (AreOfOutputs adds.events have.outputs) _ (λ each. each.merged) are_of;
       in_turn = where_told a.spawner.told (AreOfOutputs adds.events have.outputs) _ (λ each. each.in_turn) are_of;
+      lines = [];
+      probed = none_searched options.find_causes reached.planned.settings adds.events a.folder.told end.spawner.told end.spawner.told refl;
     }
 
-  -- the same where the run was kept
-  module _ (m : Work) (rows : List Row) (work : Worked partial number jobs rows start m) (is : end.spawner.told ≡ m.spawner.told) where
+  -- the same where the run was kept, with what was searched behind that
+  module _ (m : Work) (rows : List Row) (work : Worked partial number jobs rows start m) (lines : List ℕ) (probed : SearchesSome options.find_causes reached.planned.settings work.events lines a.folder.told m.spawner.told end.spawner.told) where
     are_so : IfSome a.spawner.told (λ _. AreOfOutputs work.events work.outputs)
     are_so = told_at_first (AreOfOutputs work.events work.outputs) work.of_workers
 
@@ -173,13 +173,16 @@ module _ (options : RunOptions) (a : Work) (reached : Reached options a) (end : 
       planning = start;
       planned = reached.planned;
       outputs = work.outputs;
-      started = goes_ends (StartsAll jobs work.outputs) refl (sym is) work.started;
+      worked = m;
+      started = work.started;
       events = work.events;
       are_events = work.are_events;
       fit = work.fit;
       of_lanes = work.of_lanes;
       merged = where_told a.spawner.told (AreOfOutputs work.events work.outputs) _ (λ each. each.merged) are_so;
       in_turn = where_told a.spawner.told (AreOfOutputs work.events work.outputs) _ (λ each. each.in_turn) are_so;
+      lines = lines;
+      probed = probed;
     }
 
   -- ---- what was started
@@ -190,7 +193,7 @@ module _ (options : RunOptions) (a : Work) (reached : Reached options a) (end : 
       inl (goes_ends (AsksFew 2) refl same reached.mild.asked)
   starts m result is (goes_on _ k begun (stops fault step_is step)) =
       let some = some_first jobs fault k.spawner.told m.spawner.told step.at.refused in
-      inr (record {
+      inr (inl (record {
         jobs = jobs;
         planning = start;
         planned = reached.planned;
@@ -199,10 +202,10 @@ module _ (options : RunOptions) (a : Work) (reached : Reached options a) (end : 
         jobs_are = some.jobs_are;
         outputs = some.outputs;
         started = goes_ends (StartsAll some.done some.outputs) (λ i. (begun.rest i).spawner.told) (sym is) some.started;
-      })
+      }))
   starts m result is (goes_on _ k begun (goes_on rests l started next)) =
       let have = have_outputs jobs rests k.spawner.told l.spawner.told started.at.started in
-      inr (record {
+      inr (inl (record {
         jobs = jobs;
         planning = start;
         planned = reached.planned;
@@ -211,42 +214,107 @@ module _ (options : RunOptions) (a : Work) (reached : Reached options a) (end : 
         jobs_are = sym (append-nil jobs);
         outputs = have.outputs;
         started = goes_ends (StartsAll jobs have.outputs) (λ i. (begun.rest i).spawner.told) (sym (is ∙ recording_children partial number rests l m result next)) have.all;
-      })
+      }))
 
-  -- ---- what was printed
+  -- ---- behind the workers
+
+  abbrev settings : Settings
+  settings = reached.planned.settings
+
+  abbrev tags : List (List ℕ)
+  tags = settings.filter_tags
+
+  -- the workers, and what was printed of them by then
+  record Behind (m : Work) : Type 0 where
+    workers : RunsWorkers options a end
+    printed : IfSome a.folder.told (λ s. (runs : List Run) → Shows s.disk.published runs → TakesFirst (report_of (rows_of workers.events) (length runs) workers.planned.settings.filter_tags) workers.lines workers.worked.spawner.told end.spawner.told a.out.told end.out.told)
+    passes : Goes start.folder.told m.folder.told (PassesAll number (run_of partial (run_bytes workers.events)))
+
+  module _ (m : Work) (rows : List Row) (works : Works partial number jobs start m (Ok rows)) where
+    abbrev work : Worked partial number jobs rows start m
+    work = work_did partial number jobs start m rows reached.planned.few works
+
+    stored : Goes a.folder.told m.folder.told (KeepsRunAndCaches number (run_of partial (run_bytes work.events)))
+    stored = kept_through number (run_of partial (run_bytes work.events)) a.folder.told start.folder.told m.folder.told reached.mild.quiet work.kept
+
+    told_as : (report : Report) → IsReport number tags rows report → IsReport number tags (rows_of work.events) report
+    told_as report says = subst (λ (l : List Row). IsReport number tags l report) work.rows_are says
+
+    out_as : m.out.told ≡ a.out.told
+    out_as = works_out partial number jobs start m (Ok rows) works ∙ reached.mild.out
+
+    -- a first part of the report was printed, and nothing searched
+    printed_so : (report : Report) → end.spawner.told ≡ m.spawner.told → IsReport number tags rows report → AppendsPrefix m.out.told end.out.told report.text → Behind m
+    printed_so report is says prefix =
+        let first : AppendsPrefix a.out.told end.out.told report.text = subst (λ (o : Option (List ℕ)). AppendsPrefix o end.out.told report.text) out_as prefix in
+        record {
+          workers = worked_workers m rows work [] (none_searched options.find_causes settings work.events a.folder.told m.spawner.told end.spawner.told is);
+          printed = rows_told partial number tags work.events report (λ text. TakesFirst text [] m.spawner.told end.spawner.told a.out.told end.out.told) a.folder.told m.folder.told stored (told_as report says)
+              (so_told a.folder.told _ (inl (record { none = is; no_lines = refl; printed = first })));
+          passes = work.passes reached.calm;
+        }
+
+    -- nothing was printed
+    silent_so : end.spawner.told ≡ m.spawner.told → end.out.told ≡ m.out.told → Behind m
+    silent_so is same = record {
+      workers = worked_workers m rows work [] (none_searched options.find_causes settings work.events a.folder.told m.spawner.told end.spawner.told is);
+      printed = every a.folder.told (λ text. inl (record { none = is; no_lines = refl; printed = (0, omega arith, subst (λ (o : Option (List ℕ)). Appends a.out.told o []) (sym (same ∙ out_as)) (Appends-nil a.out.told)) }));
+      passes = work.passes reached.calm;
+    }
+      where
+        every : (o : Option Folder) → ((text : List ℕ) → TakesFirst text [] m.spawner.told end.spawner.told a.out.told end.out.told) → IfSome o (λ s. (runs : List Run) → Shows s.disk.published runs → TakesFirst (report_of (rows_of work.events) (length runs) tags) [] m.spawner.told end.spawner.told a.out.told end.out.told)
+        every None each = tt
+        every (Some s) each = λ runs shows. each (report_of (rows_of work.events) (length runs) tags)
+
+    -- the report was printed, and then causes were searched
+    found_so : (n b : Work) (report : Report) (result : Result (Unit {0}) Refusal) → n.folder.told ≡ m.folder.told → n.spawner.told ≡ m.spawner.told → IsReport number tags rows report → Appends m.out.told n.out.told report.text → FindsCauses options.find_causes settings number rows n b result → b ≡ end → Behind m
+    found_so n b report result folder spawner says whole finds last =
+        let tells : Goes a.folder.told n.folder.told (λ s t. TellsEvents number work.events t) =
+        goes_ends (λ s t. TellsEvents number work.events t) refl (sym folder) (tells_behind partial number work.events a.folder.told start.folder.told m.folder.told Rests work.are_events work.fit reached.mild.quiet reached.calm work.kept) in
+        let left = causes_left settings number work.events n end options.find_causes rows result a.folder.told work.rows_are tells (subst (λ (w : Work). FindsCauses options.find_causes settings number rows n w result) last finds) in
+        let first : Appends a.out.told n.out.told report.text = subst (λ (o : Option (List ℕ)). Appends o n.out.told report.text) out_as whole in
+        record {
+          workers = worked_workers m rows work left.lines (subst (λ (o : Option Spawning). SearchesSome options.find_causes settings work.events left.lines a.folder.told o end.spawner.told) spawner left.probed);
+          printed = rows_told partial number tags work.events report (λ text. TakesFirst text left.lines m.spawner.told end.spawner.told a.out.told end.out.told) a.folder.told m.folder.told stored (told_as report says)
+              (where_told a.folder.told (TakesPart left.lines n.out.told end.out.told) _ (λ taken. inr (record { part = taken.part; rest = taken.rest; lines_are = taken.lines_are; printed = Appends-trans a.out.told n.out.told end.out.told report.text taken.part first taken.printed })) left.taken);
+          passes = work.passes reached.calm;
+        }
+
+    -- the chain behind the workers
+    behind : (result : Result Verdict Refusal) → TellsAndFinds options.find_causes settings number rows m end result → Behind m
+    behind result (stops fault step_is (stops why made_is made)) = silent_so (λ i. (made.same i).spawner.told) (λ i. (made.same i).out.told)
+    behind result (stops fault step_is (goes_on report l made (stops why print_is printed))) =
+        printed_so report ((λ i. (printed.rest i).spawner.told) ∙ (λ i. (made.same i).spawner.told)) made.says.told
+        (subst (λ (o : Option (List ℕ)). AppendsPrefix o end.out.told report.text) (λ i. (made.same i).out.told) printed.at.prefix)
+    behind result (stops fault step_is (goes_on report l made (goes_on _ n printed gives))) = absurd (gives_not n end fault gives)
+    behind result (goes_on verdict n tells (stops fault step_is finds)) =
+        let did = tell_did number tags rows m n verdict tells in
+        found_so n end did.report (Err fault) did.folder did.spawner did.says did.printed finds refl
+    behind result (goes_on verdict n tells (goes_on v p finds gives)) =
+        let did = tell_did number tags rows m n verdict tells in
+        found_so n p did.report (Ok v) did.folder did.spawner did.says did.printed finds (sym gives.same)
+
+    finds_folder : (result : Result Verdict Refusal) → TellsAndFinds options.find_causes settings number rows m end result → end.folder.told ≡ m.folder.told
+    finds_folder result (stops fault step_is tells) = tells_folder partial number tags rows m end (Err fault) tells
+    finds_folder result (goes_on verdict n tells (stops fault step_is finds)) = causes_still options.find_causes settings number rows n end (Err fault) finds ∙ tells_folder partial number tags rows m n (Ok verdict) tells
+    finds_folder result (goes_on verdict n tells (goes_on v p finds gives)) =
+        (λ i. (gives.same i).folder.told) ∙ causes_still options.find_causes settings number rows n p (Ok v) finds ∙ tells_folder partial number tags rows m n (Ok verdict) tells
+
+  -- ---- what was started, and what was printed
 
   abbrev HasPrinted : Type 0
   HasPrinted = (end.out.told ≡ a.out.told) ⊎ PrintsFirst options a end
 
-  abbrev tags : List (List ℕ)
-  tags = reached.planned.settings.filter_tags
-
-  printed_so : (m : Work) (rows : List Row) (report : Report) → Works partial number jobs start m (Ok rows) → end.spawner.told ≡ m.spawner.told → m.out.told ≡ start.out.told → IsReport number tags rows report → AppendsPrefix m.out.told end.out.told report.text → PrintsFirst options a end
-  printed_so m rows report works is out says prefix =
-      let work = work_did partial number jobs start m rows reached.planned.few works in
-      let told : IsReport number tags (rows_of work.events) report = subst (λ (l : List Row). IsReport number tags l report) work.rows_are says in
-      let stored = kept_through number (run_of partial (run_bytes work.events)) a.folder.told start.folder.told m.folder.told reached.mild.quiet work.kept in
-      let first : AppendsPrefix a.out.told end.out.told report.text = subst (λ (o : Option (List ℕ)). AppendsPrefix o end.out.told report.text) (out ∙ reached.mild.out) prefix in
-      record {
-        workers = worked_workers m rows work is;
-        printed = prefix_rows partial number tags work.events report a.folder.told m.folder.told a.out.told end.out.told stored told first;
-      }
-
   -- the chain from the workers on
-  prints : (result : Result Verdict Refusal) → GoesOnWith options number jobs reached.planned.settings start end result → HasPrinted
+  prints : (result : Result Verdict Refusal) → GoesOnWith options number jobs settings start end result → HasPrinted
   prints result (stops fault step_is step) = inl (works_out partial number jobs start end (Err fault) step ∙ reached.mild.out)
-  prints result (goes_on rows m step (stops fault step_is made)) = inl ((λ i. (made.same i).out.told) ∙ works_out partial number jobs start m (Ok rows) step ∙ reached.mild.out)
-  prints result (goes_on rows m step (goes_on report l made (stops fault step_is printed))) =
-      inr (printed_so m rows report step ((λ i. (printed.rest i).spawner.told) ∙ (λ i. (made.same i).spawner.told)) (works_out partial number jobs start m (Ok rows) step) made.says.told
-      (subst (λ (o : Option (List ℕ)). AppendsPrefix o end.out.told report.text) (λ i. (made.same i).out.told) printed.at.prefix))
-  prints result (goes_on rows m step (goes_on report l made (goes_on _ n printed gives))) =
-      let out : end.out.told ≡ n.out.told = λ i. (gives.same i).out.told in
-      inr (printed_so m rows report step ((λ i. (gives.same i).spawner.told) ∙ (λ i. (printed.rest i).spawner.told) ∙ (λ i. (made.same i).spawner.told)) (works_out partial number jobs start m (Ok rows) step) made.says.told
-      (subst (λ (o : Option (List ℕ)). AppendsPrefix m.out.told o report.text) (sym out) (subst (λ (o : Option (List ℕ)). AppendsPrefix o n.out.told report.text) (λ i. (made.same i).out.told) printed.at.prefix)))
+  prints result (goes_on rows m step next) =
+      let so = behind m rows step result next in
+      inr (record { workers = so.workers; printed = so.printed })
 
-  begun_all : (result : Result Verdict Refusal) → GoesOnWith options number jobs reached.planned.settings start end result → StartsInOrder options a end
+  begun_all : (result : Result Verdict Refusal) → GoesOnWith options number jobs settings start end result → StartsInOrder options a end
   begun_all result (stops fault step_is step) = starts end (Err fault) refl step
-  begun_all result (goes_on rows m step next) = starts m (Ok rows) (tells_children partial number tags rows m end result next) step
+  begun_all result (goes_on rows m step next) = inr (inr (behind m rows step result next).workers)
 
   -- ---- what a stop at each moment leaves, and that it is sound where it was
 
@@ -288,11 +356,11 @@ module _ (options : RunOptions) (a : Work) (reached : Reached options a) (end : 
       run_moves workers m
       (keeps_moves partial number bytes rows (Gives rows) (λ x y r gives i. (gives.same i).folder) start.folder.told recorded.at.recorded.rows_are reached.calm n m result written named)
 
-  moves : (result : Result Verdict Refusal) → GoesOnWith options number jobs reached.planned.settings start end result → Goes a.folder.told end.folder.told RunMoves
+  moves : (result : Result Verdict Refusal) → GoesOnWith options number jobs settings start end result → Goes a.folder.told end.folder.told RunMoves
   moves result (stops fault step_is step) = works_moves end (Err fault) refl step
   moves result (goes_on rows m step next) =
-      let here : Goes a.folder.told m.folder.told RunMoves = works_moves m (Ok rows) (tells_children partial number tags rows m end result next) step in
-      goes_ends RunMoves refl (sym (tells_folder partial number tags rows m end result next)) here
+      let so = behind m rows step result next in
+      goes_ends RunMoves refl (sym (finds_folder m rows step result next)) (run_moves so.workers m so.passes)
 
 -- ---- at every exit
 

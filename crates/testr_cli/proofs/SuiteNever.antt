@@ -11,9 +11,13 @@ use Rattle.edge_io.specs.Steps.{Goes, Stays}
 use Rattle.edge_io.specs.declared.child.Finish.TheVariants.{Exit}
 use Rattle.edge_io.specs.declared.job.Job.{Job}
 use Rattle.edge_io.proofs.Going.{goes_weaker}
+use Rattle.outcome_fold.specs.Rows.{rows_of}
 use Rattle.outcome_fold.specs.declared.row.Row.{Row}
-use Rattle.run_shelf.specs.Repository.{most_runs}
+use Rattle.packet_codec.specs.declared.event.Event.{Event}
+use Rattle.run_shelf.specs.Holds.{kinds_of}
+use Rattle.run_shelf.specs.Repository.{most_runs, run_of}
 use Rattle.partition_times.specs.Patterns.{IsPattern}
+use Rattle.suite_causes.specs.Searching.{CanHandIds, probe_job}
 use Rattle.suite_plan.specs.Calling.{TellsNumber, TellsNone, StartsCounting, HasCallCause, CallsOut, called}
 use Rattle.suite_plan.specs.Children.{IsBroken}
 use Rattle.suite_plan.specs.Choosing.{Ids}
@@ -41,14 +45,15 @@ use Rattle.testr_conf.specs.declared.ids.IdsFault.{IdsFault}
 use Rattle.testr_conf.specs.declared.ids.IdsFault.TheVariants.{NotText}
 use Rattle.testr_cli.specs.Outside.{Work}
 use Rattle.testr_cli.specs.Perhaps.{when, Perhaps, not_asked, did, refused}
-use Rattle.testr_cli.specs.RunSuite.{Works, TellsRun, RunsBy, RunsSuite}
-use Rattle.testr_cli.specs.Prospects.{MayCount, MaySelect}
-use Rattle.testr_cli.specs.Runs.{HasRuns, KeepsFiles}
-use Rattle.testr_cli.specs.Selecting.{Times, UsesCalled, UsesAsked, CountsWorkers, needs_listing, Selects, shares_of_ids, MakesJobs, Plans}
+use Rattle.testr_cli.specs.RunSuite.{Works, TellsRun, TellsAndFinds, RunsBy, RunsSuite}
+use Rattle.testr_cli.specs.Causes.{ProbesEnd, suspects_in, UseNoBroken}
+use Rattle.testr_cli.specs.Prospects.{MayCount, MaySelect, MayPlan}
+use Rattle.testr_cli.specs.Runs.{HasRuns, KeepsFiles, run_bytes}
+use Rattle.testr_cli.specs.Selecting.{Times, UsesCalled, UsesAsked, CountsWorkers, needs_listing, Selects, shares_of_ids, MakesJobs, HandsIds, Plans}
 use Rattle.testr_cli.specs.Steps.{Step, stops, goes_on}
 use Rattle.testr_cli.specs.SuiteProgram.{calls_by, calls_of, EndsWell, CountIsTold, CallsOutNone, CanHand, CanRun}
 use Rattle.testr_cli.specs.SuiteTexts.{list_code, table_code, job_code, start_code, lanes_code}
-use Rattle.testr_cli.specs.Suites.{RunOptions}
+use Rattle.testr_cli.specs.Suites.{RunOptions, is_partial}
 use Rattle.testr_cli.specs.Told.{tell_code}
 use Rattle.testr_cli.specs.declared.answer.Refusal.{Refusal}
 use Rattle.testr_cli.specs.declared.answer.Refusal.TheVariants as refusal
@@ -57,10 +62,14 @@ use Rattle.testr_cli.specs.declared.told.TellFault.{TellFault}
 use Rattle.testr_cli.specs.declared.told.TellFault.TheVariants as tell_fault
 use Rattle.testr_cli.proofs.FolderLemmas.{takes_in_repository, not_full}
 use Rattle.testr_cli.proofs.ChainLemmas.{then_did, gives_not}
+use Rattle.testr_cli.proofs.FindLemmas.{TellsEvents, tells_behind}
 use Rattle.testr_cli.proofs.LeftIds.{no_shares}
-use Rattle.testr_cli.proofs.Resting.{Rests}
+use Rattle.testr_cli.proofs.ProbeCauses.{causes_never, probes_behind}
+use Rattle.testr_cli.proofs.Resting.{Rests, goes_ends}
+use Rattle.testr_cli.proofs.SoundLemmas.{IsCalm, KeepsRunAndCaches, surveyed_calm}
 use Rattle.testr_cli.proofs.StepLaws.{open_quiet}
-use Rattle.testr_cli.proofs.SuiteJobs.{selected_range}
+use Rattle.testr_cli.proofs.SuiteDone.{select_leaves, plan_leaves, leaves_then, work_did, tell_did}
+use Rattle.testr_cli.proofs.SuiteJobs.{selected_range, few_jobs}
 use Rattle.testr_cli.proofs.CauseLaws.{open_never, runs_are}
 use Rattle.testr_cli.proofs.SuiteCauses.{NoCause, same_cause, moved, from_both, from_told, not_too_much, same_text, conf_never, same_settings, pattern_never, ends_behind, broken_never, listing_never}
 
@@ -332,12 +341,24 @@ handed_shares settings times selected range handed = by selected.ids handed
     by (Some ids) handed = λ some. handed (λ none.
         some (ap (λ (l : Ids). shares_for (fin.get (unwrap_or times fin.empty)) settings.group_regex l selected.workers) none ∙ no_shares (fin.get (unwrap_or times fin.empty)) settings.group_regex selected.workers (omega (arith, range.0))))
 
-plan_never : (settings : Settings) (selected : Selected) (a b : Work) (r : Refusal) → Plans settings selected a b (Err r) → IsInRange selected.workers → IfSome selected.ids (CanHand settings) → NoCause r
-plan_never settings selected a b r (stops fault is step) range handed = same_cause (refusal.Tell fault) r is ((λ three. tell_never fault three), (λ child. child))
-plan_never settings selected a b r (goes_on times m found (stops fault is step)) range handed = same_cause (refusal.Memory fault) r is ((λ three. omega arith), (λ child. child))
-plan_never settings selected a b r (goes_on times m found (goes_on shares m2 dealt (stops fault is step))) range handed =
+-- ids can be handed to a probe, where that is asked
+hands_never : (settings : Settings) (asked : Bool) (fault : JobFault) → (asked ≡ true → CanHandIds settings) → HandsIds asked settings (Err fault) → NoCause (refusal.Job fault)
+hands_never settings asked fault can hands = ((λ three. by (probe_job settings []) (can hands.refused.0) hands.refused.1 three), (λ child. child))
+  where
+    by : (job : Result Job JobFault) → IsOk job → (job ≡ Err fault) ⊎ (fault ≡ job_fault.NoMemory) → job_code fault ≡ 3 → ⊥
+    by (Ok job) ok (inl is) three = cc
+    by (Err other) ok (inl is) three = cc
+    by job ok (inr is) three =
+        let five : job_code fault ≡ 5 = ap job_code is in
+        omega (arith, five, three)
+
+plan_never : (settings : Settings) (asked : Bool) (selected : Selected) (a b : Work) (r : Refusal) → Plans settings asked selected a b (Err r) → IsInRange selected.workers → IfSome selected.ids (CanHand settings) → (asked ≡ true → CanHandIds settings) → NoCause r
+plan_never settings asked selected a b r (stops fault is step) range handed can = same_cause (refusal.Tell fault) r is ((λ three. tell_never fault three), (λ child. child))
+plan_never settings asked selected a b r (goes_on times m found (stops fault is step)) range handed can = same_cause (refusal.Memory fault) r is ((λ three. omega arith), (λ child. child))
+plan_never settings asked selected a b r (goes_on times m found (goes_on shares m2 dealt (stops fault is step))) range handed can =
     same_cause (refusal.Job fault) r is (job_never settings shares fault (subst (HandsShares settings) (sym dealt.says.shares) (handed_shares settings times selected range handed)) step.says)
-plan_never settings selected a b r (goes_on times m found (goes_on shares m2 dealt (goes_on jobs m3 made gives))) range handed = absurd (gives_not m3 b r gives)
+plan_never settings asked selected a b r (goes_on times m found (goes_on shares m2 dealt (goes_on jobs m3 made (stops fault is step)))) range handed can = same_cause (refusal.Job fault) r is (hands_never settings asked fault can step.says)
+plan_never settings asked selected a b r (goes_on times m found (goes_on shares m2 dealt (goes_on jobs m3 made (goes_on _ m4 hands gives)))) range handed can = absurd (gives_not m4 b r gives)
 
 -- ---- the workers, and what is told of the run
 
@@ -356,6 +377,10 @@ told_never number tags rows a b r (goes_on report m found (goes_on _ m2 printed 
 
 -- ---- `run`
 
+-- no child is broken that probes use, for each plan that may be made
+abbrev ProbesMayEnd : RunOptions → Settings → Work → Type 0
+ProbesMayEnd options settings w = (jobs : List Job) (planning : Work) → MayPlan settings options w jobs planning → IfSome planning.spawner.told (ProbesEnd (length jobs))
+
 -- what the steps behind the configuration need
 record CanRunBy (options : RunOptions) (settings : Settings) (w : Work) : Type 0 where
   free : IsSomeAnd w.folder.told (λ s. (number : ℕ) × (number < most_runs) × HasRuns number s)
@@ -363,6 +388,27 @@ record CanRunBy (options : RunOptions) (settings : Settings) (w : Work) : Type 0
   good_regex : IfSome settings.group_regex IsPattern
   select : CanSelect options settings w.site.told w.spawner.told
   handed : (selected : Selected) → MaySelect settings options w selected → IfSome selected.ids (CanHand settings)
+  hands_ids : options.find_causes ≡ true → CanHandIds settings
+  probes : options.find_causes ≡ true → ProbesMayEnd options settings w
+
+-- what is told of the run, and then the search for causes
+finds_never : (settings : Settings) (number : ℕ) (events : List Event) (asked : Bool) (rows : List Row) (folder : Option Folder) (a b : Work) (r : Refusal) → rows ≡ rows_of events → IsSomeAnd folder (λ s. Unit {0}) → Goes folder a.folder.told (λ s t. TellsEvents number events t)
+    → (asked ≡ true → IsSomeAnd a.spawner.told (λ s. UseNoBroken events (suspects_in events) s.outputs)) → TellsAndFinds asked settings number rows a b (Err r) → NoCause r
+finds_never settings number events asked rows folder a b r rows_are some tells uses (stops fault is step) = same_cause fault r is (told_never number settings.filter_tags rows a b fault step)
+finds_never settings number events asked rows folder a b r rows_are some tells uses (goes_on verdict m step (stops fault is finds)) =
+    let did = tell_did number settings.filter_tags rows a m verdict step in
+    same_cause fault r is
+    (causes_never settings number events m b fault asked rows folder rows_are some (goes_ends (λ s t. TellsEvents number events t) refl (sym did.folder) tells)
+    (λ is_asked. subst (λ (o : Option Spawning). IsSomeAnd o (λ s. UseNoBroken events (suspects_in events) s.outputs)) (sym did.spawner) (uses is_asked)) finds)
+finds_never settings number events asked rows folder a b r rows_are some tells uses (goes_on verdict m step (goes_on _ k finds gives)) = absurd (gives_not k b r gives)
+
+some_of : {S : Type 0} (a : Option S) (P : S → Type 0) → IsSomeAnd a P → IsSomeAnd a (λ s. Unit {0})
+some_of None P has = has
+some_of (Some s) P has = tt
+
+-- what is told stays told
+still_told : {S : Type 0} (a b : Option S) (P : S → Type 0) (R : S → S → Type 0) → IsSomeAnd a P → Goes a b R → IsSomeAnd b (λ s. Unit {0})
+still_told a b P R has goes = moved a b P (λ s. Unit {0}) R has goes (λ s t p q. tt)
 
 run_by_never : (options : RunOptions) (settings : Settings) (a b : Work) (r : Refusal) → RunsBy options settings a b (Err r) → CanRunBy options settings a → NoCause r
 run_by_never options settings a b r (stops fault is step) can = same_cause (refusal.Open fault) r is (
@@ -388,9 +434,33 @@ run_by_never options settings a b r (goes_on found m opened (goes_on _ m2 took (
       selecting = m4;
       selects = selects;
     } in
-    same_cause fault r is (plan_never settings selected m4 b fault step (selected_range settings options m3 m4 selected selects) (can.handed selected may))
+    same_cause fault r is (plan_never settings options.find_causes selected m4 b fault step (selected_range settings options m3 m4 selected selects) (can.handed selected may) can.hands_ids)
 run_by_never options settings a b r (goes_on found m opened (goes_on _ m2 took (goes_on _ m3 compiled (goes_on selected m4 selects (goes_on jobs m5 planned (stops fault is step)))))) can = same_cause fault r is (work_never _ _ jobs m5 b fault step)
-run_by_never options settings a b r (goes_on found m opened (goes_on _ m2 took (goes_on _ m3 compiled (goes_on selected m4 selects (goes_on jobs m5 planned (goes_on rows m6 worked tells)))))) can = told_never _ settings.filter_tags rows m6 b r tells
+run_by_never options settings a b r (goes_on found m opened (goes_on _ m2 took (goes_on _ m3 compiled (goes_on selected m4 selects (goes_on jobs m5 planned (goes_on rows m6 worked tells)))))) can =
+    let calm : m3 ≡ m = compiled.same ∙ took.same in
+    let quiet : Goes a.folder.told m3.folder.told Rests = subst (λ (w : Work). Goes a.folder.told w.folder.told Rests) (sym calm) (open_quiet a m (Ok found) opened.at) in
+    let children : m3.spawner.told ≡ a.spawner.told = (λ i. (calm i).spawner.told) ∙ (λ i. (opened.rest i).spawner.told) in
+    let may : MaySelect settings options a selected = record {
+      start = m3;
+      folder = goes_weaker a.folder.told m3.folder.told Rests KeepsFiles quiet (λ s t rests. rests.files);
+      site_is = (λ i. (calm i).site.told) ∙ (λ i. (opened.rest i).site.told);
+      children_are = children;
+      selecting = m4;
+      selects = selects;
+    } in
+    let range = selected_range settings options m3 m4 selected selects in
+    let before = leaves_then m3 m4 m5 (select_leaves settings options m3 m4 selected selects) (plan_leaves settings options.find_causes selected m4 m5 jobs planned) in
+    let work = work_did (is_partial options) (length (kinds_of found)) jobs m5 m6 rows (few_jobs settings options.find_causes selected m4 m5 jobs range planned) worked in
+    let at_rest : IfSome m3.folder.told IsCalm = subst (λ (w : Work). IfSome w.folder.told IsCalm) (sym calm) (surveyed_calm (kinds_of found) a.folder.told m.folder.told opened.at.found) in
+    let kept = goes_ends (KeepsRunAndCaches (length (kinds_of found)) (run_of (is_partial options) (run_bytes work.events))) before.folder refl work.kept in
+    let tells_of : Goes a.folder.told m6.folder.told (λ s t. TellsEvents (length (kinds_of found)) work.events t) =
+    tells_behind (is_partial options) (length (kinds_of found)) work.events a.folder.told m3.folder.told m6.folder.told Rests work.are_events work.fit quiet at_rest kept in
+    let some_folder : IsSomeAnd a.folder.told (λ s. Unit {0}) = some_of a.folder.told _ can.free in
+    let some_children : IsSomeAnd m5.spawner.told (λ s. Unit {0}) =
+    still_told m3.spawner.told m5.spawner.told (λ s. Unit {0}) (λ s t. ⊤) (subst (λ (o : Option Spawning). IsSomeAnd o (λ s. Unit {0})) (sym children) (some_of a.spawner.told _ can.select.count)) before.told in
+    finds_never settings (length (kinds_of found)) work.events options.find_causes rows a.folder.told m6 b r work.rows_are some_folder tells_of
+    (λ asked. probes_behind jobs work.outputs work.events m5.spawner.told m6.spawner.told some_children (can.probes asked jobs m5 (record { selected = selected; may = may; plans = planned })) work.started work.of_workers)
+    tells
 
 can_run_by : (options : RunOptions) (a : Work) (can : CanRun options a) → CanRunBy options can.settings a
 can_run_by options a can = record {
@@ -399,6 +469,8 @@ can_run_by options a can = record {
   good_regex = can.good_regex;
   select = record { load_list = can.load_list; table = can.table; count = can.count; job = can.job; ends = can.ends };
   handed = can.handed;
+  hands_ids = can.hands_ids;
+  probes = can.probes;
 }
 
 -- the read of the configuration touches no other part, and leaves the files
@@ -410,14 +482,19 @@ read_then options settings a m folder site children can =
       good = can.good;
       good_regex = can.good_regex;
       select = subst (CanSelect options settings m.site.told) (sym children) on_site;
-      handed = λ selected may. can.handed selected (record {
-        start = may.start;
-        folder = subst (λ (o : Option Folder). Goes o may.start.folder.told KeepsFiles) folder may.folder;
-        site_is = may.site_is ∙ site;
-        children_are = may.children_are ∙ children;
-        selecting = may.selecting;
-        selects = may.selects;
-      });
+      handed = λ selected may. can.handed selected (before selected may);
+      hands_ids = can.hands_ids;
+      probes = λ asked jobs planning may. can.probes asked jobs planning (record { selected = may.selected; may = before may.selected may.may; plans = may.plans });
+    }
+  where
+    before : (selected : Selected) → MaySelect settings options m selected → MaySelect settings options a selected
+    before selected may = record {
+      start = may.start;
+      folder = subst (λ (o : Option Folder). Goes o may.start.folder.told KeepsFiles) folder may.folder;
+      site_is = may.site_is ∙ site;
+      children_are = may.children_are ∙ children;
+      selecting = may.selecting;
+      selects = may.selects;
     }
 
 pub run_never : (options : RunOptions) (a b : Work) (r : Refusal) → RunsSuite options a b (Err r) → CanRun options a → NoCause r

@@ -60,12 +60,13 @@ select_quiet settings options =
     then_quiet all (λ a b r s. still_quiet a b s.same) (λ ids.
     value_quiet)))))
 
-pub plan_quiet : (settings : Settings) (selected : Selected) → Quiet all (Plans settings selected)
-plan_quiet settings selected =
+pub plan_quiet : (settings : Settings) (asked : Bool) (selected : Selected) → Quiet all (Plans settings asked selected)
+plan_quiet settings asked selected =
     then_quiet all (λ a b r s. perhaps_rests (λ _ x y found step. rests_of_stays x.told y.told step.same) a.folder b.folder r s.at) (λ times.
     then_quiet all (λ a b r s. still_quiet a b s.same) (λ shares.
     then_quiet all (λ a b r s. still_quiet a b s.same) (λ jobs.
-    value_quiet)))
+    then_quiet all (λ a b r s. still_quiet a b s.same) (λ _.
+    value_quiet))))
 
 -- ---- steps that leave the folder as it is
 

@@ -20,7 +20,7 @@ use Rattle.suite_plan.specs.declared.listing.ListingRefusal.TheVariants as listi
 use Rattle.testr_conf.specs.Settings.{Settings}
 use Rattle.testr_cli.specs.Outside.{Work, work_folder, work_site, work_spawner}
 use Rattle.testr_cli.specs.Perhaps.{Perhaps, not_asked, did, refused}
-use Rattle.testr_cli.specs.RunSuite.{Works, TellsRun, RunsBy, RunsSuite}
+use Rattle.testr_cli.specs.RunSuite.{Works, TellsAndFinds, RunsBy, RunsSuite}
 use Rattle.testr_cli.specs.Runs.{KeepsFiles}
 use Rattle.testr_cli.specs.Selecting.{Ids, UsesCalled, UsesAsked, CountsWorkers, Selects, Plans}
 use Rattle.testr_cli.specs.Steps.{Step, Then, stops, goes_on, Gives}
@@ -157,12 +157,13 @@ select_mild settings options =
     then_mild 0 0 (λ a b r s. mild_same a b s.same) (λ ids.
     gives_mild)))))
 
-plan_mild : (settings : Settings) (selected : Selected) → IsMild 0 (Plans settings selected)
-plan_mild settings selected =
+plan_mild : (settings : Settings) (asked : Bool) (selected : Selected) → IsMild 0 (Plans settings asked selected)
+plan_mild settings asked selected =
     then_mild 0 0 (λ a b r s. mild_folder a b s.rest (perhaps_rests (λ _ x y found step. rests_of_stays x.told y.told step.same) a.folder b.folder r s.at)) (λ times.
     then_mild 0 0 (λ a b r s. mild_same a b s.same) (λ shares.
     then_mild 0 0 (λ a b r s. mild_same a b s.same) (λ jobs.
-    gives_mild)))
+    then_mild 0 0 (λ a b r s. mild_same a b s.same) (λ _.
+    gives_mild))))
 
 -- ---- the workers
 
@@ -177,7 +178,7 @@ pub record Reached (options : RunOptions) (a : Work) : Type 0 where
 
 -- what is done then
 abbrev pub GoesOnWith : (options : RunOptions) (number : ℕ) (jobs : List Job) (settings : Settings) → Step Work Verdict Refusal
-GoesOnWith options number jobs settings = Then (λ refusal. refusal) (Works (is_partial options) number jobs) (λ rows. TellsRun number settings.filter_tags rows)
+GoesOnWith options number jobs settings = Then (λ refusal. refusal) (Works (is_partial options) number jobs) (λ rows. TellsAndFinds options.find_causes settings number rows)
 
 -- a run refuses before, or comes to them
 abbrev pub Reaches : RunOptions → Work → Work → Result Verdict Refusal → Type 0
@@ -201,12 +202,12 @@ module _ (options : RunOptions) (settings : Settings) (a : Work) (conf : IfSome 
       calm : IfSome m3.folder.told IsCalm
       calm = subst (λ (w : Work). IfSome w.folder.told IsCalm) (sym same) (surveyed_calm (kinds_of found) a.folder.told m.folder.told opened.at.found)
 
-      behind : Then (λ refusal. refusal) (Selects settings options) (λ selected. Then (λ refusal. refusal) (Plans settings selected) (λ jobs. GoesOnWith options (length (kinds_of found)) jobs settings)) m3 b result → Reaches options a b result
+      behind : Then (λ refusal. refusal) (Selects settings options) (λ selected. Then (λ refusal. refusal) (Plans settings options.find_causes selected) (λ jobs. GoesOnWith options (length (kinds_of found)) jobs settings)) m3 b result → Reaches options a b result
       behind (stops fault is step) = inl (mild_then 0 2 a m3 b first (select_mild settings options m3 b (Err fault) step))
       behind (goes_on selected m4 selects (stops fault is step)) =
-          inl (mild_then 0 2 a m3 b first (mild_then 2 0 m3 m4 b (select_mild settings options m3 m4 (Ok selected) selects) (plan_mild settings selected m4 b (Err fault) step)))
+          inl (mild_then 0 2 a m3 b first (mild_then 2 0 m3 m4 b (select_mild settings options m3 m4 (Ok selected) selects) (plan_mild settings options.find_causes selected m4 b (Err fault) step)))
       behind (goes_on selected m4 selects (goes_on jobs m5 plans works)) =
-          let chosen : Mild 2 m3 m5 = mild_then 2 0 m3 m4 m5 (select_mild settings options m3 m4 (Ok selected) selects) (plan_mild settings selected m4 m5 (Ok jobs) plans) in
+          let chosen : Mild 2 m3 m5 = mild_then 2 0 m3 m4 m5 (select_mild settings options m3 m4 (Ok selected) selects) (plan_mild settings options.find_causes selected m4 m5 (Ok jobs) plans) in
           inr (
             record {
               jobs = jobs;
@@ -221,7 +222,7 @@ module _ (options : RunOptions) (settings : Settings) (a : Work) (conf : IfSome 
                 selecting = m4;
                 selects = selects;
                 plans = plans;
-                few = few_jobs settings selected m4 m5 jobs (selected_range settings options m3 m4 selected selects) plans;
+                few = few_jobs settings options.find_causes selected m4 m5 jobs (selected_range settings options m3 m4 selected selects) plans;
               };
               number = length (kinds_of found);
               mild = mild_then 0 2 a m3 m5 first chosen;

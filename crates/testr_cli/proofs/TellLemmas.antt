@@ -5,6 +5,7 @@ use Rattle.run_shelf.specs.declared.faults.ShelfCall.{ShelfCall}
 use Rattle.run_shelf.specs.declared.faults.StoreFault.TheVariants as store_fault
 use Rattle.edge_io.specs.Causes.{RisesExactlyIf}
 use Rattle.run_shelf.specs.Holds.{FitsFolder}
+use Rattle.run_shelf.specs.Stores.{FitsUnlessBroken}
 use Rattle.run_ledger.specs.declared.fault.LedgerFault.{LedgerFault}
 use Rattle.run_ledger.specs.declared.fault.LedgerFault.TheVariants as ledger_fault
 use Rattle.run_ledger.specs.Outcomes.{LedgerCloses, ledger_failed}
@@ -35,6 +36,11 @@ ledger_fails n m before after result fault told is told_is unbroken closes count
         let closed : before ≡ Some call = (closes.closed call).0 is in
         cc
     by ledger_fault.NoMemory is = subst (λ r. RisesExactlyIf n m (ledger_failed r)) is counts
+
+-- what was read fits still, where no call failed
+pub fits_done : {T : Type 0} (kinds given : List Bool) (before after : Option ShelfCall) (result : Result T LedgerFault) (value : T) (state : Option Folder) → result ≡ Ok value → before ≡ None → LedgerCloses before after result → given ≡ kinds → FitsUnlessBroken given after state → IfSome state (FitsFolder kinds)
+fits_done kinds given before after (Ok v) value state is unbroken closes same fits = subst (λ (k : List Bool). IfSome state (FitsFolder k)) same (fits (closes.kept ∙ unbroken))
+fits_done kinds given before after (Err fault) value state is unbroken closes same fits = cc
 
 pub rises_behind : (n k m : ℕ) (failed : Bool) → k ≡ n → RisesExactlyIf k m failed → RisesExactlyIf n m failed
 rises_behind n k m failed stands counts = subst (λ (l : ℕ). RisesExactlyIf l m failed) stands counts

@@ -1,6 +1,6 @@
 -- The step of `run` that looks for the tests that make others fail (docs/FORMATS.md, "Causes"): what was searched at each exit,
 -- and what was said by then.
-use Rattle.std.specs.Prelude.{◌≡◌, ◌⊎◌, ℕ, ◌<◌, Bool, true, false, Option, IfSome, IfOk, All, List, [], ◌∷◌, ◌++◌, length, slice_index_or, take, drop, Result}
+use Rattle.std.specs.Prelude.{◌≡◌, ◌⊎◌, ⊤, ℕ, ◌<◌, Bool, true, false, Option, IfSome, IfOk, All, List, [], ◌∷◌, ◌++◌, length, slice_index_or, take, drop, Result}
 use Rattle.std.specs.Io.KnownBytes.{Appends}
 use Rattle.std.specs.List.{filter}
 use Rattle.edge_io.specs.Bytes.{AppendsPrefix}
@@ -152,7 +152,7 @@ TakesFirst report lines worked now old new = TakesReportPart report lines worked
 -- each of the outputs that the searches for these tests use, one search after another, is that of a child that can be read to its
 -- end and waited for
 abbrev pub UseNoBroken : List Event → List Suspect → List Output → Type 0
-UseNoBroken events [] outputs = Unit {0}
+UseNoBroken events [] outputs = ⊤
 UseNoBroken events (one ∷ more) outputs =
     let candidates = candidates_of one.id one.lane events in
     UsesNoBroken one.id candidates outputs × UseNoBroken events more (drop (length (asked_for one.id candidates outputs)) outputs)

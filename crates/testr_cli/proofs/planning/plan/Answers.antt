@@ -18,9 +18,17 @@ returns-in_err-jobs-clause-step g c = λ site spawner input out.
     (still_done _ (divides_as _ _ _ _ _ c.requires.groups c.in_ok-shares.ensures.shares)
     (still_fails in_list (λ e. refl) c.from_residual-in_err-jobs.result _ c.from_residual-in_err-jobs.ensures.1 (record { jobs = tt; refused = c.in_err-jobs.ensures.refused }) refl))
 
+pub returns-in_err-hand_ids-clause-step : goal.returns-in_err-hand_ids-clause-step
+returns-in_err-hand_ids-clause-step g c = λ site spawner input out.
+    part_done _ _ c.in_ok-times.ensures.step
+    (still_done _ (divides_as _ _ _ _ _ c.requires.groups c.in_ok-shares.ensures.shares)
+    (still_done c.in_ok-jobs.jobs.items (record { jobs = c.in_ok-jobs.ensures.jobs; refused = tt })
+    (still_fails in_list (λ e. refl) c.from_residual-in_err-hand_ids.result _ c.from_residual-in_err-hand_ids.ensures.1 c.in_err-hand_ids.ensures refl)))
+
 pub returns-clause-step : goal.returns-clause-step
 returns-clause-step g c = λ site spawner input out.
     part_done _ _ c.in_ok-times.ensures.step
     (still_done _ (divides_as _ _ _ _ _ c.requires.groups c.in_ok-shares.ensures.shares)
     (still_done c.in_ok-jobs.jobs.items (record { jobs = c.in_ok-jobs.ensures.jobs; refused = tt })
-    gives))
+    (still_done tt c.in_ok-hand_ids.ensures
+    gives)))

@@ -1,4 +1,4 @@
-use Rattle.testr_cli.proofs.TellLemmas.{ledger_fails}
+use Rattle.testr_cli.proofs.TellLemmas.{fits_done, ledger_fails}
 use Rattle.testr_cli.proofs.refreshing.refresh_store.Goals as goal
 
 pub returns-in-Ok-clause-step : goal.returns-in-Ok-clause-step
@@ -18,3 +18,6 @@ returns-in-Err-clause-step g c = λ filter_tags rows sums. record {
   sound = c.refresh_behind.ensures.sound filter_tags rows sums;
   count = ledger_fails _ _ _ _ c.refresh_behind.result c.in-Err.fault c.ledger_refusal.result c.in-Err.is c.ledger_refusal.ensures c.requires.unbroken c.refresh_behind.ensures.closes c.refresh_behind.ensures.cause;
 }
+
+pub returns-in-Ok-clause-fits : goal.returns-in-Ok-clause-fits
+returns-in-Ok-clause-fits g c = fits_done _ _ _ _ c.refresh_behind.result _ _ c.in-Ok.is c.requires.unbroken c.refresh_behind.ensures.closes c.refresh_behind.ensures.kinds c.refresh_behind.ensures.fits

@@ -39,3 +39,9 @@ returns-clause-bad_pattern c = exact.bad_pattern
 
 pub returns-clause-bad_regex : goal.returns-clause-bad_regex
 returns-clause-bad_regex c = exact.bad_regex
+
+pub returns-clause-no_id_option : goal.returns-clause-no_id_option
+returns-clause-no_id_option c = exact.no_id_option
+
+pub returns-clause-probe_broken : goal.returns-clause-probe_broken
+returns-clause-probe_broken c = exact.probe_broken

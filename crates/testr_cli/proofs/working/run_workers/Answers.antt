@@ -1,8 +1,9 @@
-use Rattle.std.proofs.Common.{◌≡◌, ◌-◌, Bool, List, [], ◌∷◌, ◌++◌, length, length-append, refl, ap, ◌∙◌, arith}
-use Rattle.run_shelf.specs.Holds.{kinds_of}
+use Rattle.std.proofs.Common.{◌≡◌, ◌-◌, Bool, List, [], ◌∷◌, ◌++◌, length, length-append, refl, sym, ap, subst, ◌∙◌, arith}
+use Rattle.run_shelf.specs.Holds.{kinds_of, FitsWhereTold}
 use Rattle.testr_cli.specs.Steps.{stops}
 use Rattle.testr_cli.proofs.CallLemmas.{works_by_few, handed, start_other, lanes_other, refresh_other}
 use Rattle.testr_cli.proofs.StepLemmas.{part_done, part_stops, refreshes_as, gives}
+use Rattle.testr_cli.proofs.RunLemmas.{where_some}
 use Rattle.testr_cli.proofs.SumLemmas.{gives_fault}
 use Rattle.testr_cli.proofs.working.run_workers.Goals as goal
 
@@ -55,6 +56,15 @@ returns-clause-step g c =
           (part_done _ _ (rw c.in_ok-found.ensures.kinds at c.in_ok-keep.ensures.step)
           (stops c.in-Err.fault refl (record { at = refreshes_as _ _ c.args.partial (c.in_ok-keep.ensures.kinds ∙ ap (λ (l : List Bool). l ++ c.args.partial ∷ []) c.in_ok-found.ensures.kinds) (c.in-Err.ensures.step c.args.filter_tags sums.rows sums.sums); rest = refl })))));
     }
+
+-- ---- the runs that there are
+
+pub returns-in-Ok-clause-found : goal.returns-in-Ok-clause-found
+returns-in-Ok-clause-found g c =
+    where_some c.copy_where-runs.result _ _ c.copy_where-runs.ensures (λ runs is. is ∙ c.in_ok-keep.ensures.kinds ∙ ap (λ (l : List Bool). l ++ c.args.partial ∷ []) c.in_ok-found.ensures.kinds)
+
+pub returns-in-Ok-clause-fits : goal.returns-in-Ok-clause-fits
+returns-in-Ok-clause-fits g c = where_some c.copy_where-runs.result _ _ c.copy_where-runs.ensures (λ runs is. subst (λ (k : List Bool). FitsWhereTold k (g.H.Shelf.seen c.refresh.new.shelf).told) (sym is) c.in-Ok.ensures.fits)
 
 -- ---- how many calls there were, and which status a refusal has
 
