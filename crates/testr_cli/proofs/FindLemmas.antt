@@ -25,7 +25,7 @@ use Rattle.suite_causes.specs.Searching.{Ids, IsAmong, SearchesSo, StopsSearch}
 use Rattle.suite_causes.specs.Suspects.{candidates_of, ran_ids, suspects_of}
 use Rattle.suite_causes.specs.declared.suspects.Suspect.{Suspect}
 use Rattle.testr_conf.specs.Settings.{Settings}
-use Rattle.testr_cli.specs.Causes.{FindsRan, candidates_in, FindsAmong, FindsCause, FindsEach, FindsCauses, suspects_in, SearchesThen, SearchesSome, SearchesAll}
+use Rattle.testr_cli.specs.Causes.{FindsRan, candidates_in, FindsAmong, FindsCause, FindsEach, FindsCauses, suspects_in, SearchesThen, SearchesFirsts, SearchesSome, SearchesAll}
 use Rattle.testr_cli.specs.Outside.{Work}
 use Rattle.testr_cli.specs.Runs.{run_bytes}
 use Rattle.testr_cli.specs.Steps.{stops, goes_on}
@@ -71,7 +71,7 @@ tells_behind partial number events a b c R are fit first calm kept =
 
 -- ---- what the steps leave
 
-abbrev told_of : Work → Option Folder
+abbrev pub told_of : Work → Option Folder
 told_of w = w.folder.told
 
 among_still : (settings : Settings) (test : List ℕ) (candidates : Ids) → LeavesPart (λ (w : Work). w.folder) (FindsAmong settings test candidates)
@@ -92,7 +92,7 @@ pub causes_still : (asked : Bool) (settings : Settings) (number : ℕ) (rows : L
 causes_still false settings number rows = λ a b r s i. (s.same i).folder.told
 causes_still true settings number rows = then_leaves told_of (λ a b r s i. (s.same i).folder.told) (λ suspects. each_still settings number suspects)
 
-abbrev input_of : Work → Seen (List ℕ)
+abbrev pub input_of : Work → Seen (List ℕ)
 input_of w = w.input
 
 cause_input : (settings : Settings) (number : ℕ) (one : Suspect) → LeavesPart input_of (FindsCause settings number one)
@@ -292,7 +292,7 @@ so_told (Some s) X is = is
 -- nothing was searched, and nothing said
 pub none_searched : (asked : Bool) (settings : Settings) (events : List Event) (folder : Option Folder) (a b : Option Spawning) → b ≡ a → SearchesSome asked settings events [] folder a b
 none_searched false settings events folder a b same = (same, refl)
-none_searched true settings events folder a b same = so_told folder _ (record {
+none_searched true settings events folder a b same = so_told folder (SearchesFirsts settings events [] a b) (record {
   done = [];
   left = suspects_in events;
   suspects_are = refl;

@@ -162,9 +162,9 @@ fn read_lane<H: Shelf>(
         Err(fault) => return Err(ledger_refusal(fault)),
     };
     let place = lists.len();
-    if lists.push(LaneIds { lane, ids }).is_err() {
+    let Ok(()) = lists.push(LaneIds { lane, ids }) else {
         return Err(TellFault::NoMemory);
-    }
+    };
     Ok(place)
 }
 
