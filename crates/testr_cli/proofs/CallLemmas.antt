@@ -31,7 +31,11 @@ use Rattle.suite_run.specs.Recording.{AddsByFew, AddsRows}
 use Rattle.worker_lane.specs.declared.lot.Lot.{Lot}
 use Rattle.testr_cli.specs.Answer.{refusal_code, code_of}
 use Rattle.testr_cli.specs.Refreshing.{Refreshes}
+use Rattle.testr_cli.specs.Causes.{candidates_in, FindsAmong, FindsEach, FindsCauses}
 use Rattle.testr_cli.specs.RunSuite.{TellsRun, TellsAndFinds}
+use Rattle.suite_causes.specs.declared.searching.SearchFault.{SearchFault}
+use Rattle.suite_causes.specs.declared.searching.SearchFault.TheVariants as search_fault
+use Rattle.suite_causes.specs.declared.suspects.Suspect.{Suspect}
 use Rattle.testr_conf.specs.Settings.{Settings}
 use Rattle.testr_cli.specs.Runs.{run_bytes, KeepsFiles, AddsRun}
 use Rattle.testr_cli.specs.Drawings.{drawing_of}
@@ -42,7 +46,7 @@ use Rattle.testr_cli.specs.Suites.{RunOptions, is_partial}
 use Rattle.testr_cli.specs.Tasks.{Task, load, run, selftest, task_with}
 use Rattle.testr_cli.specs.Words.{testr_word, asked_by}
 use Rattle.testr_cli.specs.declared.answer.Refusal.{Refusal}
-use Rattle.testr_cli.specs.declared.answer.Refusal.TheVariants.{Usage, Refresh, Start, Lanes}
+use Rattle.testr_cli.specs.declared.answer.Refusal.TheVariants.{Usage, Refresh, Start, Lanes, Print, Suspects, Ran, Search}
 use Rattle.suite_run.specs.declared.recording.LanesRefusal.{LanesRefusal}
 use Rattle.suite_run.specs.declared.recording.LanesRefusal.TheVariants as lanes
 use Rattle.suite_run.specs.declared.starting.StartRefusal.{StartRefusal}
@@ -257,27 +261,58 @@ tells_other number filter_tags rows a b result (stops fault is says) three = ome
 tells_other number filter_tags rows a b result (goes_on report m says (stops fault is prints)) three = omega (arith, ap code_of is, three)
 tells_other number filter_tags rows a b result (goes_on report m says (goes_on unit n prints gives)) three = done_other report.verdict (ap code_of (sym gives.answer) ∙ three)
 
--- so is what searches for no causes behind that
-pub finds_other : (settings : Settings) (number : ℕ) (rows : List Row) (a b : Work) (result : Result Verdict Refusal) → TellsAndFinds false settings number rows a b result → code_of result ≡ 3 → ⊥
-finds_other settings number rows a b result (stops fault is tells) three = tells_other number settings.filter_tags rows a b (Err fault) tells (sym (ap code_of is) ∙ three)
-finds_other settings number rows a b result (goes_on verdict m tells (stops fault is gives)) three = gives_not m b fault gives
-finds_other settings number rows a b result (goes_on verdict m tells (goes_on none k gives ends)) three = done_other verdict (ap code_of (sym ends.answer) ∙ three)
+-- so is what the search for causes tells behind that
+search_other : (fault : SearchFault) → refusal_code (Search fault) ≡ 3 → ⊥
+search_other search_fault.Spawn three = omega (arith, three)
+search_other search_fault.Child three = omega (arith, three)
+search_other search_fault.NoMemory three = omega (arith, three)
+
+ran_other : (fault : TellFault) → refusal_code (Ran fault) ≡ 3 → ⊥
+ran_other tell_fault.Shelf three = omega (arith, three)
+ran_other tell_fault.NoMemory three = omega (arith, three)
+
+-- a refusal of another status, by the name of its step
+named_other : {T : Type 0} (named r : Refusal) → ◌≡◌ {A = Result T Refusal} (Err r) (Err named) → (refusal_code named ≡ 3 → ⊥) → refusal_code r ≡ 3 → ⊥
+named_other named r is other three =
+    let same : r ≡ named = cc in
+    other (ap refusal_code (sym same) ∙ three)
+
+among_other : (settings : Settings) (test : List ℕ) (candidates : List (List ℕ)) (a b : Work) (r : Refusal) → FindsAmong settings test candidates a b (Err r) → refusal_code r ≡ 3 → ⊥
+among_other settings test candidates a b r (stops fault is step) = named_other (Search fault) r is (search_other fault)
+among_other settings test candidates a b r (goes_on found m step (stops fault is prints)) = named_other (Print fault) r is (λ three. omega (arith, three))
+among_other settings test candidates a b r (goes_on found m step (goes_on none k prints gives)) = λ three. gives_not k b r gives
+
+each_other : (settings : Settings) (number : ℕ) (left : List Suspect) (a b : Work) (r : Refusal) → FindsEach settings number left a b (Err r) → refusal_code r ≡ 3 → ⊥
+each_other settings number [] a b r gives = λ three. gives_not a b r gives
+each_other settings number (one ∷ more) a b r (stops fault is (stops why ran_is step)) = named_other fault r is (named_other (Ran why) fault ran_is (ran_other why))
+each_other settings number (one ∷ more) a b r (stops fault is (goes_on ids m step next)) = named_other fault r is (among_other settings one.id (candidates_in one.id ids) m b fault next)
+each_other settings number (one ∷ more) a b r (goes_on none m step next) = each_other settings number more m b r next
+
+causes_other : (asked : Bool) (settings : Settings) (number : ℕ) (rows : List Row) (a b : Work) (r : Refusal) → FindsCauses asked settings number rows a b (Err r) → refusal_code r ≡ 3 → ⊥
+causes_other false settings number rows a b r gives = λ three. gives_not a b r gives
+causes_other true settings number rows a b r (stops fault is step) = named_other (Suspects fault) r is (λ three. omega (arith, three))
+causes_other true settings number rows a b r (goes_on suspects m step next) = each_other settings number suspects m b r next
+
+pub finds_other : (asked : Bool) (settings : Settings) (number : ℕ) (rows : List Row) (a b : Work) (result : Result Verdict Refusal) → TellsAndFinds asked settings number rows a b result → code_of result ≡ 3 → ⊥
+finds_other asked settings number rows a b result (stops fault is tells) three = tells_other number settings.filter_tags rows a b (Err fault) tells (ap code_of (sym is) ∙ three)
+finds_other asked settings number rows a b result (goes_on verdict m tells (stops fault is finds)) three = causes_other asked settings number rows m b fault finds (ap code_of (sym is) ∙ three)
+finds_other asked settings number rows a b result (goes_on verdict m tells (goes_on none k finds ends)) three = done_other verdict (ap code_of (sym ends.answer) ∙ three)
 
 -- ---- the whole run
 
 -- it was refused before a worker was started
-by_eight : (partial : Bool) (old new : Option Folder) (answer before now : ℕ) → (answer ≤ 1 → ⊥) → TicksUpTo 8 before now → RunsByFew partial old new answer before now
-by_eight partial old new answer before now other few = record { done = λ small. absurd (other small); refused = λ three. few }
+by_eight : (find partial : Bool) (old new : Option Folder) (answer before now : ℕ) → (answer ≤ 1 → ⊥) → TicksUpTo 8 before now → RunsByFew find partial old new answer before now
+by_eight find partial old new answer before now other few = record { done = λ small quiet. absurd (other small); refused = λ three. few }
 
-pub early : (partial : Bool) (old new : Option Folder) (answer before now : ℕ) → (answer ≤ 1 → ⊥) → TicksUpTo 8 before now → SparesRunOf partial old new answer before now
-early partial None new answer before now other few = tt
-early partial (Some s) new answer before now other few = λ sound runs shows held. by_eight partial (Some s) new answer before now other few
+pub early : (find partial : Bool) (old new : Option Folder) (answer before now : ℕ) → (answer ≤ 1 → ⊥) → TicksUpTo 8 before now → SparesRunOf find partial old new answer before now
+early find partial None new answer before now other few = tt
+early find partial (Some s) new answer before now other few = λ sound runs shows held. by_eight find partial (Some s) new answer before now other few
 
 adds_before : (partial : Bool) (events : List Event) (a b c : Option Folder) → Goes a b KeepsFiles → Goes b c (AddsRun partial events) → Goes a c (AddsRun partial events)
 adds_before partial events a b c keeps adds = goes_then a b c KeepsFiles (AddsRun partial events) (AddsRun partial events) keeps adds (λ s m t same more runs shows. more runs (subst (λ (files : Files). Shows files runs) (sym same) shows))
 
 -- behind the look at the folder
-module _ (kinds : List Bool) (partial : Bool) (old opened : Option Folder) (before middle : ℕ) (survey : Goes old opened (Surveys kinds)) (four : TicksUpTo 4 before middle) where
+module _ (kinds : List Bool) (find partial : Bool) (old opened : Option Folder) (before middle : ℕ) (survey : Goes old opened (Surveys kinds)) (four : TicksUpTo 4 before middle) where
   covers : (s t : Folder) → Surveys kinds s t → ReadsSound s → (runs : List Run) → Shows s.disk.published runs → HoldBoth (length runs) s → IsCoveredTo (length kinds) t
   covers s t looked sound runs shows held =
       let same : t.disk.published ≡ s.disk.published = ap (λ (f : Folder). f.disk.published) looked.settled in
@@ -294,35 +329,37 @@ module _ (kinds : List Bool) (partial : Bool) (old opened : Option Folder) (befo
         };
       }
 
-  behind : (new : Option Folder) (answer now : ℕ) → (IsCovered (length kinds) opened → RunsByFew partial old new answer before now) → SparesRunOf partial old new answer before now
+  behind : (new : Option Folder) (answer now : ℕ) → (IsCovered (length kinds) opened → RunsByFew find partial old new answer before now) → SparesRunOf find partial old new answer before now
   behind new answer now few = by old opened survey few
     where
-      by : (a b : Option Folder) → Goes a b (Surveys kinds) → (IsCovered (length kinds) b → RunsByFew partial a new answer before now) → SparesRunOf partial a new answer before now
+      by : (a b : Option Folder) → Goes a b (Surveys kinds) → (IsCovered (length kinds) b → RunsByFew find partial a new answer before now) → SparesRunOf find partial a new answer before now
       by None b looked f = tt
       by (Some s) None looked f = absurd looked
       by (Some s) (Some t) looked f = λ sound runs shows held. f (covers s t looked sound runs shows held)
 
   -- it asked, and was refused
-  pub asked_first : (calls : ℕ) (asked new : Option Folder) (answer now : ℕ) → calls ≤ 4 → AsksByFew (length kinds) calls opened asked middle now → (answer ≤ 1 → ⊥) → SparesRunOf partial old new answer before now
-  asked_first calls asked new answer now most asks other = behind new answer now (λ covered. by_eight partial old new answer before now other (omega (arith, most, four, asks.few covered)))
+  pub asked_first : (calls : ℕ) (asked new : Option Folder) (answer now : ℕ) → calls ≤ 4 → AsksByFew (length kinds) calls opened asked middle now → (answer ≤ 1 → ⊥) → SparesRunOf find partial old new answer before now
+  asked_first calls asked new answer now most asks other = behind new answer now (λ covered. by_eight find partial old new answer before now other (omega (arith, most, four, asks.few covered)))
 
   -- it was refused behind that, with another status
-  pub refused_later : (new : Option Folder) (answer now : ℕ) → (answer ≤ 1 → ⊥) → (answer ≡ 3 → ⊥) → SparesRunOf partial old new answer before now
-  refused_later new answer now small three = behind new answer now (λ covered. record { done = λ is. absurd (small is); refused = λ is. absurd (three is) })
+  pub refused_later : (new : Option Folder) (answer now : ℕ) → (answer ≤ 1 → ⊥) → (answer ≡ 3 → ⊥) → SparesRunOf find partial old new answer before now
+  refused_later new answer now small three = behind new answer now (λ covered. record { done = λ is quiet. absurd (small is); refused = λ is. absurd (three is) })
 
-  -- its run was stored
-  pub stored_later : (given : Bool) (asked new : Option Folder) (answer now last : ℕ) → given ≡ partial → AsksByFew (length kinds) 4 opened asked middle now → (IsCovered (length kinds) asked → StoresByFew 18 given asked new now last) → (answer ≡ 3 → ⊥) → SparesRunOf partial old new answer before last
-  stored_later given asked new answer now last is asks stores other = behind new answer last (λ covered.
-      let stored : StoresByFew 18 partial asked new now last = subst (λ (p : Bool). StoresByFew 18 p asked new now last) is (stores (still_covered (length kinds) opened asked asks.same covered)) in
+  -- its run was stored, and where that is said nothing was called behind it
+  pub stored_later : (given : Bool) (asked kept new : Option Folder) (answer now end last : ℕ) → given ≡ partial → AsksByFew (length kinds) 4 opened asked middle now → (IsCovered (length kinds) asked → StoresByFew 18 given asked kept now end)
+      → (answer ≤ 1 → (find ≡ true → answer ≡ 0) → (new ≡ kept) × (last ≡ end)) → (answer ≡ 3 → ⊥) → SparesRunOf find partial old new answer before last
+  stored_later given asked kept new answer now end last is asks stores still other = behind new answer last (λ covered.
+      let stored : StoresByFew 18 partial asked kept now end = subst (λ (p : Bool). StoresByFew 18 p asked kept now end) is (stores (still_covered (length kinds) opened asked asks.same covered)) in
       let to_opened : Goes old opened KeepsFiles = goes_weaker old opened (Surveys kinds) KeepsFiles survey (λ s t looked. ap (λ (f : Folder). f.disk.published) looked.settled) in
       let to_asked : Goes old asked KeepsFiles = goes_then old opened asked KeepsFiles Stays KeepsFiles to_opened asks.same (λ s m t p q. ap (λ (f : Folder). f.disk.published) q ∙ p) in
+      let added : Goes old kept (AddsRun partial stored.events) = adds_before partial stored.events old asked kept to_asked stored.stored in
       record {
-        done = λ small. record {
+        done = λ small quiet. record {
           events = stored.events;
           are_events = stored.are_events;
           fit = stored.fit;
-          stored = adds_before partial stored.events old asked new to_asked stored.stored;
-          few = omega (arith, four, asks.few covered, stored.few);
+          stored = subst (λ (o : Option Folder). Goes old o (AddsRun partial stored.events)) (sym (still small quiet).0) added;
+          few = omega (arith, four, asks.few covered, stored.few, (still small quiet).1);
         };
         refused = λ three. absurd (other three);
       })
@@ -330,18 +367,18 @@ module _ (kinds : List Bool) (partial : Bool) (old opened : Option Folder) (befo
 -- ---- the command
 
 -- the status of an outcome
-pub as_told : (partial : Bool) (old new : Option Folder) (answer given before now : ℕ) → answer ≡ given → SparesRunOf partial old new given before now → SparesRunOf partial old new answer before now
-as_told partial old new answer given before now is spares = subst (λ (n : ℕ). SparesRunOf partial old new n before now) (sym is) spares
+pub as_told : (find partial : Bool) (old new : Option Folder) (answer given before now : ℕ) → answer ≡ given → SparesRunOf find partial old new given before now → SparesRunOf find partial old new answer before now
+as_told find partial old new answer given before now is spares = subst (λ (n : ℕ). SparesRunOf find partial old new n before now) (sym is) spares
 
 same_options : (given options : RunOptions) → Some (run given) ≡ Some (run options) → given ≡ options
 same_options given options is = cc
 
-pub of_options : (given : RunOptions) (old new : Option Folder) (answer before now : ℕ) → (given.find_causes ≡ false → SparesRunOf (is_partial given) old new answer before now) → SparesRun (Some (run given)) old new answer before now
-of_options given old new answer before now spares = λ options is. subst (λ (o : RunOptions). o.find_causes ≡ false → SparesRunOf (is_partial o) old new answer before now) (same_options given options is) spares
+pub of_options : (given : RunOptions) (old new : Option Folder) (answer before now : ℕ) → SparesRunOf given.find_causes (is_partial given) old new answer before now → SparesRun (Some (run given)) old new answer before now
+of_options given old new answer before now spares = λ options is. subst (λ (o : RunOptions). SparesRunOf o.find_causes (is_partial o) old new answer before now) (same_options given options is) spares
 
 -- no call, and nothing done
 pub none_made : (asked : Option Task) (old new : Option Folder) (answer before now : ℕ) → (answer ≤ 1 → ⊥) → now ≡ before → SparesRun asked old new answer before now
-none_made asked old new answer before now other same = λ options is off. early (is_partial options) old new answer before now other (omega (arith, same))
+none_made asked old new answer before now other same = λ options is. early options.find_causes (is_partial options) old new answer before now other (omega (arith, same))
 
 no_load : (few : Bool) (c : Command) (options : RunOptions) → (if few then Some (load c.partial c.names) else None) ≡ Some (run options) → ⊥
 no_load true c options is = cc

@@ -1,7 +1,7 @@
 -- How the search for causes goes on, step by step.
 use Rattle.std.proofs.Common.{◌≡◌, ℕ, ◌<◌, ◌+◌, Bool, true, false, Option, None, Some, IfSome, Result, Ok, Err, IfErr, List, [], ◌∷◌, ◌++◌, length, get_or, All, take, drop, refl, sym, ap, subst, ◌∙◌, arith}
-use Rattle.std.specs.Prelude.{slice_index_or}
-use Rattle.std.specs.List.{filter}
+use Rattle.std.specs.Prelude.{slice_index_or, ◌||◌, if◌then◌else◌}
+use Rattle.std.specs.List.{filter, list_any}
 use Rattle.std.proofs.lemmas.List.{at_drop_more, drop_all}
 use Rattle.std.proofs.lemmas.List.Elements.{All-nil, All-push}
 use Rattle.edge_io.specs.Causes.{RisesExactlyIf}
@@ -18,9 +18,15 @@ use Rattle.suite_causes.specs.declared.suspects.Suspect.{Suspect}
 use Rattle.testr_conf.specs.Settings.{Settings}
 use Rattle.testr_cli.specs.Causes.{AreRanLists, IsPlaceOf, FindsRan, FindsCause, FindsEach, FindsCauses, ListsSuspects}
 use Rattle.testr_cli.specs.Outside.{Work}
+use Rattle.testr_cli.specs.RunSuite.{TellsRun}
 use Rattle.testr_cli.specs.Steps.{goes_on}
+use Rattle.testr_cli.specs.Verdicts.{verdict_of, verdict_code}
+use Rattle.testr_cli.specs.declared.answer.Verdict.{Verdict}
+use Rattle.testr_cli.specs.declared.answer.Verdict.TheVariants.{Passed, Failed}
 use Rattle.testr_cli.specs.declared.answer.Refusal.{Refusal}
 use Rattle.testr_cli.specs.declared.causes.LaneIds.{LaneIds}
+use Rattle.testr_cli.proofs.ChainLemmas.{then_did}
+use Rattle.testr_cli.proofs.DoneLaws.{same_verdict}
 use Rattle.testr_cli.proofs.Resting.{stays_is}
 
 -- ---- where it is asked for
@@ -41,6 +47,31 @@ lists_suspects rows kept suspects kept_is is = record { suspects = is ∙ ap sus
 pub finds_none : (settings : Settings) (number : ℕ) (suspects : List Suspect) (a : Work) → length suspects ≡ 0 → FindsEach settings number suspects a a (Ok tt)
 finds_none settings number [] a none = record { answer = refl; same = refl }
 finds_none settings number (one ∷ more) a none = absurd (omega (arith, none))
+
+-- ---- where no test fails
+
+passes_code : (verdict : Verdict) → verdict_code verdict ≡ 0 → verdict ≡ Passed
+passes_code Passed none = refl
+passes_code Failed none = absurd (omega (arith, none))
+
+-- the verdict that was told is that of the rows
+pub verdict_passed : (number : ℕ) (tags : List (List ℕ)) (rows : List Row) (a b : Work) (verdict : Verdict) → TellsRun number tags rows a b (Ok verdict) → verdict_code verdict ≡ 0 → verdict_of rows ≡ Passed
+verdict_passed number tags rows a b verdict tells none =
+    let made = then_did verdict tells in
+    let printed = then_did verdict made.next in
+    sym (same_verdict printed.next.answer ∙ made.done.says.told.verdict) ∙ passes_code verdict none
+
+-- then no row is kept, and no test is searched
+none_kept : (rows : List Row) → verdict_of rows ≡ Passed → filter row_fails rows ≡ []
+none_kept [] passed = refl
+none_kept (row ∷ rows) passed = by (row_fails row) passed (none_kept rows)
+  where
+    by : (fails : Bool) → (if fails || list_any row_fails rows then Failed else Passed) ≡ Passed → (verdict_of rows ≡ Passed → filter row_fails rows ≡ []) → (if fails then row ∷ filter row_fails rows else filter row_fails rows) ≡ []
+    by true passed rest = cc
+    by false passed rest = rest passed
+
+pub none_searched : (rows kept : List Row) (suspects : List Suspect) → kept ≡ filter row_fails rows → suspects ≡ suspects_of kept → verdict_of rows ≡ Passed → length suspects ≡ 0
+none_searched rows kept suspects kept_is is passed = ap length is ∙ ap (λ (l : List Row). length (suspects_of l)) (kept_is ∙ none_kept rows passed)
 
 -- ---- what ran on the lanes
 

@@ -1,5 +1,7 @@
 -- What the steps of a run are given may be other terms of the same values.
-use Rattle.std.proofs.Common.{◌≡◌, ℕ, ◌<◌, Bool, false, Option, None, Some, IfSome, Result, List, [], ◌∷◌, ◌++◌, length, length-append, ap, subst, arith}
+use Rattle.std.proofs.Common.{◌≡◌, ℕ, ◌<◌, ◌≤◌, Bool, true, Option, None, Some, IfSome, Result, List, [], ◌∷◌, ◌++◌, length, length-append, ap, subst, arith}
+use Rattle.edge_io.specs.Disk.{Folder}
+use Rattle.edge_io.specs.Seen.{Seen}
 use Rattle.edge_io.specs.declared.job.Job.{Job}
 use Rattle.outcome_fold.specs.declared.row.Row.{Row}
 use Rattle.testr_conf.specs.Settings.{Settings}
@@ -25,5 +27,6 @@ where_some (Some x) P Q is each = each x is
 pub known_among : (given kinds : List Bool) (partial : Bool) (number : ℕ) → given ≡ kinds ++ partial ∷ [] → number ≡ length kinds → number < length given
 known_among given kinds partial number is count = omega (arith, ap length is, length-append kinds (partial ∷ []), count)
 
-pub finds_step : (asked : Bool) {settings : Settings} {number : ℕ} {rows : List Row} {a b : Work} {result : Result Verdict Refusal} → asked ≡ false → TellsAndFinds asked settings number rows a b result → TellsAndFinds false settings number rows a b result
-finds_step asked {settings = settings} {number = number} {rows = rows} {a = a} {b = b} {result = result} off finds = subst (λ (o : Bool). TellsAndFinds o settings number rows a b result) off finds
+-- what is seen of the folder stays, so what is told does
+pub told_still : (answer : ℕ) (find : Bool) (old new : Seen Folder) (before now : ℕ) → (answer ≤ 1 → (find ≡ true → answer ≡ 0) → (new ≡ old) × (now ≡ before)) → answer ≤ 1 → (find ≡ true → answer ≡ 0) → (new.told ≡ old.told) × (now ≡ before)
+told_still answer find old new before now still small quiet = (ap (λ (f : Seen Folder). f.told) (still small quiet).0, (still small quiet).1)

@@ -355,7 +355,7 @@ run_did options a b v runs =
           few = few;
         };
         outputs = work.outputs;
-        worked = worked.between;
+        worked = worked.between.spawner.told;
         started = work.started;
         events = work.events;
         are_events = work.are_events;

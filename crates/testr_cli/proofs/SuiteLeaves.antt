@@ -150,7 +150,7 @@ module _ (options : RunOptions) (a : Work) (reached : Reached options a) (end : 
       planning = start;
       planned = reached.planned;
       outputs = have.outputs;
-      worked = end;
+      worked = end.spawner.told;
       started = goes_ends (StartsAll jobs have.outputs) begin ended have.all;
       events = adds.events;
       are_events = adds.are_events;
@@ -173,7 +173,7 @@ module _ (options : RunOptions) (a : Work) (reached : Reached options a) (end : 
       planning = start;
       planned = reached.planned;
       outputs = work.outputs;
-      worked = m;
+      worked = m.spawner.told;
       started = work.started;
       events = work.events;
       are_events = work.are_events;
@@ -227,7 +227,7 @@ module _ (options : RunOptions) (a : Work) (reached : Reached options a) (end : 
   -- the workers, and what was printed of them by then
   record Behind (m : Work) : Type 0 where
     workers : RunsWorkers options a end
-    printed : IfSome a.folder.told (λ s. (runs : List Run) → Shows s.disk.published runs → TakesFirst (report_of (rows_of workers.events) (length runs) workers.planned.settings.filter_tags) workers.lines workers.worked.spawner.told end.spawner.told a.out.told end.out.told)
+    printed : IfSome a.folder.told (λ s. (runs : List Run) → Shows s.disk.published runs → TakesFirst (report_of (rows_of workers.events) (length runs) workers.planned.settings.filter_tags) workers.lines workers.worked end.spawner.told a.out.told end.out.told)
     passes : Goes start.folder.told m.folder.told (PassesAll number (run_of partial (run_bytes workers.events)))
 
   module _ (m : Work) (rows : List Row) (works : Works partial number jobs start m (Ok rows)) where

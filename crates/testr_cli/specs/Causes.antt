@@ -77,6 +77,8 @@ FindsCauses true settings number rows =
     Then Suspects (Still (ListsSuspects rows)) (λ suspects.
     FindsEach settings number suspects)
 
+-- ---- the code's own state
+
 -- the ids of each lane that was read are those that began to run on it, in the run of this number
 abbrev pub AreRanLists : (number : ℕ) → List LaneIds → Option Folder → Type 0
 AreRanLists number lists told = All (λ one. IfSome told (HasRanAt number one.lane one.ids)) lists

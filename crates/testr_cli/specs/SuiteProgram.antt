@@ -59,7 +59,7 @@ pub record RunsAll (options : RunOptions) (before after : Work) (answer : ℕ) :
   pub stored : Goes before.folder.told after.folder.told (AddsRun (is_partial options) workers.events)
   pub cached : Goes before.folder.told after.folder.told BringsCaches
   pub printed : IfSome before.folder.told (λ s. (runs : List Run) → Shows s.disk.published runs → Appends before.out.told after.out.told (report_of (rows_of workers.events) (length runs) workers.planned.settings.filter_tags ++ workers.lines))
-  pub found : SearchesAll options.find_causes workers.planned.settings workers.events workers.lines before.folder.told workers.worked.spawner.told after.spawner.told
+  pub found : SearchesAll options.find_causes workers.planned.settings workers.events workers.lines before.folder.told workers.worked after.spawner.told
   pub status : answer ≡ status_of (rows_of workers.events)
   pub input : after.input ≡ before.input
 

@@ -17,7 +17,8 @@ pub record HasSuiteRun (partial : Bool) (events : List Event) (files image : Fil
 
 -- A stop at each moment leaves what one before the command might have left. Or the workers were started, all of them, and
 -- then it leaves that or these files with the run of all that is recorded of them, whatever the caches are: the same run at
--- each moment. `after` is the outside at the exit, so that no other child was started, and no other output was to come.
+-- each moment. `after` is the outside at the exit, so that no other child was started than the workers and, where causes are looked
+-- for, probes behind them.
 abbrev pub PassesSuiteRun : RunOptions → (before after : Work) → Folder → Folder → Type 0
 PassesSuiteRun options before after s t =
     PassesOld s t

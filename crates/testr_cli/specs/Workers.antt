@@ -1,6 +1,6 @@
 -- The workers of a run: why their jobs are these, which of them were started, what is recorded of their outputs, what was
 -- searched behind that, and what was printed.
-use Rattle.std.specs.Prelude.{◌≡◌, ◌⊎◌, ℕ, ◌≤◌, IfSome, All, List, ◌++◌, length, Ok}
+use Rattle.std.specs.Prelude.{◌≡◌, ◌⊎◌, ℕ, ◌≤◌, Option, IfSome, All, List, ◌++◌, length, Ok}
 use Rattle.edge_io.specs.Children.{Output}
 use Rattle.edge_io.specs.Spawners.{Spawning}
 use Rattle.edge_io.specs.Steps.{Goes}
@@ -40,8 +40,8 @@ pub record HasPlanned (options : RunOptions) (before planning : Work) (jobs : Li
   pub plans : Plans settings options.find_causes selected selecting planning (Ok jobs)
   pub few : length jobs ≤ 64
 
--- These jobs were started, in this order, and no others behind the choice of the tests; the first outputs to come then are
--- the workers', and what comes later is left. There are events, each under one of the lanes; where the outputs are told they
+-- Up to the moment `worked` these jobs were started, in this order, and no others behind the choice of the tests; the first
+-- outputs to come then are the workers', and what comes later is left. There are events, each under one of the lanes; where the outputs are told they
 -- are a merge of what is recorded of each: all of it, once and in order under its lane, and nothing else. Behind the workers,
 -- where causes are looked for, some first tests of those that fail were searched, and nothing else was started.
 pub record RunsWorkers (options : RunOptions) (before after : Work) : Type 0 where
@@ -49,8 +49,8 @@ pub record RunsWorkers (options : RunOptions) (before after : Work) : Type 0 whe
   pub planning : Work
   pub planned : HasPlanned options before planning jobs
   pub outputs : List Output
-  pub worked : Work
-  pub started : Goes planning.spawner.told worked.spawner.told (StartsAll jobs outputs)
+  pub worked : Option Spawning
+  pub started : Goes planning.spawner.told worked (StartsAll jobs outputs)
   pub events : List Event
   pub are_events : All IsEvent events
   pub fit : All Fits events
@@ -60,7 +60,7 @@ pub record RunsWorkers (options : RunOptions) (before after : Work) : Type 0 whe
   pub in_turn : IfSome before.spawner.told (λ _. SaySame events (joined (lists_from 0 outputs)))
   -- and what was searched behind them, with the lines of the tests that came to a verdict
   pub lines : List ℕ
-  pub probed : SearchesSome options.find_causes planned.settings events lines before.folder.told worked.spawner.told after.spawner.told
+  pub probed : SearchesSome options.find_causes planned.settings events lines before.folder.told worked after.spawner.told
 
 -- ---- at every exit
 
@@ -89,7 +89,7 @@ StartsInOrder options before after = Goes before.spawner.told after.spawner.told
 -- the output took a first part of the report of the workers' run, or all of it and a first part of the lines behind it
 pub record PrintsFirst (options : RunOptions) (before after : Work) : Type 0 where
   pub workers : RunsWorkers options before after
-  pub printed : IfSome before.folder.told (λ s. (runs : List Run) → Shows s.disk.published runs → TakesFirst (report_of (rows_of workers.events) (length runs) workers.planned.settings.filter_tags) workers.lines workers.worked.spawner.told after.spawner.told before.out.told after.out.told)
+  pub printed : IfSome before.folder.told (λ s. (runs : List Run) → Shows s.disk.published runs → TakesFirst (report_of (rows_of workers.events) (length runs) workers.planned.settings.filter_tags) workers.lines workers.worked after.spawner.told before.out.told after.out.told)
 
 -- What a run has started and printed at each exit.
 pub record LeavesRun (options : RunOptions) (before after : Work) : Type 0 where

@@ -1,7 +1,7 @@
 //! Looks for the tests that make others of a run fail.
 
 ghost use Rattle.std.specs.Prelude.{◌≡◌, ◌<◌, ℕ, List, None, true, length, IfOk, IfSome, OnOk};
-ghost use Rattle.edge_io.specs.Disk.{Files};
+ghost use Rattle.edge_io.specs.Disk.{Files, Folder};
 ghost use Rattle.edge_io.specs.Causes.{RisesExactlyIf};
 ghost use Rattle.edge_io.specs.Seen.{Seen};
 ghost use Rattle.edge_io.specs.Steps.{Goes, Stays};
@@ -13,6 +13,8 @@ ghost use Rattle.suite_causes.specs.Searching.{CanHandIds};
 ghost use Rattle.testr_cli.specs.Causes.{AreRanLists, FindsAmong, FindsCause, FindsCauses, FindsEach, IsPlaceOf, candidates_in};
 ghost use Rattle.testr_cli.specs.Outside.{work};
 ghost use Rattle.testr_cli.specs.Told.{tell_failed};
+ghost use Rattle.testr_cli.specs.Verdicts.{verdict_of};
+ghost use Rattle.testr_cli.specs.declared.answer.Verdict.TheVariants.{Passed};
 
 use crate::Refusal;
 use crate::printing::print_line;
@@ -43,10 +45,11 @@ pub fn find_causes<H: Shelf, S: Spawner, O: Sink>(
     requires handed { CanHandIds conf.now }
     requires known { IfSome found (λ runs. number < length (kinds_of runs)) }
     requires fits { IfSome found (λ runs. FitsWhereTold (kinds_of runs) (H.seen shelf.old).told) }
-    ensures { (site : Seen Files) → (input : Seen (List ℕ)) → (filter_tags : List (List ℕ)) (rows : List ARow) → Sums filter_tags rows summary.now → FindsCauses true conf.now number rows
+    ensures step { (site : Seen Files) → (input : Seen (List ℕ)) → (filter_tags : List (List ℕ)) (rows : List ARow) → Sums filter_tags rows summary.now → FindsCauses true conf.now number rows
         (work (H.seen shelf.old) site (S.seen spawner.old) input (O.seen out.old))
         (work (H.seen shelf.new) site (S.seen spawner.new) input (O.seen out.new))
         result }
+    ensures still { (filter_tags : List (List ℕ)) (rows : List ARow) → Sums filter_tags rows summary.now → verdict_of rows ≡ Passed → (H.seen shelf.new ≡ H.seen shelf.old) × (H.clock shelf.new ≡ H.clock shelf.old) }
 {
     let suspects = match suspects_of(alloc, summary.failing()) {
         Ok(suspects) => suspects,

@@ -1,6 +1,6 @@
 //! `testr run`.
 
-ghost use Rattle.std.specs.Prelude.{◌≡◌, ◌<◌, ℕ, List, length, true, false, IfOk, IfSome};
+ghost use Rattle.std.specs.Prelude.{◌≡◌, ◌<◌, ◌≤◌, ℕ, List, length, true, IfOk, IfSome};
 ghost use Rattle.edge_io.specs.Disk.{Files, Folder};
 ghost use Rattle.edge_io.specs.Seen.{Seen};
 ghost use Rattle.outcome_fold.specs.Summed.{Sums};
@@ -12,6 +12,8 @@ ghost use Rattle.suite_causes.specs.Searching.{CanHandIds};
 ghost use Rattle.testr_cli.specs.Causes.{FindsCauses};
 ghost use Rattle.testr_cli.specs.RunSuite.{RunsBy, TellsAndFinds, TellsRun, compiled_in};
 ghost use Rattle.testr_cli.specs.SparingRun.{SparesRunOf};
+ghost use Rattle.testr_cli.specs.Verdicts.{verdict_of};
+ghost use Rattle.testr_cli.specs.declared.answer.Verdict.TheVariants.{Passed};
 ghost use Rattle.testr_cli.specs.Suites.{run_options, is_part, is_partial as is_partial_run};
 ghost use Rattle.suite_plan.specs.Patterns.{Compiles};
 
@@ -38,7 +40,8 @@ use testr_conf::Conf;
 
 /// Runs the tests that the command selects, by the project's configuration, in worker processes that are read side by side;
 /// keeps what is recorded of them as the next run; brings the caches up to it; and prints the run's report, by what is kept
-/// of the rows that were told as it was recorded. It may wait for the workers.
+/// of the rows that were told as it was recorded. Where causes are looked for, each test that fails is searched behind that, and
+/// its line printed. It may wait for the workers.
 pub fn run<'a, R: Threads + Wait + Sync, H: Shelf, S: Spawner, F: Site, O: Sink>(
     rt: &R,
     alloc: Global,
@@ -53,7 +56,7 @@ pub fn run<'a, R: Threads + Wait + Sync, H: Shelf, S: Spawner, F: Site, O: Sink>
         (work (H.seen shelf.old) (F.seen site.old) (S.seen spawner.old) input (O.seen out.old))
         (work (H.seen shelf.new) (F.seen site.new) (S.seen spawner.new) input (O.seen out.new))
         result }
-    ensures calls { command.now.find_causes ≡ false → SparesRunOf (is_partial_run (run_options command.now)) (H.seen shelf.old).told (H.seen shelf.new).told (code_of result) (H.clock shelf.old) (H.clock shelf.new) }
+    ensures calls { SparesRunOf command.now.find_causes (is_partial_run (run_options command.now)) (H.seen shelf.old).told (H.seen shelf.new).told (code_of result) (H.clock shelf.old) (H.clock shelf.new) }
 {
     let found = open(alloc, shelf)?;
     take_run(&found)?;
@@ -126,8 +129,7 @@ fn tell_and_find<H: Shelf, S: Spawner, O: Sink>(
         (work (H.seen shelf.old) site (S.seen spawner.old) input (O.seen out.old))
         (work (H.seen shelf.new) site (S.seen spawner.new) input (O.seen out.new))
         result }
-    ensures same { find_causes ≡ false → H.seen shelf.new ≡ H.seen shelf.old }
-    ensures time { find_causes ≡ false → H.clock shelf.new ≡ H.clock shelf.old }
+    ensures still { (rows : List ARow) → Sums conf.now.filter_tags rows summary.now → code_of result ≤ 1 → (find_causes ≡ true → code_of result ≡ 0) → (H.seen shelf.new ≡ H.seen shelf.old) × (H.clock shelf.new ≡ H.clock shelf.old) }
 {
     let verdict = tell_run(alloc, number, summary, out)?;
     find_where_asked(
@@ -163,8 +165,7 @@ fn find_where_asked<H: Shelf, S: Spawner, O: Sink>(
         (work (H.seen shelf.old) site (S.seen spawner.old) input (O.seen out.old))
         (work (H.seen shelf.new) site (S.seen spawner.new) input (O.seen out.new))
         result }
-    ensures same { asked ≡ false → H.seen shelf.new ≡ H.seen shelf.old }
-    ensures time { asked ≡ false → H.clock shelf.new ≡ H.clock shelf.old }
+    ensures still { (filter_tags : List (List ℕ)) (rows : List ARow) → Sums filter_tags rows summary.now → (asked ≡ true → verdict_of rows ≡ Passed) → (H.seen shelf.new ≡ H.seen shelf.old) × (H.clock shelf.new ≡ H.clock shelf.old) }
 {
     if !asked {
         return Ok(());

@@ -5,4 +5,7 @@ pub returns-then-not-asked-clause-step : goal.returns-then-not-asked-clause-step
 returns-then-not-asked-clause-step g c = λ site input tags rows sums. causes_none c.args.asked _ _ _ _ c.if-not-asked.true
 
 pub returns-clause-step : goal.returns-clause-step
-returns-clause-step g c = λ site input tags rows sums. causes_asked c.args.asked _ _ _ _ _ _ c.if-not-asked.false (c.find_causes.ensures site input tags rows sums)
+returns-clause-step g c = λ site input tags rows sums. causes_asked c.args.asked _ _ _ _ _ _ c.if-not-asked.false (c.find_causes.ensures.step site input tags rows sums)
+
+pub returns-clause-still : goal.returns-clause-still
+returns-clause-still g c = λ tags rows sums passed. c.find_causes.ensures.still tags rows sums (passed c.if-not-asked.false)

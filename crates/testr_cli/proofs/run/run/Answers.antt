@@ -2,7 +2,7 @@ use Rattle.std.proofs.Common.{refl, arith}
 use Rattle.testr_cli.specs.Steps.{goes_on}
 use Rattle.testr_cli.proofs.CallLemmas.{early, refused, refused_so, asks_then, asked_first, refused_later, stored_later, finds_other}
 use Rattle.testr_cli.proofs.StepLemmas.{stopped, part_done, part_stops, still_done, still_stops}
-use Rattle.testr_cli.proofs.RunLemmas.{works_as, finds_as, finds_step}
+use Rattle.testr_cli.proofs.RunLemmas.{works_as, finds_as, told_still}
 use Rattle.testr_cli.proofs.run.run.Goals as goal
 
 pub returns-in_err-found-clause-step : goal.returns-in_err-found-clause-step
@@ -58,27 +58,29 @@ returns-clause-step g c =
 -- ---- how many calls there were
 
 pub returns-in_err-found-clause-calls : goal.returns-in_err-found-clause-calls
-returns-in_err-found-clause-calls g c = λ off. early _ _ _ _ _ _ (refused _ _ c.from_residual.ensures.1) (omega (arith, c.in_err-found.ensures.time))
+returns-in_err-found-clause-calls g c = early _ _ _ _ _ _ _ (refused _ _ c.from_residual.ensures.1) (omega (arith, c.in_err-found.ensures.time))
 
 pub returns-in_err-take_run-clause-calls : goal.returns-in_err-take_run-clause-calls
-returns-in_err-take_run-clause-calls g c = λ off. early _ _ _ _ _ _ (refused _ _ c.from_residual-in_err-take_run.ensures.1) (omega (arith, c.in_ok-found.ensures.time))
+returns-in_err-take_run-clause-calls g c = early _ _ _ _ _ _ _ (refused _ _ c.from_residual-in_err-take_run.ensures.1) (omega (arith, c.in_ok-found.ensures.time))
 
 pub returns-in_err-asked-clause-calls : goal.returns-in_err-asked-clause-calls
-returns-in_err-asked-clause-calls g c = λ off. early _ _ _ _ _ _ (refused _ _ c.from_residual-in_err-asked.ensures.1) (omega (arith, c.in_ok-found.ensures.time))
+returns-in_err-asked-clause-calls g c = early _ _ _ _ _ _ _ (refused _ _ c.from_residual-in_err-asked.ensures.1) (omega (arith, c.in_ok-found.ensures.time))
 
 pub returns-in_err-selected-clause-calls : goal.returns-in_err-selected-clause-calls
-returns-in_err-selected-clause-calls g c = λ off. asked_first _ _ _ _ _ _ c.in_ok-found.ensures.step.found c.in_ok-found.ensures.time 2 _ _ _ _ (omega arith) c.in_err-selected.ensures.calls (refused _ _ c.from_residual-in_err-selected.ensures.1)
+returns-in_err-selected-clause-calls g c = asked_first _ _ _ _ _ _ _ c.in_ok-found.ensures.step.found c.in_ok-found.ensures.time 2 _ _ _ _ (omega arith) c.in_err-selected.ensures.calls (refused _ _ c.from_residual-in_err-selected.ensures.1)
 
 pub returns-in_err-jobs-clause-calls : goal.returns-in_err-jobs-clause-calls
-returns-in_err-jobs-clause-calls g c = λ off. asked_first _ _ _ _ _ _ c.in_ok-found.ensures.step.found c.in_ok-found.ensures.time 4 _ _ _ _ (omega arith) (asks_then _ 2 2 _ _ _ _ _ _ c.in_ok-selected.ensures.calls c.in_err-jobs.ensures.calls) (refused _ _ c.from_residual-in_err-jobs.ensures.1)
+returns-in_err-jobs-clause-calls g c = asked_first _ _ _ _ _ _ _ c.in_ok-found.ensures.step.found c.in_ok-found.ensures.time 4 _ _ _ _ (omega arith) (asks_then _ 2 2 _ _ _ _ _ _ c.in_ok-selected.ensures.calls c.in_err-jobs.ensures.calls) (refused _ _ c.from_residual-in_err-jobs.ensures.1)
 
 pub returns-in_err-kept-clause-calls : goal.returns-in_err-kept-clause-calls
-returns-in_err-kept-clause-calls g c = λ off. refused_later _ _ _ _ _ _ c.in_ok-found.ensures.step.found c.in_ok-found.ensures.time _ _ _ (refused _ _ c.from_residual-in_err-kept.ensures.1) (refused_so _ _ c.from_residual-in_err-kept.ensures.1 c.in_err-kept.ensures.code)
+returns-in_err-kept-clause-calls g c = refused_later _ _ _ _ _ _ _ c.in_ok-found.ensures.step.found c.in_ok-found.ensures.time _ _ _ (refused _ _ c.from_residual-in_err-kept.ensures.1) (refused_so _ _ c.from_residual-in_err-kept.ensures.1 c.in_err-kept.ensures.code)
 
 pub returns-clause-calls : goal.returns-clause-calls
-returns-clause-calls g c = λ off.
+returns-clause-calls g c =
     let sums = c.in_ok-kept.ensures.step in
-    stored_later _ _ _ _ _ _ c.in_ok-found.ensures.step.found c.in_ok-found.ensures.time c.in_ok-asked.asked.partial _ _ _ _ _ c.in_ok-asked.ensures.partial
+    let tags = rw c.in_ok-asked.ensures.filter_tags at sums.sums in
+    stored_later _ _ _ _ _ _ _ c.in_ok-found.ensures.step.found c.in_ok-found.ensures.time c.in_ok-asked.asked.partial _ _ _ _ _ _ _ c.in_ok-asked.ensures.partial
     (asks_then _ 2 2 _ _ _ _ _ _ c.in_ok-selected.ensures.calls c.in_ok-jobs.ensures.calls)
     c.in_ok-kept.ensures.calls
-    (finds_other _ _ _ _ _ _ (finds_step _ off (c.tell_and_find-answer.ensures.step (g.F.Site.seen c.args.site.now) (g.O.Sink.seen c.args.out.now) sums.rows (rw c.in_ok-asked.ensures.filter_tags at sums.sums))))
+    (told_still _ _ _ _ _ _ (c.tell_and_find-answer.ensures.still sums.rows tags))
+    (finds_other _ _ _ _ _ _ _ (c.tell_and_find-answer.ensures.step (g.F.Site.seen c.args.site.now) (g.O.Sink.seen c.args.out.now) sums.rows tags))

@@ -1,4 +1,5 @@
-use Rattle.std.proofs.Common.{refl}
+use Rattle.testr_cli.proofs.CallLemmas.{refused}
+use Rattle.testr_cli.proofs.FindingLemmas.{verdict_passed}
 use Rattle.testr_cli.specs.Steps.{goes_on}
 use Rattle.testr_cli.proofs.StepLemmas.{stopped, gives}
 use Rattle.testr_cli.proofs.run.tell_and_find.Goals as goal
@@ -16,3 +17,13 @@ returns-clause-step g c = λ site input rows sums.
     goes_on _ _ (c.in_ok-verdict.ensures _ _ _ _ c.args.conf.now.filter_tags rows sums)
     (goes_on _ _ (c.in_ok-find_where_asked.ensures.step site input c.args.conf.now.filter_tags rows sums)
     gives)
+
+pub returns-in_err-verdict-clause-still : goal.returns-in_err-verdict-clause-still
+returns-in_err-verdict-clause-still g c = λ rows sums small quiet. absurd (refused _ _ c.from_residual.ensures.1 small)
+
+pub returns-in_err-find_where_asked-clause-still : goal.returns-in_err-find_where_asked-clause-still
+returns-in_err-find_where_asked-clause-still g c = λ rows sums small quiet. absurd (refused _ _ c.from_residual-in_err-find_where_asked.ensures.1 small)
+
+pub returns-clause-still : goal.returns-clause-still
+returns-clause-still g c = λ rows sums small quiet.
+    c.in_ok-find_where_asked.ensures.still c.args.conf.now.filter_tags rows sums (λ asked. verdict_passed _ _ rows _ _ c.in_ok-verdict.verdict (c.in_ok-verdict.ensures (g.H.Shelf.seen c.args.shelf.now) (g.O.Sink.seen c.args.out.now) (g.S.Spawner.seen c.args.spawner.now) (g.O.Sink.seen c.args.out.now) c.args.conf.now.filter_tags rows sums) (quiet asked))

@@ -12,7 +12,7 @@ returns-in-Ok g c = record {
     done = inl (part_done _ _ c.in-Ok.ensures.step (c.run-outcome.ensures.step input));
     told = c.answer.ensures;
   };
-  spares_run = of_options _ _ _ _ _ _ (λ off. as_told _ _ _ _ _ _ _ c.answer.ensures.code (c.run-outcome.ensures.calls off));
+  spares_run = of_options _ _ _ _ _ _ (as_told _ _ _ _ _ _ _ _ c.answer.ensures.code c.run-outcome.ensures.calls);
 }
 
 pub returns-in-Err : goal.returns-in-Err
