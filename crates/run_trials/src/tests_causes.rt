@@ -269,8 +269,14 @@ fn a_test_is_searched_on_each_of_its_lanes(rt: HostRuntime) -> Result<(), Fail> 
     Ok(())
 }
 
-// What is found where something fails, what the output took by then, and the line of the refusal, whose status is 4.
-type Fault<'a> = (&'a [(&'a [u8], Finish)], &'a [u64], &'a [u64], &'a [u8], &'a [u8]);
+// What is found where something fails: the calls of the folder, the starts and the writes that do; what the output took by then,
+// and the line of the refusal, whose status is 4.
+type Fault<'a> = (
+    &'a [(&'a [u8], Finish)],
+    [&'a [u64]; 3],
+    &'a [u8],
+    &'a [u8],
+);
 
 const REPORTED: &[u8] =
     b"======================================================================\nFAIL: c\n----------------------------------------------------------------------\nRan 1 tests\nFAILED (id=0, failures=1)\n";
@@ -278,27 +284,29 @@ const REPORTED: &[u8] =
 const TWO_REPORTED: &[u8] =
     b"======================================================================\nFAIL: b\n----------------------------------------------------------------------\n======================================================================\nFAIL: c\n----------------------------------------------------------------------\nRan 2 tests\nFAILED (id=0, failures=2)\nb: fails alone\n";
 
-const FAULTS: [Fault<'static>; 5] = [
+const FAULTS: [Fault<'static>; 6] = [
+    // the run is not read
+    (&[(C_FAILED, ENDED)], [&[21], &[], &[]], REPORTED, b"testr: fault of the repository folder\n"),
     // a probe is not started, as where its file of ids cannot be written
-    (&[(C_FAILED, ENDED)], &[1], &[], REPORTED, b"testr: fault starting a program\n"),
+    (&[(C_FAILED, ENDED)], [&[], &[1], &[]], REPORTED, b"testr: fault starting a program\n"),
     // its child is not read to its end, or not waited for
-    (&[(C_FAILED, ENDED), (C_PASSED, Finish::ReadFault)], &[], &[], REPORTED, b"testr: fault reading a program\n"),
-    (&[(C_FAILED, ENDED), (C_PASSED, Finish::WaitFault)], &[], &[], REPORTED, b"testr: fault reading a program\n"),
+    (&[(C_FAILED, ENDED), (C_PASSED, Finish::ReadFault)], [&[], &[], &[]], REPORTED, b"testr: fault reading a program\n"),
+    (&[(C_FAILED, ENDED), (C_PASSED, Finish::WaitFault)], [&[], &[], &[]], REPORTED, b"testr: fault reading a program\n"),
     // the line is not written
-    (&[(C_FAILED, ENDED), (C_PASSED, ENDED)], &[], &[1], REPORTED, b"testr: fault writing output\n"),
+    (&[(C_FAILED, ENDED), (C_PASSED, ENDED)], [&[], &[], &[1]], REPORTED, b"testr: fault writing output\n"),
     // the search for the second test stops behind the line of the first one
-    (&[(B_AND_C_FAIL, ENDED), (B_FAILED, ENDED), (C_PASSED, Finish::ReadFault)], &[], &[], TWO_REPORTED, b"testr: fault reading a program\n"),
+    (&[(B_AND_C_FAIL, ENDED), (B_FAILED, ENDED), (C_PASSED, Finish::ReadFault)], [&[], &[], &[]], TWO_REPORTED, b"testr: fault reading a program\n"),
 ];
 
 fn leaves<R: Threads + Wait + Sync + AllocGlobal>(rt: &R, fault: &Fault<'_>) -> Result<bool, Fail> {
-    let (outputs, starts, writes, text, line) = *fault;
+    let (outputs, [calls, starts, writes], text, line) = *fault;
     let scene = Scene {
         words: FIND,
         files: WITH_IDS,
         runs: NO_RUN,
         outputs,
         reads: &[],
-        calls: &[],
+        calls,
         starts,
         writes,
     };

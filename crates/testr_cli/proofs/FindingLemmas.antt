@@ -1,8 +1,9 @@
 -- How the search for causes goes on, step by step.
 use Rattle.std.proofs.Common.{◌≡◌, ℕ, ◌<◌, ◌+◌, Bool, true, false, Option, None, Some, IfSome, Result, Ok, Err, IfErr, List, [], ◌∷◌, ◌++◌, length, get_or, All, take, drop, refl, sym, ap, subst, ◌∙◌, arith}
-use Rattle.std.specs.Prelude.{slice_index_or, ◌||◌, if◌then◌else◌}
+use Rattle.std.specs.Prelude.{IsErrAnd, slice_index_or, ◌||◌, if◌then◌else◌}
 use Rattle.std.specs.List.{filter, list_any}
 use Rattle.std.proofs.lemmas.List.{at_drop_more, drop_all}
+use Rattle.std.proofs.lemmas.Result.{err_from_is_err_and}
 use Rattle.std.proofs.lemmas.List.Elements.{All-nil, All-push}
 use Rattle.edge_io.specs.Causes.{RisesExactlyIf}
 use Rattle.edge_io.specs.Disk.{Folder}
@@ -19,7 +20,7 @@ use Rattle.testr_conf.specs.Settings.{Settings}
 use Rattle.testr_cli.specs.Causes.{AreRanLists, IsPlaceOf, FindsRan, FindsCause, FindsEach, FindsCauses, ListsSuspects}
 use Rattle.testr_cli.specs.Outside.{Work}
 use Rattle.testr_cli.specs.RunSuite.{TellsRun}
-use Rattle.testr_cli.specs.Steps.{goes_on}
+use Rattle.testr_cli.specs.Steps.{stops, goes_on}
 use Rattle.testr_cli.specs.Verdicts.{verdict_of, verdict_code}
 use Rattle.testr_cli.specs.declared.answer.Verdict.{Verdict}
 use Rattle.testr_cli.specs.declared.answer.Verdict.TheVariants.{Passed, Failed}
@@ -107,6 +108,12 @@ leads_first settings number all start = λ end result finds. finds
 pub leads_on : (settings : Settings) (number : ℕ) (all : List Suspect) (index : ℕ) (one : Suspect) (start now next : Work) → index < length all → LeadsTo settings number all (drop index all) start now → FindsCause settings number (get_or all index one) now next (Ok tt) → LeadsTo settings number all (drop (index + 1) all) start next
 leads_on settings number all index one start now next below leads done = λ end result finds.
     leads end result (subst (λ (l : List Suspect). FindsEach settings number l now end result) (sym (at_drop_more (λ (l : List Suspect). l) all index one below)) (goes_on tt next done finds))
+
+-- the search for one of them refused
+pub leads_stop : (settings : Settings) (number : ℕ) (all : List Suspect) (index : ℕ) (one : Suspect) (start now end : Work) (fault : Refusal) (result : Result (Unit {0}) Refusal) → index < length all → LeadsTo settings number all (drop index all) start now → IsErrAnd result (λ given. given ≡ fault) → FindsCause settings number (get_or all index one) now end (Err fault) → FindsEach settings number all start end result
+leads_stop settings number all index one start now end fault result below leads is refused =
+    let p = err_from_is_err_and result is in
+    leads end result (subst (λ (l : List Suspect). FindsEach settings number l now end result) (sym (at_drop_more (λ (l : List Suspect). l) all index one below)) (stops fault (p.1 ∙ ap Err p.2) refused))
 
 pub leads_all : (settings : Settings) (number : ℕ) (all : List Suspect) (index : ℕ) (start now : Work) → length all ≡ index → LeadsTo settings number all (drop index all) start now → FindsEach settings number all start now (Ok tt)
 leads_all settings number all index start now is leads = leads now (Ok tt) (subst (λ (l : List Suspect). FindsEach settings number l now now (Ok tt)) (sym (drop_all index all (omega (arith, is)))) (record { answer = refl; same = refl }))
