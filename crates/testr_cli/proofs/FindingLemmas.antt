@@ -1,5 +1,5 @@
 -- How the search for causes goes on, step by step.
-use Rattle.std.proofs.Common.{◌≡◌, ℕ, ◌<◌, ◌+◌, Bool, true, false, Option, None, Some, IfSome, Result, Ok, Err, IfErr, List, [], ◌∷◌, ◌++◌, length, get_or, All, take, drop, refl, sym, ap, subst, ◌∙◌, arith}
+use Rattle.std.proofs.Common.{◌≡◌, ℕ, ◌<◌, ◌≤◌, ◌+◌, Bool, true, false, Option, None, Some, IfSome, Result, Ok, Err, IfErr, List, [], ◌∷◌, ◌++◌, length, get_or, All, take, drop, refl, sym, ap, subst, ◌∙◌, arith}
 use Rattle.std.specs.Prelude.{IsErrAnd, slice_index_or, ◌||◌, if◌then◌else◌}
 use Rattle.std.specs.List.{filter, list_any}
 use Rattle.std.proofs.lemmas.List.{at_drop_more, drop_all}
@@ -80,8 +80,8 @@ none_searched rows kept suspects kept_is is passed = ap length is ∙ ap (λ (l 
 pub lists_still : (number : ℕ) (lists : List LaneIds) (a b : Option Folder) → Goes a b Stays → AreRanLists number lists a → AreRanLists number lists b
 lists_still number lists a b stays are = subst (AreRanLists number lists) (sym (stays_is a b stays)) are
 
-pub lists_none : (number : ℕ) (a : Option Folder) → AreRanLists number [] a
-lists_none number a = All-nil (λ (one : LaneIds). IfSome a (HasRanAt number one.lane one.ids))
+pub lists_none : (number : ℕ) (lists : List LaneIds) (a : Option Folder) → lists ≡ [] → AreRanLists number lists a
+lists_none number lists a none = subst (λ (l : List LaneIds). AreRanLists number l a) (sym none) (All-nil (λ (one : LaneIds). IfSome a (HasRanAt number one.lane one.ids)))
 
 pub lists_more : (number : ℕ) (lists new : List LaneIds) (one : LaneIds) (a b : Option Folder) → Goes a b Stays → AreRanLists number lists a → IfSome a (HasRanAt number one.lane one.ids) → new ≡ lists ++ one ∷ [] → AreRanLists number new b
 lists_more number lists new one a b stays are ran is =
@@ -95,6 +95,9 @@ ran_at number lane place lists a b other is are same count =
     let there : IfSome b.told (HasRanAt number one.lane one.ids) = are place other is.below in
     let on_lane : IfSome b.told (HasRanAt number lane one.ids) = subst (λ (n : ℕ). IfSome b.told (HasRanAt number n one.ids)) (is.lane_is other) there in
     record { ids = subst (λ (o : Option Folder). IfSome o (HasRanAt number lane one.ids)) (stays_is a.told b.told same) on_lane; same = same; count = count }
+
+pub ran_here : (number lane place : ℕ) (lists : List LaneIds) (a b : Seen Folder) (one : LaneIds) → one ≡ get_or lists place one → IsPlaceOf lane lists place → AreRanLists number lists b.told → Goes a.told b.told Stays → RisesExactlyIf a.faults b.faults false → FindsRan number lane a b (Ok one.ids)
+ran_here number lane place lists a b one here is are same count = subst (λ (x : LaneIds). FindsRan number lane a b (Ok x.ids)) (sym here) (ran_at number lane place lists a b one is are same count)
 
 -- ---- one test after another
 
@@ -115,5 +118,5 @@ leads_stop settings number all index one start now end fault result below leads 
     let p = err_from_is_err_and result is in
     leads end result (subst (λ (l : List Suspect). FindsEach settings number l now end result) (sym (at_drop_more (λ (l : List Suspect). l) all index one below)) (stops fault (p.1 ∙ ap Err p.2) refused))
 
-pub leads_all : (settings : Settings) (number : ℕ) (all : List Suspect) (index : ℕ) (start now : Work) → length all ≡ index → LeadsTo settings number all (drop index all) start now → FindsEach settings number all start now (Ok tt)
-leads_all settings number all index start now is leads = leads now (Ok tt) (subst (λ (l : List Suspect). FindsEach settings number l now now (Ok tt)) (sym (drop_all index all (omega (arith, is)))) (record { answer = refl; same = refl }))
+pub leads_all : (settings : Settings) (number : ℕ) (all : List Suspect) (index : ℕ) (start now : Work) → length all ≤ index → LeadsTo settings number all (drop index all) start now → FindsEach settings number all start now (Ok tt)
+leads_all settings number all index start now is leads = leads now (Ok tt) (subst (λ (l : List Suspect). FindsEach settings number l now now (Ok tt)) (sym (drop_all index all is)) (record { answer = refl; same = refl }))

@@ -1,12 +1,16 @@
 -- What the steps of a run are given may be other terms of the same values.
-use Rattle.std.proofs.Common.{◌≡◌, ℕ, ◌<◌, ◌≤◌, Bool, true, Option, None, Some, IfSome, Result, List, [], ◌∷◌, ◌++◌, length, length-append, ap, subst, arith}
+use Rattle.std.proofs.Common.{◌≡◌, ℕ, ◌<◌, ◌≤◌, Bool, true, Option, None, Some, IfSome, Result, Err, List, [], ◌∷◌, ◌++◌, length, length-append, sym, ap, subst, ◌∙◌, arith}
+use Rattle.std.specs.Prelude.{IsErrAnd}
+use Rattle.std.proofs.lemmas.Result.{err_from_is_err_and}
 use Rattle.edge_io.specs.Disk.{Folder}
 use Rattle.edge_io.specs.Seen.{Seen}
 use Rattle.edge_io.specs.declared.job.Job.{Job}
 use Rattle.outcome_fold.specs.declared.row.Row.{Row}
 use Rattle.testr_conf.specs.Settings.{Settings}
 use Rattle.testr_cli.specs.Outside.{Work}
-use Rattle.testr_cli.specs.RunSuite.{Works, TellsAndFinds}
+use Rattle.suite_run.specs.Summed.{GivesSums}
+use Rattle.testr_cli.specs.RunSuite.{Works, TellsAndFinds, kept_in}
+use Rattle.testr_cli.specs.declared.working.Kept.{Kept}
 use Rattle.testr_cli.specs.declared.answer.Refusal.{Refusal}
 use Rattle.testr_cli.specs.declared.answer.Verdict.{Verdict}
 
@@ -14,8 +18,8 @@ pub works_as : {given partial : Bool} {number : ℕ} {given_jobs jobs : List Job
 works_as {given = given} {number = number} {jobs = jobs} {a = a} {b = b} {result = result} is jobs_are works =
     subst (λ (p : Bool). Works p number jobs a b result) is (subst (λ (l : List Job). Works given number l a b result) jobs_are works)
 
-pub finds_as : {asked : Bool} {settings : Settings} {given number : ℕ} {rows : List Row} {a b : Work} {result : Result Verdict Refusal} → given ≡ number → TellsAndFinds asked settings given rows a b result → TellsAndFinds asked settings number rows a b result
-finds_as {asked = asked} {settings = settings} {rows = rows} {a = a} {b = b} {result = result} is tells =
+pub finds_as : (asked : Bool) (settings : Settings) {given number : ℕ} {rows : List Row} {a b : Work} {result : Result Verdict Refusal} → given ≡ number → TellsAndFinds asked settings given rows a b result → TellsAndFinds asked settings number rows a b result
+finds_as asked settings {rows = rows} {a = a} {b = b} {result = result} is tells =
     subst (λ (n : ℕ). TellsAndFinds asked settings n rows a b result) is tells
 
 -- what is so of a value, where there is one
@@ -30,3 +34,9 @@ known_among given kinds partial number is count = omega (arith, ap length is, le
 -- what is seen of the folder stays, so what is told does
 pub told_still : (answer : ℕ) (find : Bool) (old new : Seen Folder) (before now : ℕ) → (answer ≤ 1 → (find ≡ true → answer ≡ 0) → (new ≡ old) × (now ≡ before)) → answer ≤ 1 → (find ≡ true → answer ≡ 0) → (new.told ≡ old.told) × (now ≡ before)
 told_still answer find old new before now still small quiet = (ap (λ (f : Seen Folder). f.told) (still small quiet).0, (still small quiet).1)
+
+-- an exit by `?` of the workers, of which nothing is kept
+pub keeps_fault : {filter_tags : List (List ℕ)} {Holds : Result (List Row) Refusal → Type 0} (result : Result Kept Refusal) (fault : Refusal) → IsErrAnd result (λ given. given ≡ fault) → Holds (Err fault) → GivesSums filter_tags Holds (kept_in result)
+keeps_fault {filter_tags = filter_tags} {Holds = Holds} result fault is holds =
+    let p = err_from_is_err_and result is in
+    subst (λ (r : Result Kept Refusal). GivesSums filter_tags Holds (kept_in r)) (sym (p.1 ∙ ap Err p.2)) (record { rows = []; sums = tt; holds = holds })

@@ -347,7 +347,7 @@ hands_never settings asked fault can hands = ((λ three. by (probe_job settings 
   where
     by : (job : Result Job JobFault) → IsOk job → (job ≡ Err fault) ⊎ (fault ≡ job_fault.NoMemory) → job_code fault ≡ 3 → ⊥
     by (Ok job) ok (inl is) three = cc
-    by (Err other) ok (inl is) three = absurd ok
+    by (Err other) ok (inl is) three = cc
     by job ok (inr is) three =
         let five : job_code fault ≡ 5 = ap job_code is in
         omega (arith, five, three)

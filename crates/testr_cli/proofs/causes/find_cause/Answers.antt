@@ -1,6 +1,6 @@
-use Rattle.std.proofs.Common.{refl}
+use Rattle.std.proofs.Common.{◌≡◌, get_or, refl, rules}
 use Rattle.testr_cli.specs.Steps.{stops}
-use Rattle.testr_cli.proofs.FindingLemmas.{ran_at}
+use Rattle.testr_cli.proofs.FindingLemmas.{ran_here}
 use Rattle.testr_cli.proofs.StepLemmas.{part_done}
 use Rattle.testr_cli.proofs.causes.find_cause.Goals as goal
 
@@ -8,6 +8,8 @@ pub returns-in-Err-clause-step : goal.returns-in-Err-clause-step
 returns-in-Err-clause-step g c = λ site input. stops c.in-Err.fault refl (record { at = record { ids = tt; same = c.read_lane.ensures.same; count = c.in-Err.ensures.count }; rest = refl })
 
 pub returns-in-Ok-clause-step : goal.returns-in-Ok-clause-step
-returns-in-Ok-clause-step g c = λ site input.
-    part_done _ _ (ran_at _ _ c.in-Ok.place _ _ _ _ c.in-Ok.ensures.place c.in-Ok.ensures.lists c.read_lane.ensures.same c.in-Ok.ensures.count)
-    (c.find_among.ensures _ site input)
+returns-in-Ok-clause-step g c =
+    let here : c.index.result.now ≡ get_or c.read_lane.new.lists.items c.in-Ok.place c.index.result.now = search rules in
+    λ site input.
+    part_done _ _ (ran_here _ _ c.in-Ok.place _ _ _ _ here c.in-Ok.ensures.place c.in-Ok.ensures.lists c.read_lane.ensures.same c.in-Ok.ensures.count)
+    (c.find_among.ensures (g.H.Shelf.seen c.read_lane.new.store.shelf.now) site input)

@@ -1,4 +1,4 @@
-use Rattle.std.proofs.Common.{◌≡◌, get_or, refl, subst, rules}
+use Rattle.std.proofs.Common.{◌≡◌, ◌∙◌, get_or, refl, rules}
 use Rattle.testr_cli.proofs.FindingLemmas.{lists_none, leads_first, leads_on, leads_stop, leads_all}
 use Rattle.testr_cli.proofs.causes.find_each.Goals as goal
 
@@ -8,7 +8,7 @@ loop-suspect-init g c = record {
   unbroken = c.requires.unbroken;
   kinds = refl;
   fits = c.requires.fits;
-  lists = lists_none _ _;
+  lists = lists_none c.args.number c.new-lists.result.items (g.H.Shelf.seen c.args.store.now.shelf.now).told c.new-lists.ensures.items;
   step = λ site input. leads_first _ _ _ _;
 }
 

@@ -53,7 +53,7 @@ returns-clause-step g c =
     (goes_on c.in_ok-selected.selected _ (c.in_ok-selected.ensures.step _ _)
     (goes_on c.in_ok-jobs.jobs.items _ (c.in_ok-jobs.ensures.step _ _ _ _)
     (goes_on sums.rows _ (works_as c.in_ok-asked.ensures.partial c.deref.ensures.value (sums.holds _ _ _))
-    (finds_as c.runs-number.ensures (c.tell_and_find-answer.ensures.step _ input sums.rows (rw c.in_ok-asked.ensures.filter_tags at sums.sums))))))))
+    (finds_as _ _ c.runs-number.ensures (c.tell_and_find-answer.ensures.step _ input sums.rows (rw c.in_ok-asked.ensures.filter_tags at sums.sums))))))))
 
 -- ---- how many calls there were
 

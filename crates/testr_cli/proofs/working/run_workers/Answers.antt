@@ -3,26 +3,25 @@ use Rattle.run_shelf.specs.Holds.{kinds_of, FitsWhereTold}
 use Rattle.testr_cli.specs.Steps.{stops}
 use Rattle.testr_cli.proofs.CallLemmas.{works_by_few, handed, start_other, lanes_other, refresh_other}
 use Rattle.testr_cli.proofs.StepLemmas.{part_done, part_stops, refreshes_as, gives}
-use Rattle.testr_cli.proofs.RunLemmas.{where_some}
-use Rattle.testr_cli.proofs.SumLemmas.{gives_fault}
+use Rattle.testr_cli.proofs.RunLemmas.{keeps_fault, where_some}
 use Rattle.testr_cli.proofs.working.run_workers.Goals as goal
 
 pub returns-in_err-begin-clause-step : goal.returns-in_err-begin-clause-step
-returns-in_err-begin-clause-step g c = gives_fault _ _ c.from_residual.ensures.1 (λ site input out. part_stops _ refl c.in_err-begin.ensures.step refl)
+returns-in_err-begin-clause-step g c = keeps_fault _ _ c.from_residual.ensures.1 (λ site input out. part_stops _ refl c.in_err-begin.ensures.step refl)
 
 pub returns-in_err-lanes-clause-step : goal.returns-in_err-lanes-clause-step
-returns-in_err-lanes-clause-step g c = gives_fault _ _ c.from_residual-in_err-lanes.ensures.1 (λ site input out.
+returns-in_err-lanes-clause-step g c = keeps_fault _ _ c.from_residual-in_err-lanes.ensures.1 (λ site input out.
     part_done _ _ c.in_ok-begin.ensures.step
     (part_stops _ refl c.in_err-lanes.ensures.step refl))
 
 pub returns-in_err-found-clause-step : goal.returns-in_err-found-clause-step
-returns-in_err-found-clause-step g c = gives_fault _ _ c.from_residual-in_err-found.ensures.1 (λ site input out.
+returns-in_err-found-clause-step g c = keeps_fault _ _ c.from_residual-in_err-found.ensures.1 (λ site input out.
     part_done _ _ c.in_ok-begin.ensures.step
     (part_done _ _ c.in_ok-lanes.ensures.step
     (part_stops _ refl c.in_err-found.ensures.step.holds refl)))
 
 pub returns-in_err-keep-clause-step : goal.returns-in_err-keep-clause-step
-returns-in_err-keep-clause-step g c = gives_fault _ _ c.from_residual-in_err-keep.ensures.1 (λ site input out.
+returns-in_err-keep-clause-step g c = keeps_fault _ _ c.from_residual-in_err-keep.ensures.1 (λ site input out.
     part_done _ _ c.in_ok-begin.ensures.step
     (part_done _ _ c.in_ok-lanes.ensures.step
     (part_done _ _ c.in_ok-found.ensures.step.holds
