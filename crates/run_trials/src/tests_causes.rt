@@ -12,8 +12,10 @@ const WITH_IDS: NamedFiles<'static> = &[(
     b"[DEFAULT]\ntest_command=run $IDOPTION\ntest_id_option=--ids $IDFILE\n",
 )];
 
-const WITHOUT_IDS: NamedFiles<'static> =
-    &[(b".testr.conf", b"[DEFAULT]\ntest_command=run $IDOPTION\n")];
+const WITHOUT_IDS: NamedFiles<'static> = &[(
+    b".testr.conf",
+    b"[DEFAULT]\ntest_command=run $IDOPTION\n",
+)];
 
 const LISTED: NamedFiles<'static> = &[(
     b".testr.conf",
@@ -25,16 +27,13 @@ const NO_RUN: NamedFiles<'static> = &[(b"format", b"subunit-store 1\n")];
 const ENDED: Finish = Finish::Exit(0);
 
 // `a` passed.
-const A_PASSED: &[u8] =
-    b"\xb3\x29\x03\x0a\x01\x61\xdd\xc1\xc7\xba";
+const A_PASSED: &[u8] = b"\xb3\x29\x03\x0a\x01\x61\xdd\xc1\xc7\xba";
 
 // `c` passed.
-const C_PASSED: &[u8] =
-    b"\xb3\x29\x03\x0a\x01\x63\x33\xcf\xa6\x96";
+const C_PASSED: &[u8] = b"\xb3\x29\x03\x0a\x01\x63\x33\xcf\xa6\x96";
 
 // `c` failed.
-const C_FAILED: &[u8] =
-    b"\xb3\x29\x06\x0a\x01\x63\x04\x11\x56\xa4";
+const C_FAILED: &[u8] = b"\xb3\x29\x06\x0a\x01\x63\x04\x11\x56\xa4";
 
 // `a` and `b` passed, and then `c` failed.
 const A_B_AND_C_FAILED: &[u8] =
@@ -61,8 +60,7 @@ const B_AND_C_FAIL: &[u8] =
     b"\xb3\x29\x06\x0a\x01\x62\x73\x16\x66\x32\xb3\x29\x06\x0a\x01\x63\x04\x11\x56\xa4";
 
 // `b` failed.
-const B_FAILED: &[u8] =
-    b"\xb3\x29\x06\x0a\x01\x62\x73\x16\x66\x32";
+const B_FAILED: &[u8] = b"\xb3\x29\x06\x0a\x01\x62\x73\x16\x66\x32";
 
 // `a` and `b` are there.
 const A_AND_B_EXIST: &[u8] =
@@ -73,8 +71,7 @@ const EXISTS_B_THEN_C_FAILED: &[u8] =
     b"\xb3\x29\x01\x0a\x01\x62\xee\xc1\x5e\x8b\xb3\x29\x06\x0a\x01\x63\x04\x11\x56\xa4";
 
 // `c` failed, as it is kept under lane 0.
-const C_KEPT: &[u8] =
-    b"\xb3\x2d\x06\x0c\x01\x63\x01\x30\x4d\x77\x4b\x9c";
+const C_KEPT: &[u8] = b"\xb3\x2d\x06\x0c\x01\x63\x01\x30\x4d\x77\x4b\x9c";
 
 const FIND: &[&str] = &["testr", "run", "--find-causes"];
 
@@ -130,9 +127,24 @@ const CAUSED: Row<'static> = (
     FIND,
     WITH_IDS,
     NO_RUN,
-    &[(A_B_AND_C_FAILED, ENDED), (C_PASSED, ENDED), (A_B_AND_C_FAILED, ENDED), (A_AND_C_PASSED, ENDED), (B_AND_C_FAILED, ENDED)],
-    (1, b"======================================================================\nFAIL: c\n----------------------------------------------------------------------\nRan 3 tests\nFAILED (id=0, failures=1)\nc: caused by b\n"),
-    &[ALL, probe(b"c\n"), probe(b"a\nb\nc\n"), probe(b"a\nc\n"), probe(b"b\nc\n")],
+    &[
+        (A_B_AND_C_FAILED, ENDED),
+        (C_PASSED, ENDED),
+        (A_B_AND_C_FAILED, ENDED),
+        (A_AND_C_PASSED, ENDED),
+        (B_AND_C_FAILED, ENDED),
+    ],
+    (
+        1,
+        b"======================================================================\nFAIL: c\n----------------------------------------------------------------------\nRan 3 tests\nFAILED (id=0, failures=1)\nc: caused by b\n",
+    ),
+    &[
+        ALL,
+        probe(b"c\n"),
+        probe(b"a\nb\nc\n"),
+        probe(b"a\nc\n"),
+        probe(b"b\nc\n"),
+    ],
 );
 
 // `c` fails behind both alone.
@@ -140,9 +152,24 @@ const SEVERAL: Row<'static> = (
     FIND,
     WITH_IDS,
     NO_RUN,
-    &[(A_B_AND_C_FAILED, ENDED), (C_PASSED, ENDED), (A_B_AND_C_FAILED, ENDED), (A_AND_C_PASSED, ENDED), (B_AND_C_PASSED, ENDED)],
-    (1, b"======================================================================\nFAIL: c\n----------------------------------------------------------------------\nRan 3 tests\nFAILED (id=0, failures=1)\nc: several tests together\n"),
-    &[ALL, probe(b"c\n"), probe(b"a\nb\nc\n"), probe(b"a\nc\n"), probe(b"b\nc\n")],
+    &[
+        (A_B_AND_C_FAILED, ENDED),
+        (C_PASSED, ENDED),
+        (A_B_AND_C_FAILED, ENDED),
+        (A_AND_C_PASSED, ENDED),
+        (B_AND_C_PASSED, ENDED),
+    ],
+    (
+        1,
+        b"======================================================================\nFAIL: c\n----------------------------------------------------------------------\nRan 3 tests\nFAILED (id=0, failures=1)\nc: several tests together\n",
+    ),
+    &[
+        ALL,
+        probe(b"c\n"),
+        probe(b"a\nb\nc\n"),
+        probe(b"a\nc\n"),
+        probe(b"b\nc\n"),
+    ],
 );
 
 // `c` fails alone.
@@ -151,7 +178,10 @@ const ALONE: Row<'static> = (
     WITH_IDS,
     NO_RUN,
     &[(A_AND_C_FAILED, ENDED), (C_FAILED, ENDED)],
-    (1, b"======================================================================\nFAIL: c\n----------------------------------------------------------------------\nRan 2 tests\nFAILED (id=0, failures=1)\nc: fails alone\n"),
+    (
+        1,
+        b"======================================================================\nFAIL: c\n----------------------------------------------------------------------\nRan 2 tests\nFAILED (id=0, failures=1)\nc: fails alone\n",
+    ),
     &[ALL, probe(b"c\n")],
 );
 
@@ -160,8 +190,15 @@ const NOT_SEEN: Row<'static> = (
     FIND,
     WITH_IDS,
     NO_RUN,
-    &[(A_AND_C_FAILED, ENDED), (C_PASSED, ENDED), (A_AND_C_PASSED, ENDED)],
-    (1, b"======================================================================\nFAIL: c\n----------------------------------------------------------------------\nRan 2 tests\nFAILED (id=0, failures=1)\nc: not reproduced\n"),
+    &[
+        (A_AND_C_FAILED, ENDED),
+        (C_PASSED, ENDED),
+        (A_AND_C_PASSED, ENDED),
+    ],
+    (
+        1,
+        b"======================================================================\nFAIL: c\n----------------------------------------------------------------------\nRan 2 tests\nFAILED (id=0, failures=1)\nc: not reproduced\n",
+    ),
     &[ALL, probe(b"c\n"), probe(b"a\nc\n")],
 );
 
@@ -171,7 +208,10 @@ const NO_CANDIDATE: Row<'static> = (
     WITH_IDS,
     NO_RUN,
     &[(EXISTS_B_THEN_C_FAILED, ENDED), (C_PASSED, ENDED)],
-    (1, b"======================================================================\nFAIL: c\n----------------------------------------------------------------------\nRan 1 tests\nFAILED (id=0, failures=1)\nc: not reproduced\n"),
+    (
+        1,
+        b"======================================================================\nFAIL: c\n----------------------------------------------------------------------\nRan 1 tests\nFAILED (id=0, failures=1)\nc: not reproduced\n",
+    ),
     &[ALL, probe(b"c\n")],
 );
 
@@ -191,7 +231,10 @@ const BAD_END: Row<'static> = (
     WITH_IDS,
     NO_RUN,
     &[(A_PASSED, Finish::Exit(2))],
-    (1, b"======================================================================\nFAIL: process-returncode\n----------------------------------------------------------------------\nreturncode 2\nRan 2 tests\nFAILED (id=0, failures=1)\n"),
+    (
+        1,
+        b"======================================================================\nFAIL: process-returncode\n----------------------------------------------------------------------\nreturncode 2\nRan 2 tests\nFAILED (id=0, failures=1)\n",
+    ),
     &[ALL],
 );
 
@@ -201,7 +244,10 @@ const PROBE_ENDS_BADLY: Row<'static> = (
     WITH_IDS,
     NO_RUN,
     &[(C_FAILED, ENDED), (C_PASSED, Finish::Exit(7))],
-    (1, b"======================================================================\nFAIL: c\n----------------------------------------------------------------------\nRan 1 tests\nFAILED (id=0, failures=1)\nc: not reproduced\n"),
+    (
+        1,
+        b"======================================================================\nFAIL: c\n----------------------------------------------------------------------\nRan 1 tests\nFAILED (id=0, failures=1)\nc: not reproduced\n",
+    ),
     &[ALL, probe(b"c\n")],
 );
 
@@ -211,7 +257,10 @@ const OF_FAILING: Row<'static> = (
     WITH_IDS,
     &[(b"format", b"subunit-store 1\n"), (b"0", C_KEPT)],
     &[(C_FAILED, ENDED), (C_FAILED, ENDED)],
-    (1, b"======================================================================\nFAIL: c\n----------------------------------------------------------------------\nRan 1 tests\nFAILED (id=1, failures=1)\nc: fails alone\n"),
+    (
+        1,
+        b"======================================================================\nFAIL: c\n----------------------------------------------------------------------\nRan 1 tests\nFAILED (id=1, failures=1)\nc: fails alone\n",
+    ),
     &[probe(b"c\n"), probe(b"c\n")],
 );
 
@@ -220,14 +269,25 @@ const TWO_FAIL: Row<'static> = (
     FIND,
     WITH_IDS,
     NO_RUN,
-    &[(B_AND_C_FAIL, ENDED), (B_FAILED, ENDED), (C_PASSED, ENDED), (B_AND_C_FAILED, ENDED)],
-    (1, b"======================================================================\nFAIL: b\n----------------------------------------------------------------------\n======================================================================\nFAIL: c\n----------------------------------------------------------------------\nRan 2 tests\nFAILED (id=0, failures=2)\nb: fails alone\nc: caused by b\n"),
+    &[
+        (B_AND_C_FAIL, ENDED),
+        (B_FAILED, ENDED),
+        (C_PASSED, ENDED),
+        (B_AND_C_FAILED, ENDED),
+    ],
+    (
+        1,
+        b"======================================================================\nFAIL: b\n----------------------------------------------------------------------\n======================================================================\nFAIL: c\n----------------------------------------------------------------------\nRan 2 tests\nFAILED (id=0, failures=2)\nb: fails alone\nc: caused by b\n",
+    ),
     &[ALL, probe(b"b\n"), probe(b"c\n"), probe(b"b\nc\n")],
 );
 
 #[test]
 fn the_cause_of_a_test_is_named(rt: HostRuntime) -> Result<(), Fail> {
-    for (number, row) in [CAUSED, SEVERAL, ALONE, NOT_SEEN, NO_CANDIDATE].iter().enumerate() {
+    for (number, row) in [CAUSED, SEVERAL, ALONE, NOT_SEEN, NO_CANDIDATE]
+        .iter()
+        .enumerate()
+    {
         assert!(rt; is_so(&rt, row)?, "row {number}");
     }
     Ok(())
@@ -235,7 +295,10 @@ fn the_cause_of_a_test_is_named(rt: HostRuntime) -> Result<(), Fail> {
 
 #[test]
 fn tests_that_fail_are_searched_and_no_others(rt: HostRuntime) -> Result<(), Fail> {
-    for (number, row) in [NONE_FAILED, BAD_END, PROBE_ENDS_BADLY, OF_FAILING, TWO_FAIL].iter().enumerate() {
+    for (number, row) in [NONE_FAILED, BAD_END, PROBE_ENDS_BADLY, OF_FAILING, TWO_FAIL]
+        .iter()
+        .enumerate()
+    {
         assert!(rt; is_so(&rt, row)?, "row {number}");
     }
     Ok(())
@@ -253,7 +316,10 @@ const ON_TWO: Row<'static> = (
         (C_FAILED, ENDED),
         (C_FAILED, ENDED),
     ],
-    (1, b"======================================================================\nFAIL: c\n----------------------------------------------------------------------\n======================================================================\nFAIL: c\n----------------------------------------------------------------------\nRan 2 tests\nFAILED (id=0, failures=2)\nc: fails alone\nc: fails alone\n"),
+    (
+        1,
+        b"======================================================================\nFAIL: c\n----------------------------------------------------------------------\n======================================================================\nFAIL: c\n----------------------------------------------------------------------\nRan 2 tests\nFAILED (id=0, failures=2)\nc: fails alone\nc: fails alone\n",
+    ),
     &[
         [b"run --list", NOTHING, NOTHING],
         [b"run --ids .testr-ids.0", b".testr-ids.0", b"a\n"],
@@ -271,12 +337,7 @@ fn a_test_is_searched_on_each_of_its_lanes(rt: HostRuntime) -> Result<(), Fail> 
 
 // What is found where something fails: the calls of the folder, the starts and the writes that do; what the output took by then,
 // and the line of the refusal, whose status is 4.
-type Fault<'a> = (
-    &'a [(&'a [u8], Finish)],
-    [&'a [u64]; 3],
-    &'a [u8],
-    &'a [u8],
-);
+type Fault<'a> = (&'a [(&'a [u8], Finish)], [&'a [u64]; 3], &'a [u8], &'a [u8]);
 
 const REPORTED: &[u8] =
     b"======================================================================\nFAIL: c\n----------------------------------------------------------------------\nRan 1 tests\nFAILED (id=0, failures=1)\n";
@@ -286,16 +347,50 @@ const TWO_REPORTED: &[u8] =
 
 const FAULTS: [Fault<'static>; 6] = [
     // the run is not read
-    (&[(C_FAILED, ENDED)], [&[21], &[], &[]], REPORTED, b"testr: fault of the repository folder\n"),
+    (
+        &[(C_FAILED, ENDED)],
+        [&[21], &[], &[]],
+        REPORTED,
+        b"testr: fault of the repository folder\n",
+    ),
     // a probe is not started, as where its file of ids cannot be written
-    (&[(C_FAILED, ENDED)], [&[], &[1], &[]], REPORTED, b"testr: fault starting a program\n"),
+    (
+        &[(C_FAILED, ENDED)],
+        [&[], &[1], &[]],
+        REPORTED,
+        b"testr: fault starting a program\n",
+    ),
     // its child is not read to its end, or not waited for
-    (&[(C_FAILED, ENDED), (C_PASSED, Finish::ReadFault)], [&[], &[], &[]], REPORTED, b"testr: fault reading a program\n"),
-    (&[(C_FAILED, ENDED), (C_PASSED, Finish::WaitFault)], [&[], &[], &[]], REPORTED, b"testr: fault reading a program\n"),
+    (
+        &[(C_FAILED, ENDED), (C_PASSED, Finish::ReadFault)],
+        [&[], &[], &[]],
+        REPORTED,
+        b"testr: fault reading a program\n",
+    ),
+    (
+        &[(C_FAILED, ENDED), (C_PASSED, Finish::WaitFault)],
+        [&[], &[], &[]],
+        REPORTED,
+        b"testr: fault reading a program\n",
+    ),
     // the line is not written
-    (&[(C_FAILED, ENDED), (C_PASSED, ENDED)], [&[], &[], &[1]], REPORTED, b"testr: fault writing output\n"),
+    (
+        &[(C_FAILED, ENDED), (C_PASSED, ENDED)],
+        [&[], &[], &[1]],
+        REPORTED,
+        b"testr: fault writing output\n",
+    ),
     // the search for the second test stops behind the line of the first one
-    (&[(B_AND_C_FAIL, ENDED), (B_FAILED, ENDED), (C_PASSED, Finish::ReadFault)], [&[], &[], &[]], TWO_REPORTED, b"testr: fault reading a program\n"),
+    (
+        &[
+            (B_AND_C_FAIL, ENDED),
+            (B_FAILED, ENDED),
+            (C_PASSED, Finish::ReadFault),
+        ],
+        [&[], &[], &[]],
+        TWO_REPORTED,
+        b"testr: fault reading a program\n",
+    ),
 ];
 
 fn leaves<R: Threads + Wait + Sync + AllocGlobal>(rt: &R, fault: &Fault<'_>) -> Result<bool, Fail> {

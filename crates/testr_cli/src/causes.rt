@@ -98,7 +98,9 @@ fn find_each<H: Shelf, S: Spawner, O: Sink>(
 {
     let mut lists = Vec::new(alloc);
     for suspect in suspects {
-        find_cause(alloc, conf, store, number, &mut lists, suspect, spawner, out)?;
+        find_cause(
+            alloc, conf, store, number, &mut lists, suspect, spawner, out,
+        )?;
     }
     Ok(())
 }

@@ -114,7 +114,17 @@ fn run_drawn<R: Threads + Wait + Sync, H: Shelf, S: Spawner>(
     let found = open(alloc, shelf)?;
     take_run(&found)?;
     let filter_tags = Tags::new(alloc);
-    match run_workers(rt, alloc, jobs, false, false, shelf, found, spawner, filter_tags) {
+    match run_workers(
+        rt,
+        alloc,
+        jobs,
+        false,
+        false,
+        shelf,
+        found,
+        spawner,
+        filter_tags,
+    ) {
         Ok(kept) => Ok(kept.summary),
         Err(refusal) => Err(refusal),
     }

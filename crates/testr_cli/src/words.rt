@@ -120,10 +120,7 @@ fn run_option(name: &str) -> Option<Kind>
 fn is_run_flag(name: &str) -> bool
     ensures { result ≡ is_flag_of_run name.now }
 {
-    name == "--partial"
-        || name == "--failing"
-        || name == "--parallel"
-        || name == "--find-causes"
+    name == "--partial" || name == "--failing" || name == "--parallel" || name == "--find-causes"
 }
 
 // The command of this verb and the words behind it.
