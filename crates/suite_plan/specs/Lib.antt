@@ -4,6 +4,7 @@ pub mod ConfFile
 pub mod LoadList
 pub mod Processors
 pub mod Firsts
+pub mod Saying
 pub mod Listing
 pub mod Calling
 pub mod FirstIds
