@@ -2,6 +2,9 @@ pub mod TextLemmas
 pub mod ConfLemmas
 pub mod TableLemmas
 pub mod FirstLemmas
+pub mod TailLemmas
+pub mod SaidLemmas
+pub mod ToldLemmas
 pub mod GatherLemmas
 pub mod CountLemmas
 pub mod CallLemmas

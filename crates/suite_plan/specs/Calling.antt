@@ -14,6 +14,7 @@ use Rattle.testr_conf.specs.Jobs.{count_job_of}
 use Rattle.testr_conf.specs.Settings.{Settings}
 use Rattle.testr_conf.specs.White.{trimmed}
 use Rattle.suite_plan.specs.Children.{StartsFor, IsBroken}
+use Rattle.suite_plan.specs.Saying.{told_of}
 use Rattle.suite_plan.specs.declared.calling.CallRefusal.{CallRefusal}
 use Rattle.suite_plan.specs.declared.calling.CallRefusal.TheVariants.{Spawn, Child, NoNumber, NoMemory}
 
@@ -42,11 +43,12 @@ pub record TellsNumber (number : ℕ) (output : Output) : Type 0 where
   pub ended : output.finish ≡ Exit (pos 0)
   pub number_is : called output.bytes ≡ Some number
 
--- the child ended with another status than 0, or its output tells no number
-pub record TellsNone (output : Output) : Type 0 where
+-- The child ended with another status than 0, or its output tells no number. This is told of its output, as a text.
+pub record TellsNone (said : List ℕ) (output : Output) : Type 0 where
   pub status : ℤ
   pub ended : output.finish ≡ Exit status
   pub none : (status ≡ pos 0 → ⊥) ⊎ (called output.bytes ≡ None)
+  pub says : said ≡ told_of output.bytes
 
 -- where there is no count job nothing is started
 abbrev pub CallsSo : Settings → Option ℕ → Spawning → Spawning → Type 0
@@ -57,7 +59,7 @@ CallsSo settings (Some number) s t = StartsCounting settings (TellsNumber number
 abbrev pub HasCallCause : Settings → CallRefusal → Spawning → Spawning → Type 0
 HasCallCause settings Spawn s t = IsSome (count_job_of settings) × Stays s t
 HasCallCause settings Child s t = StartsCounting settings (λ output. IsBroken output.finish) s t
-HasCallCause settings NoNumber s t = StartsCounting settings TellsNone s t
+HasCallCause settings (NoNumber said) s t = StartsCounting settings (TellsNone said) s t
 HasCallCause settings NoMemory s t = Stays s t ⊎ StartsCounting settings (λ output. ⊤) s t
 
 -- a start failed
@@ -65,7 +67,7 @@ abbrev pub call_failed : Result (Option ℕ) CallRefusal → Bool
 call_failed (Ok number) = false
 call_failed (Err Spawn) = true
 call_failed (Err Child) = false
-call_failed (Err NoNumber) = false
+call_failed (Err (NoNumber said)) = false
 call_failed (Err NoMemory) = false
 
 -- The step of a call for the number. None is told exactly where there is no count job, and but for want of memory.

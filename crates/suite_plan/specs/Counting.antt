@@ -1,22 +1,17 @@
--- The number that an output tells, while it is read piece by piece.
-use Rattle.std.specs.Prelude.{◌≡◌, ⊤, ℕ, List, take, Result, Ok, Err}
+-- The number that the output of a child tells.
+use Rattle.std.specs.Prelude.{⊤, ℕ, Result, Ok, Err}
 use Rattle.edge_io.specs.Children.{Output}
 use Rattle.suite_plan.specs.Calling.{TellsNumber, TellsNone}
 use Rattle.suite_plan.specs.Children.{IsBroken}
 use Rattle.suite_plan.specs.declared.calling.CallRefusal.{CallRefusal}
 use Rattle.suite_plan.specs.declared.calling.CallRefusal.TheVariants.{Spawn, Child, NoNumber, NoMemory}
-use Rattle.suite_plan.specs.declared.output_front.Head.{Head}
-
--- the first bytes of the output, one more than those that a number may have
-abbrev pub HasHead : Head → List ℕ → Type 0
-HasHead head bytes = head.bytes.items ≡ take 65 bytes
 
 -- what is answered of a child that was started and has this output
 abbrev pub TellsCount : Result ℕ CallRefusal → Output → Type 0
 TellsCount (Ok number) output = TellsNumber number output
 TellsCount (Err Spawn) output = ⊥
 TellsCount (Err Child) output = IsBroken output.finish
-TellsCount (Err NoNumber) output = TellsNone output
+TellsCount (Err (NoNumber said)) output = TellsNone said output
 TellsCount (Err NoMemory) output = ⊤
 
 -- it is answered of a child that was started
@@ -24,5 +19,5 @@ abbrev pub IsOfCounter : Result ℕ CallRefusal → Type 0
 IsOfCounter (Ok number) = ⊤
 IsOfCounter (Err Spawn) = ⊥
 IsOfCounter (Err Child) = ⊤
-IsOfCounter (Err NoNumber) = ⊤
+IsOfCounter (Err (NoNumber said)) = ⊤
 IsOfCounter (Err NoMemory) = ⊤

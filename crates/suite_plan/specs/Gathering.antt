@@ -1,7 +1,5 @@
--- The ids that an output lists, while it is read piece by piece.
+-- What an output lists, while it is read piece by piece.
 use Rattle.std.specs.Prelude.{◌≡◌, ◌≤◌, ⊤, ℕ, pos, List, length, Result, Ok, Err}
-use Rattle.std.specs.List.{filter_map}
-use Rattle.packet_codec.specs.declared.event.Event.{Event}
 use Rattle.edge_io.specs.Children.{Output}
 use Rattle.edge_io.specs.declared.child.Finish.TheVariants.{Exit}
 use Rattle.stream_reader.specs.declared.note.Note.{Note}
@@ -11,28 +9,24 @@ use Rattle.stream_reader.specs.Stream.{Held, BeginsWithNotes, GivesNotes}
 use Rattle.testr_conf.specs.declared.fault.JobFault.{JobFault}
 use Rattle.testr_conf.specs.declared.fault.JobFault.TheVariants as job
 use Rattle.suite_plan.specs.Children.{IsBroken}
-use Rattle.suite_plan.specs.FirstIds.{HasFirsts}
-use Rattle.suite_plan.specs.Listing.{listed_id, Lists, HasFailed}
-use Rattle.suite_plan.specs.declared.first_ids.FirstIds.{FirstIds}
-use Rattle.suite_plan.specs.declared.listed_ids.Gathered.{Gathered}
+use Rattle.suite_plan.specs.Listed.{HasListed}
+use Rattle.suite_plan.specs.Listing.{Lists, HasFailed}
+use Rattle.suite_plan.specs.declared.gathering.Gathered.{Gathered}
+use Rattle.suite_plan.specs.declared.listed.Listed.{Listed}
 use Rattle.suite_plan.specs.declared.listing.ListingRefusal.{ListingRefusal}
 use Rattle.suite_plan.specs.declared.listing.ListingRefusal.TheVariants.{NoListOption, Spawn, Child, Failed, NoMemory}
 
--- the ids of these events were gathered
-abbrev pub HasIdsOf : FirstIds → List Event → Type 0
-HasIdsOf found events = HasFirsts found (filter_map listed_id events)
-
--- the next notes were given, and their ids gathered behind those before
-pub record GathersNotes (notes : List Note) (before after : Held) (found : FirstIds) : Type 0 where
+-- the next notes were given, and what they tell was gathered behind what was before
+pub record GathersNotes (notes : List Note) (before after : Held) (listed : Listed) : Type 0 where
   pub all : List Note
   pub given : GivesNotes before notes after all
-  pub gathered : HasIdsOf found (events_of all)
+  pub gathered : HasListed listed (events_of all)
 
--- the ids of the notes that the bytes so far decide were gathered, and the rest of the bytes is held
+-- what the notes tell that the bytes so far decide was gathered, and the rest of the bytes is held
 pub record HasGathered (gathered : Gathered) (bytes : List ℕ) : Type 0 where
   pub notes : List Note
   pub begins : BeginsWithNotes bytes notes gathered.reader.bytes
-  pub found : HasIdsOf gathered.found (events_of notes)
+  pub listed : HasListed gathered.listed (events_of notes)
 
 -- few enough bytes are held that a piece can be fed
 abbrev pub HasRoomForPiece : Gathered → Type 0
@@ -49,7 +43,7 @@ TellsIds (Ok ids) output = (output.finish ≡ Exit (pos 0)) × Lists ids output.
 TellsIds (Err NoListOption) output = ⊥
 TellsIds (Err Spawn) output = ⊥
 TellsIds (Err Child) output = IsBroken output.finish
-TellsIds (Err (Failed status)) output = HasFailed status output
+TellsIds (Err (Failed status said)) output = HasFailed status said output
 TellsIds (Err NoMemory) output = ⊤
 
 -- it is answered of a child that was started
@@ -58,5 +52,5 @@ IsOfChild (Ok ids) = ⊤
 IsOfChild (Err NoListOption) = ⊥
 IsOfChild (Err Spawn) = ⊥
 IsOfChild (Err Child) = ⊤
-IsOfChild (Err (Failed status)) = ⊤
+IsOfChild (Err (Failed status said)) = ⊤
 IsOfChild (Err NoMemory) = ⊤

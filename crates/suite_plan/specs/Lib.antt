@@ -8,6 +8,8 @@ pub mod Saying
 pub mod Listing
 pub mod Calling
 pub mod FirstIds
+pub mod Tails
+pub mod Listed
 pub mod Outputs
 pub mod Gathering
 pub mod Counting

@@ -17,6 +17,7 @@ use Rattle.testr_conf.specs.Jobs.{list_job_of}
 use Rattle.testr_conf.specs.Settings.{Settings}
 use Rattle.suite_plan.specs.Children.{StartsFor, IsBroken}
 use Rattle.suite_plan.specs.Firsts.{firsts}
+use Rattle.suite_plan.specs.Saying.{Says}
 use Rattle.suite_plan.specs.declared.listing.ListingRefusal.{ListingRefusal}
 use Rattle.suite_plan.specs.declared.listing.ListingRefusal.TheVariants.{NoListOption, Spawn, Child, Failed, NoMemory}
 
@@ -62,17 +63,18 @@ pub record StartsListing (settings : Settings) (Meets : Output → Type 0) (s t 
   pub started : StartsFor job output s t
   pub meets : Meets output
 
--- the child ended with this status, which is not 0
-pub record HasFailed (status : ℤ) (output : Output) : Type 0 where
+-- the child ended with this status, which is not 0, and this is told of its output
+pub record HasFailed (status : ℤ) (said : List ℕ) (output : Output) : Type 0 where
   pub ended : output.finish ≡ Exit status
   pub other : status ≡ pos 0 → ⊥
+  pub says : Says said output.bytes
 
 -- why nothing is listed, and what was done by then
 abbrev pub HasListingCause : Settings → ListingRefusal → Spawning → Spawning → Type 0
 HasListingCause settings NoListOption s t = IsErr (list_job_of settings) × Stays s t
 HasListingCause settings Spawn s t = IsOk (list_job_of settings) × Stays s t
 HasListingCause settings Child s t = StartsListing settings (λ output. IsBroken output.finish) s t
-HasListingCause settings (Failed status) s t = StartsListing settings (HasFailed status) s t
+HasListingCause settings (Failed status said) s t = StartsListing settings (HasFailed status said) s t
 HasListingCause settings NoMemory s t = Stays s t ⊎ StartsListing settings (λ output. ⊤) s t
 
 -- a start failed
@@ -81,7 +83,7 @@ listing_failed (Ok ids) = false
 listing_failed (Err NoListOption) = false
 listing_failed (Err Spawn) = true
 listing_failed (Err Child) = false
-listing_failed (Err (Failed status)) = false
+listing_failed (Err (Failed status said)) = false
 listing_failed (Err NoMemory) = false
 
 -- The step of a listing. Without a list job nothing is started: so it is exactly then, and but for want of memory.

@@ -2,25 +2,26 @@
 
 ghost use Rattle.std.specs.Prelude.{◌≡◌, [], length, IfSome};
 ghost use Rattle.suite_plan.specs.Calling.{CallsOut};
-ghost use Rattle.suite_plan.specs.Counting.{HasHead, TellsCount, IsOfCounter};
+ghost use Rattle.suite_plan.specs.Counting.{TellsCount, IsOfCounter};
 
 use crate::count::called;
 use crate::output::{OutputFault, read_buffer, read_to_end};
-use crate::output_front::Head;
+use crate::tail::Tail;
 use edge_io::{Child, Failed, Spawner};
 use std::alloc::Global;
-use sub_number::NoMemory;
+use sub_number::{Bytes, NoMemory};
 use testr_conf::Conf;
 
 /// Why no number was told.
-#[derive(Clone, Copy, Debug, PartialEq, Eq)]
+#[derive(Drop)]
 pub enum CallRefusal {
     /// The child was not started.
     Spawn,
     /// The output of the child was not read to its end, or the child not waited for.
     Child,
-    /// The child ended with another status than 0, or its output is no number.
-    NoNumber,
+    /// The child ended with another status than 0, or its output is no number. What is told of its output
+    /// (docs/FORMATS.md, "What a failed job says").
+    NoNumber(Bytes),
     /// There is not enough memory.
     NoMemory,
 }
@@ -42,8 +43,8 @@ impl From<NoMemory> for CallRefusal {
 ///
 /// `Spawn` comes exactly where the start fails, and raises the spawner's count of faults; `Child` exactly where the
 /// reads of the child or the wait for it fail; `NoNumber` exactly where the child ended with another status than 0, its
-/// output has more than 64 bytes, or is not 1 to 9 digits between white space and newlines. In each case the child was
-/// waited for, and before that stopped where it was not read to its end.
+/// output has more than 64 bytes, or is not 1 to 9 digits between white space and newlines, and with it comes what is
+/// told of the output. In each case the child was waited for, and before that stopped where it was not read to its end.
 pub fn call_out<S: Spawner>(
     alloc: Global,
     conf: &Conf,
@@ -71,13 +72,13 @@ fn count_child<C: Child>(
     ensures of_child { IsOfCounter result }
     ensures told { IfSome (C.seen child.old).told (TellsCount result) }
 {
-    let mut head = Head::new(alloc);
-    match read_to_end(child, buffer, &mut head) {
-        Ok(0) => match called(head.bytes()) {
+    let mut output = Tail::new(alloc);
+    match read_to_end(child, buffer, &mut output) {
+        Ok(0) => match called(output.bytes()) {
             Some(number) => Ok(number),
-            None => Err(CallRefusal::NoNumber),
+            None => Err(CallRefusal::NoNumber(output.into_told(alloc)?)),
         },
-        Ok(_) => Err(CallRefusal::NoNumber),
+        Ok(_) => Err(CallRefusal::NoNumber(output.into_told(alloc)?)),
         Err(OutputFault::Child) => Err(CallRefusal::Child),
         Err(OutputFault::NoMemory) => Err(CallRefusal::NoMemory),
     }

@@ -10,11 +10,12 @@
 //!
 //! - `texts`: files that are read whole, and must not be too long
 //! - `conf_file`, `load_list`, `processors`: the configuration, a list of ids, and the table of processors
-//! - `output`, `output_front`, `note_ids`, `listed_ids`: what a child gives, read to its end
+//! - `output`, `gathering`, `notes`: what a child gives, read to its end
 //! - `listing`, `calling`, `count`: the tests that the project's listing tells of, and the number of workers that it calls out
-//! - `first_ids`: ids of which each stands once
+//! - `listed`, `first_ids`, `said`, `tail`: the ids that a listing tells, each once, and what is told of a program that failed
 //! - `patterns`, `choice`: which of the tests run
 //! - `sharing`, `lane_jobs`: which worker runs which of them, and the job of each worker
+//! - `laws`: what is told of every output
 #![tactic(auto)]
 
 mod calling;
@@ -22,16 +23,19 @@ mod choice;
 mod conf_file;
 mod count;
 mod first_ids;
+mod gathering;
 mod lane_jobs;
-mod listed_ids;
+mod laws;
+mod listed;
 mod listing;
 mod load_list;
-mod note_ids;
+mod notes;
 mod output;
-mod output_front;
 mod patterns;
 mod processors;
+mod said;
 mod sharing;
+mod tail;
 mod texts;
 
 pub use calling::{CallRefusal, call_out};
@@ -39,6 +43,7 @@ pub use choice::{choose, chosen, in_both};
 pub use conf_file::{ConfRefusal, read_conf};
 pub use first_ids::firsts;
 pub use lane_jobs::jobs_of_lanes;
+pub use laws::outputs_tell_one_text;
 pub use listing::{ListingRefusal, list_tests};
 pub use load_list::{ListRefusal, read_load_list};
 pub use patterns::{Compiled, PatternRefusal, compile};

@@ -6,15 +6,15 @@ ghost use Rattle.std.specs.Str.{bytes_eq};
 ghost use Rattle.suite_plan.specs.Gathering.{HasGathered, HasRoomForPiece, TellsIds, IsOfChild};
 ghost use Rattle.suite_plan.specs.Listing.{ListsTests};
 
-use crate::listed_ids::Gathered;
+use crate::gathering::Gathered;
 use crate::output::{OutputFault, read_buffer, read_to_end};
 use edge_io::{Child, Failed, Spawner};
 use std::alloc::Global;
-use sub_number::{IdList, NoMemory};
+use sub_number::{Bytes, IdList, NoMemory};
 use testr_conf::{Conf, JobFault};
 
 /// Why no tests were listed.
-#[derive(Clone, Copy, Debug, PartialEq, Eq)]
+#[derive(Drop)]
 pub enum ListingRefusal {
     /// `test_list_option` is not set, or `$LISTOPT` is not in `test_command`.
     NoListOption,
@@ -22,8 +22,9 @@ pub enum ListingRefusal {
     Spawn,
     /// The output of the child was not read to its end, or the child not waited for.
     Child,
-    /// The child ended with this status, which is not 0, or with the negative number of a signal.
-    Failed(i32),
+    /// The child ended with this status, which is not 0, or with the negative number of a signal. Beside it stands what is
+    /// told of its output (docs/FORMATS.md, "What a failed job says").
+    Failed(i32, Bytes),
     /// There is not enough memory.
     NoMemory,
 }
@@ -58,8 +59,8 @@ impl From<JobFault> for ListingRefusal {
 ///
 /// `NoListOption` comes exactly where there is no list job; then nothing is started. `Spawn` comes exactly where the
 /// start fails, and raises the spawner's count of faults; `Child` exactly where the reads of the child or the wait for
-/// it fail; `Failed` exactly where the child ended with another status than 0. In each case the child was waited for,
-/// and before that stopped where it was not read to its end.
+/// it fail; `Failed` exactly where the child ended with another status than 0, and with it comes what is told of its
+/// output. In each case the child was waited for, and before that stopped where it was not read to its end.
 pub fn list_tests<S: Spawner>(
     alloc: Global,
     conf: &Conf,
@@ -74,13 +75,14 @@ pub fn list_tests<S: Spawner>(
     let gathered = Gathered::new(alloc)?;
     let mut buffer = read_buffer(alloc)?;
     match spawner.start(&job) {
-        Ok(mut child) => list_child(&mut child, &mut buffer, gathered),
+        Ok(mut child) => list_child(alloc, &mut child, &mut buffer, gathered),
         Err(Failed) => Err(ListingRefusal::Spawn),
     }
 }
 
 // The ids that the output of the child lists.
 fn list_child<C: Child>(
+    alloc: Global,
     child: &mut C,
     buffer: &mut [u8],
     mut gathered: Gathered,
@@ -93,8 +95,11 @@ fn list_child<C: Child>(
     ensures distinct { IfOk result (IsDistinct bytes_eq) }
 {
     match read_to_end(child, buffer, &mut gathered) {
-        Ok(0) => Ok(gathered.close()?),
-        Ok(status) => Err(ListingRefusal::Failed(status)),
+        Ok(0) => Ok(gathered.close()?.into_ids()),
+        Ok(status) => {
+            let told = gathered.close()?.into_told(alloc)?;
+            Err(ListingRefusal::Failed(status, told))
+        }
         Err(OutputFault::Child) => Err(ListingRefusal::Child),
         Err(OutputFault::NoMemory) => Err(ListingRefusal::NoMemory),
     }

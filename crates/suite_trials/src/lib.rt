@@ -11,6 +11,8 @@ mod tests_suite_plan_choice;
 #[cfg(test)]
 mod tests_suite_plan_files;
 #[cfg(test)]
+mod tests_suite_plan_said;
+#[cfg(test)]
 mod tests_suite_run;
 #[cfg(test)]
 mod tests_suite_run_starting;

@@ -82,29 +82,59 @@ fn is_listed(alloc: Global, output: &[u8], piece: usize, wanted: &[u8]) -> Optio
     Some(same && started(&spawner, b"run --list"))
 }
 
+// Why no tests are listed, or no number is told, without what is told of the child.
+#[derive(Clone, Copy, Debug, PartialEq, Eq)]
+enum Why {
+    NoListOption,
+    Spawn,
+    Child,
+    Failed(i32),
+    NoNumber,
+    NoMemory,
+}
+
+fn why_unlisted(refusal: &ListingRefusal) -> Why {
+    match refusal {
+        ListingRefusal::NoListOption => Why::NoListOption,
+        ListingRefusal::Spawn => Why::Spawn,
+        ListingRefusal::Child => Why::Child,
+        ListingRefusal::Failed(status, _) => Why::Failed(*status),
+        ListingRefusal::NoMemory => Why::NoMemory,
+    }
+}
+
+fn why_uncalled(refusal: &CallRefusal) -> Why {
+    match refusal {
+        CallRefusal::Spawn => Why::Spawn,
+        CallRefusal::Child => Why::Child,
+        CallRefusal::NoNumber(_) => Why::NoNumber,
+        CallRefusal::NoMemory => Why::NoMemory,
+    }
+}
+
 fn refusal_of(alloc: Global, conf: &[u8], spawner: &mut PlanSpawner) -> Option<ListingRefusal> {
     let conf = conf_of(alloc, conf)?;
     list_tests(alloc, &conf, spawner).err()
 }
 
 // Why the child's tests are not listed; the list job was started.
-fn refused(alloc: Global, output: &[u8], finish: Finish) -> Option<ListingRefusal> {
+fn refused(alloc: Global, output: &[u8], finish: Finish) -> Option<Why> {
     let mut spawner = one_child(alloc, output, 5, finish)?;
-    let refusal = refusal_of(alloc, CONF, &mut spawner);
+    let refusal = refusal_of(alloc, CONF, &mut spawner)?;
     if started(&spawner, b"run --list") {
-        refusal
+        Some(why_unlisted(&refusal))
     } else {
         None
     }
 }
 
 // Why nothing is started.
-fn not_started(alloc: Global, text: &[u8], fails: &[u64]) -> Option<ListingRefusal> {
+fn not_started(alloc: Global, text: &[u8], fails: &[u64]) -> Option<Why> {
     let fails = Vec::from_slice(alloc, fails).ok()?;
     let mut spawner = PlanSpawner::new(alloc, Vec::new(alloc), fails);
-    let refusal = refusal_of(alloc, text, &mut spawner);
+    let refusal = refusal_of(alloc, text, &mut spawner)?;
     if spawner.started().is_empty() {
-        refusal
+        Some(why_unlisted(&refusal))
     } else {
         None
     }
@@ -138,39 +168,34 @@ fn ids_of_existing_tests_are_listed_once_in_pieces_of_every_size(rt: HostRuntime
 fn an_ending_of_another_kind_is_no_listing(rt: HostRuntime) {
     let alloc = rt.alloc();
     for output in [TWO, b"".as_slice(), CUT] {
-        assert!(rt; refused(alloc, output, Finish::Exit(3)) == Some(ListingRefusal::Failed(3)));
-        assert!(rt; refused(alloc, output, Finish::Exit(-9)) == Some(ListingRefusal::Failed(-9)));
-        assert!(rt; refused(alloc, output, Finish::ReadFault) == Some(ListingRefusal::Child));
-        assert!(rt; refused(alloc, output, Finish::WaitFault) == Some(ListingRefusal::Child));
+        assert!(rt; refused(alloc, output, Finish::Exit(3)) == Some(Why::Failed(3)));
+        assert!(rt; refused(alloc, output, Finish::Exit(-9)) == Some(Why::Failed(-9)));
+        assert!(rt; refused(alloc, output, Finish::ReadFault) == Some(Why::Child));
+        assert!(rt; refused(alloc, output, Finish::WaitFault) == Some(Why::Child));
     }
 }
 
 #[test]
 fn a_listing_that_is_not_started(rt: HostRuntime) {
     let alloc = rt.alloc();
-    assert!(rt; not_started(alloc, NOT_LISTED, &[]) == Some(ListingRefusal::NoListOption));
-    assert!(rt; not_started(alloc, NOT_ASKED, &[]) == Some(ListingRefusal::NoListOption));
+    assert!(rt; not_started(alloc, NOT_LISTED, &[]) == Some(Why::NoListOption));
+    assert!(rt; not_started(alloc, NOT_ASKED, &[]) == Some(Why::NoListOption));
     // No output is left, and the start is to fail.
-    assert!(rt; not_started(alloc, CONF, &[]) == Some(ListingRefusal::Spawn));
-    assert!(rt; not_started(alloc, CONF, &[0]) == Some(ListingRefusal::Spawn));
+    assert!(rt; not_started(alloc, CONF, &[]) == Some(Why::Spawn));
+    assert!(rt; not_started(alloc, CONF, &[0]) == Some(Why::Spawn));
 }
 
-fn call(alloc: Global, spawner: &mut PlanSpawner) -> Option<Result<u32, CallRefusal>> {
+fn call(alloc: Global, spawner: &mut PlanSpawner) -> Option<Result<u32, Why>> {
     let conf = conf_of(alloc, CONF)?;
     match call_out(alloc, &conf, spawner) {
         Ok(Some(number)) => Some(Ok(number)),
         Ok(None) => None,
-        Err(refusal) => Some(Err(refusal)),
+        Err(refusal) => Some(Err(why_uncalled(&refusal))),
     }
 }
 
 // The number that the child tells; the count job was started.
-fn told(
-    alloc: Global,
-    output: &[u8],
-    piece: usize,
-    finish: Finish,
-) -> Option<Result<u32, CallRefusal>> {
+fn told(alloc: Global, output: &[u8], piece: usize, finish: Finish) -> Option<Result<u32, Why>> {
     let mut spawner = one_child(alloc, output, piece, finish)?;
     let answer = call(alloc, &mut spawner);
     if started(&spawner, b"echo 3") {
@@ -190,24 +215,24 @@ fn seven(alloc: Global, size: usize) -> Option<Vec<u8>> {
     Some(output)
 }
 
-fn seven_told(alloc: Global, size: usize) -> Option<Result<u32, CallRefusal>> {
+fn seven_told(alloc: Global, size: usize) -> Option<Result<u32, Why>> {
     told(alloc, &seven(alloc, size)?, 7, Finish::Exit(0))
 }
 
 // What a child writes, and the number that it tells.
-const NUMBERS: [(&[u8], Result<u32, CallRefusal>); 12] = [
+const NUMBERS: [(&[u8], Result<u32, Why>); 12] = [
     (b"3\n", Ok(3)),
     (b" 12 \r\n", Ok(12)),
     (b"\n\t\x0b\x0c 007", Ok(7)),
     (b"0", Ok(0)),
     (b"999999999", Ok(999_999_999)),
-    (b"1000000000", Err(CallRefusal::NoNumber)),
-    (b"0000000001", Err(CallRefusal::NoNumber)),
-    (b"x", Err(CallRefusal::NoNumber)),
-    (b"-1", Err(CallRefusal::NoNumber)),
-    (b"1 2", Err(CallRefusal::NoNumber)),
-    (b"", Err(CallRefusal::NoNumber)),
-    (b" \n", Err(CallRefusal::NoNumber)),
+    (b"1000000000", Err(Why::NoNumber)),
+    (b"0000000001", Err(Why::NoNumber)),
+    (b"x", Err(Why::NoNumber)),
+    (b"-1", Err(Why::NoNumber)),
+    (b"1 2", Err(Why::NoNumber)),
+    (b"", Err(Why::NoNumber)),
+    (b" \n", Err(Why::NoNumber)),
 ];
 
 fn are_told(alloc: Global, piece: usize) -> bool {
@@ -227,36 +252,38 @@ fn numbers_that_are_called_out(rt: HostRuntime) {
 #[test]
 fn the_whole_output_of_a_number_has_64_bytes_at_most(rt: HostRuntime) {
     assert!(rt; seven_told(rt.alloc(), 64) == Some(Ok(7)));
-    assert!(rt; seven_told(rt.alloc(), 65) == Some(Err(CallRefusal::NoNumber)));
-    assert!(rt; seven_told(rt.alloc(), 1000) == Some(Err(CallRefusal::NoNumber)));
+    assert!(rt; seven_told(rt.alloc(), 65) == Some(Err(Why::NoNumber)));
+    assert!(rt; seven_told(rt.alloc(), 1000) == Some(Err(Why::NoNumber)));
 }
 
 #[test]
 fn an_ending_of_another_kind_is_no_number(rt: HostRuntime) {
     let alloc = rt.alloc();
     for output in [b"3\n".as_slice(), b"".as_slice()] {
-        assert!(rt; told(alloc, output, 1, Finish::Exit(1)) == Some(Err(CallRefusal::NoNumber)));
-        assert!(rt; told(alloc, output, 1, Finish::ReadFault) == Some(Err(CallRefusal::Child)));
-        assert!(rt; told(alloc, output, 1, Finish::WaitFault) == Some(Err(CallRefusal::Child)));
+        assert!(rt; told(alloc, output, 1, Finish::Exit(1)) == Some(Err(Why::NoNumber)));
+        assert!(rt; told(alloc, output, 1, Finish::ReadFault) == Some(Err(Why::Child)));
+        assert!(rt; told(alloc, output, 1, Finish::WaitFault) == Some(Err(Why::Child)));
     }
 }
 
 // What is answered where no child is there, and whether nothing was started.
-fn called_without_child(alloc: Global, text: &[u8]) -> Option<Result<Option<u32>, CallRefusal>> {
+fn called_without_child(alloc: Global, text: &[u8]) -> Option<Result<Option<u32>, Why>> {
     let conf = conf_of(alloc, text)?;
     let mut spawner = PlanSpawner::new(alloc, Vec::new(alloc), Vec::new(alloc));
     let answer = call_out(alloc, &conf, &mut spawner);
-    if spawner.started().is_empty() {
-        Some(answer)
-    } else {
-        None
+    if !spawner.started().is_empty() {
+        return None;
+    }
+    match answer {
+        Ok(number) => Some(Ok(number)),
+        Err(refusal) => Some(Err(why_uncalled(&refusal))),
     }
 }
 
 #[test]
 fn a_call_that_is_not_started(rt: HostRuntime) {
     assert!(rt; called_without_child(rt.alloc(), NOT_LISTED) == Some(Ok(None)));
-    assert!(rt; called_without_child(rt.alloc(), CONF) == Some(Err(CallRefusal::Spawn)));
+    assert!(rt; called_without_child(rt.alloc(), CONF) == Some(Err(Why::Spawn)));
 }
 
 fn letters_of(alloc: Global, letters: &[u8]) -> Option<IdList> {

@@ -1,28 +1,26 @@
-//! The ids that an output lists.
+//! What an output lists, while it is read piece by piece.
 
 ghost use Rattle.std.specs.Prelude.{◌≡◌, false};
 
-use crate::first_ids::FirstIds;
-use crate::note_ids::gather_notes;
+use crate::listed::Listed;
+use crate::notes::gather_notes;
 use crate::output::Taker;
 use std::alloc::Global;
 use stream_reader::Reader;
-use sub_number::{IdList, NoMemory};
+use sub_number::NoMemory;
 
-/// The ids that an output lists, while it is read piece by piece.
+/// What an output lists, while it is read piece by piece.
 #[derive(Drop)]
 pub(crate) struct Gathered {
     reader: Reader,
-    found: FirstIds,
+    listed: Listed,
     ghost open: { reader.ended ≡ false },
 }
 
 impl Gathered {
     ghost use Rattle.std.specs.Prelude.{ℕ, List, [], IfOk};
-    ghost use Rattle.std.specs.List.{IsDistinct};
-    ghost use Rattle.std.specs.Str.{bytes_eq};
     ghost use Rattle.suite_plan.specs.Gathering.{HasGathered, HasRoomForPiece};
-    ghost use Rattle.suite_plan.specs.Listing.{Lists};
+    ghost use Rattle.suite_plan.specs.Listed.{HasListedAll};
 
     /// Nothing was read yet.
     pub(crate) fn new(alloc: Global) -> Result<Self, NoMemory>
@@ -32,22 +30,21 @@ impl Gathered {
         let reader = Reader::new(alloc)?;
         Ok(Gathered {
             reader,
-            found: FirstIds::new(alloc),
+            listed: Listed::new(alloc),
         })
     }
 
-    /// The output has ended: gives the ids that it lists.
-    pub(crate) fn close(self) -> Result<IdList, NoMemory>
-        ensures lists { (bytes : List ℕ) → HasGathered self bytes → IfOk result (λ ids. Lists ids bytes) }
-        ensures distinct { (bytes : List ℕ) → HasGathered self bytes → IfOk result (IsDistinct bytes_eq) }
+    /// The output has ended: gives what it lists.
+    pub(crate) fn close(self) -> Result<Listed, NoMemory>
+        ensures { (bytes : List ℕ) → HasGathered self bytes → IfOk result (HasListedAll bytes) }
     {
         let Gathered {
             mut reader,
-            mut found,
+            mut listed,
         } = self;
         reader.finish();
-        gather_notes(&mut reader, &mut found)?;
-        Ok(found.into_ids())
+        gather_notes(&mut reader, &mut listed)?;
+        Ok(listed)
     }
 }
 
@@ -60,7 +57,7 @@ impl Taker for Gathered {
 
     fn take(&mut self, piece: &[u8]) -> Result<(), NoMemory> {
         self.reader.feed(piece);
-        gather_notes(&mut self.reader, &mut self.found)?;
+        gather_notes(&mut self.reader, &mut self.listed)?;
         Ok(())
     }
 }
