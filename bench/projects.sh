@@ -24,7 +24,7 @@ import streams
 from caches import Home, Said, found, remove
 from cases import LIMIT, PROGRAM, bytes_of, case, check, main, need, need_command, run, write
 from project import CONF, LISTS, WORKER, check_answer, check_clean, kept, packet, project, report
-from streams import RUNNABLE, SUCCESS, event, text
+from streams import FILE, RUNNABLE, SUCCESS, event, text
 
 MUCH = int(os.environ["MEBIBYTES"]) << 20
 # No command holds more than this, in KiB, however much a worker prints.
@@ -102,6 +102,24 @@ def a_listing_that_fails_is_refused():
     check_answer(run(folder, "list-tests"), 3, b"", "list-tests", b"testr: listing ended with 7\n")
     folder = project(conf="[DEFAULT]\ntest_command=./worker\n")
     check_answer(run(folder, "list-tests"), 3, b"", "list-tests", b"testr: .testr.conf: test_list_option is needed\n")
+
+
+@case
+def a_listing_that_fails_says_why():
+    need_command("list-tests")
+    folder = project(worker="#!/bin/sh\nprintf 'a line'\ncat why\nexit 2\n")
+    why = b"No module named 'nothere'\n"
+    write(folder, "why", event(FILE, text(b"import errors") + text(why)))
+    told = b"a line\n--- import errors ---\n" + why + b"testr: listing ended with 2\n"
+    check_answer(run(folder, "list-tests"), 3, b"", "list-tests", told)
+    check_answer(run(folder, "run", "a"), 3, b"", "run", told)
+    folder = project(conf=CONF + "test_run_concurrency=seq 20000\n")
+    status, out, err = run(folder, "run", "--parallel")
+    check((status, out) == (3, b""), f"a number of many lines: {status}, {out}")
+    numbers = b"".join(b"%d\n" % number for number in range(1, 20001))
+    told = b"...\n" + numbers[-65536:] + b"testr: test_run_concurrency gave no number\n"
+    check(err == told, f"what is told has {len(err)} bytes: {err[:40]}")
+    check_clean(folder)
 
 
 # Running.
@@ -313,6 +331,11 @@ def a_suite_of_python_runs():
     check_suite(run(folder, "run", "--failing"), 1, "FAILED (id=1, failures=1)")
     check_suite(run(folder, "run", "--parallel", "--concurrency=2"), 4, "FAILED (id=2, failures=1, skips=1)")
     check(ends_read_by_python(folder) == ends, "Python reads other ends of the run of two workers")
+    write(folder, "test_broken.py", b"import nothere\n")
+    status, out, err = run(folder, "list-tests")
+    check((status, out) == (3, b""), f"a broken import is listed: {status}, {out}")
+    check(err.startswith(b"--- import errors ---\n") and err.endswith(b"testr: listing ended with 2\n"), f"the import says {err}")
+    check(b"No module named 'nothere'" in err, f"the import says {err}")
     check_clean(folder)
 
 

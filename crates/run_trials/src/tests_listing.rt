@@ -5,7 +5,7 @@ use edge_io::{Finish, MemShelf, Shelf};
 use std::sync::Wait;
 use std::test::Fail;
 use std::thread::Threads;
-use trial_calls::{NOTHING, call_in, has_started, project_of, shows};
+use trial_calls::{NOTHING, call_in, has_started, project_of, repository, shows};
 
 // The tests `a` and `b`, and `a` once more, are there.
 const A_B_A: &[u8] =
@@ -65,6 +65,33 @@ const OTHER_ENDS: [(Finish, u8, &[u8]); 4] = [
     (Finish::ReadFault, 4, b"testr: fault reading a program\n"),
     (Finish::WaitFault, 4, b"testr: fault reading a program\n"),
 ];
+
+// A module could not be imported: the file `import errors`, and then a packet of a test and foreign bytes.
+const BROKEN: &[u8] =
+    b"\xb3 `@\x85\x17text/plain;charset=utf8\x0dimport errors@TFailed to import test module: test_b\nModuleNotFoundError: No module named 'nothere'\n\x0b\xda[\xec\xb3\x29\x01\n\x01aw\xc8\x0f1bye";
+
+const BROKEN_TOLD: &[u8] =
+    b"--- import errors ---\nFailed to import test module: test_b\nModuleNotFoundError: No module named 'nothere'\nbye\ntestr: listing ended with 2\n";
+
+// Whether these words tell why the import failed, and no more.
+fn tells_why<R: Threads + Wait + Sync + AllocGlobal>(rt: &R, words: &[&str]) -> Result<bool, Fail> {
+    let mut shelf = repository(rt.alloc(), &[])?;
+    let mut project = project_of(rt.alloc(), CONF, &[(BROKEN, Finish::Exit(2))], &[], &[])?;
+    shows(
+        rt,
+        words,
+        &mut shelf,
+        &mut project,
+        (3, NOTHING, BROKEN_TOLD),
+    )
+}
+
+#[test]
+fn a_listing_that_failed_says_why(rt: HostRuntime) -> Result<(), Fail> {
+    assert!(rt; tells_why(&rt, LIST)?);
+    assert!(rt; tells_why(&rt, &["testr", "run", "a"])?);
+    Ok(())
+}
 
 #[test]
 fn a_listing_may_end_otherwise(rt: HostRuntime) -> Result<(), Fail> {

@@ -12,7 +12,13 @@ const START_FAULT: &[u8] = b"testr: fault starting a program\n";
 
 const CHILD_FAULT: &[u8] = b"testr: fault reading a program\n";
 
-const NO_NUMBER: &[u8] = b"testr: test_run_concurrency gave no number\n";
+// What is told where the program printed `3`, `x` or `LONG_NUMBER`.
+const NO_NUMBER_OF_3: &[u8] = b"3\ntestr: test_run_concurrency gave no number\n";
+
+const NO_NUMBER_OF_X: &[u8] = b"x\ntestr: test_run_concurrency gave no number\n";
+
+const NO_NUMBER_OF_LONG: &[u8] =
+    b"3                                                                \ntestr: test_run_concurrency gave no number\n";
 
 // All that a run may ask for, and a pattern that is none.
 const ALL: &[&str] = &[
@@ -310,7 +316,7 @@ fn the_number_of_workers_comes_before_the_listing(rt: HostRuntime) -> Result<(),
             },
             1,
             3,
-            NO_NUMBER,
+            NO_NUMBER_OF_3,
         ),
         (
             Scene {
@@ -319,7 +325,7 @@ fn the_number_of_workers_comes_before_the_listing(rt: HostRuntime) -> Result<(),
             },
             1,
             3,
-            NO_NUMBER,
+            NO_NUMBER_OF_X,
         ),
         (
             Scene {
@@ -328,7 +334,7 @@ fn the_number_of_workers_comes_before_the_listing(rt: HostRuntime) -> Result<(),
             },
             1,
             3,
-            NO_NUMBER,
+            NO_NUMBER_OF_LONG,
         ),
     ];
     assert_eq!(rt; first_other(&rt, &rows)?, None);

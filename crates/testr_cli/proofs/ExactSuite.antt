@@ -26,6 +26,7 @@ use Rattle.suite_plan.specs.declared.patterns.PatternRefusal.TheVariants as patt
 use Rattle.partition_times.specs.Patterns.{IsPattern}
 use Rattle.filter_cli.proofs.BadLemmas.{good_not_bad}
 use Rattle.std.proofs.lemmas.Bool.{cases_lt}
+use Rattle.suite_plan.proofs.ToldLemmas.{one_text}
 use Rattle.suite_plan.specs.Listing.{ListsSo, HasFailed, HasListingCause, ListsTests}
 use Rattle.suite_plan.specs.LoadList.{IsLoadList, HasNoId, HasListCause, NamesList, ReadsLoadList}
 use Rattle.suite_plan.specs.Processors.{GivesProcessors, CountsProcessors, table_name}
@@ -253,10 +254,10 @@ abbrev Next : (Output → Type 0) → Spawning → Type 0
 Next Meets s = (output : Output) × (later : List Output) × (s.outputs ≡ output ∷ later) × Meets output
 
 module _ (settings : Settings) (before after : Seen Spawning) (result : Result (Option ℕ) CallRefusal) (calls : CallsOut settings before after result) where
-  pub bad_number : IsSome (count_job_of settings) → NextMeets TellsNone before → Comes call.NoNumber call.Spawn call.NoMemory result
-  bad_number some next = by before.told after.told result next calls.told calls.refused calls.jobless
+  pub bad_number : (said : List ℕ) → IsSome (count_job_of settings) → NextMeets (TellsNone said) before → Comes (call.NoNumber said) call.Spawn call.NoMemory result
+  bad_number said some next = by before.told after.told result next calls.told calls.refused calls.jobless
     where
-      by : (x y : Option Spawning) (result : Result (Option ℕ) CallRefusal) → IsSomeAnd x (Next TellsNone) → IfOk result (λ number. Goes x y (CallsSo settings number)) → IfErr result (λ refusal. Goes x y (HasCallCause settings refusal)) → (result ≡ Ok None → count_job_of settings ≡ None) → Comes call.NoNumber call.Spawn call.NoMemory result
+      by : (x y : Option Spawning) (result : Result (Option ℕ) CallRefusal) → IsSomeAnd x (Next (TellsNone said)) → IfOk result (λ number. Goes x y (CallsSo settings number)) → IfErr result (λ refusal. Goes x y (HasCallCause settings refusal)) → (result ≡ Ok None → count_job_of settings ≡ None) → Comes (call.NoNumber said) call.Spawn call.NoMemory result
       by None y result next gives cause jobless = absurd next
       by (Some s) y (Ok None) next gives cause jobless = absurd (some_job (count_job_of settings) some (jobless refl))
         where
@@ -266,28 +267,33 @@ module _ (settings : Settings) (before after : Seen Spawning) (result : Result (
       by (Some s) None (Ok (Some number)) next gives cause jobless = absurd gives
       by (Some s) (Some t) (Ok (Some number)) next gives cause jobless =
           let same : gives.output ≡ next.0 = first_is s t gives.job gives.output next.0 next.1 next.2 gives.started in
-          absurd (no_number number next.0 (subst (TellsNumber number) same gives.meets) next.3)
+          absurd (no_number number said next.0 (subst (TellsNumber number) same gives.meets) next.3)
       by (Some s) y (Err call.Spawn) next gives cause jobless = inr (inl refl)
       by (Some s) None (Err call.Child) next gives cause jobless = absurd cause
       by (Some s) (Some t) (Err call.Child) next gives cause jobless =
           let same : cause.output ≡ next.0 = first_is s t cause.job cause.output next.0 next.1 next.2 cause.started in
           absurd (not_broken next.0.finish next.3.status next.3.ended (subst (λ (o : Output). IsBroken o.finish) same cause.meets))
-      by (Some s) y (Err call.NoNumber) next gives cause jobless = inl refl
+      by (Some s) None (Err (call.NoNumber other)) next gives cause jobless = absurd cause
+      by (Some s) (Some t) (Err (call.NoNumber other)) next gives cause jobless =
+          let same : cause.output ≡ next.0 = first_is s t cause.job cause.output next.0 next.1 next.2 cause.started in
+          let meets : TellsNone other next.0 = subst (TellsNone other) same cause.meets in
+          inl (ap (λ (text : List ℕ). Err (call.NoNumber text)) (meets.says ∙ sym next.3.says))
       by (Some s) y (Err call.NoMemory) next gives cause jobless = inr (inr refl)
 
 module _ (settings : Settings) (before after : Seen Spawning) (result : Result Ids ListingRefusal) (lists : ListsTests settings before after result) where
   pub no_list_option : IsErr (list_job_of settings) → (result ≡ Err listing.NoListOption) ⊎ (result ≡ Err listing.NoMemory)
   no_list_option jobless = lists.exactly jobless
 
-  pub listing_failed : (status : ℤ) → IsOk (list_job_of settings) → NextMeets (HasFailed status) before → Comes (listing.Failed status) listing.Spawn listing.NoMemory result
-  listing_failed status job next = by before.told after.told result next lists.listed lists.refused lists.jobless
+  pub listing_failed : (status : ℤ) (said : List ℕ) → IsOk (list_job_of settings) → NextMeets (HasFailed status said) before → Comes (listing.Failed status said) listing.Spawn listing.NoMemory result
+  listing_failed status said job next = by before.told after.told result next lists.listed lists.refused lists.jobless
     where
-      same_status : (other : ℤ) (output : Output) → HasFailed status output → HasFailed other output → ◌≡◌ {A = Result Ids ListingRefusal} (Err (listing.Failed other)) (Err (listing.Failed status))
-      same_status other output one two =
+      same_status : (other : ℤ) (text : List ℕ) (output : Output) → HasFailed status said output → HasFailed other text output → ◌≡◌ {A = Result Ids ListingRefusal} (Err (listing.Failed other text)) (Err (listing.Failed status said))
+      same_status other text output one two =
           let both : Exit other ≡ Exit status = sym two.ended ∙ one.ended in
+          let texts : text ≡ said = one_text output.bytes text said two.says one.says in
           cc
 
-      by : (x y : Option Spawning) (result : Result Ids ListingRefusal) → IsSomeAnd x (Next (HasFailed status)) → IfOk result (λ ids. Goes x y (ListsSo settings ids)) → IfErr result (λ refusal. Goes x y (HasListingCause settings refusal)) → (result ≡ Err listing.NoListOption → IsErr (list_job_of settings)) → Comes (listing.Failed status) listing.Spawn listing.NoMemory result
+      by : (x y : Option Spawning) (result : Result Ids ListingRefusal) → IsSomeAnd x (Next (HasFailed status said)) → IfOk result (λ ids. Goes x y (ListsSo settings ids)) → IfErr result (λ refusal. Goes x y (HasListingCause settings refusal)) → (result ≡ Err listing.NoListOption → IsErr (list_job_of settings)) → Comes (listing.Failed status said) listing.Spawn listing.NoMemory result
       by None y result next gives cause jobless = absurd next
       by (Some s) None (Ok ids) next gives cause jobless = absurd gives
       by (Some s) (Some t) (Ok ids) next gives cause jobless =
@@ -300,10 +306,10 @@ module _ (settings : Settings) (before after : Seen Spawning) (result : Result I
       by (Some s) (Some t) (Err listing.Child) next gives cause jobless =
           let same : cause.output ≡ next.0 = first_is s t cause.job cause.output next.0 next.1 next.2 cause.started in
           absurd (not_broken next.0.finish status next.3.ended (subst (λ (o : Output). IsBroken o.finish) same cause.meets))
-      by (Some s) None (Err (listing.Failed other)) next gives cause jobless = absurd cause
-      by (Some s) (Some t) (Err (listing.Failed other)) next gives cause jobless =
+      by (Some s) None (Err (listing.Failed other text)) next gives cause jobless = absurd cause
+      by (Some s) (Some t) (Err (listing.Failed other text)) next gives cause jobless =
           let same : cause.output ≡ next.0 = first_is s t cause.job cause.output next.0 next.1 next.2 cause.started in
-          inl (same_status other next.0 next.3 (subst (HasFailed other) same cause.meets))
+          inl (same_status other text next.0 next.3 (subst (HasFailed other text) same cause.meets))
       by (Some s) y (Err listing.NoMemory) next gives cause jobless = inr (inr refl)
 
 -- ---- the jobs

@@ -26,3 +26,21 @@ module _ (front number rest given : List ℕ) (given_is : given ≡ front) (a b 
       rest_in_part third =
           subst (λ (l : List ℕ). AppendsPrefix a d (l ++ number ++ rest)) given_is
           (subst (λ (l : List ℕ). AppendsPrefix a d (given ++ number ++ l)) behind_is (prefix_behind a c d (given ++ number) behind (Appends-trans a b c given number first second) third))
+
+-- ---- what a program said, and a line behind it
+
+module _ (said line given : List ℕ) (given_is : given ≡ said) (a b : Option (List ℕ)) where
+  pub said_in_part : AppendsPrefix a b given → AppendsPrefix a b (said ++ line)
+  said_in_part first = subst (λ (l : List ℕ). AppendsPrefix a b (l ++ line)) given_is (prefix_of_front a b given line first)
+
+  module _ (first : Appends a b given) (behind : List ℕ) (behind_is : behind ≡ line) (c : Option (List ℕ)) where
+    pub line_in_part : AppendsPrefix b c behind → AppendsPrefix a c (said ++ line)
+    line_in_part second =
+        subst (λ (l : List ℕ). AppendsPrefix a c (l ++ line)) given_is
+        (subst (λ (l : List ℕ). AppendsPrefix a c (given ++ l)) behind_is (prefix_behind a b c given behind first second))
+
+    pub said_and_line : {T E : Type 0} (r : Result T E) → OnOk r (Appends b c behind) → OnOk r (Appends a c (said ++ line))
+    said_and_line (Err e) second = tt
+    said_and_line (Ok x) second =
+        subst (λ (l : List ℕ). Appends a c (l ++ line)) given_is
+        (subst (λ (l : List ℕ). Appends a c (given ++ l)) behind_is (Appends-trans a b c given behind first second))

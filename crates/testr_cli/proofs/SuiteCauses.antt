@@ -133,8 +133,8 @@ pub broken_never : (output : Output) → output.finish ≡ Exit (pos 0) → IsBr
 broken_never output ended (inl broken) = cc
 broken_never output ended (inr broken) = cc
 
-failed_never : (status : ℤ) (output : Output) → output.finish ≡ Exit (pos 0) → HasFailed status output → ⊥
-failed_never status output ended failed =
+failed_never : (status : ℤ) (said : List ℕ) (output : Output) → output.finish ≡ Exit (pos 0) → HasFailed status said output → ⊥
+failed_never status said output ended failed =
     let both : Exit status ≡ Exit (pos 0) = sym failed.ended ∙ ended in
     failed.other cc
 
@@ -146,7 +146,7 @@ listing_cause : (settings : Settings) (fault : ListingRefusal) (s t : Spawning) 
 listing_cause settings listing.NoListOption s t job ends cause = ((λ three. not_ok (list_job_of settings) job cause.0), (λ child. child))
 listing_cause settings listing.Spawn s t job ends cause = ((λ three. omega arith), (λ child. child))
 listing_cause settings listing.Child s t job ends cause = ((λ three. omega arith), (λ child. broken_never cause.output (ends_first s t cause.job cause.output ends cause.started) cause.meets))
-listing_cause settings (listing.Failed status) s t job ends cause = ((λ three. failed_never status cause.output (ends_first s t cause.job cause.output ends cause.started) cause.meets), (λ child. child))
+listing_cause settings (listing.Failed status said) s t job ends cause = ((λ three. failed_never status said cause.output (ends_first s t cause.job cause.output ends cause.started) cause.meets), (λ child. child))
 listing_cause settings listing.NoMemory s t job ends cause = ((λ three. omega arith), (λ child. child))
 
 pub listing_never : (settings : Settings) (a b : Seen Spawning) (fault : ListingRefusal) → IsOk (list_job_of settings) → IsSomeAnd a.told (EndsWell 0) → ListsTests settings a b (Err fault) → NoCause (refusal.Listing fault)

@@ -158,8 +158,8 @@ table_never a b fault short counts = (
 
 -- ---- the number that a child tells
 
-pub no_number : (number : ℕ) (output : Output) → TellsNumber number output → TellsNone output → ⊥
-no_number number output tells none = by none.none
+pub no_number : (number : ℕ) (said : List ℕ) (output : Output) → TellsNumber number output → TellsNone said output → ⊥
+no_number number said output tells none = by none.none
   where
     by : (none.status ≡ pos 0 → ⊥) ⊎ (called output.bytes ≡ None) → ⊥
     by (inl other) =
@@ -184,9 +184,9 @@ call_cause settings call.Spawn s t tells cause = ((λ three. omega arith), (λ c
 call_cause settings call.Child s t tells cause =
     let told = counting_tells settings (λ output. IsBroken output.finish) s t tells cause in
     ((λ three. omega arith), (λ child. broken_never cause.output told.1.ended cause.meets))
-call_cause settings call.NoNumber s t tells cause =
-    let told = counting_tells settings TellsNone s t tells cause in
-    ((λ three. no_number told.0 cause.output told.1 cause.meets), (λ child. child))
+call_cause settings (call.NoNumber said) s t tells cause =
+    let told = counting_tells settings (TellsNone said) s t tells cause in
+    ((λ three. no_number told.0 said cause.output told.1 cause.meets), (λ child. child))
 call_cause settings call.NoMemory s t tells cause = ((λ three. omega arith), (λ child. child))
 
 call_never : (settings : Settings) (a b : Seen Spawning) (fault : CallRefusal) → IsSomeAnd a.told (CountIsTold (calls_in settings)) → CallsOut settings a b (Err fault) → NoCause (refusal.Call fault)

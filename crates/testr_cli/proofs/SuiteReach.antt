@@ -61,7 +61,7 @@ calls_few settings (Ok None) a b calls = goes_weaker a.told b.told Stays (AsksFe
 calls_few settings (Ok (Some number)) a b calls = goes_weaker a.told b.told (CallsSo settings (Some number)) (AsksFew 1) calls.told (λ s t starts. starts_few starts.job starts.output s t starts.started)
 calls_few settings (Err call.Spawn) a b calls = goes_weaker a.told b.told (HasCallCause settings call.Spawn) (AsksFew 1) calls.refused (λ s t cause. stays_few 1 s t cause.1)
 calls_few settings (Err call.Child) a b calls = goes_weaker a.told b.told (HasCallCause settings call.Child) (AsksFew 1) calls.refused (λ s t starts. starts_few starts.job starts.output s t starts.started)
-calls_few settings (Err call.NoNumber) a b calls = goes_weaker a.told b.told (HasCallCause settings call.NoNumber) (AsksFew 1) calls.refused (λ s t starts. starts_few starts.job starts.output s t starts.started)
+calls_few settings (Err (call.NoNumber said)) a b calls = goes_weaker a.told b.told (HasCallCause settings (call.NoNumber said)) (AsksFew 1) calls.refused (λ s t starts. starts_few starts.job starts.output s t starts.started)
 calls_few settings (Err call.NoMemory) a b calls = goes_weaker a.told b.told (HasCallCause settings call.NoMemory) (AsksFew 1) calls.refused by
   where
     by : (s t : Spawning) → HasCallCause settings call.NoMemory s t → AsksFew 1 s t
@@ -73,7 +73,7 @@ lists_few settings (Ok ids) a b lists = goes_weaker a.told b.told (ListsSo setti
 lists_few settings (Err listing.NoListOption) a b lists = goes_weaker a.told b.told (HasListingCause settings listing.NoListOption) (AsksFew 1) lists.refused (λ s t cause. stays_few 1 s t cause.1)
 lists_few settings (Err listing.Spawn) a b lists = goes_weaker a.told b.told (HasListingCause settings listing.Spawn) (AsksFew 1) lists.refused (λ s t cause. stays_few 1 s t cause.1)
 lists_few settings (Err listing.Child) a b lists = goes_weaker a.told b.told (HasListingCause settings listing.Child) (AsksFew 1) lists.refused (λ s t starts. starts_few starts.job starts.output s t starts.started)
-lists_few settings (Err (listing.Failed status)) a b lists = goes_weaker a.told b.told (HasListingCause settings (listing.Failed status)) (AsksFew 1) lists.refused (λ s t starts. starts_few starts.job starts.output s t starts.started)
+lists_few settings (Err (listing.Failed status said)) a b lists = goes_weaker a.told b.told (HasListingCause settings (listing.Failed status said)) (AsksFew 1) lists.refused (λ s t starts. starts_few starts.job starts.output s t starts.started)
 lists_few settings (Err listing.NoMemory) a b lists = goes_weaker a.told b.told (HasListingCause settings listing.NoMemory) (AsksFew 1) lists.refused by
   where
     by : (s t : Spawning) → HasListingCause settings listing.NoMemory s t → AsksFew 1 s t

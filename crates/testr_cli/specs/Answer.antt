@@ -1,5 +1,5 @@
 -- The refusals, each of one step, with its status and its line, which are that step's (docs/COMMANDS.md, "Refusals").
-use Rattle.std.specs.Prelude.{⊤, ℕ, Bool, true, false, Option, None, Some, List, Result, Ok, Err}
+use Rattle.std.specs.Prelude.{⊤, ℕ, Bool, true, false, Option, None, Some, List, [], ◌++◌, Result, Ok, Err}
 use Rattle.run_shelf.specs.declared.faults.InitFault.TheVariants as init_fault
 use Rattle.run_shelf.specs.declared.faults.OpenFault.TheVariants as open_fault
 use Rattle.run_shelf.specs.declared.faults.ShelfCall.{ShelfCall}
@@ -11,7 +11,7 @@ use Rattle.testr_cli.specs.Store.{init_code, init_text, open_code, open_text, ru
 use Rattle.testr_cli.specs.Recording.{record_code, record_text}
 use Rattle.testr_cli.specs.Reporting.{memory_text, print_text}
 use Rattle.testr_cli.specs.Told.{tell_code, tell_text}
-use Rattle.testr_cli.specs.SuiteTexts.{conf_code, conf_text, pattern_code, pattern_text, list_code, list_text, call_code, call_text, table_code, table_text, listing_code, listing_text, job_code, job_text, start_code, start_text, lanes_code, lanes_text, search_code, search_text}
+use Rattle.testr_cli.specs.SuiteTexts.{conf_code, conf_text, pattern_code, pattern_text, list_code, list_text, call_code, call_said, call_text, table_code, table_text, listing_code, listing_said, listing_text, job_code, job_text, start_code, start_text, lanes_code, lanes_text, search_code, search_text}
 use Rattle.testr_cli.specs.Verdicts.{verdict_code}
 use Rattle.suite_causes.specs.declared.searching.SearchFault.TheVariants as search_fault
 use Rattle.suite_plan.specs.declared.calling.CallRefusal.TheVariants as call
@@ -54,30 +54,40 @@ refusal_code (Ran fault) = tell_code fault
 refusal_code (Search fault) = search_code fault
 
 -- the line of a refusal
+abbrev pub refusal_line : Refusal → List ℕ
+refusal_line (Usage fault) = usage_text fault
+refusal_line (Init fault) = init_text fault
+refusal_line (Open fault) = open_text fault
+refusal_line (Runs fault) = runs_text fault
+refusal_line (Record fault) = record_text fault
+refusal_line (Memory fault) = memory_text
+refusal_line (Keep fault) = keep_text
+refusal_line (Refresh fault) = tell_text fault
+refusal_line (Tell fault) = tell_text fault
+refusal_line (Print fault) = print_text
+refusal_line (Conf fault) = conf_text fault
+refusal_line (Pattern fault) = pattern_text fault
+refusal_line (LoadList fault) = list_text fault
+refusal_line (Call fault) = call_text fault
+refusal_line (Table fault) = table_text fault
+refusal_line (Listing fault) = listing_text fault
+refusal_line (Job fault) = job_text fault
+refusal_line (Start fault) = start_text fault
+refusal_line (Lanes fault) = lanes_text fault
+refusal_line (Report fault) = memory_text
+refusal_line (Suspects fault) = memory_text
+refusal_line (Ran fault) = tell_text fault
+refusal_line (Search fault) = search_text fault
+
+-- what the program said that a refusal is of, where it failed
+abbrev pub refusal_said : Refusal → List ℕ
+refusal_said (Call fault) = call_said fault
+refusal_said (Listing fault) = listing_said fault
+refusal_said refusal = []
+
+-- what is told of a refusal: that, and the line
 abbrev pub refusal_text : Refusal → List ℕ
-refusal_text (Usage fault) = usage_text fault
-refusal_text (Init fault) = init_text fault
-refusal_text (Open fault) = open_text fault
-refusal_text (Runs fault) = runs_text fault
-refusal_text (Record fault) = record_text fault
-refusal_text (Memory fault) = memory_text
-refusal_text (Keep fault) = keep_text
-refusal_text (Refresh fault) = tell_text fault
-refusal_text (Tell fault) = tell_text fault
-refusal_text (Print fault) = print_text
-refusal_text (Conf fault) = conf_text fault
-refusal_text (Pattern fault) = pattern_text fault
-refusal_text (LoadList fault) = list_text fault
-refusal_text (Call fault) = call_text fault
-refusal_text (Table fault) = table_text fault
-refusal_text (Listing fault) = listing_text fault
-refusal_text (Job fault) = job_text fault
-refusal_text (Start fault) = start_text fault
-refusal_text (Lanes fault) = lanes_text fault
-refusal_text (Report fault) = memory_text
-refusal_text (Suspects fault) = memory_text
-refusal_text (Ran fault) = tell_text fault
-refusal_text (Search fault) = search_text fault
+refusal_text refusal = refusal_said refusal ++ refusal_line refusal
 
 -- the part whose call failed, where the refusal is a fault
 abbrev pub place_of : Refusal → Option Place

@@ -56,7 +56,7 @@ pub record GivesUp (before after : Work) (outcome : Result Verdict Refusal) : Ty
   pub memory : outcome ≡ Err (Memory fault)
   pub same : after ≡ before
 
--- the line of a refusal went to the errors' sink: whole, or in part where that sink failed
+-- what is told of a refusal went to the errors' sink: whole, or in part where that sink failed
 abbrev pub TellsLine : Result Verdict Refusal → Seen (List ℕ) → Seen (List ℕ) → Type 0
 TellsLine (Ok verdict) before after = after ≡ before
 TellsLine (Err refusal) before after = AppendsPrefix before.told after.told (refusal_text refusal) × (Appends before.told after.told (refusal_text refusal) ⊎ Rose before.faults after.faults)

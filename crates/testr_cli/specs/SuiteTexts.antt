@@ -1,5 +1,5 @@
 -- What the refusals of the steps of `run` and `list-tests` say, and their statuses (docs/COMMANDS.md, "Refusals").
-use Rattle.std.specs.Prelude.{ℕ, List, ◌++◌, codes}
+use Rattle.std.specs.Prelude.{ℕ, List, [], ◌++◌, codes}
 use Rattle.std.specs.Fmt.{decimal, signed_decimal}
 use Rattle.suite_causes.specs.declared.searching.SearchFault.{SearchFault}
 use Rattle.suite_causes.specs.declared.searching.SearchFault.TheVariants as search_fault
@@ -105,14 +105,19 @@ list_text load_list.NoMemory = short_text
 abbrev pub call_code : CallRefusal → ℕ
 call_code call.Spawn = 4
 call_code call.Child = 4
-call_code call.NoNumber = 3
+call_code (call.NoNumber said) = 3
 call_code call.NoMemory = 5
+
+-- what the program said that was to call the number out, where it told none
+abbrev pub call_said : CallRefusal → List ℕ
+call_said (call.NoNumber said) = said
+call_said fault = []
 
 -- the line where the number of workers is not called out
 abbrev pub call_text : CallRefusal → List ℕ
 call_text call.Spawn = spawn_text
 call_text call.Child = child_text
-call_text call.NoNumber = codes "testr: test_run_concurrency gave no number\n"
+call_text (call.NoNumber said) = codes "testr: test_run_concurrency gave no number\n"
 call_text call.NoMemory = short_text
 
 -- the status where the table of processors is refused
@@ -139,15 +144,20 @@ abbrev pub listing_code : ListingRefusal → ℕ
 listing_code listing.NoListOption = 3
 listing_code listing.Spawn = 4
 listing_code listing.Child = 4
-listing_code (listing.Failed status) = 3
+listing_code (listing.Failed status said) = 3
 listing_code listing.NoMemory = 5
+
+-- what the listing said that failed
+abbrev pub listing_said : ListingRefusal → List ℕ
+listing_said (listing.Failed status said) = said
+listing_said fault = []
 
 -- the line where the tests are not listed
 abbrev pub listing_text : ListingRefusal → List ℕ
 listing_text listing.NoListOption = key_text key.ListOption
 listing_text listing.Spawn = spawn_text
 listing_text listing.Child = child_text
-listing_text (listing.Failed status) = codes "testr: listing ended with " ++ signed_decimal status ++ codes "\n"
+listing_text (listing.Failed status said) = codes "testr: listing ended with " ++ signed_decimal status ++ codes "\n"
 listing_text listing.NoMemory = short_text
 
 -- the status where a job is not made

@@ -7,6 +7,9 @@ use crate::copying::CopyFault;
 use crate::recording::RecordFault;
 use crate::reporting::PrintFault;
 use crate::store::{KeepFault, RunsFault};
+use crate::suite_refusals::{
+    call_code, call_line, call_said, listing_code, listing_line, listing_said,
+};
 use crate::telling::{Line, Refuses};
 use crate::told::TellFault;
 use crate::words::UsageFault;
@@ -43,7 +46,7 @@ impl Verdict {
 }
 
 /// Why a command was not done, or not done to its end: by the step that refused.
-#[derive(Clone, Copy, Debug, PartialEq, Eq)]
+#[derive(Drop)]
 pub enum Refusal<'a> {
     /// The words are no command.
     Usage(UsageFault),
@@ -277,60 +280,71 @@ impl<'a> From<LanesRefusal> for Refusal<'a> {
 }
 
 impl<'a> Refusal<'a> {
-    ghost use Rattle.testr_cli.specs.Answer.{refusal_code, refusal_text};
+    ghost use Rattle.testr_cli.specs.Answer.{refusal_code, refusal_said, refusal_line};
 
     /// The exit status: 2 for words, 3 for a named refusal, 4 for a fault of the outside, 5 for want of memory.
-    pub fn code(self) -> u8
-        ensures { result ≡ refusal_code self.entry }
+    pub fn code(&self) -> u8
+        ensures { result ≡ refusal_code self.now }
     {
         match self {
             Refusal::Usage(_) => 2,
-            Refusal::Init(fault) => fault.code(),
-            Refusal::Open(fault) => fault.code(),
+            Refusal::Init(fault) => (*fault).code(),
+            Refusal::Open(fault) => (*fault).code(),
             Refusal::Runs(_) => 3,
-            Refusal::Record(fault) => fault.code(),
-            Refusal::Refresh(fault) | Refusal::Tell(fault) | Refusal::Ran(fault) => fault.code(),
+            Refusal::Record(fault) => (*fault).code(),
+            Refusal::Refresh(fault) | Refusal::Tell(fault) | Refusal::Ran(fault) => (*fault).code(),
             Refusal::Keep(_) | Refusal::Print(_) => 4,
             Refusal::Memory(_) | Refusal::Report(_) | Refusal::Suspects(_) => 5,
-            Refusal::Conf(refusal) => refusal.code(),
-            Refusal::Pattern(refusal) => refusal.code(),
-            Refusal::LoadList(refusal) => refusal.code(),
-            Refusal::Call(refusal) => refusal.code(),
-            Refusal::Table(refusal) => refusal.code(),
-            Refusal::Listing(refusal) => refusal.code(),
-            Refusal::Job(fault) => fault.code(),
-            Refusal::Start(refusal) => refusal.code(),
-            Refusal::Lanes(refusal) => refusal.code(),
-            Refusal::Search(fault) => fault.code(),
+            Refusal::Conf(refusal) => (*refusal).code(),
+            Refusal::Pattern(refusal) => (*refusal).code(),
+            Refusal::LoadList(refusal) => (*refusal).code(),
+            Refusal::Call(refusal) => call_code(refusal),
+            Refusal::Table(refusal) => (*refusal).code(),
+            Refusal::Listing(refusal) => listing_code(refusal),
+            Refusal::Job(fault) => (*fault).code(),
+            Refusal::Start(refusal) => (*refusal).code(),
+            Refusal::Lanes(refusal) => (*refusal).code(),
+            Refusal::Search(fault) => (*fault).code(),
+        }
+    }
+
+    /// What the program said that it is of, where that failed: whole lines, or nothing.
+    pub fn said(&self) -> &[u8]
+        ensures { result.now ≡ refusal_said self.now }
+    {
+        match self {
+            Refusal::Call(refusal) => call_said(refusal),
+            Refusal::Listing(refusal) => listing_said(refusal),
+            _ => b"",
         }
     }
 
     /// The line that tells of it.
-    pub fn line(self) -> Line<'a>
-        ensures { line_text result ≡ refusal_text self.entry }
+    pub fn line(&self) -> Line<'a>
+        ensures { line_text result ≡ refusal_line self.now }
     {
         match self {
-            Refusal::Usage(fault) => fault.line(),
-            Refusal::Init(fault) => fault.line(),
-            Refusal::Open(fault) => fault.line(),
-            Refusal::Runs(fault) => fault.line(),
-            Refusal::Record(fault) => fault.line(),
+            Refusal::Usage(fault) => (*fault).line(),
+            Refusal::Init(fault) => (*fault).line(),
+            Refusal::Open(fault) => (*fault).line(),
+            Refusal::Runs(fault) => (*fault).line(),
+            Refusal::Record(fault) => (*fault).line(),
             Refusal::Memory(_) | Refusal::Report(_) | Refusal::Suspects(_) => {
                 Line::of("testr: out of memory\n")
             }
-            Refusal::Keep(fault) => fault.line(),
-            Refusal::Refresh(fault) | Refusal::Tell(fault) | Refusal::Ran(fault) => fault.line(),
-            Refusal::Print(fault) => fault.line(),
-            Refusal::Conf(refusal) => refusal.line(),
-            Refusal::Pattern(refusal) => refusal.line(),
-            Refusal::LoadList(refusal) => refusal.line(),
-            Refusal::Call(refusal) => refusal.line(),
-            Refusal::Table(refusal) => refusal.line(),
-            Refusal::Listing(refusal) => refusal.line(),
-            Refusal::Job(fault) => fault.line(),
-            Refusal::Start(refusal) => refusal.line(),
-            Refusal::Lanes(refusal) => refusal.line(),
-            Refusal::Search(fault) => fault.line(),
+            Refusal::Keep(fault) => (*fault).line(),
+            Refusal::Refresh(fault) | Refusal::Tell(fault) | Refusal::Ran(fault) => (*fault).line(),
+            Refusal::Print(fault) => (*fault).line(),
+            Refusal::Conf(refusal) => (*refusal).line(),
+            Refusal::Pattern(refusal) => (*refusal).line(),
+            Refusal::LoadList(refusal) => (*refusal).line(),
+            Refusal::Call(refusal) => call_line(refusal),
+            Refusal::Table(refusal) => (*refusal).line(),
+            Refusal::Listing(refusal) => listing_line(refusal),
+            Refusal::Job(fault) => (*fault).line(),
+            Refusal::Start(refusal) => (*refusal).line(),
+            Refusal::Lanes(refusal) => (*refusal).line(),
+            Refusal::Search(fault) => (*fault).line(),
         }
     }
 }

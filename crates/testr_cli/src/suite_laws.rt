@@ -63,11 +63,11 @@ pub fn suite_refusals_are_exact()
     ensures table_too_long { (before after : Seen Files) (result : Result ℕ ATableRefusal) → CountsProcessors before after result
         → IsSomeAnd before.told (λ files. HasTooMuch files table_name) → Comes table.TooLong table.Site table.NoMemory result }
     ensures bad_number { (settings : Settings) (before after : Seen Spawning) (result : Result (Option ℕ) ACallRefusal) → CallsOut settings before after result
-        → IsSome (count_job_of settings) → NextMeets TellsNone before → Comes call.NoNumber call.Spawn call.NoMemory result }
+        → (said : List ℕ) → IsSome (count_job_of settings) → NextMeets (TellsNone said) before → Comes (call.NoNumber said) call.Spawn call.NoMemory result }
     ensures no_list_option { (settings : Settings) (before after : Seen Spawning) (result : Result Ids AListingRefusal) → ListsTests settings before after result
         → IsErr (list_job_of settings) → (result ≡ Err listing.NoListOption) ⊎ (result ≡ Err listing.NoMemory) }
     ensures listing_failed { (settings : Settings) (before after : Seen Spawning) (result : Result Ids AListingRefusal) → ListsTests settings before after result
-        → (status : ℤ) → IsOk (list_job_of settings) → NextMeets (HasFailed status) before → Comes (listing.Failed status) listing.Spawn listing.NoMemory result }
+        → (status : ℤ) (said : List ℕ) → IsOk (list_job_of settings) → NextMeets (HasFailed status said) before → Comes (listing.Failed status said) listing.Spawn listing.NoMemory result }
     ensures no_option { (settings : Settings) (shares : Option (List Ids)) (fault : AJobFault) (result : Result (List AJob) AJobFault) → MakesJobs settings shares result
         → lane_jobs settings shares ≡ Err fault → (result ≡ Err fault) ⊎ (result ≡ Err job.NoMemory) }
     ensures no_id_option { (settings : Settings) (fault : AJobFault) (result : Result (Unit {0}) AJobFault) → HandsIds true settings result

@@ -1,8 +1,8 @@
 //! Why the steps of `run` and `list-tests` refuse: the status of each refusal, and the line that tells of it.
 
 ghost use Rattle.std.specs.Prelude.{◌≡◌, ◌++◌, codes};
-ghost use Rattle.std.specs.Fmt.{decimal};
-ghost use Rattle.testr_cli.specs.SuiteTexts.{key_text};
+ghost use Rattle.std.specs.Fmt.{decimal, signed_decimal};
+ghost use Rattle.testr_cli.specs.SuiteTexts.{call_code, call_said, call_text, listing_code, listing_said, listing_text, key_text};
 ghost use Rattle.testr_cli.specs.Telling.{line_text};
 
 use crate::telling::{Line, Part, Refuses};
@@ -130,28 +130,36 @@ impl<'a> Refuses<'a> for ListRefusal<'a> {
     }
 }
 
-impl<'a> Refuses<'a> for CallRefusal {
-    ghost use Rattle.testr_cli.specs.SuiteTexts.{call_code, call_text};
-
-    ghost status = { call_code };
-
-    ghost text = { call_text };
-
-    fn code(self) -> u8 {
-        match self {
-            CallRefusal::NoNumber => 3,
-            CallRefusal::Spawn | CallRefusal::Child => 4,
-            CallRefusal::NoMemory => 5,
-        }
+// The status where the number of workers was not called out.
+pub(crate) fn call_code(refusal: &CallRefusal) -> u8
+    ensures { result ≡ call_code refusal.now }
+{
+    match refusal {
+        CallRefusal::NoNumber(_) => 3,
+        CallRefusal::Spawn | CallRefusal::Child => 4,
+        CallRefusal::NoMemory => 5,
     }
+}
 
-    fn line(self) -> Line<'a> {
-        match self {
-            CallRefusal::Spawn => Line::of(FAULT_OF_A_START),
-            CallRefusal::Child => Line::of(FAULT_OF_A_CHILD),
-            CallRefusal::NoNumber => Line::of("testr: test_run_concurrency gave no number\n"),
-            CallRefusal::NoMemory => Line::of(OUT_OF_MEMORY),
-        }
+// What the program said that was to call it out, where it told none.
+pub(crate) fn call_said(refusal: &CallRefusal) -> &[u8]
+    ensures { result.now ≡ call_said refusal.now }
+{
+    match refusal {
+        CallRefusal::NoNumber(said) => said.bytes(),
+        CallRefusal::Spawn | CallRefusal::Child | CallRefusal::NoMemory => b"",
+    }
+}
+
+// The line that tells of it.
+pub(crate) fn call_line(refusal: &CallRefusal) -> Line<'static>
+    ensures { line_text result ≡ call_text refusal.now }
+{
+    match refusal {
+        CallRefusal::Spawn => Line::of(FAULT_OF_A_START),
+        CallRefusal::Child => Line::of(FAULT_OF_A_CHILD),
+        CallRefusal::NoNumber(_) => Line::of("testr: test_run_concurrency gave no number\n"),
+        CallRefusal::NoMemory => Line::of(OUT_OF_MEMORY),
     }
 }
 
@@ -179,33 +187,51 @@ impl<'a> Refuses<'a> for TableRefusal {
     }
 }
 
-impl<'a> Refuses<'a> for ListingRefusal {
-    ghost use Rattle.testr_cli.specs.SuiteTexts.{listing_code, listing_text};
-
-    ghost status = { listing_code };
-
-    ghost text = { listing_text };
-
-    fn code(self) -> u8 {
-        match self {
-            ListingRefusal::NoListOption | ListingRefusal::Failed(_) => 3,
-            ListingRefusal::Spawn | ListingRefusal::Child => 4,
-            ListingRefusal::NoMemory => 5,
-        }
+// The status where the tests were not listed.
+pub(crate) fn listing_code(refusal: &ListingRefusal) -> u8
+    ensures { result ≡ listing_code refusal.now }
+{
+    match refusal {
+        ListingRefusal::NoListOption | ListingRefusal::Failed(_, _) => 3,
+        ListingRefusal::Spawn | ListingRefusal::Child => 4,
+        ListingRefusal::NoMemory => 5,
     }
+}
 
-    fn line(self) -> Line<'a> {
-        match self {
-            ListingRefusal::NoListOption => key_line(Key::ListOption),
-            ListingRefusal::Spawn => Line::of(FAULT_OF_A_START),
-            ListingRefusal::Child => Line::of(FAULT_OF_A_CHILD),
-            ListingRefusal::Failed(status) => Line {
-                front: "testr: listing ended with ",
-                part: Part::Status(status),
-                rest: "\n",
-            },
-            ListingRefusal::NoMemory => Line::of(OUT_OF_MEMORY),
-        }
+// What the listing said that failed.
+pub(crate) fn listing_said(refusal: &ListingRefusal) -> &[u8]
+    ensures { result.now ≡ listing_said refusal.now }
+{
+    match refusal {
+        ListingRefusal::Failed(_, said) => said.bytes(),
+        ListingRefusal::NoListOption
+        | ListingRefusal::Spawn
+        | ListingRefusal::Child
+        | ListingRefusal::NoMemory => b"",
+    }
+}
+
+// The line that tells of it.
+pub(crate) fn listing_line(refusal: &ListingRefusal) -> Line<'static>
+    ensures { line_text result ≡ listing_text refusal.now }
+{
+    match refusal {
+        ListingRefusal::NoListOption => key_line(Key::ListOption),
+        ListingRefusal::Spawn => Line::of(FAULT_OF_A_START),
+        ListingRefusal::Child => Line::of(FAULT_OF_A_CHILD),
+        ListingRefusal::Failed(status, _) => listing_ended(*status),
+        ListingRefusal::NoMemory => Line::of(OUT_OF_MEMORY),
+    }
+}
+
+// The line that tells how a listing ended.
+fn listing_ended(status: i32) -> Line<'static>
+    ensures { line_text result ≡ codes "testr: listing ended with " ++ signed_decimal status ++ codes "\n" }
+{
+    Line {
+        front: "testr: listing ended with ",
+        part: Part::Status(status),
+        rest: "\n",
     }
 }
 

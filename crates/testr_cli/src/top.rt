@@ -1,10 +1,14 @@
 //! The top call.
 
-ghost use Rattle.std.specs.Prelude.{◌≡◌, ◌∷◌, ℕ, List, true, false, Some, None};
+ghost use Rattle.std.specs.Prelude.{◌≡◌, ◌∷◌, ℕ, List, true, false, Some, None, OnOk};
+ghost use Rattle.std.specs.Io.KnownBytes.{Appends};
+ghost use Rattle.edge_io.specs.Bytes.{AppendsPrefix};
+ghost use Rattle.edge_io.specs.Causes.{HasCause};
 ghost use Rattle.edge_io.specs.Disk.{Files, Folder};
 ghost use Rattle.edge_io.specs.Seen.{Seen};
 ghost use Rattle.edge_io.specs.Spawners.{Spawning};
 ghost use Rattle.command_words.specs.Items.{texts};
+ghost use Rattle.testr_cli.specs.Answer.{refusal_text};
 ghost use Rattle.testr_cli.specs.Outside.{outside, work};
 ghost use Rattle.testr_cli.specs.Program.{Performs, Tells, Answers, Promises, TestrPromises, ProgramPromises};
 ghost use Rattle.testr_cli.specs.Sparing.{SparesReads};
@@ -24,7 +28,7 @@ use crate::selftest::selftest;
 use crate::telling::tell;
 use crate::words::{MOST_FILES, UsageFault, is_testr, reads};
 use crate::{Refusal, Verdict};
-use edge_io::{Shelf, Sink, Site, Source, Spawner};
+use edge_io::{Failed, Shelf, Sink, Site, Source, Spawner, write_whole};
 use filter_cli::filters;
 use std::alloc::Global;
 use std::sync::Wait;
@@ -310,8 +314,18 @@ fn answer<E: Sink>(outcome: Result<Verdict, Refusal<'_>>, err: &mut E) -> u8
     match outcome {
         Ok(verdict) => verdict.code(),
         Err(refusal) => {
-            let _ = tell(err, refusal.line());
+            let _ = tell_refusal(err, &refusal);
             refusal.code()
         }
     }
+}
+
+// Writes what the program said that the refusal is of, where there is one that failed, and then the line.
+fn tell_refusal<E: Sink>(err: &mut E, refusal: &Refusal<'_>) -> Result<(), Failed>
+    ensures whole { OnOk result (Appends (E.seen err.old).told (E.seen err.new).told (refusal_text refusal.now)) }
+    ensures prefix { AppendsPrefix (E.seen err.old).told (E.seen err.new).told (refusal_text refusal.now) }
+    ensures cause { HasCause (E.seen err.old).faults (E.seen err.new).faults result }
+{
+    write_whole(err, refusal.said())?;
+    tell(err, refusal.line())
 }
