@@ -185,11 +185,7 @@ fn write_tap<I: Source, O: Sink>(alloc: Global, input: &mut I, out: &mut O) -> R
 }
 
 // `subunit2junitxml`
-fn write_junit<I: Source, O: Sink>(
-    alloc: Global,
-    input: &mut I,
-    out: &mut O,
-) -> Result<u8, Refusal>
+fn write_junit<I: Source, O: Sink>(alloc: Global, input: &mut I, out: &mut O) -> Result<u8, Refusal>
     ensures { Checked wanted.ToJunit (pipe (I.seen input.old) (O.seen out.old)) (pipe (I.seen input.new) (O.seen out.new)) result }
 {
     let status = pass_notes(alloc, SubunitToJunit::new(alloc), input, out)?;

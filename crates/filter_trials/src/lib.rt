@@ -7,13 +7,13 @@
 #[cfg(test)]
 mod calls;
 #[cfg(test)]
+mod slow_site;
+#[cfg(test)]
 mod tests_filter_cli;
 #[cfg(test)]
 mod tests_filter_cli_events;
 #[cfg(test)]
 mod tests_filter_cli_export;
-#[cfg(test)]
-mod slow_site;
 #[cfg(test)]
 mod tests_filter_cli_files;
 #[cfg(test)]

@@ -36,9 +36,33 @@ type Row = (
 );
 
 const ROWS: [Row; 8] = [
-    (&["subunit2junitxml"], TIMED, NO_FAULT, TIMED_TEXT, b"", 0, 0),
-    (&["subunit2junitxml"], FAILED, NO_FAULT, FAILED_TEXT, b"", 0, 1),
-    (&["subunit2junitxml"], b"x", NO_FAULT, NOTHING_TEXT, b"", 0, 0),
+    (
+        &["subunit2junitxml"],
+        TIMED,
+        NO_FAULT,
+        TIMED_TEXT,
+        b"",
+        0,
+        0,
+    ),
+    (
+        &["subunit2junitxml"],
+        FAILED,
+        NO_FAULT,
+        FAILED_TEXT,
+        b"",
+        0,
+        1,
+    ),
+    (
+        &["subunit2junitxml"],
+        b"x",
+        NO_FAULT,
+        NOTHING_TEXT,
+        b"",
+        0,
+        0,
+    ),
     (
         &["subunit2junitxml", "--no-passthrough"],
         FAILED,
@@ -48,10 +72,42 @@ const ROWS: [Row; 8] = [
         0,
         1,
     ),
-    (&["subunit2junitxml", "--times"], TIMED, NO_FAULT, b"", USAGE, 40, 2),
-    (&["subunit2junitxml", "x"], TIMED, NO_FAULT, b"", USAGE, 40, 2),
-    (&["subunit2junitxml"], TIMED, (&[0], &[]), b"", READ_FAULT, 40, 4),
-    (&["subunit2junitxml"], TIMED, (&[1], &[]), b"", READ_FAULT, 27, 4),
+    (
+        &["subunit2junitxml", "--times"],
+        TIMED,
+        NO_FAULT,
+        b"",
+        USAGE,
+        40,
+        2,
+    ),
+    (
+        &["subunit2junitxml", "x"],
+        TIMED,
+        NO_FAULT,
+        b"",
+        USAGE,
+        40,
+        2,
+    ),
+    (
+        &["subunit2junitxml"],
+        TIMED,
+        (&[0], &[]),
+        b"",
+        READ_FAULT,
+        40,
+        4,
+    ),
+    (
+        &["subunit2junitxml"],
+        TIMED,
+        (&[1], &[]),
+        b"",
+        READ_FAULT,
+        27,
+        4,
+    ),
 ];
 
 fn does(alloc: Global, row: &Row) -> bool {

@@ -33,11 +33,21 @@ const IDS: [Case; 7] = [
         b"<testcase classname=\"\" name=\"\xef\xbf\xbd\xef\xbf\xbd\x7f\" time=\"0.000\">\n</testcase>\n",
     ),
     (
-        (b"\xef\xbf\xbe\xef\xbf\xbf\xef\xbf\xbd", Ended::Success, None, b""),
+        (
+            b"\xef\xbf\xbe\xef\xbf\xbf\xef\xbf\xbd",
+            Ended::Success,
+            None,
+            b"",
+        ),
         b"<testcase classname=\"\" name=\"\xef\xbf\xbd\xef\xbf\xbd\xef\xbf\xbd\" time=\"0.000\">\n</testcase>\n",
     ),
     (
-        (b"h\xc3\xa9.\xe2\x82\xac\xf0\x9f\x98\x80", Ended::Success, None, b""),
+        (
+            b"h\xc3\xa9.\xe2\x82\xac\xf0\x9f\x98\x80",
+            Ended::Success,
+            None,
+            b"",
+        ),
         b"<testcase classname=\"h\xc3\xa9\" name=\"\xe2\x82\xac\xf0\x9f\x98\x80\" time=\"0.000\">\n</testcase>\n",
     ),
 ];

@@ -10,13 +10,19 @@ type Written = (&'static [u8], &'static [u8]);
 const TEXTS: [Written; 13] = [
     (b"plain\n", b"plain\n"),
     (b"tab\tnewline\nreturn\r\n", b"tab\tnewline\nreturn\r\n"),
-    (b"1 < 2 && 'a' > \"b\"", b"1 &lt; 2 &amp;&amp; 'a' &gt; &quot;b&quot;"),
+    (
+        b"1 < 2 && 'a' > \"b\"",
+        b"1 &lt; 2 &amp;&amp; 'a' &gt; &quot;b&quot;",
+    ),
     (b"]]>", b"]]&gt;"),
     (
         b"</failure>\n</testcase>\n<testcase classname=\"\" name=\"forged\" time=\"0.000\">\n",
         b"&lt;/failure&gt;\n&lt;/testcase&gt;\n&lt;testcase classname=&quot;&quot; name=&quot;forged&quot; time=&quot;0.000&quot;&gt;\n",
     ),
-    (b"<!-- <![CDATA[ <?x ?>", b"&lt;!-- &lt;![CDATA[ &lt;?x ?&gt;"),
+    (
+        b"<!-- <![CDATA[ <?x ?>",
+        b"&lt;!-- &lt;![CDATA[ &lt;?x ?&gt;",
+    ),
     // A NUL and an escape.
     (b"a\0b\x1b[0m", b"a\xef\xbf\xbdb\xef\xbf\xbd[0m"),
     // A byte that begins nothing, and one that continues nothing.

@@ -62,9 +62,10 @@ last_passes p xs some =
 pub class_within : (id : List ℕ) → (0 < class_size id → class_size id < length id) × (class_size id ≤ length id)
 class_within id =
     let front = front_of id in
-    let behind = suffix_len (λ x. not (is_point x)) front in
-    (λ some. omega (arith, length-take (length front - behind - 1) front, length-take (position_or_len is_opening id) id),
-    omega (arith, length-take (length front - behind - 1) front, length-take (position_or_len is_opening id) id))
+    let behind = suffix_len (λ x. not (is_point x)) front in (
+      λ some. omega (arith, length-take (length front - behind - 1) front, length-take (position_or_len is_opening id) id),
+      omega (arith, length-take (length front - behind - 1) front, length-take (position_or_len is_opening id) id),
+    )
 
 point_at : (id : List ℕ) → 0 < class_size id → get_or id (class_size id) 0 ≡ 46
 point_at id some =

@@ -48,11 +48,11 @@ text = refl
 
 -- a NUL, an escape, a byte that begins nothing, a front of a character of three bytes, a lone surrogate, U+FFFE
 no_xml : written Value (0 ∷ 27 ∷ 0xFF ∷ 0xE2 ∷ 0x82 ∷ 65 ∷ 0xED ∷ 0xA0 ∷ 0x80 ∷ 0xEF ∷ 0xBF ∷ 0xBE ∷ [])
-    ≡ encode_utf8_all (codes "\u{FFFD}\u{FFFD}\u{FFFD}\u{FFFD}A\u{FFFD}\u{FFFD}\u{FFFD}\u{FFFD}")
+    ≡ encode_utf8_all (codes "����A����")
 unfolding pieces_from encode
 no_xml = refl
 
-kept : shown (encode_utf8_all (codes "h\u{E9} \u{20AC} \u{1F600}")) ≡ encode_utf8_all (codes "h\u{E9} \u{20AC} \u{1F600}")
+kept : shown (encode_utf8_all (codes "hé € 😀")) ≡ encode_utf8_all (codes "hé € 😀")
 unfolding pieces_from encode
 kept = refl
 

@@ -95,12 +95,7 @@ fn put_skipped(reason: &[u8], text: &mut Vec<u8>) -> Result<(), NoMemory>
 }
 
 // What is told within a case of a test that ended so.
-fn put_inside(
-    ended: Ended,
-    bytes: &[u8],
-    reason: &[u8],
-    text: &mut Vec<u8>,
-) -> Result<(), NoMemory>
+fn put_inside(ended: Ended, bytes: &[u8], reason: &[u8], text: &mut Vec<u8>) -> Result<(), NoMemory>
     ensures ok { OnOk result (text.new.items ≡ text.old.items ++ spec.inside_of ended bytes.now reason.now) }
     ensures kept { take (length text.old.items) text.new.items ≡ text.old.items }
 {
