@@ -124,12 +124,12 @@ At most one of these, of the test with this id:
   --exists=ID, --inprogress=ID, --success=ID, --uxsuccess=ID, --skip=ID, --fail=ID, --xfail=ID
 And:
   --tag=TAG                  gives the test this tag; may be repeated
-  --attach-file=-            attaches standard input as a file, in pieces of 65,536 bytes
-  --file-name=NAME           names that file; else it is stdin
+  --attach-file=FILE         attaches this file, in pieces of 65,536 bytes; - is standard input
+  --file-name=NAME           names that file; else it has its own name, and standard input is stdin
   --mimetype=TYPE            tells its MIME type
   --timestamp=WHEN           when it was, in UTC, as '2026-11-29 08:38:00Z', with up to 9 digits behind the seconds
 Tags stand beside a status, a name and a type beside a file. A value may also be the next word.
-Statuses: 2 wrong usage, 4 a fault of the outside, 5 out of memory.
+Statuses: 2 wrong usage, 3 a file that is missing or too long, 4 a fault of the outside, 5 out of memory.
 Example: make 2>&1 | subunit-output --success=build --attach-file=- --mimetype=text/plain
 ";
 
