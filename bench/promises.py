@@ -78,7 +78,7 @@ def carried(text):
                 known |= CLAUSES[crate].get(word, set())
         for clause in ticked(clauses):
             first, _, field = clause.partition(".")
-            if first not in known or field and not has_field(crate, field):
+            if first not in known or field and not all(has_field(crate, part) for part in field.split(".")):
                 yield f"clause {clause} of {names}"
 
 

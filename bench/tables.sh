@@ -1,8 +1,8 @@
 #!/bin/sh
 # Tries `subunit2csv` and `subunit-output` over real streams. Python's `csv` reads the records of 10,000 drawn tests and more,
-# whose rows are told from the drawn events without the program. A file of several pieces is attached, and what is left of
-# standard input is looked at where none is. Where `python3-subunit` and `python3-testtools` of Debian are installed, they
-# read the events, too.
+# whose rows are told from the drawn events without the program. Files of several pieces are attached, from standard input and
+# by their names, and what is left of standard input is looked at where it is not attached. Where `python3-subunit` and
+# `python3-testtools` of Debian are installed, they read the events, too.
 # usage: bench/tables.sh [CASE..]: by default all cases. The variable SEED has the seed of what is drawn, 1 unless said
 # otherwise.
 set -eu
@@ -22,7 +22,7 @@ import sys
 import zlib
 
 import streams
-from cases import LIMIT, PROGRAM, case, check, main, need, run
+from cases import LIMIT, PROGRAM, case, check, main, need, new_folder, run, write
 from streams import FAIL, FILE, ID, IN_PROGRESS, LAST, RUNNABLE, SKIP, SUCCESS, TAGS, TIME, TYPE, number, text
 
 SEED = int(os.environ["SEED"])
@@ -114,13 +114,44 @@ def file_of(piece, name=b"stdin", mime=b"", front=b"", flags=0):
     return streams.event(flags | RUNNABLE | FILE | (TYPE if mime else 0), front + (text(mime) if mime else b"") + text(name) + text(piece))
 
 
+def packets_of(given, name):
+    """The packets of a file of these bytes under this name."""
+    pieces = [file_of(given[start:start + 65_536], name) for start in range(0, len(given), 65_536)]
+    return b"".join(pieces) + streams.event(RUNNABLE | LAST, b"")
+
+
+SIZES = (0, 1, 10, 65_535, 65_536, 65_537, 131_072, 200_000)
+
+
 @case
 def a_file_is_cut_into_pieces():
-    for size in (0, 1, 65_535, 65_536, 65_537, 131_072, 200_000):
+    for size in SIZES:
         given = random.Random(size).randbytes(size)
-        pieces = b"".join(file_of(given[start:start + 65_536]) for start in range(0, size, 65_536))
-        end = streams.event(RUNNABLE | LAST, b"")
-        check(filtered("subunit-output", "--attach-file=-", given=given) == pieces + end, f"a file of {size} bytes")
+        check(filtered("subunit-output", "--attach-file=-", given=given) == packets_of(given, b"stdin"), f"a file of {size} bytes")
+
+
+@case
+def a_file_is_attached_by_its_name():
+    folder = new_folder()
+    for size in SIZES:
+        given = random.Random(size).randbytes(size)
+        write(folder, "log", given)
+        # What stands in the input is left to the next program.
+        left = run(folder, given=b"input", program=["sh", "-c", '"$0" subunit-output --attach-file=log && cat', PROGRAM])
+        check(left == (0, packets_of(given, b"log") + b"input", b""), f"a file of {size} bytes: {left[0]}, {left[2]!r}")
+        named = filtered("subunit-output", f"--attach-file={folder}/log", "--file-name=told")
+        check(named == packets_of(given, b"told"), f"a file of {size} bytes with a name")
+
+
+@case
+def what_is_no_file_is_refused():
+    folder = new_folder()
+    os.mkdir(os.path.join(folder, "folder"))
+    os.symlink("nowhere", os.path.join(folder, "lost"))
+    for name, status, line in (("gone", 3, b"no file gone"), ("", 3, b"no file "), ("folder", 4, b"fault reading a file"),
+                               ("lost", 4, b"fault reading a file")):
+        told = run(folder, f"--attach-file={name}", given=b"input", program=[PROGRAM, "subunit-output"])
+        check(told[:2] == (status, b"") and told[2].startswith(b"subunit-output: " + line + b"\n"), f"{name!r}: {told}")
 
 
 @case
