@@ -18,7 +18,7 @@ pub(crate) struct SubunitToJunit {
 
 impl SubunitToJunit {
     ghost use Rattle.std.specs.Prelude.{[]};
-    ghost use Rattle.outcome_fold.specs.Folded.{HasFolded};
+    ghost use Rattle.outcome_fold.specs.Outcome.{HasFolded};
 
     /// The document of nothing yet.
     pub(crate) fn new(alloc: Global) -> Self
@@ -31,7 +31,7 @@ impl SubunitToJunit {
 }
 
 impl NoteFilter for SubunitToJunit {
-    ghost use Rattle.outcome_fold.specs.Folded.{HasFolded};
+    ghost use Rattle.outcome_fold.specs.Outcome.{HasFolded};
     ghost use Rattle.filter_cli.specs.Events.{events_in};
     ghost use Rattle.filter_cli.specs.Junit.{junit_plan};
 
