@@ -90,10 +90,16 @@ type Parts<'a> = [&'a [u8]; 3];
 
 const ALL: Parts<'static> = [b"run ", NOTHING, NOTHING];
 
-// A probe that runs these ids.
-const fn probe(ids: &[u8]) -> Parts<'_> {
-    [b"run --ids .testr-ids.0", b".testr-ids.0", ids]
-}
+// Probes that run `c`, and some of those before it.
+const B: Parts<'static> = [b"run --ids .testr-ids.0", b".testr-ids.0", b"b\n"];
+
+const C: Parts<'static> = [b"run --ids .testr-ids.0", b".testr-ids.0", b"c\n"];
+
+const A_AND_C: Parts<'static> = [b"run --ids .testr-ids.0", b".testr-ids.0", b"a\nc\n"];
+
+const B_AND_C: Parts<'static> = [b"run --ids .testr-ids.0", b".testr-ids.0", b"b\nc\n"];
+
+const ALL_THREE: Parts<'static> = [b"run --ids .testr-ids.0", b".testr-ids.0", b"a\nb\nc\n"];
 
 // What is found: the words, the files, the runs that there are, and what the programs give. What is told then without a line of a
 // refusal: the status and the text. And the jobs that were started.
@@ -138,13 +144,7 @@ const CAUSED: Row<'static> = (
         1,
         b"======================================================================\nFAIL: c\n----------------------------------------------------------------------\nRan 3 tests\nFAILED (id=0, failures=1)\nc: caused by b\n",
     ),
-    &[
-        ALL,
-        probe(b"c\n"),
-        probe(b"a\nb\nc\n"),
-        probe(b"a\nc\n"),
-        probe(b"b\nc\n"),
-    ],
+    &[ALL, C, ALL_THREE, A_AND_C, B_AND_C],
 );
 
 // `c` fails behind both alone.
@@ -163,13 +163,7 @@ const SEVERAL: Row<'static> = (
         1,
         b"======================================================================\nFAIL: c\n----------------------------------------------------------------------\nRan 3 tests\nFAILED (id=0, failures=1)\nc: several tests together\n",
     ),
-    &[
-        ALL,
-        probe(b"c\n"),
-        probe(b"a\nb\nc\n"),
-        probe(b"a\nc\n"),
-        probe(b"b\nc\n"),
-    ],
+    &[ALL, C, ALL_THREE, A_AND_C, B_AND_C],
 );
 
 // `c` fails alone.
@@ -182,7 +176,7 @@ const ALONE: Row<'static> = (
         1,
         b"======================================================================\nFAIL: c\n----------------------------------------------------------------------\nRan 2 tests\nFAILED (id=0, failures=1)\nc: fails alone\n",
     ),
-    &[ALL, probe(b"c\n")],
+    &[ALL, C],
 );
 
 // `c` passes behind all of them.
@@ -199,7 +193,7 @@ const NOT_SEEN: Row<'static> = (
         1,
         b"======================================================================\nFAIL: c\n----------------------------------------------------------------------\nRan 2 tests\nFAILED (id=0, failures=1)\nc: not reproduced\n",
     ),
-    &[ALL, probe(b"c\n"), probe(b"a\nc\n")],
+    &[ALL, C, A_AND_C],
 );
 
 // A test that only exists is no candidate.
@@ -212,7 +206,7 @@ const NO_CANDIDATE: Row<'static> = (
         1,
         b"======================================================================\nFAIL: c\n----------------------------------------------------------------------\nRan 1 tests\nFAILED (id=0, failures=1)\nc: not reproduced\n",
     ),
-    &[ALL, probe(b"c\n")],
+    &[ALL, C],
 );
 
 // No test failed.
@@ -248,7 +242,7 @@ const PROBE_ENDS_BADLY: Row<'static> = (
         1,
         b"======================================================================\nFAIL: c\n----------------------------------------------------------------------\nRan 1 tests\nFAILED (id=0, failures=1)\nc: not reproduced\n",
     ),
-    &[ALL, probe(b"c\n")],
+    &[ALL, C],
 );
 
 // Of the tests that fail by all runs.
@@ -261,7 +255,7 @@ const OF_FAILING: Row<'static> = (
         1,
         b"======================================================================\nFAIL: c\n----------------------------------------------------------------------\nRan 1 tests\nFAILED (id=1, failures=1)\nc: fails alone\n",
     ),
-    &[probe(b"c\n"), probe(b"c\n")],
+    &[C, C],
 );
 
 // Each test is searched, in their order.
@@ -279,7 +273,7 @@ const TWO_FAIL: Row<'static> = (
         1,
         b"======================================================================\nFAIL: b\n----------------------------------------------------------------------\n======================================================================\nFAIL: c\n----------------------------------------------------------------------\nRan 2 tests\nFAILED (id=0, failures=2)\nb: fails alone\nc: caused by b\n",
     ),
-    &[ALL, probe(b"b\n"), probe(b"c\n"), probe(b"b\nc\n")],
+    &[ALL, B, C, B_AND_C],
 );
 
 #[test]
