@@ -343,7 +343,7 @@ const FAULTS: [Fault<'static>; 6] = [
     // the run is not read
     (
         &[(C_FAILED, ENDED)],
-        [&[21], &[], &[]],
+        [&[20], &[], &[]],
         REPORTED,
         b"testr: fault of the repository folder\n",
     ),
