@@ -323,28 +323,31 @@ impl<'a> Refusal<'a> {
     pub fn line(&self) -> Line<'a>
         ensures { line_text result ≡ refusal_line self.now }
     {
+        // Each arm returns: some lines hold a part of the refusal and others none, and no proof is made where such arms join.
         match self {
-            Refusal::Usage(fault) => (*fault).line(),
-            Refusal::Init(fault) => (*fault).line(),
-            Refusal::Open(fault) => (*fault).line(),
-            Refusal::Runs(fault) => (*fault).line(),
-            Refusal::Record(fault) => (*fault).line(),
+            Refusal::Usage(fault) => return (*fault).line(),
+            Refusal::Init(fault) => return (*fault).line(),
+            Refusal::Open(fault) => return (*fault).line(),
+            Refusal::Runs(fault) => return (*fault).line(),
+            Refusal::Record(fault) => return (*fault).line(),
             Refusal::Memory(_) | Refusal::Report(_) | Refusal::Suspects(_) => {
-                Line::of("testr: out of memory\n")
+                return Line::of("testr: out of memory\n");
             }
-            Refusal::Keep(fault) => (*fault).line(),
-            Refusal::Refresh(fault) | Refusal::Tell(fault) | Refusal::Ran(fault) => (*fault).line(),
-            Refusal::Print(fault) => (*fault).line(),
-            Refusal::Conf(refusal) => (*refusal).line(),
-            Refusal::Pattern(refusal) => (*refusal).line(),
-            Refusal::LoadList(refusal) => (*refusal).line(),
-            Refusal::Call(refusal) => call_line(refusal),
-            Refusal::Table(refusal) => (*refusal).line(),
-            Refusal::Listing(refusal) => listing_line(refusal),
-            Refusal::Job(fault) => (*fault).line(),
-            Refusal::Start(refusal) => (*refusal).line(),
-            Refusal::Lanes(refusal) => (*refusal).line(),
-            Refusal::Search(fault) => (*fault).line(),
+            Refusal::Keep(fault) => return (*fault).line(),
+            Refusal::Refresh(fault) | Refusal::Tell(fault) | Refusal::Ran(fault) => {
+                return (*fault).line();
+            }
+            Refusal::Print(fault) => return (*fault).line(),
+            Refusal::Conf(refusal) => return (*refusal).line(),
+            Refusal::Pattern(refusal) => return (*refusal).line(),
+            Refusal::LoadList(refusal) => return (*refusal).line(),
+            Refusal::Call(refusal) => return call_line(refusal),
+            Refusal::Table(refusal) => return (*refusal).line(),
+            Refusal::Listing(refusal) => return listing_line(refusal),
+            Refusal::Job(fault) => return (*fault).line(),
+            Refusal::Start(refusal) => return (*refusal).line(),
+            Refusal::Lanes(refusal) => return (*refusal).line(),
+            Refusal::Search(fault) => return (*fault).line(),
         }
     }
 }
