@@ -1,5 +1,7 @@
 //! Tests that are written and read again are the same rows.
 
+ghost use Rattle.std.specs.Prelude.{◌<◌};
+
 use crate::heard::events_of;
 use crate::shown::show_tags;
 use drawn_lanes::Draws;
@@ -147,12 +149,15 @@ const TEXTS: [&[u8]; 4] = [
     b"tags: t\r\n]\r\nerror: a [",
 ];
 
-// A number below 8, and below 4.
-fn eighth(draws: &mut Draws) -> usize {
+fn eighth(draws: &mut Draws) -> usize
+    ensures { result < 8 }
+{
     (draws.next() % 8) as usize
 }
 
-fn fourth(draws: &mut Draws) -> usize {
+fn fourth(draws: &mut Draws) -> usize
+    ensures { result < 4 }
+{
     (draws.next() % 4) as usize
 }
 
