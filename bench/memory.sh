@@ -248,17 +248,19 @@ def commands():
     yield "load", OverRun(["load"], made, GIVEN, (KEPT,))
     yield "load", OverRun(["load", "one", "two"], made, wholes=(KEPT + b"".join(packets(b"1")),))
     yield "run", OverRun(["run", "--parallel", "--concurrency=2"], suite, wholes=merges)
+    yield "run", OverRun(["run", "--find-causes"], suite, wholes=(kept((b"a", b"b", b"c")),))
     yield "list-tests", OverRun(["list-tests", "a|b"], suite)
     for words in (["last"], ["last", "--subunit"], ["failing"], ["slowest"], ["stats"]):
         yield words[0], OverRun(words, made)
     yield "selftest", Command(["selftest", "7", "2", "5"])
     yield "subunit-filter", Command(["--success", "--with-id=a|b"], GIVEN, "subunit-filter")
     yield "subunit-tags", Command(["x", "-t"], GIVEN, "subunit-tags")
-    for name in ("subunit-stats", "subunit-2to1", "subunit-ls", "subunit2tap", "subunit2csv"):
+    for name in ("subunit-stats", "subunit-2to1", "subunit-ls", "subunit2tap", "subunit2csv", "subunit2junitxml"):
         yield name, Command([], GIVEN, name)
     yield "tap2subunit", Command([], TAP, "tap2subunit")
     yield "subunit-1to2", Command([], LINES, "subunit-1to2")
     yield "subunit-output", Command(["--fail=a", "--tag=t", "--attach-file=-"], GIVEN, "subunit-output")
+    yield "subunit-output", Command(["--fail=a", "--attach-file=one"], name="subunit-output", made=made)
 
 
 def main(*wanted):
