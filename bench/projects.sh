@@ -307,6 +307,11 @@ def ends_read_by_python(folder):
     return sorted(read.stdout.decode().splitlines())
 
 
+def need_python():
+    there = os.path.exists(PYTHON) and subprocess.run([PYTHON, "-c", "import subunit, testtools"], capture_output=True).returncode == 0
+    need(there, "python3-subunit and python3-testtools are not installed")
+
+
 def check_suite(answer, tests, ended):
     status, out, err = answer
     lines = out.decode().splitlines()
@@ -318,8 +323,7 @@ def check_suite(answer, tests, ended):
 @case
 def a_suite_of_python_runs():
     need_command("run")
-    there = os.path.exists(PYTHON) and subprocess.run([PYTHON, "-c", "import subunit, testtools"], capture_output=True).returncode == 0
-    need(there, "python3-subunit and python3-testtools are not installed")
+    need_python()
     folder = project(conf=SUITE_CONF)
     write(folder, "test_small.py", SUITE)
     ids = [f"test_small.Small.{name}" for name in SUITE_ENDS]
@@ -355,8 +359,7 @@ def ordered_suite():
 @case
 def a_cause_among_40_tests_of_python_is_named():
     need_command("run")
-    there = os.path.exists(PYTHON) and subprocess.run([PYTHON, "-c", "import subunit, testtools"], capture_output=True).returncode == 0
-    need(there, "python3-subunit and python3-testtools are not installed")
+    need_python()
     folder = project(conf=SUITE_CONF)
     write(folder, "test_order.py", ordered_suite())
     status, out, err = run(folder, "run", "--find-causes")
