@@ -52,6 +52,10 @@ pub record SpawnsAsListed {T E : Type 0} (outputs : List Output) (old new : Cour
   pub other : OnErr result ((IsToFail outputs old × (new.short ≡ old.short)) ⊎ ((IsToFail outputs old → ⊥) × (new.short ≡ one_more old.short)))
   pub done : OnOk result (new.short ≡ old.short)
 
+-- the absolute path of the folder that the files stand in, or nothing
+abbrev pub site_folder : MapSite → List ℕ
+site_folder site = site.folder.bytes.items
+
 -- the last file of a name counts
 abbrev pub site_files : MapSite → Files
 site_files site = lookup site.files.items

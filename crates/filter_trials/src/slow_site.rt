@@ -1,5 +1,5 @@
 // A file that is read a little at a time.
-ghost use Rattle.std.specs.Prelude.{◌≤◌, length};
+ghost use Rattle.std.specs.Prelude.{◌≤◌, length, []};
 
 use edge_io::{Failed, Found, Site};
 
@@ -24,6 +24,12 @@ impl Site for SlowSite {
     ghost use Rattle.std.specs.Prelude.{None};
 
     ghost seen = { λ _. record { told = None; faults = 0 } };
+
+    ghost folder = { λ _. [] };
+
+    fn folder(&self) -> &str {
+        ""
+    }
 
     fn read_at(&mut self, _name: &str, place: u64, buf: &mut [u8]) -> Result<Found, Failed> {
         if place >= self.gone {

@@ -60,7 +60,7 @@ fn check_files(rt: &impl Abort, site: &mut RealSite<'_, HostRuntime>) {
 fn files_are_read_by_name(rt: HostRuntime) -> Result<(), Fail> {
     enter_home(&rt, "site")?;
     shell(&rt, FILES)?;
-    check_files(&rt, &mut RealSite::new(rt.alloc(), &rt));
+    check_files(&rt, &mut RealSite::new(rt.alloc(), &rt, String::new(rt.alloc())));
     leave_home(&rt, "site")?;
     Ok(())
 }
@@ -93,7 +93,7 @@ fn an_open_file_is_kept(rt: HostRuntime) -> Result<(), Fail> {
         &rt,
         "printf abcde > file; mkfifo pipe; printf fghij > pipe &",
     )?;
-    check_open_files(&rt, &rt, &mut RealSite::new(rt.alloc(), &rt));
+    check_open_files(&rt, &rt, &mut RealSite::new(rt.alloc(), &rt, String::new(rt.alloc())));
     leave_home(&rt, "kept")?;
     Ok(())
 }

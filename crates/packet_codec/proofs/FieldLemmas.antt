@@ -16,6 +16,10 @@ file_bytes_of : (o : Option (List ℕ × List ℕ)) → option_map (λ (file : L
 file_bytes_of None = refl
 file_bytes_of (Some file) = refl
 
+file_name_of : (o : Option (List ℕ × List ℕ)) → option_map (λ (file : List ℕ × List ℕ). file.0) o ≡ option_map (λ (file : FilePart). file.name) (option_map file_from o)
+file_name_of None = refl
+file_name_of (Some file) = refl
+
 module _ (p : List ℕ) (header : Header) (parts : Parts) (is : IsTold p header parts) where
   -- the texts among them are short enough
   pub short_id : IfSome (bytes_of parts.id) IsShortText
@@ -49,6 +53,9 @@ module _ (p : List ℕ) (header : Header) (parts : Parts) (is : IsTold p header 
 
     pub file_bytes_made : option_map (λ (file : List ℕ × List ℕ). file.1) (file_of parts.file) ≡ option_map (λ (file : FilePart). file.bytes) e.file
     file_bytes_made = ap (option_map (λ (file : List ℕ × List ℕ). file.1)) is.shown.file ∙ file_bytes_of is.contents.1.1.1.1.0 ∙ ap (λ (event : Event). option_map (λ (file : FilePart). file.bytes) event.file) made
+
+    pub file_name_made : option_map (λ (file : List ℕ × List ℕ). file.0) (file_of parts.file) ≡ option_map (λ (file : FilePart). file.name) e.file
+    file_name_made = ap (option_map (λ (file : List ℕ × List ℕ). file.0)) is.shown.file ∙ file_name_of is.contents.1.1.1.1.0 ∙ ap (λ (event : Event). option_map (λ (file : FilePart). file.name) event.file) made
 
     pub tags_made : {E : Type 0} (r : Result (Option (List (List ℕ))) E) → ((tags : Option (List (List ℕ))) → ShowsTags parts.tags tags → IfOk r (λ made. made ≡ tags)) → IfOk r (λ made. made ≡ e.tags)
     tags_made r copied = subst (λ (tags : Option (List (List ℕ))). IfOk r (λ made. made ≡ tags)) (ap (λ (event : Event). event.tags) made) (copied is.contents.1.1.0 is.shown.tags)

@@ -27,6 +27,17 @@ fn bytes_in(file: Option<FileBytes<'_>>) -> Option<&[u8]>
     }
 }
 
+/// The name of a file, where there is one.
+#[inline(always)]
+fn name_in(file: Option<FileBytes<'_>>) -> Option<&[u8]>
+    ensures { bytes_of result ≡ option_map (λ file. file.0) (file_of file.entry) }
+{
+    match file {
+        None => None,
+        Some(file) => Some(file.name),
+    }
+}
+
 // Each says what the packet's event has there. What is copied is copied once. The error comes for want of memory.
 impl<'a> Packet<'a> {
     /// The id of its event.
@@ -75,6 +86,14 @@ impl<'a> Packet<'a> {
         ensures { (e : Event) → SpellsEvent self.now e → bytes_of result ≡ e.mime }
     {
         self.parts.mime
+    }
+
+    /// The name of the file of which its event has a piece, where it stands.
+    #[inline(always)]
+    pub fn file_name(&self) -> Option<&[u8]>
+        ensures { (e : Event) → SpellsEvent self.now e → bytes_of result ≡ option_map (λ file. file.name) e.file }
+    {
+        name_in(self.parts.file)
     }
 
     /// The bytes of the piece of a file that its event has, where they stand.

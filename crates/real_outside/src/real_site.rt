@@ -16,14 +16,17 @@ use std::{fs, io};
 /// reads come in order: so a pipe can be read, and a file that is removed meanwhile is read to its end.
 #[derive(Drop)]
 pub struct RealSite<'r, R> {
+    folder: String,
     files: LastFile<'r, R>,
     faults: Faults,
 }
 
 impl<'r, R: Files<File = File>> RealSite<'r, R> {
-    /// No file is open yet, and no read has failed.
-    pub fn new(alloc: Global, rt: &'r R) -> Self {
+    /// No file is open yet, and no read has failed. `folder` is the absolute path of the folder that the program works in;
+    /// empty where it is not known.
+    pub fn new(alloc: Global, rt: &'r R, folder: String) -> Self {
         RealSite {
+            folder,
             files: LastFile {
                 rt,
                 alloc,
@@ -70,6 +73,12 @@ impl<R: Files<File = File>> LastFile<'_, R> {
 
 impl<R: Files<File = File>> Site for RealSite<'_, R> {
     ghost seen = { λ s. record { told = None; faults = s.faults.count } };
+
+    ghost folder = { λ s. s.folder.bytes.items };
+
+    fn folder(&self) -> &str {
+        self.folder.as_str()
+    }
 
     /// One read of the file, which is opened where it is not the one that was read last. What is there and cannot be read,
     /// as a folder, and a link that leads nowhere, is a fault.

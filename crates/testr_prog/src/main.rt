@@ -106,7 +106,7 @@ fn run_program<R: Threads + Wait + Sync>(
     let mut shelf = FolderShelf::new(alloc, rt, sharing(words));
     let mut input = StreamSource::new(rt.stdin(), "standard input");
     let mut spawner = RealSpawner::new(alloc, rt);
-    let mut site = RealSite::new(alloc, rt);
+    let mut site = RealSite::new(alloc, rt, working_folder(alloc, rt));
     let status = program(
         threads,
         alloc,
@@ -128,6 +128,14 @@ fn run_program<R: Threads + Wait + Sync>(
         tell(alloc, face, out.cause(), err);
     }
     status
+}
+
+// The absolute path of the folder that the program works in; nothing where the system does not tell it, or not as text.
+fn working_folder(alloc: Global, rt: &HostRuntime) -> String {
+    match env::current_dir(rt) {
+        Ok(path) => path.into_string(),
+        Err(_) => String::new(alloc),
+    }
 }
 
 // Writes the cause of a fault, where there is one.
