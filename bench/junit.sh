@@ -65,15 +65,15 @@ def seconds(nanos):
     return f"{millis // 1000}.{millis % 1000:03}"
 
 
-def packet_of(route, name, status, moment, said):
+def packet_of(route, name, status, moment, said, file=b"log"):
     front = struct.pack(">I", moment // 10 ** 9) + number(moment % 10 ** 9) if moment is not None else b""
-    told = text(b"text/plain") + text(b"log") + text(said) if said else b""
+    told = text(b"text/plain") + text(file) + text(said) if said else b""
     flags = (TIME if moment is not None else 0) | ID | RUNNABLE | (TYPE | FILE if said else 0) | status
     return streams.event(flags, front + text(name) + told, route)
 
 
 def drawn(draw, count):
-    """A stream and the events in it: route, id, status, moment in nanoseconds and text."""
+    """A stream and the events in it: route, id, status, moment in nanoseconds, text, and the name of its file."""
     names = ["".join(draw.choices(SIGNS, k=draw.randrange(9))).encode() for _ in range(count // 8)]
     stream, events = bytearray(), []
     for _ in range(count):
@@ -81,34 +81,36 @@ def drawn(draw, count):
             stream += draw.choice((b"a line of a log\n", b"\n", b"\xb3", b"<?xml?>\n"))
         moment = draw.choice((None, draw.randrange(10 ** 18), draw.randrange(10 ** 10)))
         said = b"".join(draw.choices(PARTS, k=draw.randrange(12)))
-        event = (draw.choice((b"", b"0", b"1", b"0/2")), draw.choice(names), draw.choice(STATUSES), moment, said)
+        event = (draw.choice((b"", b"0", b"1", b"0/2")), draw.choice(names), draw.choice(STATUSES), moment, said,
+                 draw.choice((b"log", b"reason")))
         stream += packet_of(*event)
         events.append(event)
     return bytes(stream), events
 
 
-def row(name, kind, nanos, said):
+def row(name, kind, nanos, said, why):
     """A case: class, name, seconds, and what stands in it."""
     one, other = names_of(name)
-    inside = [("skipped", "", None)] if kind == "skip" else [("failure", kind, shown(said[:65_536]))] if kind else []
+    inside = [("skipped", shown(why[:1_024].split(b"\n")[0]), None)] if kind == "skip" else [("failure", kind, shown(said[:65_536]))] if kind else []
     return (shown(one), shown(other), seconds(nanos or 0), inside), nanos
 
 
 def rows_of(events):
     """The rows that ran, by route, the open ones of each route behind the others, by id."""
     begun, rows = {}, {}
-    for route, name, status, moment, said in events:
+    for route, name, status, moment, said, file in events:
         rows.setdefault(route, [])
-        first, before = begun.pop((route, name), (moment, b""))
+        first, before, why = begun.pop((route, name), (moment, b"", b""))
         before += said
+        why += said if file == b"reason" else b""
         if status in (UNSET, IN_PROGRESS):
-            begun[route, name] = first, before
+            begun[route, name] = first, before, why
             continue
         nanos = moment - first if None not in (first, moment) and moment >= first else None
         if status != EXISTS:
-            rows[route].append(row(name, "skip" if status == SKIP else KINDS.get(status), nanos, before))
-    for (route, name), (_, said) in sorted(begun.items()):
-        rows[route].append(row(name, "unfinished", None, said))
+            rows[route].append(row(name, "skip" if status == SKIP else KINDS.get(status), nanos, before, why))
+    for (route, name), (_, said, why) in sorted(begun.items()):
+        rows[route].append(row(name, "unfinished", None, said, why))
     return [one for route in sorted(rows) for one in rows[route]]
 
 
@@ -145,11 +147,11 @@ def python_reads_the_cases_of_drawn_tests():
 
 @case
 def each_tag_stands_in_its_line():
-    given = packet_of(b"", b"a<b", FAIL, None, b"1 < 2\n") + packet_of(b"", b"b.s", SKIP, 7, b"")
+    given = packet_of(b"", b"a<b", FAIL, None, b"1 < 2\n") + packet_of(b"", b"b.s", SKIP, 7, b"no \"net\"\nnow", b"reason")
     wanted = ('<?xml version="1.0" encoding="utf-8"?>\n'
               '<testsuite name="" tests="2" failures="1" errors="0" skipped="1" time="0.000">\n'
               '<testcase classname="" name="a&lt;b" time="0.000">\n<failure type="fail">1 &lt; 2\n</failure>\n</testcase>\n'
-              '<testcase classname="b" name="s" time="0.000">\n<skipped message=""/>\n</testcase>\n</testsuite>\n')
+              '<testcase classname="b" name="s" time="0.000">\n<skipped message="no &quot;net&quot;"/>\n</testcase>\n</testsuite>\n')
     check(document(given, True) == wanted.encode(), "the document differs")
     check(len(etree.fromstring(document(b"", False))) == 0, "a case of nothing")
 

@@ -311,6 +311,7 @@ fn row_of(alloc: Global, route: &[u8], id: &[u8]) -> Option<Row> {
         tags: Tags::new(alloc),
         nanos: None,
         text: Bytes::new(alloc, b"").ok()?,
+        reason: Bytes::new(alloc, b"").ok()?,
     })
 }
 

@@ -4,7 +4,7 @@ use Rattle.std.specs.List.{flat_map}
 use Rattle.std.specs.Option.{unwrap_or}
 use Rattle.std.proofs.lemmas.List.{take_more}
 use Rattle.packet_codec.specs.declared.event.Event.{Event}
-use Rattle.outcome_fold.specs.Parts.{last_tags, text_in, text_limit, text_of}
+use Rattle.outcome_fold.specs.Parts.{last_tags, text_in, text_limit, text_of, reason_in, reason_limit, reason_of}
 use Rattle.outcome_fold.proofs.StepLemmas.{last_tags_at, flat_map_push, take_again}
 
 abbrev At : List Event → ℕ → Event → Type 0
@@ -24,3 +24,11 @@ text_take part i e text next below is before kept =
     kept ∙ ap (λ t. take text_limit (t ++ piece e)) before
     ∙ take_again text_limit (flat_map piece (take i part)) (piece e)
     ∙ ap (take text_limit) (sym (flat_map_push piece (take i part) e) ∙ ap (flat_map piece) (sym (next_is part i e below is)))
+
+-- the same of the reason
+pub reason_take : (part : List Event) (i : ℕ) (e : Event) (reason next : List ℕ) → i < length part → At part i e → reason ≡ reason_of (take i part) → next ≡ take reason_limit (reason ++ reason_in e.file) → next ≡ reason_of (take (i + 1) part)
+reason_take part i e reason next below is before kept =
+    let piece = λ (e : Event). reason_in e.file in
+    kept ∙ ap (λ t. take reason_limit (t ++ piece e)) before
+    ∙ take_again reason_limit (flat_map piece (take i part)) (piece e)
+    ∙ ap (take reason_limit) (sym (flat_map_push piece (take i part) e) ∙ ap (flat_map piece) (sym (next_is part i e below is)))

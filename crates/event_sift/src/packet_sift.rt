@@ -227,6 +227,7 @@ fn key_of_row(row: Row) -> TestKey
         tags: _,
         nanos: _,
         text: _,
+        reason: _,
     } = row;
     TestKey { route, id }
 }

@@ -4,7 +4,7 @@ ghost use Rattle.std.specs.Prelude.{◌≡◌, [], IfOk, if◌then◌else◌};
 ghost use Rattle.outcome_fold.specs.Parts as parts;
 ghost use Rattle.outcome_fold.specs.Rows as rows;
 
-use outcome_fold::{Ended, KeptText, Row, TestKey, instant_of, sorted_tags, text_in};
+use outcome_fold::{Ended, KeptText, Row, TestKey, instant_of, reason_in, sorted_tags, text_in};
 use packet_codec::Event;
 use std::alloc::Global;
 use sub_number::{Bytes, NoMemory, Text};
@@ -62,6 +62,36 @@ fn row_text(alloc: Global, ended: Ended, part: &[Event]) -> Result<Bytes, NoMemo
     }
 }
 
+// The first bytes of the files named `reason`, joined.
+fn kept_reason(alloc: Global, part: &[Event]) -> Result<KeptText, NoMemory>
+    ensures { IfOk result (λ reason. reason ≡ parts.reason_of part.now) }
+{
+    let mut reason = KeptText::new(alloc);
+    for event in part {
+        reason.append_reason(reason_in(event))?;
+    }
+    Ok(reason)
+}
+
+// Their first line.
+fn reason_of(alloc: Global, part: &[Event]) -> Result<Bytes, NoMemory>
+    ensures { IfOk result (λ reason. reason ≡ parts.first_line (parts.reason_of part.now)) }
+{
+    let reason = kept_reason(alloc, part)?;
+    Ok(reason.into_first_line())
+}
+
+// The reason of a row that ended so: that of its events where the test was skipped, else none.
+fn row_reason(alloc: Global, ended: Ended, part: &[Event]) -> Result<Bytes, NoMemory>
+    ensures { IfOk result (λ reason. reason ≡ (if rows.is_skip ended then parts.first_line (parts.reason_of part.now) else [])) }
+{
+    if ended == Ended::Skip {
+        reason_of(alloc, part)
+    } else {
+        Ok(Bytes::from_vec(Vec::new(alloc)))
+    }
+}
+
 /// The row of a part of the test, which ended so and took this long.
 pub fn part_row(
     alloc: Global,
@@ -74,6 +104,7 @@ pub fn part_row(
 {
     let tags = sorted_tags(alloc, last_tags(part))?;
     let text = row_text(alloc, ended, part)?;
+    let reason = row_reason(alloc, ended, part)?;
     let TestKey { route, id } = key;
     Ok(Row {
         id,
@@ -82,5 +113,6 @@ pub fn part_row(
         tags,
         nanos,
         text,
+        reason,
     })
 }

@@ -12,8 +12,8 @@ use Rattle.outcome_fold.specs.declared.row.Ended.TheVariants as ended
 use Rattle.outcome_fold.specs.declared.row.Row.{Row}
 use Rattle.outcome_fold.specs.declared.row.Counts.{Counts}
 use Rattle.outcome_fold.specs.Order.{text_cmp, in_byte_order, among}
-use Rattle.outcome_fold.specs.Rows.{is_failure, completed_rows, open_rows, rows_of}
-use Rattle.outcome_fold.specs.Answers.{is_existing, is_skip, is_run, is_counted, passes, row_fails, is_skipped, seen_tags_of, counts_of}
+use Rattle.outcome_fold.specs.Rows.{is_failure, is_skip, completed_rows, open_rows, rows_of}
+use Rattle.outcome_fold.specs.Answers.{is_existing, is_run, is_counted, passes, row_fails, is_skipped, seen_tags_of, counts_of}
 use Rattle.outcome_fold.proofs.TotalLemmas.{total, total_is, total_append}
 use Rattle.outcome_fold.proofs.LawLemmas.{as_many}
 use Rattle.outcome_fold.proofs.SetLemmas.{same_order, order_append}

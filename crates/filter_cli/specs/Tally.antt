@@ -3,8 +3,8 @@ use Rattle.std.specs.Prelude.{◌≡◌, ◌||◌, Bool, not, List, map, count_b
 use Rattle.outcome_fold.specs.declared.row.Ended.{Ended}
 use Rattle.outcome_fold.specs.declared.row.Row.{Row}
 use Rattle.outcome_fold.specs.declared.row.Counts.{Counts}
-use Rattle.outcome_fold.specs.Rows.{is_failure}
-use Rattle.outcome_fold.specs.Answers.{is_existing, is_skip, seen_tags_of}
+use Rattle.outcome_fold.specs.Rows.{is_failure, is_skip}
+use Rattle.outcome_fold.specs.Answers.{is_existing, seen_tags_of}
 use Rattle.filter_cli.specs.declared.tally.Tally.{Tally}
 use Rattle.filter_cli.specs.declared.tally.Kind.{Kind}
 use Rattle.filter_cli.specs.declared.tally.Kind.TheVariants as kind

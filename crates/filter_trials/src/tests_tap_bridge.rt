@@ -497,14 +497,14 @@ fn a_comment_taken_on_its_own_keeps_its_first_bytes(rt: HostRuntime) {
 
 fn row(alloc: Global, id: &[u8], ended: Ended) -> Option<Row> {
     let id = Text::new(alloc, id).ok()?;
-    let text = Bytes::new(alloc, b"").ok()?;
     Some(Row {
         id,
         route: None,
         ended,
         tags: Tags::new(alloc),
         nanos: None,
-        text,
+        text: Bytes::from_vec(Vec::new(alloc)),
+        reason: Bytes::from_vec(Vec::new(alloc)),
     })
 }
 

@@ -16,6 +16,8 @@ mod tests_outcome_fold;
 #[cfg(test)]
 mod tests_outcome_fold_hearing;
 #[cfg(test)]
+mod tests_outcome_fold_reasons;
+#[cfg(test)]
 mod tests_outcome_fold_summing;
 #[cfg(test)]
 mod tests_sub_export;

@@ -22,6 +22,7 @@ fn row(alloc: Global, id: &[u8], ended: Ended, names: &[u8]) -> Option<Row> {
         tags,
         nanos: None,
         text: Bytes::from_vec(Vec::new(alloc)),
+        reason: Bytes::from_vec(Vec::new(alloc)),
     })
 }
 

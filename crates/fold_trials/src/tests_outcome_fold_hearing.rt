@@ -50,6 +50,7 @@ fn same_row(row: &Row, other: &Row) -> bool {
         && same_texts(row.tags.list(), other.tags.list())
         && row.nanos == other.nanos
         && row.text.bytes() == other.text.bytes()
+        && row.reason.bytes() == other.reason.bytes()
 }
 
 fn same_rows(rows: &[Row], others: &[Row]) -> bool {

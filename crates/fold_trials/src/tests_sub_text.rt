@@ -18,6 +18,7 @@ fn row(alloc: Global, id: &[u8], ended: Ended, nanos: Option<u64>, text: &[u8]) 
         tags: Tags::new(alloc),
         nanos,
         text: Bytes::new(alloc, text).ok()?,
+        reason: Bytes::from_vec(Vec::new(alloc)),
     })
 }
 

@@ -8,7 +8,7 @@ use std::alloc::Global;
 // A row, and its case.
 type Case = (Told, &'static [u8]);
 
-const CASES: [Case; 9] = [
+const CASES: [Case; 10] = [
     (
         (b"pkg.Test.test_a", Ended::Success, Some(1_500_499_999), b""),
         b"<testcase classname=\"pkg.Test\" name=\"test_a\" time=\"1.500\">\n</testcase>\n",
@@ -21,6 +21,10 @@ const CASES: [Case; 9] = [
     (
         (b"a.b", Ended::Skip, Some(500_000), b""),
         b"<testcase classname=\"a\" name=\"b\" time=\"0.001\">\n<skipped message=\"\"/>\n</testcase>\n",
+    ),
+    (
+        (b"a.b", Ended::Skip, None, b"no \"net\" < 3\tx"),
+        b"<testcase classname=\"a\" name=\"b\" time=\"0.000\">\n<skipped message=\"no &quot;net&quot; &lt; 3&#9;x\"/>\n</testcase>\n",
     ),
     (
         (b"a.b", Ended::Fail, Some(0), b"boom\n"),
@@ -112,11 +116,11 @@ const ROWS: [Told; 4] = [
     (b"pkg.Test.test_a", Ended::Success, Some(1_500_499_999), b""),
     (b"listed", Ended::Exists, Some(7_000_000_000), b""),
     (b"a<b", Ended::UxSuccess, None, b"1 < 2\n"),
-    (b"b.s", Ended::Skip, Some(500_000), b""),
+    (b"b.s", Ended::Skip, Some(500_000), b"no net"),
 ];
 
 const DOCUMENT: &[u8] =
-    b"<?xml version=\"1.0\" encoding=\"utf-8\"?>\n<testsuite name=\"\" tests=\"3\" failures=\"1\" errors=\"0\" skipped=\"1\" time=\"1.501\">\n<testcase classname=\"pkg.Test\" name=\"test_a\" time=\"1.500\">\n</testcase>\n<testcase classname=\"\" name=\"a&lt;b\" time=\"0.000\">\n<failure type=\"uxsuccess\">1 &lt; 2\n</failure>\n</testcase>\n<testcase classname=\"b\" name=\"s\" time=\"0.001\">\n<skipped message=\"\"/>\n</testcase>\n</testsuite>\n";
+    b"<?xml version=\"1.0\" encoding=\"utf-8\"?>\n<testsuite name=\"\" tests=\"3\" failures=\"1\" errors=\"0\" skipped=\"1\" time=\"1.501\">\n<testcase classname=\"pkg.Test\" name=\"test_a\" time=\"1.500\">\n</testcase>\n<testcase classname=\"\" name=\"a&lt;b\" time=\"0.000\">\n<failure type=\"uxsuccess\">1 &lt; 2\n</failure>\n</testcase>\n<testcase classname=\"b\" name=\"s\" time=\"0.001\">\n<skipped message=\"no net\"/>\n</testcase>\n</testsuite>\n";
 
 const NO_ROWS: &[u8] =
     b"<?xml version=\"1.0\" encoding=\"utf-8\"?>\n<testsuite name=\"\" tests=\"0\" failures=\"0\" errors=\"0\" skipped=\"0\" time=\"0.000\">\n</testsuite>\n";

@@ -17,7 +17,7 @@ use Rattle.outcome_fold.specs.Answers.{is_run, is_counted, is_skipped, row_fails
 use Rattle.junit_xml.specs.declared.escaping.Place.TheVariants.{Text, Value}
 use Rattle.junit_xml.specs.Characters.{shown, written}
 use Rattle.junit_xml.specs.Seconds.{seconds_of}
-use Rattle.junit_xml.specs.Documents.{attribute, tag_line, class_of, name_of, reason_of, case_begin, failure, skipped, inside_of, case_text, case_of, declaration, suite_begin, head_of, tail_text, junit_of}
+use Rattle.junit_xml.specs.Documents.{attribute, tag_line, class_of, name_of, case_begin, failure, skipped, inside_of, case_text, case_of, declaration, suite_begin, head_of, tail_text, junit_of}
 use Rattle.junit_xml.specs.Reading as reading
 use Rattle.junit_xml.specs.Reading.{Reading, Tag, Heading, Case, Verdict, Document, read_tag, read_on, read_next, read_document, document_of, document_read}
 use Rattle.junit_xml.specs.Told.{verdict_of, told_case, told_counts, told_of}
@@ -40,7 +40,7 @@ abbrev case_end : List ℕ
 case_end = codes "/testcase>\n"
 
 abbrev case_parts : Row → List (List ℕ)
-case_parts row = case_part row ∷ inside_parts row.ended row.text (reason_of row) ++ case_end ∷ []
+case_parts row = case_part row ∷ inside_parts row.ended row.text row.reason ++ case_end ∷ []
 
 abbrev row_parts : Row → List (List ℕ)
 row_parts row = if is_run row then case_parts row else []
@@ -97,10 +97,10 @@ begin_is row = case_line_is (written Value (class_of row.id)) (written Value (na
 
 case_is : (row : Row) → case_text row ≡ flat_map fronted (case_parts row)
 case_is row =
-    let inside = inside_parts row.ended row.text (reason_of row) in
-    append_assoc (case_begin row) (inside_of row.ended row.text (reason_of row)) (tag_line (codes "/testcase"))
-    ∙ ap (λ l. l ++ (inside_of row.ended row.text (reason_of row) ++ tag_line (codes "/testcase"))) (begin_is row)
-    ∙ ap (λ l. fronted (case_part row) ++ (l ++ tag_line (codes "/testcase"))) (inside_is row.ended row.text (reason_of row))
+    let inside = inside_parts row.ended row.text row.reason in
+    append_assoc (case_begin row) (inside_of row.ended row.text row.reason) (tag_line (codes "/testcase"))
+    ∙ ap (λ l. l ++ (inside_of row.ended row.text row.reason ++ tag_line (codes "/testcase"))) (begin_is row)
+    ∙ ap (λ l. fronted (case_part row) ++ (l ++ tag_line (codes "/testcase"))) (inside_is row.ended row.text row.reason)
     ∙ ap (λ l. fronted (case_part row) ++ l) (sym (flat_map-append fronted inside (case_end ∷ [])))
 
 row_is : (row : Row) → case_of row ≡ flat_map fronted (row_parts row)
@@ -156,8 +156,8 @@ inside_closed ended.Open text reason = and_from _ _ (failure_closed (codes "unfi
 
 case_are_closed : (row : Row) → AreClosed (case_parts row)
 case_are_closed row =
-    and_from (lacks (λ b. b == 60) (case_part row)) (list_all (lacks (λ b. b == 60)) (inside_parts row.ended row.text (reason_of row) ++ case_end ∷ [])) (case_closed row)
-    (closed_both (inside_parts row.ended row.text (reason_of row)) (case_end ∷ []) (inside_closed row.ended row.text (reason_of row)) refl)
+    and_from (lacks (λ b. b == 60) (case_part row)) (list_all (lacks (λ b. b == 60)) (inside_parts row.ended row.text row.reason ++ case_end ∷ [])) (case_closed row)
+    (closed_both (inside_parts row.ended row.text row.reason) (case_end ∷ []) (inside_closed row.ended row.text row.reason) refl)
 
 rows_closed : (rows : List Row) → AreClosed (flat_map row_parts rows)
 rows_closed [] = refl
@@ -203,9 +203,9 @@ inside_leads ended.Open heading cases id seconds text reason = failure_leads hea
 case_leads : (heading : Heading) (cases : List Case) (row : Row) → Leads (reading.in_suite heading cases) (case_parts row) (reading.in_suite heading (cases ++ told_case row ∷ []))
 case_leads heading cases row =
     leads_on (reading.in_suite heading cases) (reading.in_case heading cases (shown row.id) (seconds_of row.nanos)) (reading.in_suite heading (cases ++ told_case row ∷ [])) (case_part row) (reading.begins_case (shown row.id) (seconds_of row.nanos))
-    (inside_parts row.ended row.text (reason_of row) ++ case_end ∷ [])
+    (inside_parts row.ended row.text row.reason ++ case_end ∷ [])
     (case_read row ∙ ap (λ id. Some (reading.begins_case id (seconds_of row.nanos))) (id_back row.id)) refl
-    (inside_leads row.ended heading cases (shown row.id) (seconds_of row.nanos) row.text (reason_of row))
+    (inside_leads row.ended heading cases (shown row.id) (seconds_of row.nanos) row.text row.reason)
 
 rows_lead : (heading : Heading) (cases : List Case) (rows : List Row) → Leads (reading.in_suite heading cases) (flat_map row_parts rows) (reading.in_suite heading (cases ++ map told_case (filter is_run rows)))
 rows_lead heading cases [] = ap (λ l. Some (reading.in_suite heading l)) (sym (append-nil cases))

@@ -59,7 +59,10 @@ kept = refl
 -- Rows.
 
 abbrev row : List ℕ → Ended → Option ℕ → List ℕ → Row
-row id how nanos bytes = record { id = id; route = None; ended = how; tags = []; nanos = nanos; text = bytes }
+row id how nanos bytes = record { id = id; route = None; ended = how; tags = []; nanos = nanos; text = bytes; reason = [] }
+
+abbrev skip : List ℕ → Option ℕ → List ℕ → Row
+skip id nanos reason = record { id = id; route = None; ended = ended.Skip; tags = []; nanos = nanos; text = []; reason = reason }
 
 passed_row : case_of (row (codes "pkg.Test.test_a(1.5)") ended.Success (Some 1500499999) []) ≡ codes "<testcase classname=\"pkg.Test\" name=\"test_a(1.5)\" time=\"1.500\">\n</testcase>\n"
 unfolding pieces_from encode digits
@@ -72,7 +75,7 @@ failed_row : case_of (row (codes "a<b") ended.Fail None (codes "1 < 2\n")) ≡ c
 unfolding pieces_from encode digits
 failed_row = refl
 
-skipped_row : case_of (row (codes "b.s") ended.Skip None []) ≡ codes "<testcase classname=\"b\" name=\"s\" time=\"0.000\">\n<skipped message=\"\"/>\n</testcase>\n"
+skipped_row : case_of (skip (codes "b.s") None []) ≡ codes "<testcase classname=\"b\" name=\"s\" time=\"0.000\">\n<skipped message=\"\"/>\n</testcase>\n"
 unfolding pieces_from encode digits
 skipped_row = refl
 
@@ -98,10 +101,10 @@ some_rows =
     row (codes "pkg.Test.test_a(1.5)") ended.Success (Some 1500499999) []
     ∷ row (codes "listed") ended.Exists None []
     ∷ row (codes "a<b") ended.UxSuccess None (codes "1 < 2\n")
-    ∷ row (codes "b.s") ended.Skip (Some 500000) []
+    ∷ skip (codes "b.s") (Some 500000) (codes "no \"net\"")
     ∷ []
 
-some_text : junit_of some_rows ≡ codes "<?xml version=\"1.0\" encoding=\"utf-8\"?>\n<testsuite name=\"\" tests=\"3\" failures=\"1\" errors=\"0\" skipped=\"1\" time=\"1.501\">\n<testcase classname=\"pkg.Test\" name=\"test_a(1.5)\" time=\"1.500\">\n</testcase>\n<testcase classname=\"\" name=\"a&lt;b\" time=\"0.000\">\n<failure type=\"uxsuccess\">1 &lt; 2\n</failure>\n</testcase>\n<testcase classname=\"b\" name=\"s\" time=\"0.001\">\n<skipped message=\"\"/>\n</testcase>\n</testsuite>\n"
+some_text : junit_of some_rows ≡ codes "<?xml version=\"1.0\" encoding=\"utf-8\"?>\n<testsuite name=\"\" tests=\"3\" failures=\"1\" errors=\"0\" skipped=\"1\" time=\"1.501\">\n<testcase classname=\"pkg.Test\" name=\"test_a(1.5)\" time=\"1.500\">\n</testcase>\n<testcase classname=\"\" name=\"a&lt;b\" time=\"0.000\">\n<failure type=\"uxsuccess\">1 &lt; 2\n</failure>\n</testcase>\n<testcase classname=\"b\" name=\"s\" time=\"0.001\">\n<skipped message=\"no &quot;net&quot;\"/>\n</testcase>\n</testsuite>\n"
 unfolding pieces_from encode digits
 some_text = refl
 

@@ -18,7 +18,7 @@ use Rattle.junit_xml.specs.declared.escaping.Place.{Place}
 use Rattle.junit_xml.specs.declared.escaping.Place.TheVariants.{Text, Value}
 use Rattle.junit_xml.specs.Characters.{is_xml_char, written_char, written}
 use Rattle.junit_xml.specs.Seconds.{seconds_of}
-use Rattle.junit_xml.specs.Documents.{attribute, tag, tag_line, class_of, name_of, reason_of, case_begin, failure, skipped, inside_of, case_text, case_of, declaration, suite_begin, head_of, tail_text, junit_of}
+use Rattle.junit_xml.specs.Documents.{attribute, tag, tag_line, class_of, name_of, case_begin, failure, skipped, inside_of, case_text, case_of, declaration, suite_begin, head_of, tail_text, junit_of}
 use Rattle.junit_xml.specs.Told.{IsXmlText}
 use Rattle.junit_xml.proofs.CharacterLemmas.{by_char}
 use Rattle.junit_xml.proofs.NameLemmas.{encoded_append}
@@ -133,8 +133,8 @@ begin_xml row =
 
 case_xml : (row : Row) → IsXmlText (case_text row)
 case_xml row =
-    both_xml (case_begin row ++ inside_of row.ended row.text (reason_of row)) (tag_line (codes "/testcase"))
-    (both_xml (case_begin row) (inside_of row.ended row.text (reason_of row)) (begin_xml row) (inside_xml row.ended row.text (reason_of row)))
+    both_xml (case_begin row ++ inside_of row.ended row.text row.reason) (tag_line (codes "/testcase"))
+    (both_xml (case_begin row) (inside_of row.ended row.text row.reason) (begin_xml row) (inside_xml row.ended row.text row.reason))
     (plain_xml (tag_line (codes "/testcase")) refl)
 
 row_xml : (row : Row) → IsXmlText (case_of row)

@@ -53,10 +53,6 @@ tag_line inside = tag inside ++ codes "\n"
 
 -- Cases.
 
--- The reason why a test was skipped. A row has none so far.
-abbrev pub reason_of : Row → List ℕ
-reason_of row = []
-
 -- the tag that begins the case of a row
 abbrev pub case_begin : Row → List ℕ
 case_begin row = tag_line (codes "testcase"
@@ -84,7 +80,7 @@ inside_of ended.Open text reason = failure (codes "unfinished") text
 
 -- the case of a row that is not `Exists`
 abbrev pub case_text : Row → List ℕ
-case_text row = case_begin row ++ inside_of row.ended row.text (reason_of row) ++ tag_line (codes "/testcase")
+case_text row = case_begin row ++ inside_of row.ended row.text row.reason ++ tag_line (codes "/testcase")
 
 -- the case of a row, if it has one
 abbrev pub case_of : Row → List ℕ

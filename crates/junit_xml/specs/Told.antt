@@ -9,7 +9,6 @@ use Rattle.outcome_fold.specs.declared.row.Counts.{Counts}
 use Rattle.outcome_fold.specs.Answers.{is_run, counts_of}
 use Rattle.junit_xml.specs.Characters.{is_xml_char, shown}
 use Rattle.junit_xml.specs.Seconds.{seconds_of}
-use Rattle.junit_xml.specs.Documents.{reason_of}
 use Rattle.junit_xml.specs.Reading.{Verdict, passed, skipped, failed, Heading, Case, Document}
 
 -- What is told of how a test ended. Of one that passed no text is told, nor of one that was expected to fail and did.
@@ -24,7 +23,7 @@ verdict_of ended.Open text reason = failed ended.Open (shown text)
 
 -- what is told of a row
 abbrev pub told_case : Row → Case
-told_case row = record { id = shown row.id; seconds = seconds_of row.nanos; verdict = verdict_of row.ended row.text (reason_of row) }
+told_case row = record { id = shown row.id; seconds = seconds_of row.nanos; verdict = verdict_of row.ended row.text row.reason }
 
 -- what is told of counts
 abbrev pub told_counts : Counts → Heading

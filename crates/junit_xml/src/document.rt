@@ -108,13 +108,13 @@ fn put_inside(ended: Ended, bytes: &[u8], reason: &[u8], text: &mut Vec<u8>) -> 
     }
 }
 
-// The case of a row. A row has no reason so far.
+// The case of a row.
 fn put_case(row: &Row, text: &mut Vec<u8>) -> Result<(), NoMemory>
     ensures ok { OnOk result (text.new.items ≡ text.old.items ++ spec.case_text row.now) }
     ensures kept { take (length text.old.items) text.new.items ≡ text.old.items }
 {
     put_case_begin(row, text)?;
-    put_inside(row.ended, row.text.bytes(), b"", text)?;
+    put_inside(row.ended, row.text.bytes(), row.reason.bytes(), text)?;
     text.extend_from_slice(b"</testcase>\n")?;
     Ok(())
 }

@@ -4,6 +4,8 @@ use Rattle.std.specs.FinMap as fin
 use Rattle.std.specs.FinMap.{FinMap, same_map, get-insert}
 use Rattle.std.specs.Cmp.{eq_by_cmp_equiv}
 use Rattle.std.specs.Ordering.{eq_by_cmp}
+use Rattle.std.specs.Prelude.{codes}
+use Rattle.std.specs.Str.{bytes_eq}
 use Rattle.std.specs.Option.{option_map, option_to_list, unwrap_or}
 use Rattle.std.proofs.lemmas.List.{take-append-drop}
 use Rattle.packet_codec.specs.declared.event.FilePart.{FilePart}
@@ -15,7 +17,7 @@ use Rattle.outcome_fold.specs.declared.row.Row.{Row}
 use Rattle.outcome_fold.specs.declared.test_key.TestKey.{TestKey}
 use Rattle.outcome_fold.specs.declared.part.Started.{Started}
 use Rattle.outcome_fold.specs.Order.{test_cmp, table}
-use Rattle.outcome_fold.specs.Parts.{test_of, events_of_test, ended_by, instant, elapsed, is_text_type, text_in, text_limit, last_part}
+use Rattle.outcome_fold.specs.Parts.{test_of, events_of_test, ended_by, instant, elapsed, is_text_type, text_in, text_limit, reason_in, reason_limit, last_part}
 use Rattle.outcome_fold.specs.Rows.{row_of, completed_row, completed_behind, completed_rows, is_part, open_tests, open_rows, by_route, rows_of}
 use Rattle.outcome_fold.specs.Started.{after, fresh, started_of, open_table}
 use Rattle.outcome_fold.specs.Folded.{extended, row_at}
@@ -110,6 +112,10 @@ text_joined None file = refl
 text_joined (Some mime) None = refl
 text_joined (Some mime) (Some file) = text_halves (is_text_type mime) file.bytes
 
+reason_joined : (file : Option FilePart) → reason_in (option_map (with_part half_of) file) ++ reason_in (option_map (with_part other_half_of) file) ≡ reason_in file
+reason_joined None = refl
+reason_joined (Some file) = text_halves (bytes_eq file.name (codes "reason")) file.bytes
+
 after_both : (s : Started) (e : Event) → after (after s (first_half e)) (second_half e) ≡ after s e
 after_both s e =
     let first = text_in e.mime (option_map (with_part half_of) e.file) in
@@ -117,7 +123,12 @@ after_both s e =
     let text : take text_limit (take text_limit (s.text ++ first) ++ second) ≡ take text_limit (s.text ++ text_in e.mime e.file) =
     take_again text_limit (s.text ++ first) second
     ∙ ap (take text_limit) (append_assoc s.text first second ∙ ap (λ (l : List ℕ). s.text ++ l) (text_joined e.mime e.file)) in
-    ap (λ (l : List ℕ). record { start = s.start; tags = unwrap_or e.tags s.tags; text = l }) text
+    let front = reason_in (option_map (with_part half_of) e.file) in
+    let behind = reason_in (option_map (with_part other_half_of) e.file) in
+    let reason : take reason_limit (take reason_limit (s.reason ++ front) ++ behind) ≡ take reason_limit (s.reason ++ reason_in e.file) =
+    take_again reason_limit (s.reason ++ front) behind
+    ∙ ap (take reason_limit) (append_assoc s.reason front behind ∙ ap (λ (l : List ℕ). s.reason ++ l) (reason_joined e.file)) in
+    λ i. record { start = s.start; tags = unwrap_or e.tags s.tags; text = text i; reason = reason i }
 
 extended_both : (o : Option Started) (e : Event) → extended (Some (extended o (first_half e))) (second_half e) ≡ extended o e
 extended_both None e = after_both (fresh e) e

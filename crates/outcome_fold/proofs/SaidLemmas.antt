@@ -6,7 +6,7 @@ use Rattle.packet_codec.specs.declared.event.Event.{Event}
 use Rattle.outcome_fold.specs.declared.test_key.TestKey.{TestKey}
 use Rattle.outcome_fold.specs.declared.part.Started.{Started}
 use Rattle.outcome_fold.specs.declared.part.Said.{Said}
-use Rattle.outcome_fold.specs.Parts.{test_of, text_by, text_in, text_limit}
+use Rattle.outcome_fold.specs.Parts.{test_of, text_by, text_in, text_limit, reason_by, reason_in, reason_limit}
 use Rattle.outcome_fold.specs.Started.{after, Says, fresh_said, after_said}
 use Rattle.outcome_fold.specs.Folded.{extended, extended_by}
 
@@ -14,17 +14,22 @@ said_is : (s : Started) (said : Said) (e : Event) → Says said e → after_said
 said_is s said e says =
     let tags = ap (λ (t : Option (List (List ℕ))). unwrap_or t s.tags) says.tags in
     let text = ap (λ (t : List ℕ). take text_limit (s.text ++ t)) says.text in
-    λ i. record { start = s.start; tags = tags i; text = text i }
+    let reason = ap (λ (t : List ℕ). take reason_limit (s.reason ++ t)) says.reason in
+    λ i. record { start = s.start; tags = tags i; text = text i; reason = reason i }
 
 pub extended_is : (o : Option Started) (said : Said) (e : Event) → Says said e → extended_by o said ≡ extended o e
 extended_is None said e says =
     said_is (fresh_said said) said e says
-    ∙ ap (λ (start : Option ℕ). after (record { start = start; tags = []; text = [] }) e) says.instant
+    ∙ ap (λ (start : Option ℕ). after (record { start = start; tags = []; text = []; reason = [] }) e) says.instant
 extended_is (Some s) said e says = said_is s said e says
 
 -- the text of an event whose MIME type and whose file's bytes are these
 pub text_said : (mime bytes : Option (List ℕ)) (text : List ℕ) (e : Event) → text ≡ text_by mime bytes → mime ≡ e.mime → bytes ≡ option_map (λ (file : FilePart). file.bytes) e.file → text ≡ text_in e.mime e.file
 text_said mime bytes text e is type piece = is ∙ ap (λ (m : Option (List ℕ)). text_by m bytes) type ∙ ap (text_by e.mime) piece
+
+-- the reason of an event whose file has this name and these bytes
+pub reason_said : (name bytes : Option (List ℕ)) (reason : List ℕ) (e : Event) → reason ≡ reason_by name bytes → name ≡ option_map (λ (file : FilePart). file.name) e.file → bytes ≡ option_map (λ (file : FilePart). file.bytes) e.file → reason ≡ reason_in e.file
+reason_said name bytes reason e is own piece = is ∙ ap (λ (n : Option (List ℕ)). reason_by n bytes) own ∙ ap (reason_by (option_map (λ (file : FilePart). file.name) e.file)) piece
 
 abbrev at_route : Option (List ℕ) → List ℕ → TestKey
 at_route route id = record { route = route; id = id }

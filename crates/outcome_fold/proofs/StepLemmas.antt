@@ -10,7 +10,7 @@ use Rattle.outcome_fold.specs.declared.row.Ended.{Ended}
 use Rattle.outcome_fold.specs.declared.test_key.TestKey.{TestKey}
 use Rattle.outcome_fold.specs.declared.part.Started.{Started}
 use Rattle.outcome_fold.specs.Order.{test_cmp, text_cmp, text_table, in_byte_order}
-use Rattle.outcome_fold.specs.Parts.{test_of, speaks_of, events_of_test, ended_by, completes, last_part, instant, elapsed, last_tags, text_in, text_limit}
+use Rattle.outcome_fold.specs.Parts.{test_of, speaks_of, events_of_test, ended_by, completes, last_part, instant, elapsed, last_tags, text_in, text_limit, reason_in, reason_limit}
 use Rattle.outcome_fold.specs.Rows.{completed_row, row_completing}
 use Rattle.outcome_fold.specs.Started.{started_of, open_table}
 use Rattle.outcome_fold.specs.Folded.{extended, row_at}
@@ -41,13 +41,17 @@ pub started_push : (part : List Event) (e : Event) → started_of (part ++ e ∷
 started_push [] e =
     let tags = last_tags_at e.tags [] e refl in
     let text : take text_limit (text_in e.mime e.file ++ []) ≡ take text_limit (text_in e.mime e.file) = ap (take text_limit) (append_none (text_in e.mime e.file)) in
-    λ i. record { start = option_map instant e.stamp; tags = tags i; text = text i }
+    let reason : take reason_limit (reason_in e.file ++ []) ≡ take reason_limit (reason_in e.file) = ap (take reason_limit) (append_none (reason_in e.file)) in
+    λ i. record { start = option_map instant e.stamp; tags = tags i; text = text i; reason = reason i }
 started_push (x ∷ es) e =
     let tags = last_tags_at e.tags (x ∷ es) e refl in
     let piece = λ (e : Event). text_in e.mime e.file in
     let text : take text_limit (flat_map piece (x ∷ es ++ e ∷ [])) ≡ take text_limit (take text_limit (flat_map piece (x ∷ es)) ++ piece e) =
     ap (take text_limit) (flat_map_push piece (x ∷ es) e) ∙ sym (take_again text_limit (flat_map piece (x ∷ es)) (piece e)) in
-    λ i. record { start = option_map instant x.stamp; tags = tags i; text = text i }
+    let told = λ (e : Event). reason_in e.file in
+    let reason : take reason_limit (flat_map told (x ∷ es ++ e ∷ [])) ≡ take reason_limit (take reason_limit (flat_map told (x ∷ es)) ++ told e) =
+    ap (take reason_limit) (flat_map_push told (x ∷ es) e) ∙ sym (take_again reason_limit (flat_map told (x ∷ es)) (told e)) in
+    λ i. record { start = option_map instant x.stamp; tags = tags i; text = text i; reason = reason i }
 
 said_push : (part : List Event) (e : Event) → said (part ++ e ∷ []) ≡ Some (extended (said part) e)
 said_push [] e = ap Some (started_push [] e)

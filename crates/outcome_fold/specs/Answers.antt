@@ -10,7 +10,7 @@ use Rattle.outcome_fold.specs.declared.row.Ended.TheVariants as ended
 use Rattle.outcome_fold.specs.declared.row.Row.{Row}
 use Rattle.outcome_fold.specs.declared.row.Counts.{Counts}
 use Rattle.outcome_fold.specs.Order.{text_cmp, in_byte_order, table}
-use Rattle.outcome_fold.specs.Rows.{is_failure}
+use Rattle.outcome_fold.specs.Rows.{is_failure, is_skip}
 
 abbrev pub row_fails : Row → Bool
 row_fails row = is_failure row.ended
@@ -23,15 +23,6 @@ is_existing ended.Skip = false
 is_existing ended.Fail = false
 is_existing ended.XFail = false
 is_existing ended.Open = false
-
-abbrev pub is_skip : Ended → Bool
-is_skip ended.Exists = false
-is_skip ended.Success = false
-is_skip ended.UxSuccess = false
-is_skip ended.Skip = true
-is_skip ended.Fail = false
-is_skip ended.XFail = false
-is_skip ended.Open = false
 
 -- The row is of any kind but `Exists`. A test that was skipped, or left open, counts as one that ran.
 abbrev pub is_run : Row → Bool

@@ -10,9 +10,9 @@ use Rattle.outcome_fold.specs.declared.row.Row.{Row}
 use Rattle.outcome_fold.specs.declared.fold.Held.{Held}
 use Rattle.outcome_fold.specs.declared.fold.Fold.{Fold}
 use Rattle.outcome_fold.specs.Order.{test_cmp, in_byte_order}
-use Rattle.outcome_fold.specs.Rows.{is_failure}
+use Rattle.outcome_fold.specs.Rows.{is_failure, is_skip}
 use Rattle.outcome_fold.specs.declared.part.Said.{Said}
-use Rattle.outcome_fold.specs.Parts.{test_of, ended_by}
+use Rattle.outcome_fold.specs.Parts.{test_of, ended_by, first_line}
 use Rattle.outcome_fold.specs.Started.{fresh, after, open_table, Says, fresh_said, after_said}
 
 -- what the parts of the open tests say, by test, but for the one that is held
@@ -60,4 +60,5 @@ row_at test how nanos s = record {
   tags = in_byte_order s.tags;
   nanos = nanos;
   text = if is_failure how then s.text else [];
+  reason = if is_skip how then first_line s.reason else [];
 }

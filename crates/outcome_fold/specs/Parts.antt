@@ -1,8 +1,9 @@
 -- The parts of a test's events (docs/FORMATS.md, "The fold": a part ends with each event that completes its test).
-use Rattle.std.specs.Prelude.{ℕ, ◌+◌, ◌-◌, ◌*◌, Bool, false, Option, Some, None, List, [], ◌∷◌, take, codes, nat_eq, nat_le, is_some, if◌then◌else◌}
-use Rattle.std.specs.List.{filter, list_any, flat_map, starts_with}
+use Rattle.std.specs.Prelude.{ℕ, ◌+◌, ◌-◌, ◌*◌, Bool, false, not, Option, Some, None, List, [], ◌∷◌, take, codes, nat_eq, nat_le, is_some, if◌then◌else◌}
+use Rattle.std.specs.List.{filter, list_any, flat_map, starts_with, take_while}
 use Rattle.std.specs.Option.{option_map, unwrap_or}
 use Rattle.std.specs.Ordering.{eq_by_cmp}
+use Rattle.std.specs.Str.{bytes_eq}
 use Rattle.packet_codec.specs.declared.stamp.Stamp.{Stamp}
 use Rattle.packet_codec.specs.declared.status.Status.{Status}
 use Rattle.packet_codec.specs.declared.status.Status.TheVariants as status
@@ -87,3 +88,25 @@ text_limit = 65536
 -- the first bytes of the part's files of text, joined
 abbrev pub text_of : List Event → List ℕ
 text_of part = take text_limit (flat_map (λ e. text_in e.mime e.file) part)
+
+-- the bytes of a file, where there is one and its name is `reason`
+abbrev pub reason_by : Option (List ℕ) → Option (List ℕ) → List ℕ
+reason_by None bytes = []
+reason_by (Some name) None = []
+reason_by (Some name) (Some bytes) = if bytes_eq name (codes "reason") then bytes else []
+
+-- the same of the event's file, whatever its MIME type
+abbrev pub reason_in : Option FilePart → List ℕ
+reason_in file = reason_by (option_map (λ file. file.name) file) (option_map (λ file. file.bytes) file)
+
+-- the bytes that are kept of why a test was skipped
+abbrev pub reason_limit : ℕ
+reason_limit = 1024
+
+-- the first bytes of the part's files named `reason`, joined
+abbrev pub reason_of : List Event → List ℕ
+reason_of part = take reason_limit (flat_map (λ e. reason_in e.file) part)
+
+-- what stands before the first newline, or all of it
+abbrev pub first_line : List ℕ → List ℕ
+first_line bytes = take_while (λ byte. not (nat_eq byte 10)) bytes

@@ -10,7 +10,7 @@ use Rattle.outcome_fold.specs.declared.row.Ended.TheVariants as ended
 use Rattle.outcome_fold.specs.declared.test_key.TestKey.{TestKey}
 use Rattle.outcome_fold.specs.declared.row.Row.{Row}
 use Rattle.outcome_fold.specs.Order.{route_cmp, test_cmp, table}
-use Rattle.outcome_fold.specs.Parts.{test_of, events_of_test, ended_by, last_part, instant, start_of, elapsed, tags_of, text_of}
+use Rattle.outcome_fold.specs.Parts.{test_of, events_of_test, ended_by, last_part, instant, start_of, elapsed, tags_of, text_of, reason_of, first_line}
 
 -- a test that failed, passed where it was to fail, or was left open
 abbrev pub is_failure : Ended → Bool
@@ -22,6 +22,16 @@ is_failure ended.Fail = true
 is_failure ended.XFail = false
 is_failure ended.Open = true
 
+-- a test that was skipped
+abbrev pub is_skip : Ended → Bool
+is_skip ended.Exists = false
+is_skip ended.Success = false
+is_skip ended.UxSuccess = false
+is_skip ended.Skip = true
+is_skip ended.Fail = false
+is_skip ended.XFail = false
+is_skip ended.Open = false
+
 -- the row of a part of the test's events
 abbrev pub row_of : TestKey → Ended → Option ℕ → List Event → Row
 row_of test how nanos part = record {
@@ -31,6 +41,7 @@ row_of test how nanos part = record {
   tags = tags_of part;
   nanos = nanos;
   text = if is_failure how then text_of part else [];
+  reason = if is_skip how then first_line (reason_of part) else [];
 }
 
 -- the part of the test that the event completes, where these events came before it

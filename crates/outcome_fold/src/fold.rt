@@ -6,8 +6,9 @@ ghost use Rattle.std.specs.Option.{option_map};
 ghost use Rattle.std.specs.Prelude.{◌≡◌, List, [], ◌∷◌, ◌++◌, Option, None, Some, false, IsTrue, IsSomeAnd, IfOk, OnOk, OnErr, is_some, if◌then◌else◌};
 ghost use Rattle.packet_codec.specs.Packet.{SpellsEvent};
 ghost use Rattle.packet_codec.specs.declared.event.Event.{Event as AnEvent};
-ghost use Rattle.outcome_fold.specs.Rows.{is_failure, completed_row, open_rows};
+ghost use Rattle.outcome_fold.specs.Rows.{is_failure, is_skip, completed_row, open_rows};
 ghost use Rattle.outcome_fold.specs.Parts as parts;
+ghost use Rattle.outcome_fold.specs.Parts.{first_line};
 ghost use Rattle.outcome_fold.specs.Started.{after};
 ghost use Rattle.outcome_fold.specs.declared.fold.Held.{Held as AHeld};
 ghost use Rattle.outcome_fold.specs.Folded.{HasSeen, Speaks, open_in, others_in, extended_by, with_extended, row_at};
@@ -98,7 +99,7 @@ impl Fold {
         }
         match self.others.get_mut(key) {
             Some(started) => {
-                started.take(said)?;
+                started.take(self.alloc, said)?;
                 Ok(true)
             }
             None => Ok(false),
@@ -345,6 +346,17 @@ fn row_text(alloc: Global, ended: Ended, text: KeptText) -> Bytes
     }
 }
 
+// The reason of a row that ended so: its first line where the test was skipped, else none.
+fn row_reason(alloc: Global, ended: Ended, reason: KeptText) -> Bytes
+    ensures { result ≡ (if is_skip ended then first_line reason else []) }
+{
+    if ended == Ended::Skip {
+        reason.into_first_line()
+    } else {
+        Bytes::from_vec(Vec::new(alloc))
+    }
+}
+
 // The part of a test that is open at the end.
 fn part_of_open(key: TestKey, started: Started) -> EndedPart
     ensures { result ≡ part_of_an_open key started }
@@ -390,6 +402,7 @@ fn row_of(alloc: Global, key: TestKey, ended: Ended, nanos: Option<u64>, started
         start: _,
         tags,
         text,
+        reason,
     } = started;
     Row {
         id,
@@ -398,6 +411,7 @@ fn row_of(alloc: Global, key: TestKey, ended: Ended, nanos: Option<u64>, started
         tags: in_order(tags),
         nanos,
         text: row_text(alloc, ended, text),
+        reason: row_reason(alloc, ended, reason),
     }
 }
 

@@ -31,10 +31,11 @@ pub use fold::{Fold, Outcomes};
 pub use half_laws::halves_say_the_same;
 pub use laws::{orders_of_maps, rows_are_by_route, rows_of_events};
 pub use part::{
-    EndedPart, KeptText, Started, elapsed, instant_in, instant_of, text_heard, text_in,
+    EndedPart, KeptText, Started, elapsed, instant_in, instant_of, reason_heard, reason_in,
+    text_heard, text_in,
 };
 pub use row::{Counts, Ended, Row, ended_by};
-pub use rows::Rows;
+pub use rows::{Rows, count_with};
 pub use summary::{Summary, Timed};
 pub use summing::Summing;
 pub use test_key::{TestKey, key_in, key_of};

@@ -1,8 +1,9 @@
 //! What the events of a part of a test say together, and the text that is kept of it.
 
 ghost use Rattle.outcome_fold.specs.Parts as parts;
-ghost use Rattle.std.specs.Prelude.{◌≡◌, IfOk, OnOk, OnErr, [], ◌++◌, take};
-ghost use Rattle.outcome_fold.specs.Parts.{text_by, text_limit};
+ghost use Rattle.std.specs.Prelude.{◌≡◌, IsTrue, IfOk, OnOk, OnErr, not, nat_eq, [], ◌++◌, take};
+ghost use Rattle.outcome_fold.specs.Parts.{text_by, text_limit, reason_by, reason_limit, first_line};
+ghost use Rattle.std.specs.List.{prefix_len};
 ghost use Rattle.std.specs.Option.{option_map, unwrap_or};
 ghost use Rattle.outcome_fold.specs.Started.{Says, after, after_said, fresh_said};
 ghost use Rattle.packet_codec.specs.Packet.{SpellsEvent};
@@ -19,6 +20,9 @@ use sub_number::{Bytes, NoMemory};
 
 /// The bytes of a row's text that are kept.
 const TEXT_LIMIT: usize = 65_536;
+
+/// The bytes that are kept of why a test was skipped.
+const REASON_LIMIT: usize = 1_024;
 
 /// The first bytes of some files, joined. Contracts see them as a list of bytes.
 #[derive(Drop)]
@@ -49,11 +53,61 @@ impl KeptText {
         ensures ok { OnOk result (self.new ≡ take text_limit (self.old ++ piece.now)) }
         ensures err { OnErr result (self.new ≡ self.old) }
     {
-        let room = TEXT_LIMIT.saturating_sub(self.bytes.len());
+        self.append_within(TEXT_LIMIT, piece)
+    }
+
+    // The same, where so many bytes are kept.
+    #[inline(always)]
+    fn append_within(&mut self, limit: usize, piece: &[u8]) -> Result<(), NoMemory>
+        ensures ok { OnOk result (self.new ≡ take limit (self.old ++ piece.now)) }
+        ensures err { OnErr result (self.new ≡ self.old) }
+    {
+        let room = limit.saturating_sub(self.bytes.len());
         self.bytes
             .extend_from_slice(&piece[..room.min(piece.len())])?;
-        self.bytes.truncate(TEXT_LIMIT);
+        self.bytes.truncate(limit);
         Ok(())
+    }
+
+    /// Appends the piece of a reason, of which no more is copied than is kept.
+    pub fn append_reason(&mut self, piece: &[u8]) -> Result<(), NoMemory>
+        ensures ok { OnOk result (self.new ≡ take reason_limit (self.old ++ piece.now)) }
+        ensures err { OnErr result (self.new ≡ self.old) }
+    {
+        self.append_within(REASON_LIMIT, piece)
+    }
+
+    // Whether a piece of a reason adds nothing to this one.
+    #[inline(always)]
+    fn stays_with(&self, piece: &[u8]) -> bool
+        ensures { IsTrue result → take reason_limit (self.now ++ piece.now) ≡ self.now }
+    {
+        let size = self.bytes.len();
+        if piece.len() == 0 {
+            size <= REASON_LIMIT
+        } else {
+            size == REASON_LIMIT
+        }
+    }
+
+    // This reason with a piece more, as a copy.
+    #[inline(never)]
+    fn with_reason(&self, alloc: Global, piece: &[u8]) -> Result<Self, NoMemory>
+        ensures { IfOk result (λ reason. reason ≡ take reason_limit (self.now ++ piece.now)) }
+    {
+        let mut reason = KeptText::new(alloc);
+        reason.append_reason(self.bytes.as_slice())?;
+        reason.append_reason(piece)?;
+        Ok(reason)
+    }
+
+    /// The bytes of the first line, without its newline, moved out.
+    pub fn into_first_line(mut self) -> Bytes
+        ensures { result ≡ first_line self }
+    {
+        let size = line_size(&self.bytes);
+        self.bytes.truncate(size);
+        Bytes::from_vec(self.bytes)
     }
 
     /// The bytes, moved out.
@@ -62,6 +116,18 @@ impl KeptText {
     {
         Bytes::from_vec(self.bytes)
     }
+}
+
+// How many bytes stand before the first newline, or in all.
+fn line_size(bytes: &[u8]) -> usize
+    ensures { result ≡ prefix_len (λ byte. not (nat_eq byte 10)) bytes.now }
+{
+    for end in 0..bytes.len() {
+        if bytes[end] == b'\n' {
+            return end;
+        }
+    }
+    bytes.len()
 }
 
 /// What the events of a part say so far.
@@ -73,6 +139,8 @@ pub struct Started {
     pub tags: Tags,
     /// The first bytes of the files of text, joined.
     pub text: KeptText,
+    /// The first bytes of the files named `reason`, joined.
+    pub reason: KeptText,
 }
 
 /// A part of a test that has ended, or is open at the end, and what its events say.
@@ -155,6 +223,35 @@ pub fn text_heard<'p>(packet: &'p Packet<'_>) -> &'p [u8]
     text_at(packet.mime(), packet.file_bytes())
 }
 
+/// The bytes of the event's file, where its name is `reason`, else none.
+pub fn reason_in(event: &Event) -> &[u8]
+    ensures { result.now ≡ parts.reason_in event.now.file }
+{
+    match &event.file {
+        Some(file) if file.name.bytes() == b"reason".as_slice() => file.bytes.bytes(),
+        _ => &[],
+    }
+}
+
+// The bytes of a file, where there are some, and its name is `reason`, else none.
+#[inline(always)]
+fn reason_at<'a>(name: Option<&[u8]>, file: Option<&'a [u8]>) -> &'a [u8]
+    ensures { result.now ≡ reason_by (bytes_of name.entry) (bytes_of file.entry) }
+{
+    match (name, file) {
+        (Some(name), Some(bytes)) if name == b"reason".as_slice() => bytes,
+        _ => &[],
+    }
+}
+
+/// The bytes of the file of the packet's event, where its name is `reason`, else none. They are not copied.
+#[inline(always)]
+pub fn reason_heard<'p>(packet: &'p Packet<'_>) -> &'p [u8]
+    ensures { (e : AnEvent) → SpellsEvent packet.now e → result.now ≡ parts.reason_in e.file }
+{
+    reason_at(packet.file_name(), packet.file_bytes())
+}
+
 /// What one event says of its test.
 #[derive(Drop)]
 pub(crate) struct Said<'a> {
@@ -164,6 +261,8 @@ pub(crate) struct Said<'a> {
     pub(crate) tags: Option<Tags>,
     /// The bytes of its file of text.
     pub(crate) text: &'a [u8],
+    /// The bytes of its file named `reason`.
+    pub(crate) reason: &'a [u8],
 }
 
 /// What the event says. Its tags are copied.
@@ -174,6 +273,7 @@ pub(crate) fn said_by(alloc: Global, event: &Event) -> Result<Said<'_>, NoMemory
         instant: instant_of(event),
         tags: new_tags(alloc, &event.tags)?,
         text: text_in(event),
+        reason: reason_in(event),
     })
 }
 
@@ -186,6 +286,7 @@ pub(crate) fn said_in<'p>(alloc: Global, packet: &'p Packet<'_>) -> Result<Said<
         instant: instant_in(packet),
         tags: packet.tags(alloc)?,
         text: text_heard(packet),
+        reason: reason_heard(packet),
     })
 }
 
@@ -210,6 +311,18 @@ fn other_tags(alloc: Global, kept: &Tags, packet: &Packet<'_>) -> Result<Option<
     packet.tags(alloc)
 }
 
+// The reason with the piece, where that is another one.
+#[inline(always)]
+fn other_reason(alloc: Global, kept: &KeptText, piece: &[u8]) -> Result<Option<KeptText>, NoMemory>
+    ensures { IfOk result (λ reason. unwrap_or reason kept.now ≡ take reason_limit (kept.now ++ piece.now)) }
+{
+    if kept.stays_with(piece) {
+        return Ok(None);
+    }
+    Ok(Some(kept.with_reason(alloc, piece)?))
+}
+
+// What needs memory, and may want it, is made first, so that nothing has changed where it is wanting.
 impl Started {
     /// Takes what the packet's event says, one more of the part. Tags that are the same as before are not copied.
     pub(crate) fn hear(&mut self, alloc: Global, packet: &Packet<'_>) -> Result<(), NoMemory>
@@ -217,9 +330,13 @@ impl Started {
         ensures err { OnErr result (self.new ≡ self.old) }
     {
         let tags = other_tags(alloc, &self.tags, packet)?;
+        let reason = other_reason(alloc, &self.reason, reason_heard(packet))?;
         self.text.append(text_heard(packet))?;
         if let Some(tags) = tags {
             self.tags = tags;
+        }
+        if let Some(reason) = reason {
+            self.reason = reason;
         }
         Ok(())
     }
@@ -234,19 +351,24 @@ impl Started {
             start: said.instant,
             tags: Tags::new(alloc),
             text: KeptText::new(alloc),
+            reason: KeptText::new(alloc),
         };
-        started.take(&mut said)?;
+        started.take(alloc, &mut said)?;
         Ok(started)
     }
 
     /// Takes what one event more says.
-    pub(crate) fn take(&mut self, said: &mut Said<'_>) -> Result<(), NoMemory>
+    pub(crate) fn take(&mut self, alloc: Global, said: &mut Said<'_>) -> Result<(), NoMemory>
         ensures ok { OnOk result (self.new ≡ after_said self.old said.old) }
         ensures err { OnErr result ((self.new ≡ self.old) × (said.new ≡ said.old)) }
     {
+        let reason = other_reason(alloc, &self.reason, said.reason)?;
         self.text.append(said.text)?;
         if let Some(tags) = said.tags.take() {
             self.tags = tags;
+        }
+        if let Some(reason) = reason {
+            self.reason = reason;
         }
         Ok(())
     }

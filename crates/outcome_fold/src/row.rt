@@ -68,6 +68,9 @@ pub struct Row {
     pub nanos: Option<u64>,
     /// What its files of text say, at most their first 65,536 bytes. It is empty unless the row fails.
     pub text: Bytes,
+    /// Why it was skipped: the first line, without its newline, of the first 1,024 bytes of its files named `reason`. It
+    /// is empty unless the row is a skip.
+    pub reason: Bytes,
 }
 
 /// How many rows there are, as docs/FORMATS.md says under "What the rows say".

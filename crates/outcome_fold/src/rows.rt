@@ -276,11 +276,7 @@ fn have_room(counts: Counts) -> bool
 ///
 /// `NoMemory` comes where one of the counts, or the sum of the times, has no room for a row more.
 #[inline]
-pub(crate) fn count_with(
-    counts: Counts,
-    filter_tags: &[Text],
-    row: &Row,
-) -> Result<Counts, NoMemory>
+pub fn count_with(counts: Counts, filter_tags: &[Text], row: &Row) -> Result<Counts, NoMemory>
     ensures { (rows : List ARow) → counts ≡ answers.counts_of filter_tags.now rows → IfOk result (λ next. next ≡ answers.counts_of filter_tags.now (rows ++ row.now ∷ [])) }
 {
     if !is_counted(filter_tags, row) {

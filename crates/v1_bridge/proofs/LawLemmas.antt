@@ -244,6 +244,7 @@ open_rows_are es =
       tags = in_byte_order (last_tags (part t));
       nanos = sym (no_time (start_of (part t))) i;
       text = text_of (part t);
+      reason = [];
     }) (open_tests es)) in
     rows ∙ ap (map (λ (e : TestKey × Row). e.1)) (table_with exact_tests (λ t p. row_of_part p) tests_total (λ t. part_of_open t (started_of (part t))) (open_tests es))
     ∙ values_are (fin.entries (table {R = test_cmp} (λ t. part_of_open t (started_of (part t))) (open_tests es)))

@@ -258,7 +258,12 @@ pub(crate) fn put_part(part: EndedPart, out: &mut Vec<u8>) -> Result<(), NoMemor
         started,
         end,
     } = part;
-    let Started { start, tags, text } = started;
+    let Started {
+        start,
+        tags,
+        text,
+        ..
+    } = started;
     let id = key.id.bytes();
     let as_it_is = is_shown_as_it_is(id);
     put_time(start, out)?;

@@ -5,4 +5,5 @@ returns c = λ e s. record {
   instant = c.instant_in.ensures e s;
   tags = c.in_ok-tags.ensures e s;
   text = c.text_heard.ensures e s;
+  reason = c.reason_heard.ensures e s;
 }
