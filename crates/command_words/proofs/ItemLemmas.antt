@@ -1,5 +1,6 @@
 -- Items, word by word.
-use Rattle.std.proofs.Common.{◌≡◌, ℕ, true, false, cond, Option, None, Some, option_map, List, [], ◌∷◌, ◌++◌, refl, sym, ap, ◌∙◌, append_assoc, append-nil, is_some, Bor}
+use Rattle.std.proofs.Common.{◌≡◌, ℕ, Bool, ◌||◌, map, true, false, cond, Option, None, Some, option_map, List, [], ◌∷◌, ◌++◌, refl, sym, ap, ◌∙◌, append_assoc, append-nil, is_some, Bor}
+use Rattle.std.specs.List.{list_any}
 use Rattle.command_words.specs.declared.table.Kind.{Kind}
 use Rattle.command_words.specs.Items.{Item, valued, refused, is_item, asks, is_text, meaning_of, with_rest, items_behind}
 use Rattle.command_words.specs.Code.{meaning_behind}
@@ -48,3 +49,8 @@ module _ (kinds : List ℕ → Option Kind) (done : List Item) where
   pub all_read : (asked : Option (Bor (List ℕ))) → is_some asked ≡ false → behind kinds done (option_map (λ name. name.now) asked) [] ≡ Some done
   all_read None none = ap Some (append-nil done)
   all_read (Some name) none = absurd (cc)
+
+-- one of what these stand for is so, where one of these is
+pub any_map : {A B : Type 0} (p : B → Bool) (f : A → B) (xs : List A) → list_any p (map f xs) ≡ list_any (λ x. p (f x)) xs
+any_map p f [] = refl
+any_map p f (x ∷ xs) = ap (λ b. p (f x) || b) (any_map p f xs)

@@ -1,7 +1,8 @@
 -- Words cut into options, values and names (docs/COMMANDS.md, "Words").
-use Rattle.std.specs.Prelude.{ℕ, ◌^◌, Bool, not, ◌&&◌, ◌==◌, nat_lt, nat_eq, Option, Some, None, List, [], ◌∷◌, length, map, codes, String, string_bytes, if◌then◌else◌}
+use Rattle.std.specs.Prelude.{ℕ, ◌^◌, Bool, false, not, ◌&&◌, ◌==◌, nat_lt, nat_eq, Option, Some, None, List, [], ◌∷◌, length, map, codes, String, string_bytes, if◌then◌else◌}
 use Rattle.std.specs.List.{list_any, starts_with, before_first, after_first, position_or_len}
 use Rattle.std.specs.Option.{option_map}
+use Rattle.std.specs.Str.{bytes_eq}
 use Rattle.std.specs.declared.alloc.Global.{Global}
 use Rattle.command_words.specs.declared.table.Kind.{Kind}
 use Rattle.command_words.specs.declared.table.Kind.TheVariants.{Flag, Valued}
@@ -73,3 +74,15 @@ items_behind kinds (Some key) (word ∷ words) = if is_text word then option_map
 -- what the words are, in their order
 abbrev pub items_of : (List ℕ → Option Kind) → List (List ℕ) → Option (List Item)
 items_of kinds words = items_behind kinds None words
+
+-- Flags among items.
+
+-- the item is this option, without a value
+abbrev pub is_flag : List ℕ → Item → Bool
+is_flag key (flag given) = bytes_eq given key
+is_flag key (valued option value) = false
+is_flag key (name word) = false
+
+-- the option stands among the items, however often
+abbrev pub has_flag : List ℕ → List Item → Bool
+has_flag key items = list_any (is_flag key) items

@@ -9,14 +9,17 @@
 //! - `table`: which options a command has
 //! - `item`: what words are
 //! - `item_reader`: reads the words
+//! - `flags`: whether an option stands among the words
 //! - `text`: words as texts
 #![tactic(auto)]
 
+mod flags;
 mod item;
 mod item_reader;
 mod table;
 mod text;
 
+pub use flags::has_flag;
 pub use item::Item;
 pub use item_reader::read_items;
 pub use table::{Kind, OptionTable};
