@@ -999,7 +999,7 @@ def a_release_is_made():
         check(run(folder, "--version", program=[os.path.join(path, "testr")])[1].startswith(f"{version}, ".encode()), "a release tells another version")
 
 
-NAMES = ("testr", "subunit-filter", "subunit-tags", "subunit-ls", "subunit-stats", "tap2subunit", "subunit2tap", "subunit2csv", "subunit2junitxml", "subunit-output", "subunit-1to2", "subunit-2to1")
+NAMES = ("testr", "subunit-filter", "subunit-tags", "subunit-ls", "subunit-stats", "subunit-trace", "tap2subunit", "subunit2tap", "subunit2csv", "subunit2junitxml", "subunit-output", "subunit-1to2", "subunit-2to1")
 
 
 def pretended():

@@ -35,6 +35,7 @@ FILTERS = {
     "subunit-filter": [["--success", "--with-id=parser"], ["--success"], []],
     "subunit-tags": [["added", "-removed"]],
     "subunit2tap": [[]],
+    "subunit-trace": [[], ["--live=dots"], ["--live=failures", "--no-summary"]],
     "subunit2csv": [[]],
     "subunit2junitxml": [[]],
     "subunit-2to1": [[]],

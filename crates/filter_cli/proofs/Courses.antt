@@ -15,7 +15,7 @@ use Rattle.filter_cli.specs.Refusals.{usage_fault, file_code, code_of}
 use Rattle.filter_cli.specs.Program.{Takes, Performs, Filters}
 use Rattle.filter_cli.specs.Patterns.{IsFirstBadText}
 use Rattle.filter_cli.specs.declared.asked.Asked.{Asked}
-use Rattle.filter_cli.specs.declared.asked.Asked.TheVariants.{Filter, Tags, Ls, Stats, FromTap, ToTap, ToCsv, ToJunit, Output, OutputFile, FromV1, ToV1}
+use Rattle.filter_cli.specs.declared.asked.Asked.TheVariants.{Filter, Tags, Ls, Stats, FromTap, ToTap, ToCsv, ToJunit, Output, OutputFile, FromV1, ToV1, Tracing}
 use Rattle.filter_cli.specs.declared.file_loop.FileFault.{FileFault}
 use Rattle.filter_cli.specs.declared.file_loop.FileFault.TheVariants as file_fault
 use Rattle.filter_cli.specs.declared.refusal.Refusal.{Refusal}
@@ -49,6 +49,7 @@ file_is (Output job) name is = absurd (cc)
 file_is FromV1 name is = absurd (cc)
 file_is ToJunit name is = absurd (cc)
 file_is ToV1 name is = absurd (cc)
+file_is (Tracing trace) name is = absurd (cc)
 file_is (OutputFile job file) name is = let same : file ≡ name = cc in (job, ap (OutputFile job) same)
 
 asks_file : (words : List (List ℕ)) (asked : Asked) (name : List ℕ) → asked_of words ≡ Some asked → file_of asked ≡ Some name → AsksFor words asked

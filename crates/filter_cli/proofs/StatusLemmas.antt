@@ -1,13 +1,14 @@
 -- The status of a filter is 0 or 1.
-use Rattle.std.proofs.Common.{ℕ, ◌≤◌, Bool, true, false, if◌then◌else◌, List, ◌++◌, arith}
+use Rattle.std.proofs.Common.{ℕ, ◌≤◌, Bool, true, false, ◌||◌, ◌==◌, nat_lt, if◌then◌else◌, List, ◌++◌, arith}
 use Rattle.std.specs.List.{list_any}
 use Rattle.outcome_fold.specs.Rows.{completed_rows, open_rows, rows_of}
 use Rattle.outcome_fold.specs.Answers.{row_fails}
+use Rattle.live_text.specs.Totals.{sum_of}
 use Rattle.filter_cli.specs.Events.{events_in}
 use Rattle.filter_cli.specs.Streams.{writing_of, ends_by}
 use Rattle.filter_cli.specs.TapRows.{tap_rows}
 use Rattle.filter_cli.specs.declared.asked.Asked.{Asked}
-use Rattle.filter_cli.specs.declared.asked.Asked.TheVariants.{Filter, Tags, Ls, Stats, FromTap, ToTap, ToCsv, ToJunit, Output, OutputFile, FromV1, ToV1}
+use Rattle.filter_cli.specs.declared.asked.Asked.TheVariants.{Filter, Tags, Ls, Stats, FromTap, ToTap, ToCsv, ToJunit, Output, OutputFile, FromV1, ToV1, Tracing}
 
 one_at_most : (b : Bool) → (if b then 1 else 0) ≤ 1
 one_at_most true = omega arith
@@ -34,3 +35,7 @@ status_at_most ToJunit bytes text status w =
     omega (arith, few, w.status)
 status_at_most FromV1 bytes text status w = omega (arith, w.status)
 status_at_most ToV1 bytes text status w = omega (arith, w.status)
+status_at_most (Tracing trace) bytes text status w =
+    let all = sum_of (tap_rows (events_in w.notes)) in
+    let few = one_at_most (nat_lt 0 all.failed || all.total == 0) in
+    omega (arith, few, w.status)

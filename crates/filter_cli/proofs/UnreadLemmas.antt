@@ -16,7 +16,7 @@ use Rattle.filter_cli.specs.Program.{LeavesUnread}
 use Rattle.filter_cli.specs.Promises.{GivesAll, GivesFirst}
 use Rattle.filter_cli.specs.Streams.{writing_of, ends_by, unread_by, unread_text}
 use Rattle.filter_cli.specs.declared.asked.Asked.{Asked}
-use Rattle.filter_cli.specs.declared.asked.Asked.TheVariants.{Filter, Tags, Ls, Stats, FromTap, ToTap, ToCsv, ToJunit, Output, OutputFile, FromV1, ToV1}
+use Rattle.filter_cli.specs.declared.asked.Asked.TheVariants.{Filter, Tags, Ls, Stats, FromTap, ToTap, ToCsv, ToJunit, Output, OutputFile, FromV1, ToV1, Tracing}
 use Rattle.filter_cli.specs.declared.pass.PumpFault.{PumpFault}
 use Rattle.filter_cli.specs.declared.pass.PumpFault.TheVariants as pump_fault
 use Rattle.filter_cli.proofs.Prefixes.{prefix_all}
@@ -48,6 +48,7 @@ unread_whole ToTap text bytes all status is w = absurd (cc)
 unread_whole ToJunit text bytes all status is w = absurd (cc)
 unread_whole FromV1 text bytes all status is w = absurd (cc)
 unread_whole ToV1 text bytes all status is w = absurd (cc)
+unread_whole (Tracing trace) text bytes all status is w = absurd (cc)
 unread_whole (ToCsv selection) text bytes all status is w = absurd (cc)
 unread_whole (OutputFile job name) text bytes all status is w = absurd (cc)
 unread_whole (Output job) text bytes all status is w =

@@ -1,6 +1,5 @@
 -- The words of a filter, one after another.
 use Rattle.std.proofs.Common.{◌≡◌, ℕ, Bool, true, false, ◌||◌, None, Some, List, [], ◌∷◌, ◌++◌, map, String, string_bytes, refl, sym, ap, ◌∙◌, append-nil}
-use Rattle.std.specs.Prelude.{codes}
 use Rattle.std.specs.declared.alloc.Global.{Global}
 use Rattle.std.specs.List.{flat_map, list_any}
 use Rattle.std.proofs.lemmas.Grind.{flat_map-append}
@@ -8,10 +7,9 @@ use Rattle.std.proofs.lemmas.Bool.{cond-true, cond-false}
 use Rattle.command_words.specs.Items.{texts}
 use Rattle.command_words.specs.Code.{shown}
 use Rattle.command_words.specs.declared.item.Item as code
-use Rattle.filter_cli.specs.declared.ls.Listing.{Listing}
 use Rattle.filter_cli.specs.declared.tool.Tool.{Tool}
 use Rattle.filter_cli.specs.Retagging.{is_refused, has_refused, added_by, removed_by, retagging_of}
-use Rattle.filter_cli.specs.Words.{is_flag, is_name, listing_of, asked_for, asked_with}
+use Rattle.filter_cli.specs.Words.{is_name, asked_for, asked_with}
 
 pub any_map : {A B : Type 0} → (p : B → Bool) (f : A → B) (xs : List A) → list_any p (map f xs) ≡ list_any (λ x. p (f x)) xs
 any_map p f [] = refl
@@ -22,15 +20,6 @@ pub given_one : {A : Type 0} → (g : A → List (List ℕ)) (xs : List A) (x : 
 given_one g xs x = flat_map-append g xs (x ∷ []) ∙ ap (λ (l : List (List ℕ)). flat_map g xs ++ l) (append-nil (g x))
 
 -- ---- items as the code keeps them
-
-pub listing_is : (items : List code.Item) (times exists hidden : Bool)
-    → times ≡ list_any (λ item. is_flag (codes "--times") (shown item)) items → exists ≡ list_any (λ item. is_flag (codes "--exists") (shown item)) items → hidden ≡ list_any (λ item. is_flag (codes "--no-passthrough") (shown item)) items
-    → ◌≡◌ {A = Listing} (record { times = times; exists = exists; hidden = hidden }) (listing_of (map shown items))
-listing_is items times exists hidden t e h =
-    let times_is = t ∙ sym (any_map (is_flag (codes "--times")) shown items) in
-    let exists_is = e ∙ sym (any_map (is_flag (codes "--exists")) shown items) in
-    let hidden_is = h ∙ sym (any_map (is_flag (codes "--no-passthrough")) shown items) in
-    λ i. record { times = times_is i; exists = exists_is i; hidden = hidden_is i }
 
 pub named_so : (t : Tool) (items : List code.Item) (some : Bool) → some ≡ list_any (λ item. is_name (shown item)) items → some ≡ true → None ≡ asked_with t (map shown items)
 named_so t items some is names = sym (cond-true (list_any is_name (map shown items)) None (asked_for t (map shown items)) (any_map is_name shown items ∙ sym is ∙ names))

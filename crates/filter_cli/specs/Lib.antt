@@ -12,6 +12,7 @@ pub mod Events
 pub mod Ls
 pub mod Stats
 pub mod Junit
+pub mod Tracing
 pub mod Filtering
 pub mod Tagging
 pub mod Tally

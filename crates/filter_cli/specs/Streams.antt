@@ -9,7 +9,7 @@ use Rattle.sub_export.specs.Output.{last_event}
 use Rattle.sub_export.specs.Records.{csv_head_text}
 use Rattle.partition_times.specs.Patterns.{IsPattern}
 use Rattle.filter_cli.specs.declared.asked.Asked.{Asked}
-use Rattle.filter_cli.specs.declared.asked.Asked.TheVariants.{Filter, Tags, Ls, Stats, FromTap, ToTap, ToCsv, ToJunit, Output, OutputFile, FromV1, ToV1}
+use Rattle.filter_cli.specs.declared.asked.Asked.TheVariants.{Filter, Tags, Ls, Stats, FromTap, ToTap, ToCsv, ToJunit, Output, OutputFile, FromV1, ToV1, Tracing}
 use Rattle.filter_cli.specs.Attached.{IsOutputSeen, IsOutput}
 use Rattle.filter_cli.specs.Exporting.{csv_plan}
 use Rattle.filter_cli.specs.Headed.{IsSeenBelow, IsWholeBelow}
@@ -17,6 +17,7 @@ use Rattle.filter_cli.specs.Plan.{Plan, IsSeen, IsFiltered}
 use Rattle.filter_cli.specs.Ls.{ls_plan}
 use Rattle.filter_cli.specs.Stats.{stats_plan}
 use Rattle.filter_cli.specs.Junit.{junit_plan}
+use Rattle.filter_cli.specs.Tracing.{trace_plan}
 use Rattle.filter_cli.specs.Filtering.{filter_plan}
 use Rattle.filter_cli.specs.Tagging.{tags_plan_of}
 use Rattle.filter_cli.specs.Tap.{IsTapSeen, IsTapFiltered}
@@ -47,6 +48,7 @@ writing_of (Output job) = of_job job
 writing_of (OutputFile job name) = of_job job
 writing_of FromV1 = of_v1_lines
 writing_of ToV1 = of_notes v1_plan
+writing_of (Tracing trace) = of_notes (trace_plan trace)
 
 -- the text that the first bytes of a stream decide, whatever follows
 abbrev pub sees_by : Writing → List ℕ → List ℕ → Type 0
@@ -78,6 +80,7 @@ patterns_of (Output job) = []
 patterns_of (OutputFile job name) = []
 patterns_of FromV1 = []
 patterns_of ToV1 = []
+patterns_of (Tracing trace) = []
 
 -- ---- what is written where the input is left unread
 
@@ -99,6 +102,7 @@ unread_text (Output job) = unread_by job job.attachment
 unread_text (OutputFile job name) = None
 unread_text FromV1 = None
 unread_text ToV1 = None
+unread_text (Tracing trace) = None
 
 -- the same of the filter that the words ask for
 abbrev pub text_unread : List (List ℕ) → Option (List ℕ)
@@ -120,6 +124,7 @@ file_of (Output job) = None
 file_of (OutputFile job name) = Some name
 file_of FromV1 = None
 file_of ToV1 = None
+file_of (Tracing trace) = None
 
 -- the same of the filter that the words ask for
 abbrev pub file_in : List (List ℕ) → Option (List ℕ)

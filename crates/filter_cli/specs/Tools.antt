@@ -29,7 +29,8 @@ tool_named name =
     else (if bytes_eq name (codes "subunit-tags") then Some tool.Tags
     else (if bytes_eq name (codes "subunit-ls") then Some tool.Ls
     else (if bytes_eq name (codes "subunit-stats") then Some tool.Stats
-    else converter_named name)))
+    else (if bytes_eq name (codes "subunit-trace") then Some tool.Trace
+    else converter_named name))))
 
 -- the filter that the first word names
 abbrev pub tool_of : List (List ℕ) → Option Tool
@@ -78,6 +79,10 @@ csv_kind name = if is_csv_switch name then Some Flag else (if is_addition name t
 abbrev pub junit_kind : List ℕ → Option Kind
 junit_kind name = if bytes_eq name (codes "--no-passthrough") then Some Flag else None
 
+-- the options of `subunit-trace`
+abbrev pub trace_kind : List ℕ → Option Kind
+trace_kind name = if bytes_eq name (codes "--live") then Some Valued else (if bytes_eq name (codes "--no-summary") then Some Flag else None)
+
 -- How an option of a filter is written; none where the filter has no such option. The words of `subunit-output` are read
 -- where their events are made.
 abbrev pub kind_in : Tool → List ℕ → Option Kind
@@ -92,3 +97,4 @@ kind_in tool.ToJunit name = junit_kind name
 kind_in tool.Output name = None
 kind_in tool.FromV1 name = None
 kind_in tool.ToV1 name = None
+kind_in tool.Trace name = trace_kind name

@@ -4,25 +4,18 @@ use Rattle.std.specs.List.{list_any}
 use Rattle.std.specs.Option.{option_map, option_and_then}
 use Rattle.std.specs.Str.{bytes_eq}
 use Rattle.sub_number.specs.declared.memory.NoMemory.{NoMemory}
-use Rattle.command_words.specs.Items.{Item, flag, valued, name, items_of}
+use Rattle.command_words.specs.Items.{Item, flag, valued, name, items_of, has_flag}
 use Rattle.sub_export.specs.declared.job.Job.{Job}
 use Rattle.sub_export.specs.Output.{job_of, path_of}
 use Rattle.filter_cli.specs.declared.ls.Listing.{Listing}
 use Rattle.filter_cli.specs.declared.tool.Tool.{Tool}
 use Rattle.filter_cli.specs.declared.tool.Tool.TheVariants as tool
 use Rattle.filter_cli.specs.declared.asked.Asked.{Asked}
-use Rattle.filter_cli.specs.declared.asked.Asked.TheVariants.{Filter, Tags, Ls, Stats, FromTap, ToTap, ToCsv, ToJunit, Output, OutputFile, FromV1, ToV1}
+use Rattle.filter_cli.specs.declared.asked.Asked.TheVariants.{Filter, Tags, Ls, Stats, FromTap, ToTap, ToCsv, ToJunit, Output, OutputFile, FromV1, ToV1, Tracing}
+use Rattle.filter_cli.specs.Tracing.{trace_of}
 use Rattle.filter_cli.specs.Tools.{tool_of, tool_named, kind_in}
 use Rattle.filter_cli.specs.Selecting.{selection_of, csv_selection_of}
 use Rattle.filter_cli.specs.Retagging.{retagging_of}
-
-abbrev pub is_flag : List ℕ → Item → Bool
-is_flag key (flag given) = bytes_eq given key
-is_flag key (valued option value) = false
-is_flag key (name word) = false
-
-abbrev pub has_flag : List ℕ → List Item → Bool
-has_flag key items = list_any (is_flag key) items
 
 -- a word that is no option
 abbrev pub is_name : Item → Bool
@@ -50,6 +43,7 @@ asked_for tool.ToJunit items = Some ToJunit
 asked_for tool.Output items = None
 asked_for tool.FromV1 items = Some FromV1
 asked_for tool.ToV1 items = Some ToV1
+asked_for tool.Trace items = option_map Tracing (trace_of items)
 
 -- no filter that has options has names
 abbrev pub asked_with : Tool → List Item → Option Asked
@@ -82,6 +76,7 @@ asked_behind tool.ToJunit words = asked_by_options tool.ToJunit words
 asked_behind tool.Output words = asked_output words
 asked_behind tool.FromV1 words = asked_by_options tool.FromV1 words
 asked_behind tool.ToV1 words = asked_by_options tool.ToV1 words
+asked_behind tool.Trace words = asked_by_options tool.Trace words
 
 -- the filter that the words ask for
 abbrev pub asked_of : List (List ℕ) → Option Asked

@@ -1,17 +1,21 @@
 //! Which filter the words ask for.
 
 ghost use Rattle.std.specs.Prelude.{◌≡◌, map, IfOk};
+ghost use Rattle.std.specs.Option.{option_map};
 ghost use Rattle.std.specs.List.{list_any};
 ghost use Rattle.command_words.specs.Items.{texts};
 ghost use Rattle.command_words.specs.Code.{shown};
 ghost use Rattle.sub_export.specs.Output as output;
+ghost use Rattle.filter_cli.specs.Tracing.{trace_of};
 ghost use Rattle.filter_cli.specs.Words as asking;
+ghost use Rattle.filter_cli.specs.declared.asked.Asked.TheVariants as wanted;
 
 use crate::ls::Listing;
 use crate::retagging::{Retagging, read_retagging};
 use crate::selection::{Selection, csv_selection_of, selection_of};
 use crate::tool::{Tool, tool_of};
-use command_words::{Item, read_items};
+use crate::tracing::{Trace, trace_of};
+use command_words::{Item, has_flag, read_items};
 use std::alloc::Global;
 use sub_export::OutputJob;
 use sub_number::{NoMemory, Text};
@@ -43,6 +47,8 @@ pub enum Asked {
     FromV1,
     /// `subunit-2to1`: tests as lines of version 1.
     ToV1,
+    /// `subunit-trace`: lines of the tests, and their totals.
+    Tracing(Trace),
 }
 
 /// The filter that the words ask for. None comes exactly where they ask for none.
@@ -128,8 +134,19 @@ fn asked_with(alloc: Global, tool: Tool, items: &[Item<'_>]) -> Result<Option<As
         Tool::ToJunit => Ok(Some(Asked::ToJunit)),
         Tool::FromV1 => Ok(Some(Asked::FromV1)),
         Tool::ToV1 => Ok(Some(Asked::ToV1)),
+        Tool::Trace => Ok(asked_trace(items)),
         // Their words are read elsewhere.
         Tool::Tags | Tool::Output => Ok(None),
+    }
+}
+
+// What `subunit-trace` is asked by these options.
+fn asked_trace(items: &[Item<'_>]) -> Option<Asked>
+    ensures { result ≡ option_map wanted.Tracing (trace_of (map shown items.now)) }
+{
+    match trace_of(items) {
+        Some(trace) => Some(Asked::Tracing(trace)),
+        None => None,
     }
 }
 
@@ -153,21 +170,5 @@ fn listing_of(items: &[Item<'_>]) -> Listing
         times: has_flag(items, "--times"),
         exists: has_flag(items, "--exists"),
         hidden: has_flag(items, "--no-passthrough"),
-    }
-}
-
-// Whether the flag is among the items.
-fn has_flag(items: &[Item<'_>], flag: &str) -> bool
-    ensures { result ≡ list_any (λ item. asking.is_flag flag.now (shown item)) items.now }
-{
-    items.iter().any(|item| is_flag(item, flag))
-}
-
-fn is_flag(item: &Item<'_>, flag: &str) -> bool
-    ensures { result ≡ asking.is_flag flag.now (shown item.now) }
-{
-    match item {
-        Item::Flag(name) => *name == flag,
-        Item::Valued(_, _) | Item::Name(_) => false,
     }
 }

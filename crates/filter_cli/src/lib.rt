@@ -8,7 +8,7 @@
 //! - `refusal`, `telling`: why a filter was not done, and the lines that tell of it
 //! - `filter`, `pass`: what a filter is, and the one loop that serves them all
 //! - `notes`, `of_notes`, `taking`, `through`: filters that go by the notes of a stream
-//! - `ls`, `sifting`, `stats`, `subunit_to_junit`, `subunit_to_tap`, `tagging`: those filters; `tally`: what is counted
+//! - `ls`, `sifting`, `stats`, `subunit_to_junit`, `subunit_to_tap`, `tagging`, `tracing`: those filters; `tally`: what is counted
 //! - `of_tap`, `open_line`, `packets`, `pass_tap`: lines of the Test Anything Protocol as packets
 //! - `headed`, `exporting`: a text in front of what a filter writes, and the records of tests below the names of their fields
 //! - `of_v1`, `pass_v1`, `subunit_to_v1`: lines of version 1 as packets, and tests as such lines
@@ -52,6 +52,7 @@ mod telling;
 mod through;
 mod tool;
 mod top;
+mod tracing;
 
 pub use asked::{Asked, read_asked};
 pub use attaching::{attach_named, attach_stream, give_event};

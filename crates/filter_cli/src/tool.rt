@@ -31,6 +31,8 @@ pub enum Tool {
     FromV1,
     /// `subunit-2to1`
     ToV1,
+    /// `subunit-trace`
+    Trace,
 }
 
 /// The filter that the first word names, or none.
@@ -58,6 +60,9 @@ fn tool_named(name: &str) -> Option<Tool>
     }
     if name == "subunit-stats" {
         return Some(Tool::Stats);
+    }
+    if name == "subunit-trace" {
+        return Some(Tool::Trace);
     }
     converter_named(name)
 }
@@ -106,6 +111,7 @@ impl OptionTable for Tool {
             Tool::Ls => ls_kind(name),
             Tool::ToCsv => csv_kind(name),
             Tool::ToJunit => junit_kind(name),
+            Tool::Trace => trace_kind(name),
             Tool::Tags | Tool::Stats | Tool::FromTap | Tool::ToTap | Tool::Output => None,
             Tool::FromV1 | Tool::ToV1 => None,
         }
@@ -172,6 +178,18 @@ fn junit_kind(name: &str) -> Option<Kind>
     ensures { result ≡ tools.junit_kind name.now }
 {
     if name == "--no-passthrough" {
+        return Some(Kind::Flag);
+    }
+    None
+}
+
+fn trace_kind(name: &str) -> Option<Kind>
+    ensures { result ≡ tools.trace_kind name.now }
+{
+    if name == "--live" {
+        return Some(Kind::Valued);
+    }
+    if name == "--no-summary" {
         return Some(Kind::Flag);
     }
     None

@@ -30,6 +30,7 @@ use crate::tagging::tag_stream;
 use crate::telling::tell;
 use crate::through::pass_notes;
 use crate::tool::tool_of;
+use crate::tracing::{Trace, trace_stream};
 use edge_io::{Sink, Site, Source};
 use event_sift::Tagger;
 use std::alloc::Global;
@@ -115,6 +116,7 @@ fn pass<S: Site, I: Source, O: Sink>(
         Asked::OutputFile(job, name) => attach_file(alloc, job, name, site, out),
         Asked::FromV1 => read_v1(alloc, input, out),
         Asked::ToV1 => write_v1(alloc, input, out),
+        Asked::Tracing(trace) => trace_tests(alloc, trace, input, out),
     }
 }
 
@@ -205,6 +207,19 @@ fn write_v1<I: Source, O: Sink>(alloc: Global, input: &mut I, out: &mut O) -> Re
     ensures { Checked wanted.ToV1 (pipe (I.seen input.old) (O.seen out.old)) (pipe (I.seen input.new) (O.seen out.new)) result }
 {
     let status = pass_notes(alloc, SubunitToV1::new(alloc), input, out)?;
+    Ok(status)
+}
+
+// `subunit-trace`
+fn trace_tests<I: Source, O: Sink>(
+    alloc: Global,
+    trace: Trace,
+    input: &mut I,
+    out: &mut O,
+) -> Result<u8, Refusal>
+    ensures { Checked (wanted.Tracing trace) (pipe (I.seen input.old) (O.seen out.old)) (pipe (I.seen input.new) (O.seen out.new)) result }
+{
+    let status = trace_stream(alloc, trace, input, out)?;
     Ok(status)
 }
 

@@ -21,6 +21,8 @@ mod tests_filter_cli_junit;
 #[cfg(test)]
 mod tests_filter_cli_tap;
 #[cfg(test)]
+mod tests_filter_cli_trace;
+#[cfg(test)]
 mod tests_filter_cli_v1;
 #[cfg(test)]
 mod tests_tap_bridge;

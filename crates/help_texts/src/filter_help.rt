@@ -7,6 +7,7 @@ pub fn of_filter(name: &str) -> Option<&'static str> {
         "subunit-tags" => Some(TAGS),
         "subunit-ls" => Some(LS),
         "subunit-stats" => Some(STATS),
+        "subunit-trace" => Some(TRACE),
         "tap2subunit" => Some(FROM_TAP),
         "subunit2tap" => Some(TO_TAP),
         "subunit2csv" => Some(TO_CSV),
@@ -106,6 +107,20 @@ Of these tests only those:
   --without-id=PATTERN       in whose id the pattern is not found; where it is repeated, none of the patterns
 Statuses: 2 wrong usage, 3 a bad pattern, 4 a fault of the outside, 5 out of memory.
 Example: subunit2csv --no-success < stream
+";
+
+const TRACE: &str = "\
+usage: subunit-trace [--live=KIND] [--no-summary]
+Reads a Subunit v2 stream from standard input and writes lines of each test as soon as it has ended, and behind them the
+totals. Bytes that are no events are left out.
+  --live=tests       a line of each test: lane, id, time and how it ended; below a failure its text; this is the default
+  --live=failures    what a report says of each test that failed
+  --live=dots        a mark of each test: . for passed, F for failed, S for skipped
+  --live=none        nothing but the totals
+  --no-summary       leaves the totals out
+Status 0 where tests ran and none failed, 1 where one failed or none ran.
+Statuses: 2 wrong usage, 4 a fault of the outside, 5 out of memory.
+Example: testr last --subunit | subunit-trace
 ";
 
 const TO_JUNIT: &str = "\

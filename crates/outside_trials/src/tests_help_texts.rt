@@ -64,6 +64,7 @@ const FILTERS: [&str; 11] = [
     "subunit2tap",
     "subunit2csv",
     "subunit2junitxml",
+    "subunit-trace",
     "subunit-output",
     "subunit-1to2",
     "subunit-2to1",

@@ -58,3 +58,9 @@ pub returns-in-ToV1 : goal.returns-in-ToV1
 returns-in-ToV1 c =
     ap (λ (t : Tool). asked_for t (map shown c.args.items.now)) (sym c.in-ToV1.is)
     ∙ sym (unnamed_so c.args.tool c.args.items.now _ c.has_name.ensures c.if-has_name.false)
+
+pub returns-in-Trace : goal.returns-in-Trace
+returns-in-Trace c =
+    c.asked_trace.ensures
+    ∙ ap (λ (t : Tool). asked_for t (map shown c.args.items.now)) (sym c.in-Trace.is)
+    ∙ sym (unnamed_so c.args.tool c.args.items.now _ c.has_name.ensures c.if-has_name.false)

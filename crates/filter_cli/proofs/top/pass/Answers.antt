@@ -37,3 +37,6 @@ returns-in-ToV1 g c = takes_as _ _ _ _ _ (sym c.in-ToV1.is) (record { at = c.wri
 
 pub returns-in-OutputFile : goal.returns-in-OutputFile
 returns-in-OutputFile g c = takes_as _ _ _ _ _ (sym c.in-OutputFile.is) (c.attach_file.ensures _)
+
+pub returns-in-Tracing : goal.returns-in-Tracing
+returns-in-Tracing g c = takes_as _ _ _ _ _ (sym c.in-Tracing.is) (record { at = c.trace_tests.ensures; rest = refl })

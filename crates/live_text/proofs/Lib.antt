@@ -1,0 +1,3 @@
+pub mod LiveLemmas
+pub mod TotalLemmas
+pub mod WriterLemmas
