@@ -1,7 +1,11 @@
 // What the program tells of its filters.
+ghost use Rattle.std.specs.Prelude.{◌≡◌, is_some};
+ghost use Rattle.help_texts.specs.Asking.{is_one_of, filters};
 
 /// The text of the filter of this name; none where there is no such filter.
-pub fn of_filter(name: &str) -> Option<&'static str> {
+pub fn of_filter(name: &str) -> Option<&'static str>
+    ensures { is_some result ≡ is_one_of filters name.now }
+{
     match name {
         "subunit-filter" => Some(FILTER),
         "subunit-tags" => Some(TAGS),
@@ -78,7 +82,7 @@ usage: tap2subunit
 Reads lines of the Test Anything Protocol from standard input and writes a Subunit v2 stream. A line that is none of the
 protocol becomes an event of the file stdout. Status 0.
 Statuses: 2 wrong usage, 4 a fault of the outside, 5 out of memory.
-Example: prove -v t/parser.t | tap2subunit
+Example: perl t/parser.t | tap2subunit
 ";
 
 const TO_TAP: &str = "\

@@ -1,12 +1,16 @@
-//! What the program tells of itself: the texts of `--help` and `--version`, and which words ask for one of them.
+//! Words that the program answers before it does what the others say: those that ask for the texts of `--help` and
+//! `--version`, and those that name the folder to work in.
 //!
-//! - `testr_help`: the texts of `testr` and its commands
+//! - `testr_help`: which words ask for a text; the texts of `testr` and its commands
 //! - `filter_help`: those of the filters
+//! - `folder_words`: which words name the folder
 //!
 //! Its tests stand in a room above it, `outside_trials`.
 #![tactic(auto)]
 
 mod filter_help;
+mod folder_words;
 mod testr_help;
 
+pub use folder_words::{Parted, part_words};
 pub use testr_help::help;

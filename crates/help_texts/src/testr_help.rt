@@ -1,34 +1,50 @@
 // What the program tells of itself.
+ghost use Rattle.std.specs.Prelude.{◌≡◌, is_some};
+ghost use Rattle.help_texts.specs.Asking.{texts, asks, asks_by_two, asks_by_three, asks_of_program, is_one_of, commands};
 
 use crate::filter_help::of_filter;
 
 /// The text that these words ask for, where they are `testr --help`, `testr --version`, a command of `testr` and `--help`,
 /// or a filter and `--help`.
-pub fn help(words: &[String]) -> Option<&'static str> {
-    let face = words.get(0)?;
-    let first = words.get(1)?;
-    if face.as_str() == "testr" {
-        of_testr(first.as_str(), words)
-    } else if first.as_str() == "--help" && words.len() == 2 {
-        of_filter(face.as_str())
+pub fn help(words: &[String]) -> Option<&'static str>
+    ensures asked { is_some result ≡ asks (texts words.now) }
+{
+    match words {
+        [face, word] => return by_two(face.as_str(), word.as_str()),
+        [face, command, word] => {
+            return by_three(face.as_str(), command.as_str(), word.as_str());
+        }
+        _ => return None,
+    }
+}
+
+// The same of a face and one word.
+fn by_two(face: &str, word: &str) -> Option<&'static str>
+    ensures { is_some result ≡ asks_by_two face.now word.now }
+{
+    if face == "testr" {
+        of_program(word)
+    } else if word == "--help" {
+        of_filter(face)
     } else {
         None
     }
 }
 
-// The same of `testr`, whose first word this is.
-fn of_testr(first: &str, words: &[String]) -> Option<&'static str> {
-    if words.len() > 3 {
-        return None;
-    }
-    match words.get(2) {
-        None => of_program(first),
-        Some(second) if second.as_str() == "--help" => of_command(first),
-        Some(_) => None,
+// The same of a face, a command and one word.
+fn by_three(face: &str, command: &str, word: &str) -> Option<&'static str>
+    ensures { is_some result ≡ asks_by_three face.now command.now word.now }
+{
+    if face == "testr" && word == "--help" {
+        of_command(command)
+    } else {
+        None
     }
 }
 
-fn of_program(word: &str) -> Option<&'static str> {
+fn of_program(word: &str) -> Option<&'static str>
+    ensures { is_some result ≡ asks_of_program word.now }
+{
     match word {
         "--help" => Some(PROGRAM),
         "--version" => Some(VERSION),
@@ -36,7 +52,9 @@ fn of_program(word: &str) -> Option<&'static str> {
     }
 }
 
-fn of_command(word: &str) -> Option<&'static str> {
+fn of_command(word: &str) -> Option<&'static str>
+    ensures { is_some result ≡ is_one_of commands word.now }
+{
     match word {
         "init" => Some(INIT),
         "load" => Some(LOAD),
@@ -54,8 +72,8 @@ fn of_command(word: &str) -> Option<&'static str> {
 const VERSION: &str = "testr 0.1, for repositories of the format `subunit-store 1`\n";
 
 const PROGRAM: &str = "\
-usage: testr COMMAND [OPTION]
-Keeps test results as numbered runs in the folder .testrepository of the current folder.
+usage: testr [-d DIR] COMMAND [OPTION]
+Keeps test results as numbered runs in the folder .testrepository of the current folder, or of the folder DIR.
 
   testr init                makes a repository
   testr load [--partial] [FILE ..]
@@ -71,7 +89,8 @@ Keeps test results as numbered runs in the folder .testrepository of the current
   testr selftest SEED LANES TESTS
                             runs made-up workers in memory, and prints the summary of their run
 
-testr COMMAND --help tells more of a command, and testr --version which program this is.
+The words -d DIR may also stand behind the command. testr COMMAND --help tells more of a command, and testr --version
+which program this is.
 Statuses: 0 passed, 1 tests failed, 2 wrong usage, 3 refused, 4 a fault of the outside, 5 out of memory.
 ";
 

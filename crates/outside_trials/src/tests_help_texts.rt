@@ -1,6 +1,6 @@
-// Which words ask for help.
+// Which words ask for help, and which name the folder to work in.
 
-use help_texts::help;
+use help_texts::{Parted, help, part_words};
 use std::alloc::Global;
 use std::io;
 use std::process::Abort;
@@ -84,5 +84,71 @@ fn each_filter_has_help(rt: HostRuntime) -> Result<(), Fail> {
         check_filter(&rt, &rt, name)?;
     }
     assert!(rt; !has_help(&rt, &["subunit-rm", "--help"])?);
+    Ok(())
+}
+
+// Words, those of them that are handed on, and the folder that they name.
+const PARTED: [(&[&str], &[&str], Option<&str>); 10] = [
+    (&[], &[], None),
+    (&["testr", "last"], &["testr", "last"], None),
+    (&["testr", "-d", "x", "last"], &["testr", "last"], Some("x")),
+    (
+        &["testr", "run", "a", "-d", "x y"],
+        &["testr", "run", "a"],
+        Some("x y"),
+    ),
+    (
+        &["testr", "-d", "x", "run", "-d", "y"],
+        &["testr", "run"],
+        Some("y"),
+    ),
+    (&["testr", "-d", "-d", "run"], &["testr", "run"], Some("-d")),
+    (
+        &["testr", "-d", "--", "run", "-d"],
+        &["testr", "run", "-d"],
+        Some("--"),
+    ),
+    (
+        &["testr", "run", "--", "-d", "x"],
+        &["testr", "run", "--", "-d", "x"],
+        None,
+    ),
+    (&["testr", "-d=x", "-dx"], &["testr", "-d=x", "-dx"], None),
+    (
+        &["subunit-tags", "-d", "x"],
+        &["subunit-tags", "-d", "x"],
+        None,
+    ),
+];
+
+fn are_words(words: &[String], wanted: &[&str]) -> bool {
+    words.len() == wanted.len()
+        && words
+            .iter()
+            .zip(wanted.iter())
+            .all(|(word, other)| word.as_str() == *other)
+}
+
+fn is_folder(folder: &Option<String>, wanted: Option<&str>) -> bool {
+    match (folder, wanted) {
+        (Some(folder), Some(wanted)) => folder.as_str() == wanted,
+        (None, None) => true,
+        _ => false,
+    }
+}
+
+fn parted(rt: &HostRuntime, words: &[&str]) -> io::Result<Parted> {
+    let mut list = Vec::new(rt.alloc());
+    add_words(rt.alloc(), &mut list, words)?;
+    Ok(part_words(rt.alloc(), &list)?)
+}
+
+#[test]
+fn a_folder_is_taken_out_of_the_words_of_testr(rt: HostRuntime) -> Result<(), Fail> {
+    for row in &PARTED {
+        let found = parted(&rt, row.0)?;
+        assert!(rt; are_words(&found.words, row.1));
+        assert!(rt; is_folder(&found.folder, row.2));
+    }
     Ok(())
 }

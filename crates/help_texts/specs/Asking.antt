@@ -1,0 +1,58 @@
+-- Which words ask the program to tell of itself (docs/COMMANDS.md, "Words that the program answers itself").
+use Rattle.std.specs.Prelude.{ℕ, Bool, false, ◌&&◌, ◌||◌, List, [], ◌∷◌, map, codes, String, string_bytes, if◌then◌else◌}
+use Rattle.std.specs.List.{list_any}
+use Rattle.std.specs.Str.{bytes_eq}
+use Rattle.std.specs.declared.alloc.Global.{Global}
+
+-- the words as lists of bytes
+abbrev pub texts : List (String Global) → List (List ℕ)
+texts words = map string_bytes words
+
+-- the face that has commands
+abbrev pub testr_face : List ℕ
+testr_face = codes "testr"
+
+-- the word behind a face or a command that asks for its text
+abbrev pub help_word : List ℕ
+help_word = codes "--help"
+
+-- the word that asks which program this is
+abbrev pub version_word : List ℕ
+version_word = codes "--version"
+
+-- the commands that have a text
+abbrev pub commands : List (List ℕ)
+commands =
+    codes "init" ∷ codes "load" ∷ codes "run" ∷ codes "list-tests" ∷ codes "last" ∷ codes "failing" ∷ codes "slowest"
+    ∷ codes "stats" ∷ codes "selftest" ∷ []
+
+-- the filters, each of which has a text
+abbrev pub filters : List (List ℕ)
+filters =
+    codes "subunit-filter" ∷ codes "subunit-tags" ∷ codes "subunit-ls" ∷ codes "subunit-stats" ∷ codes "tap2subunit"
+    ∷ codes "subunit2tap" ∷ codes "subunit2csv" ∷ codes "subunit2junitxml" ∷ codes "subunit-output"
+    ∷ codes "subunit-1to2" ∷ codes "subunit-2to1" ∷ []
+
+-- the word is one of these
+abbrev pub is_one_of : List (List ℕ) → List ℕ → Bool
+is_one_of names word = list_any (bytes_eq word) names
+
+-- what stands alone behind `testr` and asks for a text
+abbrev pub asks_of_program : List ℕ → Bool
+asks_of_program word = bytes_eq word help_word || bytes_eq word version_word
+
+-- a face and one word ask for a text
+abbrev pub asks_by_two : List ℕ → List ℕ → Bool
+asks_by_two face word = if bytes_eq face testr_face then asks_of_program word else is_one_of filters face && bytes_eq word help_word
+
+-- a face, a command and one word ask for a text
+abbrev pub asks_by_three : List ℕ → List ℕ → List ℕ → Bool
+asks_by_three face command word = bytes_eq face testr_face && (is_one_of commands command && bytes_eq word help_word)
+
+-- The words ask for a text, which is printed in place of all else that they might mean. There are two words or three.
+abbrev pub asks : List (List ℕ) → Bool
+asks [] = false
+asks (face ∷ []) = false
+asks (face ∷ word ∷ []) = asks_by_two face word
+asks (face ∷ command ∷ word ∷ []) = asks_by_three face command word
+asks (face ∷ command ∷ word ∷ more ∷ words) = false
