@@ -1,7 +1,8 @@
 #!/bin/sh
 # Tries the program where something outside is wrong: links, pipes and folders in place of files, closed descriptors, a
 # full disk, a limit on files, a file system without some call, modes, several users, a removed lock, two at once, killed
-# programs, caches that are damaged or cannot be put, a build that fails, the names of the program, and its installation.
+# programs, caches that are damaged or cannot be put, a folder to work in that is none, a build that fails, the names of the
+# program, and its installation.
 # What cannot be tried here is skipped with a word: some cases want to be run by root, some want `strace`.
 # usage: bench/faults.sh [CASE..]: by default all cases.
 set -eu
@@ -239,6 +240,17 @@ def a_run_is_what_reads_find():
     # Neither asks for a length: both read to the end. The report finds no packet.
     check(run(folder, "last", "--subunit") == (0, found, b""), "last does not give what reads find")
     check(run(folder, "last") == (0, b"Ran 0 tests\nPASSED (id=0)\n", b""), "last does not read to the end")
+
+
+@case
+def a_run_is_copied_into_itself():
+    """It is read to the end that it had when it was opened. It is longer than a read."""
+    folder = new_repository(3000)
+    before = bytes_of(folder, "0")
+    check(len(before) > 2 * 65536, "the run is short")
+    done = shell(folder, "$T last --subunit >> .testrepository/0")
+    check(done == (0, b"", b""), f"last answers {done}")
+    check(bytes_of(folder, "0") == 2 * before, "the run has other bytes")
 
 
 @case
@@ -830,6 +842,58 @@ def input_does_not_wait():
     os.close(end)
     os.close(begin)
     check_runs(folder)
+
+
+# The folder to work in.
+
+@case
+def a_folder_is_named():
+    folder = new_folder()
+    os.mkdir(os.path.join(folder, "a b"))
+    os.mkdir(os.path.join(folder, "-d"))
+    write(folder, "stream", stream(2))
+    check(run(folder, "-d", "a b", "init") == (0, b"", b""), "init fails")
+    check(os.path.exists(at(os.path.join(folder, "a b"), "format")), "the repository is elsewhere")
+    loaded = run(folder, "load", "-d", "a b", "../stream")
+    check(loaded[0] <= 1 and bytes_of(os.path.join(folder, "a b"), "0") == kept(2), f"load answers {loaded}")
+    one = (0, b"runs=1\n", b"")
+    for words in (["stats", "-d", "a b"], ["-d", "nowhere", "stats", "-d", "a b"], ["-d", os.path.join(folder, "a b"), "stats"]):
+        check(run(folder, *words) == one, f"{words} answers {run(folder, *words)}")
+    check(run(folder, "-d", "-d", "init")[0] == 0 and os.path.exists(at(os.path.join(folder, "-d"), "format")),
+          "a folder called -d is not entered")
+    check(not os.path.exists(os.path.join(folder, ".testrepository")), "the caller's folder has a repository")
+
+
+@case
+def a_folder_is_refused():
+    folder = new_folder()
+    write(folder, "file", b"")
+    os.symlink("nowhere", os.path.join(folder, "link"))
+    for name in ("nowhere", "", "file/behind", "a\nb"):
+        for words in (["-d", name, "init"], ["loads", "-d", name]):
+            done = run(folder, *words)
+            check(done == (3, b"", b"testr: no folder %s\n" % name.encode()), f"{words} answers {done}")
+    for name in ("file", "link"):
+        done = run(folder, "init", "-d", name)
+        check_refused(done, b"testr: fault of the folder to work in\n", b"enter " + name.encode())
+    for words in (["init", "-d"], ["init", "--", "-d", "file"], ["init", "-dfile"], ["init", "-d=file"]):
+        check(run(folder, *words) == (2, b"", USAGE), f"{words} is no wrong usage")
+    # Help needs no folder, and filters have none.
+    check(run(folder, "-d", "nowhere", "--help") == run(folder, "--help"), "help enters the folder")
+    check(run(folder, "load", "--help", "-d", "nowhere") == run(folder, "load", "--help"), "help of load enters it")
+    tagged = run(folder, "-d", "nowhere", program=[PROGRAM, "subunit-tags"])
+    check(tagged == (0, b"", b""), f"a filter answers {tagged}")
+    check(sorted(os.listdir(folder)) == ["file", "link"], "files are made")
+
+
+@case
+def a_folder_may_not_be_entered():
+    need(IS_ROOT, "want of root")
+    folder = new_folder()
+    os.mkdir(os.path.join(folder, "closed"), 0o700)
+    user = {"user": NOBODY, "group": NOBODY, "extra_groups": ()}
+    done = run(folder, "-d", "closed", "last", **user)
+    check_refused(done, b"testr: fault of the folder to work in\n", b"enter closed: Permission denied")
 
 
 # What the program tells of itself, and the launcher.

@@ -3,7 +3,7 @@
 # loaded before that of the C library refuses, until a run asks for fewer. It must end with 5, with 4 where it was a fault of
 # an object of the outside, or as without the refusal; standard error names the cause, and standard output is a first part
 # of what is printed without. Behind `load`, and `run` of two workers, the repository opens with its run, or with the new one
-# too, and both are whole; the caches are those of first runs, and no file of ids is left. How often the draft stays is told.
+# too, and both are whole; the caches are those of first runs, and no file of ids and no draft is left.
 # usage: bench/memory.sh [CASE..]: by default all cases. Where there is no `cc`, nothing is tried, and the status is 0.
 set -eu
 
@@ -112,7 +112,7 @@ class Command:
 
     def __init__(self, words, given=b"", name="testr", made=None):
         self.words, self.given, self.name, self.made = words, given, name, made
-        self.tried, self.told, self.drafts, self.wrongs = 0, dict.fromkeys(KINDS, 0), [], 0
+        self.tried, self.told, self.wrongs = 0, dict.fromkeys(KINDS, 0), 0
 
     def folder(self):
         folder = new_folder()
@@ -183,8 +183,7 @@ class Init(Command):
     def look(self, folder, place, status):
         home = os.path.join(folder, ".testrepository")
         names = set(os.listdir(home)) if os.path.exists(home) else set()
-        self.drafts += [str(place)] if "draft" in names else []
-        check(names <= {"format", "lock", "draft"}, f"the files are {sorted(names)}")
+        check(names <= {"format", "lock"}, f"the files are {sorted(names)}")
         is_made = (0, b"runs=0\n", b"")
         wanted = [is_made] if status == 0 else [is_made, (3, b"", b"testr: no repository here\n")]
         answer = run(folder, "stats")
@@ -206,8 +205,7 @@ class OverRun(Command):
 
     def look(self, folder, place, status):
         names = set(os.listdir(os.path.join(folder, ".testrepository")))
-        self.drafts += [str(place)] if "draft" in names else []
-        runs = sorted(names - {"format", "lock", "draft", *NAMES})
+        runs = sorted(names - {"format", "lock", *NAMES})
         check(runs == ["0"] or self.wholes and runs == ["0", "1"], f"the files are {sorted(names)}")
         check(bytes_of(folder, "0") == EARLIER, "run 0 is damaged")
         check(len(runs) == 2 or status > 1 or not self.wholes, f"status {status}, and no run 1")
@@ -252,6 +250,7 @@ def commands():
     yield "list-tests", OverRun(["list-tests", "a|b"], suite)
     for words in (["last"], ["last", "--subunit"], ["failing"], ["slowest"], ["stats"]):
         yield words[0], OverRun(words, made)
+    yield "stats", OverRun(["-d", ".", "stats"], made)
     yield "selftest", Command(["selftest", "7", "2", "5"])
     yield "subunit-filter", Command(["--success", "--with-id=a|b"], GIVEN, "subunit-filter")
     yield "subunit-tags", Command(["x", "-t"], GIVEN, "subunit-tags")
@@ -271,9 +270,8 @@ def main(*wanted):
         command.try_all()
         tried, wrongs = tried + command.tried, wrongs + command.wrongs
         kinds = ", ".join(f"{count} {kind}" for kind, count in command.told.items() if count)
-        drafts = f"; a draft is left at {', '.join(command.drafts)}" if command.drafts else ""
         words = " ".join([command.name, *command.words])
-        print(f"{'WRONG' if command.wrongs else 'ok':8} {words}: {command.tried} allocations: {kinds}{drafts}", flush=True)
+        print(f"{'WRONG' if command.wrongs else 'ok':8} {words}: {command.tried} allocations: {kinds}", flush=True)
     print(f"memory: {tried} allocations tried, {wrongs} wrong")
     sys.exit(1 if wrongs or not tried else 0)
 

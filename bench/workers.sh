@@ -1,8 +1,8 @@
 #!/bin/sh
 # Tries `testr run --parallel` with real worker processes: 4 and 64 of them, workers that sleep side by side, one that is
 # slow while another prints much, one that is killed in the middle, one that cannot be started; what each is told to run,
-# on a first run and on one with known times; a disk that is full, an output that is closed; and kills of the program at
-# random moments.
+# on a first run and on one with known times; a disk that is full, an output or standard error that is closed; workers that
+# end with a killed program, and files of ids that it left; and kills of the program at random moments.
 # usage: bench/workers.sh [CASE..]: by default all cases. The variable KILLS says how often the program is killed: 100,
 # unless it is set. MEBIBYTES says how much the worker prints that prints much: 1024, unless it is set, and so much room is
 # needed on the disk.
@@ -23,7 +23,7 @@ import sys
 import time
 
 import streams
-from cases import LIMIT, PROGRAM, bytes_of, case, check, main, run, write
+from cases import LIMIT, PROGRAM, bytes_of, case, check, main, need, run, wait_until, write
 from project import check_answer, check_clean, packet, project, report
 from streams import FAIL, ID, RUNNABLE, SUCCESS, TIME, event, text
 
@@ -189,13 +189,7 @@ def one_of_several_is_killed():
 
 def check_no_worker(folder):
     """No process goes on in the folder."""
-    left = []
-    for number in filter(str.isdigit, os.listdir("/proc")):
-        try:
-            if os.path.samefile(f"/proc/{number}/cwd", folder):
-                left.append(number)
-        except OSError:
-            continue
+    left = sleepers(folder)
     check(not left, f"{left} go on")
 
 
@@ -240,8 +234,107 @@ def the_output_is_closed():
     check_clean(folder)
 
 
+@case
+def the_errors_are_closed():
+    """A worker has the null device in their place, so that no file which it opens is taken for them."""
+    says = "readlink /proc/$$/fd/2 > errors; echo said >&2\n"
+    folder = many(4, worker=NOTES.replace("while", says + "while"))
+    words, closed = ["run", "--parallel", "--concurrency=2"], ["sh", "-c", 'exec "$@" 2>&-', "sh"]
+    status, out, _ = run(folder, *words, before=closed)
+    check((status, out) == (0, report([], 4, 0)), f"{status}, {out}")
+    with open(os.path.join(folder, "errors")) as file:
+        found = file.read()
+    check(found == "/dev/null\n", f"a worker has {found!r} as its standard error")
+    # One that is open is the worker's, too.
+    check(run(folder, *words) == (0, report([], 4, 1), b"said\nsaid\n"), "standard error is not the worker's")
+    check_clean(folder)
+
+
+@case
+def left_files_of_ids_are_removed():
+    """Those of a killed run with more workers, by a run that writes none. Other names stay, and so do other things."""
+    folder = many(8, worker=EACH)
+    for number in range(8):
+        write(folder, f"workers/{number}", b"exec sleep 600\n")
+    write(folder, ".testr.conf", EXEC)
+    with subprocess.Popen([PROGRAM, "testr", "run", "--parallel", "--concurrency=8"], cwd=folder,
+                          stdout=subprocess.DEVNULL, stderr=subprocess.DEVNULL) as child:
+        wait_until(lambda: os.path.exists(os.path.join(folder, ".testr-ids.7")), "the eighth worker is not started")
+        time.sleep(0.2)
+        child.kill()
+    end_sleepers(folder)
+    names = [f".testr-ids.{number}" for number in range(8)]
+    check([name for name in names if os.path.exists(os.path.join(folder, name))] == names, "the killed run left none")
+    others = [".testr-ids.08", ".testr-ids.64", ".testr-ids.x", ".testr-ids."]
+    for name in others:
+        write(folder, name, b"mine")
+    os.mkdir(os.path.join(folder, ".testr-ids.9"))
+    os.symlink("worker", os.path.join(folder, ".testr-ids.10"))
+    for number in range(8):
+        os.remove(os.path.join(folder, f"workers/{number}"))
+    # A listing holds no lock, and removes none.
+    check(run(folder, "list-tests")[0] == 0 and os.path.exists(os.path.join(folder, ".testr-ids.7")), "a listing removes some")
+    write(folder, ".testr.conf", b"[DEFAULT]\ntest_command=cat packets/t00000\n")
+    check_answer(run(folder, "run"), 0, report([], 1, 0), "the next run")
+    left = sorted(name for name in os.listdir(folder) if name.startswith(".testr-ids"))
+    check(left == sorted([*others, ".testr-ids.9", ".testr-ids.10"]), f"{left} are left")
+
+
+@case
+def a_run_that_is_refused_removes_no_file_of_ids():
+    """They are those of a run that is at work."""
+    folder = many(2, worker=EACH)
+    for number in range(2):
+        write(folder, f"workers/{number}", b"until [ -e go ]; do sleep 0.01; done; while read -r id; do cat packets/$id; done < $1\n")
+    words = ["run", "--parallel", "--concurrency=2"]
+    with subprocess.Popen([PROGRAM, "testr", *words], cwd=folder, stdout=subprocess.PIPE, stderr=subprocess.PIPE) as first:
+        wait_until(lambda: os.path.exists(os.path.join(folder, ".testr-ids.1")), "the second worker is not started")
+        time.sleep(0.2)
+        check(run(folder, *words)[0] == 4, "a second run is let in")
+        write(folder, "go", b"")
+        out, err = first.communicate(timeout=LIMIT)
+    check((first.returncode, out, err) == (0, report([], 2, 0), b""), f"{first.returncode}, {out}, {err}")
+    check_clean(folder)
+
+
 def is_there(number):
     return os.path.exists(f"/proc/{number}")
+
+
+def sleepers(folder):
+    """The processes that go on in the folder."""
+    found = []
+    for number in filter(str.isdigit, os.listdir("/proc")):
+        try:
+            if os.path.samefile(f"/proc/{number}/cwd", folder):
+                found.append(int(number))
+        except OSError:
+            continue
+    return found
+
+
+def end_sleepers(folder):
+    for number in sleepers(folder):
+        os.kill(number, signal.SIGKILL)
+    wait_until(lambda: not sleepers(folder), "a worker goes on")
+
+
+@case
+def workers_end_with_a_killed_program():
+    """Where their command asks the system for it, as USING says."""
+    need(shutil.which("setpriv"), "want of setpriv")
+    folder = many(2, worker=EACH)
+    write(folder, ".testr.conf", EXEC.replace(b"exec ./worker", b"exec setpriv --pdeathsig KILL ./worker"))
+    for number in range(2):
+        write(folder, f"workers/{number}", b"echo $$ > told/%d; exec sleep 600\n" % number)
+    with subprocess.Popen([PROGRAM, "testr", "run", "--parallel", "--concurrency=2"], cwd=folder,
+                          stdout=subprocess.DEVNULL, stderr=subprocess.DEVNULL) as child:
+        wait_until(lambda: len(os.listdir(os.path.join(folder, "told"))) == 2, "the workers are not started")
+        time.sleep(0.2)
+        check(len(sleepers(folder)) == 3, f"{sleepers(folder)} are at work")
+        child.kill()
+    wait_until(lambda: not sleepers(folder), "a worker goes on behind the program's end")
+    check(run(folder, "stats")[1] == b"runs=0\n", "a run is there")
 
 
 @case

@@ -2,7 +2,7 @@
 
 use crate::homes::{begins, check_cause, enter_home, holds, is_there, leave_home, shell};
 use edge_io::{Child, Failed, IdFile, Job, Spawner};
-use real_outside::{RealChild, RealSpawner};
+use real_outside::{Errors, RealChild, RealSpawner};
 use std::alloc::Global;
 use std::io::ErrorKind;
 use std::process::Abort;
@@ -52,7 +52,7 @@ fn gives_all<C: Child>(child: &mut C, wanted: &[u8]) -> bool {
 }
 
 fn started<'r>(rt: &'r HostRuntime, job: &Job) -> Result<RealChild<'r, HostRuntime>, Failed> {
-    let mut spawner = RealSpawner::new(rt.alloc(), rt);
+    let mut spawner = RealSpawner::new(rt.alloc(), rt, Errors::Inherited);
     spawner.start(job)
 }
 
@@ -113,6 +113,60 @@ fn a_child_has_nothing_of_the_program(rt: HostRuntime) -> Result<(), Fail> {
     check_has_nothing(&rt, &rt);
     drop(file);
     leave_home(&rt, "child")?;
+    Ok(())
+}
+
+// Whether the next child of this command gives these bytes and then exits with 0.
+fn next_gives(
+    spawner: &mut RealSpawner<'_, HostRuntime>,
+    alloc: Global,
+    command: &str,
+    wanted: &[u8],
+) -> bool {
+    let Some(job) = plain_job(alloc, command) else {
+        return false;
+    };
+    match spawner.start(&job) {
+        Ok(mut child) => ends_so(&mut child, wanted, 0),
+        Err(Failed) => false,
+    }
+}
+
+// Whether a child gives these bytes whose errors go there.
+fn gives_with(rt: &HostRuntime, errors: Errors, command: &str, wanted: &[u8]) -> bool {
+    let mut spawner = RealSpawner::new(rt.alloc(), rt, errors);
+    next_gives(&mut spawner, rt.alloc(), command, wanted)
+}
+
+const SAME_ERRORS: &str =
+    "[ \"$(readlink /proc/$$/fd/2)\" = \"$(readlink /proc/$PPID/fd/2)\" ] && echo same";
+
+#[test]
+fn errors_go_where_it_was_said(rt: HostRuntime) {
+    let told = "readlink /proc/$$/fd/2";
+    assert!(rt; gives_with(&rt, Errors::Dropped, told, b"/dev/null\n"));
+    assert!(rt; gives_with(&rt, Errors::Inherited, SAME_ERRORS, b"same\n"));
+}
+
+const LEFT: &str = "echo a > .testr-ids.0; echo a > .testr-ids.63; echo a > .testr-ids.64; \
+echo a > .testr-ids.07; echo a > .testr-ids.x; mkdir .testr-ids.5; ln -s .testr-ids.x .testr-ids.6";
+
+const KEPT: &[u8] = b".testr-ids.07\n.testr-ids.5\n.testr-ids.6\n.testr-ids.64\n.testr-ids.x\n";
+
+fn check_left(rt: &impl Abort, alloc: Global, spawner: &mut RealSpawner<'_, HostRuntime>) {
+    let first = "LC_ALL=C ls -A; echo a > .testr-ids.0";
+    assert!(rt; next_gives(spawner, alloc, first, KEPT));
+    assert!(rt; next_gives(spawner, alloc, "cat .testr-ids.0", b"a\n"));
+}
+
+// The first start removes them, and a later one does not. What is no regular file stays, and so does each other name.
+#[test]
+fn files_of_ids_that_were_left_are_removed(rt: HostRuntime) -> Result<(), Fail> {
+    enter_home(&rt, "left-ids")?;
+    shell(&rt, LEFT)?;
+    let spawner = RealSpawner::new(rt.alloc(), &rt, Errors::Inherited);
+    check_left(&rt, rt.alloc(), &mut spawner.clearing(".testr-ids.", 64));
+    leave_home(&rt, "left-ids")?;
     Ok(())
 }
 
@@ -191,7 +245,7 @@ fn check_start(
 }
 
 fn check_job(rt: &impl Abort, host: &HostRuntime, job: &Job, why: &str) -> io::Result<()> {
-    let mut spawner = RealSpawner::new(host.alloc(), host);
+    let mut spawner = RealSpawner::new(host.alloc(), host, Errors::Inherited);
     check_start(rt, host, &mut spawner, job, why)
 }
 

@@ -1,8 +1,8 @@
-// What no clause says of the files by name: which calls of the system are made.
+// What no clause says of the files by name, and of the folder that names begin at: which calls of the system are made.
 
-use crate::homes::{begins, enter_home, leave_home, shell};
+use crate::homes::{begins, check_cause, enter_home, is_there, leave_home, shell};
 use edge_io::{Failed, Found, Site};
-use real_outside::RealSite;
+use real_outside::{RealSite, enter};
 use std::fs;
 use std::process::Abort;
 use std::test::Fail;
@@ -60,7 +60,10 @@ fn check_files(rt: &impl Abort, site: &mut RealSite<'_, HostRuntime>) {
 fn files_are_read_by_name(rt: HostRuntime) -> Result<(), Fail> {
     enter_home(&rt, "site")?;
     shell(&rt, FILES)?;
-    check_files(&rt, &mut RealSite::new(rt.alloc(), &rt, String::new(rt.alloc())));
+    check_files(
+        &rt,
+        &mut RealSite::new(rt.alloc(), &rt, String::new(rt.alloc())),
+    );
     leave_home(&rt, "site")?;
     Ok(())
 }
@@ -93,7 +96,52 @@ fn an_open_file_is_kept(rt: HostRuntime) -> Result<(), Fail> {
         &rt,
         "printf abcde > file; mkfifo pipe; printf fghij > pipe &",
     )?;
-    check_open_files(&rt, &rt, &mut RealSite::new(rt.alloc(), &rt, String::new(rt.alloc())));
+    check_open_files(
+        &rt,
+        &rt,
+        &mut RealSite::new(rt.alloc(), &rt, String::new(rt.alloc())),
+    );
     leave_home(&rt, "kept")?;
+    Ok(())
+}
+
+// Whether the folder is entered; none where that fails.
+fn entered(rt: &HostRuntime, path: &str) -> Option<bool> {
+    enter(rt.alloc(), rt, path).ok()
+}
+
+const FOLDERS: [(&str, Option<bool>); 6] = [
+    ("nowhere", Some(false)),
+    ("five/absent", Some(false)),
+    ("", Some(false)),
+    ("five", None),
+    ("lost", None),
+    ("folder", Some(true)),
+];
+
+fn check_enter_cause(rt: &impl Abort, host: &HostRuntime) -> Result<(), Fail> {
+    match enter(host.alloc(), host, "five") {
+        Ok(_) => assert!(rt; false),
+        Err(cause) => check_cause(
+            rt,
+            host,
+            Some(&cause),
+            "enter five: Not a directory (os error 20)",
+        )?,
+    }
+    Ok(())
+}
+
+// Nothing stands there, or something that is no folder, or a folder.
+#[test]
+fn a_folder_is_entered(rt: HostRuntime) -> Result<(), Fail> {
+    enter_home(&rt, "entered")?;
+    shell(&rt, FILES)?;
+    check_enter_cause(&rt, &rt)?;
+    for row in &FOLDERS {
+        assert_eq!(rt; entered(&rt, row.0), row.1);
+    }
+    assert!(rt; is_there(&rt, "../five"));
+    leave_home(&rt, "entered")?;
     Ok(())
 }

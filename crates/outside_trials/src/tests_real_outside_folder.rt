@@ -263,6 +263,31 @@ fn a_cache_is_replaced(rt: HostRuntime) -> Result<(), Fail> {
     Ok(())
 }
 
+fn check_grown(rt: &impl Abort, host: &HostRuntime, shelf: &mut FolderShelf<'_, HostRuntime>) {
+    let mut part = [0u8; 4];
+    assert_eq!(rt; shelf.read_at("0", 0, &mut part), Ok(4));
+    assert!(rt; shell(host, "printf more >> .testrepository/0").is_ok());
+    assert_eq!(rt; shelf.read_at("0", 4, &mut part), Ok(1));
+    assert_eq!(rt; shelf.read_at("0", 5, &mut part), Ok(0));
+}
+
+fn check_grown_anew(rt: &impl Abort, shelf: &mut FolderShelf<'_, HostRuntime>) {
+    let mut part = [0u8; 4];
+    assert_eq!(rt; shelf.read_at("0", 6, &mut part), Ok(3));
+    assert_eq!(rt; part, *b"ore\0");
+}
+
+// It is read to the end that it had when it was opened: as a run that is copied into itself.
+#[test]
+fn a_file_that_grows_has_an_end(rt: HostRuntime) -> Result<(), Fail> {
+    enter_home(&rt, "grown")?;
+    publish_one(&rt, "0")?;
+    check_grown(&rt, &rt, &mut together(&rt));
+    check_grown_anew(&rt, &mut together(&rt));
+    leave_home(&rt, "grown")?;
+    Ok(())
+}
+
 // Gives a cache's name to what the command that begins so makes.
 fn make_cache(rt: &HostRuntime, text: &str) -> io::Result<()> {
     let command = format!(in rt.alloc();

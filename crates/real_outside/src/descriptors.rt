@@ -1,5 +1,6 @@
 // The descriptors 0, 1 and 2, which a program may be started without.
 
+use crate::real_spawner::Errors;
 use std::fs::{File, Files};
 use std::io;
 use std::os::fd::AsRawFd;
@@ -11,6 +12,20 @@ const LAST: i32 = 2;
 #[derive(Drop)]
 pub struct Held {
     files: [Option<File>; 3],
+}
+
+impl Held {
+    /// Where the programs that are started write their errors: where this one does, or nowhere, where its own were closed.
+    pub fn errors(&self) -> Errors {
+        for file in &self.files {
+            if let Some(file) = file
+                && file.as_raw_fd() == LAST
+            {
+                return Errors::Dropped;
+            }
+        }
+        Errors::Inherited
+    }
 }
 
 /// Holds each of the descriptors 0, 1 and 2 that is closed by a folder, which can be neither read nor written as a file.

@@ -5,7 +5,7 @@ ghost use Rattle.std.specs.Io.{ReadsAtMost};
 use crate::cause::{Cause, told};
 use crate::identity::is_at;
 use crate::lock::{FOLDER, Lock, Sharing};
-use crate::published_files::{is_stranger, length_of, publish, read_from};
+use crate::published_files::{PublishedFile, is_stranger, length_of, publish};
 use std::alloc::Global;
 use std::collections::BTreeSet;
 use std::fs::{DirEntry, File, Files};
@@ -25,7 +25,8 @@ const LOCK_NAME: &str = "lock";
 const ROOM: usize = 65_536;
 
 /// The folder `.testrepository`, and the draft that is open in it. Each call asks for the folder's lock first, until it
-/// is held, and fails where that is refused.
+/// is held, and fails where that is refused. The file that was read last is kept open, as long as no other is read and none
+/// gets a name.
 #[derive(Drop)]
 pub struct Folder<'r, R> {
     rt: &'r R,
@@ -33,6 +34,7 @@ pub struct Folder<'r, R> {
     sharing: Sharing,
     lock: Lock,
     draft: Option<BufWriter<File>>,
+    read: Option<PublishedFile>,
     is_settled: bool,
 }
 
@@ -45,6 +47,7 @@ impl<'r, R: Files<File = File>> Folder<'r, R> {
             sharing,
             lock: Lock::Unasked,
             draft: None,
+            read: None,
             is_settled: false,
         }
     }
@@ -75,16 +78,23 @@ impl<'r, R: Files<File = File>> Folder<'r, R> {
         }
     }
 
-    /// Fills `buf` from the file of this name, from the byte number `place` on, as far as there are bytes. Answers how
-    /// many there were.
+    /// Fills `buf` from the file of this name, from the byte number `place` on, as far as there were bytes when it was
+    /// opened: one that is written to meanwhile, as by a copy of it into itself, has an end. Answers how many there were.
     pub fn read_at(&mut self, name: &str, place: u64, buf: &mut [u8]) -> Result<usize, Cause>
         ensures { ReadsAtMost result buf.new }
     {
         self.lock.ask(self.rt, self.sharing)?;
         let path = self.path_of(name)?;
-        match read_from(self.rt, &path, place, buf) {
-            Ok(count) => Ok(count),
-            Err(error) => Err(Cause::of_path("read", path, error)),
+        let file = match self.read.take() {
+            Some(file) if file.is_of(path.as_str()) => file,
+            _ => PublishedFile::open(self.rt, path)?,
+        };
+        match file.read_at(place, buf) {
+            Ok(count) => {
+                self.read = Some(file);
+                Ok(count)
+            }
+            Err(error) => Err(file.cause(error)),
         }
     }
 
@@ -99,6 +109,9 @@ impl<'r, R: Files<File = File>> Folder<'r, R> {
         told("remove", DRAFT, removed(self.rt))?;
         let file = told("make", DRAFT, File::create_new(self.rt, DRAFT))?;
         let draft = BufWriter::with_capacity(self.alloc, ROOM, file);
+        if draft.is_err() {
+            let _ = removed(self.rt);
+        }
         self.draft = Some(told("write", DRAFT, draft)?);
         Ok(())
     }
@@ -133,6 +146,8 @@ impl<'r, R: Files<File = File>> Folder<'r, R> {
         let Some(mut draft) = self.draft.take() else {
             return Err(no_draft());
         };
+        // A cache that is open may be replaced.
+        self.read = None;
         let outcome = self.place(&mut draft, name);
         self.discard(draft.get_ref());
         outcome

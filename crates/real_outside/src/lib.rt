@@ -6,7 +6,7 @@
 //! - `folder_shelf`, `folder`, `published_files`: the folder of runs, its draft, and the files that are published in it
 //! - `lock`, `identity`: who may use the folder beside others, and whether a name still leads to the file that was opened
 //! - `real_spawner`, `real_child`, `written_ids`: worker processes, and the files of ids that they are told
-//! - `real_site`: files of the project by name
+//! - `real_site`, `working_folder`: files of the project by name, and the folder that names begin at
 //! - `stream_source`, `stream_sink`, `descriptors`: standard input and outputs, also where they are closed
 //! - `cause`, `fault_count`: why a call of the system failed, and the count of such faults
 //!
@@ -26,6 +26,7 @@ mod real_site;
 mod real_spawner;
 mod stream_sink;
 mod stream_source;
+mod working_folder;
 mod written_ids;
 
 pub use cause::Cause;
@@ -34,6 +35,7 @@ pub use folder_shelf::FolderShelf;
 pub use lock::Sharing;
 pub use real_child::RealChild;
 pub use real_site::RealSite;
-pub use real_spawner::RealSpawner;
+pub use real_spawner::{Errors, RealSpawner};
 pub use stream_sink::StreamSink;
 pub use stream_source::StreamSource;
+pub use working_folder::enter;

@@ -2,6 +2,7 @@
 
 ghost use Rattle.std.specs.Io.{ReadsAtMost};
 
+use crate::cause::Cause;
 use crate::identity::is_at;
 use std::fs::{File, Files};
 use std::io::ErrorKind;
@@ -39,19 +40,43 @@ pub fn length_of<R: Files<File = File>>(rt: &R, path: &str) -> io::Result<Option
     }
 }
 
-/// Fills `buf` from the file of this path, from the byte number `place` on, as far as there are bytes. Answers how many
-/// there were.
-pub fn read_from<R: Files<File = File>>(
-    rt: &R,
-    path: &str,
-    place: u64,
-    buf: &mut [u8],
-) -> io::Result<usize>
-    ensures { ReadsAtMost result buf.new }
-{
-    match opened(rt, path)? {
-        Some(file) => fill(&file, place, buf),
-        None => Err(io::Error::from(ErrorKind::NotFound)),
+/// A published file that is open. It ends where it did when it was opened: what is written behind that since is not read.
+#[derive(Drop)]
+pub struct PublishedFile {
+    path: String,
+    file: File,
+    end: u64,
+}
+
+impl PublishedFile {
+    /// The file of this path. Fails where there is none.
+    pub fn open<R: Files<File = File>>(rt: &R, path: String) -> Result<Self, Cause> {
+        match opened_with_end(rt, path.as_str()) {
+            Ok((file, end)) => Ok(PublishedFile { path, file, end }),
+            Err(error) => Err(Cause::of_path("read", path, error)),
+        }
+    }
+
+    /// Whether it is the file of this path.
+    pub fn is_of(&self, path: &str) -> bool {
+        self.path.as_str() == path
+    }
+
+    /// Fills `buf` from the byte number `place` on, as far as there are bytes. Answers how many there were.
+    pub fn read_at(&self, place: u64, buf: &mut [u8]) -> io::Result<usize>
+        ensures { ReadsAtMost result buf.new }
+    {
+        let left = self.end.saturating_sub(place);
+        let room = match usize::try_from(left) {
+            Ok(left) => left.min(buf.len()),
+            Err(_) => buf.len(),
+        };
+        fill(&self.file, place, &mut buf[..room])
+    }
+
+    /// Why a read of it failed.
+    pub fn cause(self, error: io::Error) -> Cause {
+        Cause::of_path("read", self.path, error)
     }
 }
 
@@ -117,6 +142,21 @@ fn absent<R: Files>(rt: &R, path: &str) -> io::Result<Option<File>> {
         Err(error) if error.kind() == ErrorKind::NotFound => Ok(None),
         Err(error) => Err(error),
     }
+}
+
+// The file of this path, open, and the place where it ends. The system says it, unless a read finds a byte there, as of
+// some files that it makes: these are read as far as they go.
+fn opened_with_end<R: Files<File = File>>(rt: &R, path: &str) -> io::Result<(File, u64)> {
+    let Some(file) = opened(rt, path)? else {
+        return Err(io::Error::from(ErrorKind::NotFound));
+    };
+    let length = file.metadata()?.len();
+    let end = if has_byte(&file, length)? {
+        u64::MAX
+    } else {
+        length
+    };
+    Ok((file, end))
 }
 
 // Whether the file has a byte at this place.

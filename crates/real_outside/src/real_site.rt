@@ -155,8 +155,8 @@ fn absent<R: Files>(rt: &R, path: &str) -> io::Result<Option<File>> {
     }
 }
 
-// Also a path that goes on behind a file leads to nothing.
-fn is_absence(kind: ErrorKind) -> bool {
+/// Whether this is an error of a path that leads to nothing. Also one that goes on behind a file does.
+pub fn is_absence(kind: ErrorKind) -> bool {
     kind == ErrorKind::NotFound || kind == ErrorKind::NotADirectory
 }
 

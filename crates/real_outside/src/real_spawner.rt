@@ -4,7 +4,7 @@ ghost use Rattle.std.specs.Prelude.{None};
 use crate::cause::Cause;
 use crate::fault_count::Faults;
 use crate::real_child::RealChild;
-use crate::written_ids::WrittenIds;
+use crate::written_ids::{LeftIds, WrittenIds};
 use edge_io::{Failed, Job, Spawner};
 use std::alloc::Global;
 use std::fs::{File, Files};
@@ -12,22 +12,45 @@ use std::io::ErrorKind;
 use std::process::{Command, OpenProcess, Processes, Stdio};
 use std::{io, process};
 
+/// Where a program that is started writes its errors.
+#[derive(Clone, Copy)]
+pub enum Errors {
+    /// Where this program does.
+    Inherited,
+    /// To the null device.
+    Dropped,
+}
+
 /// Starts each command as `sh -c COMMAND` in the current folder, with an empty standard input, a pipe as standard output,
-/// and this program's standard error. Counts the starts that fail.
+/// and standard error as was said. Counts the starts that fail.
 #[derive(Drop)]
 pub struct RealSpawner<'r, R> {
     rt: &'r R,
     alloc: Global,
+    errors: Errors,
+    // What the first start removes.
+    left: Option<LeftIds>,
     faults: Faults,
 }
 
 impl<'r, R> RealSpawner<'r, R> {
     /// No start has failed yet.
-    pub fn new(alloc: Global, rt: &'r R) -> Self {
+    pub fn new(alloc: Global, rt: &'r R, errors: Errors) -> Self {
         RealSpawner {
             rt,
             alloc,
+            errors,
+            left: None,
             faults: Faults::new(),
+        }
+    }
+
+    /// The same, whose first start removes files of ids before, which programs have left that were killed: the regular files
+    /// of the current folder whose names are `front` and a number below `count`. No other program may have one in use then.
+    pub fn clearing(self, front: &'static str, count: u32) -> Self {
+        RealSpawner {
+            left: Some(LeftIds { front, count }),
+            ..self
         }
     }
 
@@ -51,7 +74,10 @@ where
 
     /// Writes the file of ids, where the job has one, and then starts the shell. Where that fails the file is removed.
     fn start(&mut self, job: &Job) -> Result<RealChild<'r, R>, Failed> {
-        match started(self.alloc, self.rt, job) {
+        if let Some(left) = self.left.take() {
+            left.remove(self.alloc, self.rt);
+        }
+        match started(self.alloc, self.rt, self.errors, job) {
             Ok(child) => Ok(child),
             Err(cause) => Err(self.faults.fail(cause)),
         }
@@ -61,13 +87,14 @@ where
 fn started<'r, R: Processes + Files<File = File>>(
     alloc: Global,
     rt: &'r R,
+    errors: Errors,
     job: &Job,
 ) -> Result<RealChild<'r, R>, Cause> {
     let ids = match &job.id_file {
         Some(file) => Some(WrittenIds::write(alloc, rt, file)?),
         None => None,
     };
-    match spawned(alloc, rt, job.command.bytes()) {
+    match spawned(alloc, rt, errors, job.command.bytes()) {
         Ok(process) => Ok(RealChild::new(rt, process, ids)),
         Err(error) => {
             if let Some(ids) = ids {
@@ -81,6 +108,7 @@ fn started<'r, R: Processes + Files<File = File>>(
 fn spawned<R: Processes>(
     alloc: Global,
     rt: &R,
+    errors: Errors,
     command: &[u8],
 ) -> io::Result<process::Child<R::Started>> {
     let text = match str::from_utf8(command) {
@@ -92,6 +120,14 @@ fn spawned<R: Processes>(
     shell
         .stdin(Stdio::null())
         .stdout(Stdio::piped())
-        .stderr(Stdio::inherit());
+        .stderr(stream_of(errors));
     shell.spawn(rt)
+}
+
+// A descriptor that is closed would be that of the next file which the child opens.
+fn stream_of(errors: Errors) -> Stdio {
+    match errors {
+        Errors::Inherited => Stdio::inherit(),
+        Errors::Dropped => Stdio::null(),
+    }
 }

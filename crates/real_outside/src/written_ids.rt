@@ -56,6 +56,34 @@ impl WrittenIds {
     }
 }
 
+/// Files of ids that programs have left which were killed: those whose names are `front` and a number below `count`.
+#[derive(Clone, Copy, Drop)]
+pub struct LeftIds {
+    pub front: &'static str,
+    pub count: u32,
+}
+
+impl LeftIds {
+    /// Removes them from the current folder. What has such a name and is no regular file stays. A failure leaves them to a
+    /// later call.
+    pub fn remove<R: Files>(self, alloc: Global, rt: &R) {
+        for number in 0..self.count {
+            let front = self.front;
+            if let Ok(path) = format!(in alloc; "{front}{number}") {
+                remove_regular(rt, path.as_str());
+            }
+        }
+    }
+}
+
+fn remove_regular<R: Files>(rt: &R, path: &str) {
+    if let Ok(found) = fs::symlink_metadata(rt, path)
+        && found.is_file()
+    {
+        let _ = fs::remove_file(rt, path);
+    }
+}
+
 fn path_of(alloc: Global, ids: &IdFile) -> io::Result<String> {
     match str::from_utf8(ids.name.bytes()) {
         Ok(name) => Ok(String::from_str(alloc, name)?),

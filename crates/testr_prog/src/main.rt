@@ -1,13 +1,15 @@
 //! The program: the real input, outputs, arguments and folder behind the top call.
 //!
-//! `real_outside` has the objects that it is called on, and `help_texts` what is printed of it where the words ask for
-//! that. Here is decided which commands share the folder's lock, and which lines tell of the cause of a fault.
+//! `real_outside` has the objects that it is called on. `help_texts` has what is printed where the words ask for that, and
+//! takes out those that name the folder to work in. Here is decided which commands share the folder's lock, which files of
+//! killed runs are removed, and which lines tell of the cause of a fault.
 #![tactic(auto)]
 
 use edge_io::write_whole;
-use help_texts::help;
+use help_texts::{Parted, help, part_words};
 use real_outside::{
-    Cause, FolderShelf, RealSite, RealSpawner, Sharing, StreamSink, StreamSource, hold_closed,
+    Cause, Errors, FolderShelf, RealSite, RealSpawner, Sharing, StreamSink, StreamSource, enter,
+    hold_closed,
 };
 use std::alloc::Global;
 use std::env;
@@ -18,11 +20,20 @@ use std::sync::Wait;
 use std::thread::Threads;
 use testr_cli::program;
 
+// The exit status where the folder to work in is not there.
+const REFUSED: u8 = 3;
+
 // The exit status of a fault of the outside.
 const FAULT: u8 = 4;
 
 // The exit status for want of memory.
 const NO_MEMORY: u8 = 5;
+
+// What the name of a worker's file of ids begins with. The worker's number follows.
+const ID_FILE: &str = ".testr-ids.";
+
+// A run has fewer workers than these, or as many.
+const MOST_WORKERS: u32 = 64;
 
 fn main(rt: HostRuntime) -> ExitCode {
     let held = hold_closed(&rt);
@@ -40,29 +51,72 @@ fn main(rt: HostRuntime) -> ExitCode {
             );
             FAULT
         }
-        (Ok(_), Ok(words)) => run(&rt, &rt, &words, &mut out, &mut err),
+        (Ok(held), Ok(words)) => run(&rt, &rt, held.errors(), &words, &mut out, &mut err),
         // Words that are not text are no command, as no words are.
-        (Ok(_), Err(NoWords::NotText)) => run(&rt, &rt, &[], &mut out, &mut err),
-        (Ok(_), Err(NoWords::NoMemory)) => {
-            let _ = write_whole(&mut err, b"testr: out of memory\n");
-            NO_MEMORY
-        }
+        (Ok(held), Err(NoWords::NotText)) => run(&rt, &rt, held.errors(), &[], &mut out, &mut err),
+        (Ok(_), Err(NoWords::NoMemory)) => out_of_memory(&mut err),
     };
     drop(held);
     ExitCode::from(status)
 }
 
-// Tells of the program, where the words ask for that, or does what they say.
+fn out_of_memory(err: &mut StreamSink<Stderr>) -> u8 {
+    let _ = write_whole(err, b"testr: out of memory\n");
+    NO_MEMORY
+}
+
+// Takes out the words that name the folder to work in, and does what the others say. `errors` says where the programs that
+// are started write theirs.
 fn run<R: Threads + Wait + Sync>(
     threads: &R,
     rt: &HostRuntime,
+    errors: Errors,
     words: &[String],
     out: &mut StreamSink<Stdout>,
     err: &mut StreamSink<Stderr>,
 ) -> u8 {
-    match help(words) {
-        Some(text) => print_help(rt.alloc(), face_of(words), text, out, err),
-        None => run_program(threads, rt, words, out, err),
+    match part_words(rt.alloc(), words) {
+        Ok(parted) => run_parted(threads, rt, errors, &parted, out, err),
+        Err(_) => out_of_memory(err),
+    }
+}
+
+// Tells of the program, where the words ask for that, which needs no folder. Else works in the folder that was named, where
+// one was.
+fn run_parted<R: Threads + Wait + Sync>(
+    threads: &R,
+    rt: &HostRuntime,
+    errors: Errors,
+    parted: &Parted,
+    out: &mut StreamSink<Stdout>,
+    err: &mut StreamSink<Stderr>,
+) -> u8 {
+    let alloc = rt.alloc();
+    if let Some(text) = help(&parted.words) {
+        return print_help(alloc, face_of(&parted.words), text, out, err);
+    }
+    let Some(folder) = &parted.folder else {
+        return run_program(threads, rt, errors, &parted.words, out, err);
+    };
+    match enter(alloc, rt, folder.as_str()) {
+        Ok(true) => run_program(threads, rt, errors, &parted.words, out, err),
+        Ok(false) => no_folder(alloc, folder.as_str(), err),
+        Err(cause) => {
+            let _ = write_whole(err, b"testr: fault of the folder to work in\n");
+            tell(alloc, "testr", Some(&cause), err);
+            FAULT
+        }
+    }
+}
+
+// The folder that was named is not there.
+fn no_folder(alloc: Global, folder: &str, err: &mut StreamSink<Stderr>) -> u8 {
+    match format!(in alloc; "testr: no folder {folder}\n") {
+        Ok(line) => {
+            let _ = write_whole(err, line.as_bytes());
+            REFUSED
+        }
+        Err(_) => out_of_memory(err),
     }
 }
 
@@ -98,6 +152,7 @@ fn print_help(
 fn run_program<R: Threads + Wait + Sync>(
     threads: &R,
     rt: &HostRuntime,
+    errors: Errors,
     words: &[String],
     out: &mut StreamSink<Stdout>,
     err: &mut StreamSink<Stderr>,
@@ -105,7 +160,7 @@ fn run_program<R: Threads + Wait + Sync>(
     let alloc = rt.alloc();
     let mut shelf = FolderShelf::new(alloc, rt, sharing(words));
     let mut input = StreamSource::new(rt.stdin(), "standard input");
-    let mut spawner = RealSpawner::new(alloc, rt);
+    let mut spawner = spawner_of(alloc, rt, errors, words);
     let mut site = RealSite::new(alloc, rt, working_folder(alloc, rt));
     let status = program(
         threads,
@@ -135,6 +190,20 @@ fn working_folder(alloc: Global, rt: &HostRuntime) -> String {
     match env::current_dir(rt) {
         Ok(path) => path.into_string(),
         Err(_) => String::new(alloc),
+    }
+}
+
+// A run starts its programs when it has the folder's lock, so no other run has files of ids in use then.
+fn spawner_of<'r>(
+    alloc: Global,
+    rt: &'r HostRuntime,
+    errors: Errors,
+    words: &[String],
+) -> RealSpawner<'r, HostRuntime> {
+    let spawner = RealSpawner::new(alloc, rt, errors);
+    match words.get(1) {
+        Some(word) if word.as_str() == "run" => spawner.clearing(ID_FILE, MOST_WORKERS),
+        _ => spawner,
     }
 }
 
