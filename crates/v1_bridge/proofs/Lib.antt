@@ -1,5 +1,6 @@
 pub mod RunLemmas
 pub mod ReaderLemmas
+pub mod PlaceLemmas
 pub mod WordLemmas
 pub mod PieceLemmas
 pub mod NameLemmas

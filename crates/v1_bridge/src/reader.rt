@@ -1,6 +1,6 @@
 //! Lines of version 1 in turn, and the events that they give.
 
-ghost use Rattle.std.specs.Prelude.{List, ◌≡◌, ◌++◌, ◌∷◌, [], ◌<◌, ◌≤◌, ◌^◌, length, All, IsTrue, ◌↔◌, IfOk, OnOk, None, Some};
+ghost use Rattle.std.specs.Prelude.{List, ◌≡◌, ◌++◌, ◌∷◌, [], ◌<◌, ◌≤◌, ◌^◌, length, All, IsTrue, ◌↔◌, true, false, IfOk, OnOk, None, Some};
 ghost use Rattle.v1_bridge.specs.Lines.{line_of as line_by, content as content_of, without_newline as line_without};
 ghost use Rattle.v1_bridge.specs.Events.{longest_line, line_event, begun_event as begun_by, completing_event, left_of as left_by, rest_events};
 ghost use Rattle.v1_bridge.specs.Stages as stages;
@@ -321,12 +321,28 @@ impl V1Reader {
         }
     }
 
+    // Takes a line of details where the open test stands, as most of them can be, and answers whether it did.
+    fn takes_detail(&mut self, line: &[u8], events: &mut Vec<Event>) -> Result<bool, NoMemory>
+        ensures given { IfOk result (λ taken. taken ≡ true → events.new.items ≡ events.old.items ++ (spec.line_step (state_of self.old) (state_of self.old).open_test line.now).given) }
+        ensures state { IfOk result (λ taken. taken ≡ true → state_of self.new ≡ (spec.line_step (state_of self.old) (state_of self.old).open_test line.now).state) }
+        ensures left { IfOk result (λ taken. taken ≡ false → self.new ≡ self.old) }
+        ensures quiet { IfOk result (λ taken. taken ≡ false → events.new.items ≡ events.old.items) }
+    {
+        match &mut self.open_test {
+            Some(test) => test.takes_line(self.alloc, line, events),
+            None => Ok(false),
+        }
+    }
+
     // A line with its newline, where it has one.
     fn take_line(&mut self, line: &[u8], events: &mut Vec<Event>) -> Result<(), NoMemory>
         requires short { length (line_without line.now) ≤ longest_line }
         ensures given { OnOk result (events.new.items ≡ events.old.items ++ (spec.line_step (state_of self.old) (state_of self.old).open_test line.now).given) }
         ensures state { OnOk result (state_of self.new ≡ (spec.line_step (state_of self.old) (state_of self.old).open_test line.now).state) }
     {
+        if self.takes_detail(line, events)? {
+            return Ok(());
+        }
         match self.open_test.take() {
             Some(test) => self.line_within(test, line, events),
             None => self.outside(content(line), events),

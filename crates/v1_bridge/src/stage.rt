@@ -1,9 +1,10 @@
 //! Where the details of a test stand, and what bytes of them give.
 
-ghost use Rattle.std.specs.Prelude.{◌≡◌, ℕ, ◌++◌, ◌<◌, ◌≤◌, ◌^◌, ◌-◌, [], length, take, drop, IfOk, OnOk, Some};
+ghost use Rattle.std.specs.Prelude.{◌≡◌, ℕ, ◌++◌, ◌<◌, ◌≤◌, ◌^◌, ◌-◌, [], length, take, drop, true, false, IfOk, OnOk, Some};
 ghost use Rattle.v1_bridge.specs.Events.{longest_line, rest_events, part_with, pieces_given};
 ghost use Rattle.v1_bridge.specs.Lines.{content as content_of};
 ghost use Rattle.v1_bridge.specs.Stages as spec;
+ghost use Rattle.v1_bridge.specs.Reading.{State, detail_line, line_within};
 
 use crate::event::{add_line, add_output, file_name, give_rest};
 use crate::line::{behind, content, without_newline};
@@ -49,6 +50,29 @@ pub(crate) struct OpenTest {
     pub(crate) id: Text,
     pub(crate) tags: Tags,
     pub(crate) details: Option<Details>,
+}
+
+impl OpenTest {
+    /// Takes a line among the details up to a bracket, other than that, and answers whether it did: another line is left.
+    /// Nothing is moved.
+    pub(crate) fn takes_line(
+        &mut self,
+        alloc: Global,
+        line: &[u8],
+        events: &mut Vec<Event>,
+    ) -> Result<bool, NoMemory>
+        ensures given { (s : State) → IfOk result (λ taken. taken ≡ true → events.new.items ≡ events.old.items ++ (line_within s self.old self.old.details line.now).given) }
+        ensures test { (s : State) → IfOk result (λ taken. taken ≡ true → Some self.new ≡ (line_within s self.old self.old.details line.now).state.open_test) }
+        ensures last { (s : State) → IfOk result (λ taken. taken ≡ true → s.last ≡ (line_within s self.old self.old.details line.now).state.last) }
+        ensures tags { (s : State) → IfOk result (λ taken. taken ≡ true → s.tags ≡ (line_within s self.old self.old.details line.now).state.tags) }
+        ensures left { IfOk result (λ taken. taken ≡ false → self.new ≡ self.old) }
+        ensures quiet { IfOk result (λ taken. taken ≡ false → events.new.items ≡ events.old.items) }
+    {
+        match &mut self.details {
+            Some(details) => details.stage.takes_line(alloc, &self.id, line, events),
+            None => Ok(false),
+        }
+    }
 }
 
 // Appends what stands where a size should, and is none.
@@ -327,6 +351,33 @@ fn is_bracket(line: &[u8]) -> bool
 }
 
 impl Stage {
+    /// Takes a line among those up to a bracket, other than that, and answers whether it did: another line is left. Nothing
+    /// is moved.
+    pub(crate) fn takes_line(
+        &mut self,
+        alloc: Global,
+        id: &Text,
+        line: &[u8],
+        events: &mut Vec<Event>,
+    ) -> Result<bool, NoMemory>
+        ensures given { (how : Status) → IfOk result (λ taken. taken ≡ true → events.new.items ≡ events.old.items ++ (spec.stage_line id.now how self.old line.now).given) }
+        ensures stage { (how : Status) → IfOk result (λ taken. taken ≡ true → self.new ≡ (spec.stage_line id.now how self.old line.now).stage) }
+        ensures goes_on { IfOk result (λ taken. taken ≡ true → spec.ends_details self.old line.now ≡ false) }
+        ensures left { IfOk result (λ taken. taken ≡ false → self.new ≡ self.old) }
+        ensures quiet { IfOk result (λ taken. taken ≡ false → events.new.items ≡ events.old.items) }
+    {
+        match self {
+            Stage::Lines(part) => {
+                if is_bracket(line) {
+                    return Ok(false);
+                }
+                part.add(alloc, id, unquoted(content(line)), b"\n", events)?;
+                Ok(true)
+            }
+            Stage::Between | Stage::Typed(_) | Stage::Bytes(_, _) => Ok(false),
+        }
+    }
+
     /// Whether the line ends the details.
     pub(crate) fn ends_with(&self, line: &[u8]) -> bool
         ensures { result ≡ spec.ends_details self.now line.now }
