@@ -4,9 +4,9 @@ use Rattle.std.specs.Prelude.{◌↔◌}
 use Rattle.run_shelf.specs.declared.found.Found.{Found}
 use Rattle.testr_cli.specs.Ask.{CopiesLast, PrintsAnswer, AnswersOf}
 use Rattle.testr_cli.specs.Outside.{Shown}
-use Rattle.testr_cli.specs.Says.{OfBytes}
-use Rattle.testr_cli.specs.declared.command.Question.{Question}
-use Rattle.testr_cli.specs.declared.command.Question.TheVariants.{Last}
+use Rattle.testr_words.specs.Questions.{OfBytes}
+use Rattle.testr_words.specs.declared.command.Question.{Question}
+use Rattle.testr_words.specs.declared.command.Question.TheVariants.{Last}
 use Rattle.testr_cli.specs.declared.answer.Verdict.{Verdict}
 use Rattle.testr_cli.specs.declared.answer.Refusal.{Refusal}
 

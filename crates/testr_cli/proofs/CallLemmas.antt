@@ -38,13 +38,13 @@ use Rattle.suite_causes.specs.declared.searching.SearchFault.TheVariants as sear
 use Rattle.suite_causes.specs.declared.suspects.Suspect.{Suspect}
 use Rattle.testr_conf.specs.Settings.{Settings}
 use Rattle.testr_cli.specs.Runs.{run_bytes, KeepsFiles, AddsRun}
-use Rattle.testr_cli.specs.Drawings.{drawing_of}
+use Rattle.testr_words.specs.Drawings.{drawing_of}
 use Rattle.testr_cli.specs.Outside.{Work}
 use Rattle.testr_cli.specs.SparingRun.{IsCoveredTo, IsCovered, AsksByFew, StoresByFew, RunsByFew, SparesRunOf, SparesRun}
 use Rattle.testr_cli.specs.Steps.{stops, goes_on}
-use Rattle.testr_cli.specs.Suites.{RunOptions, is_partial}
-use Rattle.testr_cli.specs.Tasks.{Task, load, run, selftest, task_with}
-use Rattle.testr_cli.specs.Words.{testr_word, asked_by}
+use Rattle.testr_words.specs.Suites.{RunOptions, is_partial}
+use Rattle.testr_words.specs.Tasks.{Task, load, run, selftest, task_with}
+use Rattle.testr_words.specs.Words.{testr_word, asked_by}
 use Rattle.testr_cli.specs.declared.answer.Refusal.{Refusal}
 use Rattle.testr_cli.specs.declared.answer.Refusal.TheVariants.{Usage, Refresh, Start, Lanes, Print, Suspects, Ran, Search}
 use Rattle.suite_run.specs.declared.recording.LanesRefusal.{LanesRefusal}
@@ -55,10 +55,10 @@ use Rattle.testr_cli.specs.declared.told.TellFault.{TellFault}
 use Rattle.testr_cli.specs.declared.told.TellFault.TheVariants as tell_fault
 use Rattle.testr_cli.specs.declared.answer.Verdict.{Verdict}
 use Rattle.testr_cli.specs.declared.answer.Verdict.TheVariants.{Passed, Failed}
-use Rattle.testr_cli.specs.declared.command.Command.{Command}
-use Rattle.testr_cli.specs.declared.drawing.Drawing.{Drawing}
-use Rattle.testr_cli.specs.declared.command.Verb.{Verb}
-use Rattle.testr_cli.specs.declared.command.Verb.TheVariants as verb
+use Rattle.testr_words.specs.declared.command.Command.{Command}
+use Rattle.testr_words.specs.declared.drawing.Drawing.{Drawing}
+use Rattle.testr_words.specs.declared.command.Verb.{Verb}
+use Rattle.testr_words.specs.declared.command.Verb.TheVariants as verb
 use Rattle.testr_cli.proofs.ChainLemmas.{gives_not}
 use Rattle.testr_cli.proofs.DoneLaws.{adds_run}
 use Rattle.testr_cli.proofs.RefusalLemmas.{codes}

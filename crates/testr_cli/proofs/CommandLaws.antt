@@ -10,7 +10,7 @@ use Rattle.testr_cli.specs.Files.{RecordsSources}
 use Rattle.testr_cli.specs.Init.{Inits}
 use Rattle.testr_cli.specs.Load.{Loads}
 use Rattle.testr_cli.specs.Ask.{CopiesLast, PrintsAnswer, AnswersOf, Asks}
-use Rattle.testr_cli.specs.declared.command.Question.{Question}
+use Rattle.testr_words.specs.declared.command.Question.{Question}
 use Rattle.testr_cli.proofs.AskLemmas.{either}
 use Rattle.testr_cli.proofs.CopyLaws.{copy_counts, copy_quiet, copy_refuses}
 use Rattle.testr_cli.proofs.ChainLemmas.{Counts, Quiet, Refuses, LeavesPart, then_leaves, then_quiet, then_counts, then_refuses, gives_refuses}

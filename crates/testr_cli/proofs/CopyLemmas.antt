@@ -17,7 +17,7 @@ use Rattle.run_shelf.proofs.RunLemmas.{taken_before}
 use Rattle.testr_cli.specs.Copying.{read_failed, write_failed, Counts, HasBytesAt, BeginsAt, Copies, GoesOnAt, HasPieceAt, CopiesPiece}
 use Rattle.testr_cli.specs.Outside.{Shown, shown}
 use Rattle.testr_cli.specs.Says.{SaysBytes, SaysOfFolder}
-use Rattle.testr_cli.specs.declared.command.Question.TheVariants.{Last}
+use Rattle.testr_words.specs.declared.command.Question.TheVariants.{Last}
 use Rattle.testr_cli.specs.declared.answer.Verdict.TheVariants.{Passed}
 use Rattle.testr_cli.specs.declared.reporting.PrintFault.{PrintFault}
 use Rattle.testr_cli.specs.declared.copying.CopyFault.{CopyFault}

@@ -24,7 +24,8 @@ use Rattle.sub_text.specs.Texts.{report_of}
 use Rattle.testr_cli.specs.Outside.{Work, Shown, work_folder}
 use Rattle.testr_cli.specs.Runs.{run_bytes, HasRunAndCaches, KeepsFiles, AddsRun}
 use Rattle.testr_cli.specs.Verdicts.{verdict_of, verdict_code}
-use Rattle.testr_cli.specs.Says.{SaysOfFolder, OfLastRun}
+use Rattle.testr_cli.specs.Says.{SaysOfFolder}
+use Rattle.testr_words.specs.Questions.{OfLastRun}
 use Rattle.testr_cli.specs.Files.{AreSources, HasRecordedInTurn, RecordsSources}
 use Rattle.testr_cli.specs.declared.recording.RecordFault.{RecordFault}
 use Rattle.testr_cli.specs.Refreshing.{Refreshes, BringsCaches}
@@ -36,8 +37,8 @@ use Rattle.testr_cli.specs.Init.{Inits}
 use Rattle.testr_cli.specs.Load.{Loads}
 use Rattle.testr_cli.specs.Ask.{CopiesLast, PrintsAnswer, AnswersOf, Asks}
 use Rattle.testr_cli.specs.Program.{LoadsAll, ReadsInputFor, AnswersQuestion}
-use Rattle.testr_cli.specs.declared.command.Question.{Question}
-use Rattle.testr_cli.specs.declared.command.Question.TheVariants.{Last}
+use Rattle.testr_words.specs.declared.command.Question.{Question}
+use Rattle.testr_words.specs.declared.command.Question.TheVariants.{Last}
 use Rattle.testr_cli.specs.declared.answer.Verdict.{Verdict}
 use Rattle.testr_cli.specs.declared.answer.Verdict.TheVariants.{Passed, Failed}
 use Rattle.testr_cli.specs.declared.answer.Refusal.{Refusal}

@@ -13,7 +13,7 @@ use Rattle.run_shelf.specs.declared.faults.OpenFault.TheVariants as open_fault
 use Rattle.run_shelf.specs.declared.found.Found.{Found}
 use Rattle.run_shelf.specs.Outcomes.{Surveys}
 use Rattle.run_shelf.specs.Repository.{run_at, format_name, format_bytes, HasFormat, HasOtherFormat, IsGap, IsRepository, most_runs}
-use Rattle.testr_cli.specs.declared.command.Question.{Question}
+use Rattle.testr_words.specs.declared.command.Question.{Question}
 use Rattle.testr_cli.specs.declared.recording.RecordFault.{RecordFault}
 use Rattle.testr_cli.specs.declared.recording.RecordFault.TheVariants as record_fault
 use Rattle.testr_cli.specs.declared.store.RunsFault.{RunsFault}
@@ -24,7 +24,7 @@ use Rattle.testr_cli.specs.Exact.{InitEnds, OpenEnds, RecordEnds}
 use Rattle.testr_cli.specs.Outside.{Fed}
 use Rattle.testr_cli.specs.Recording.{Records, RecordsAll, most_bytes}
 use Rattle.testr_cli.specs.Refreshing.{Refreshes}
-use Rattle.testr_cli.specs.Says.{OfLastRun}
+use Rattle.testr_words.specs.Questions.{OfLastRun}
 use Rattle.testr_cli.specs.Store.{Makes, Opens, TakesRun, HasRunFor}
 use Rattle.testr_cli.proofs.FolderLemmas.{none_or_some}
 use Rattle.std.proofs.lemmas.Bool.{cases_lt}

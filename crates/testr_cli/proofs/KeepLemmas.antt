@@ -17,7 +17,7 @@ use Rattle.run_shelf.proofs.NameLemmas.{format_differs}
 use Rattle.run_shelf.proofs.RunLemmas.{put_other}
 use Rattle.testr_cli.specs.Steps.{Step, Then, stops, goes_on, Gives, At}
 use Rattle.testr_cli.specs.Outside.{Work, work_folder, work_out}
-use Rattle.testr_cli.specs.Tasks.{load}
+use Rattle.testr_words.specs.Tasks.{load}
 use Rattle.testr_cli.specs.Runs.{KeepsRuns, KeepsRepository, KeepsFiles}
 use Rattle.testr_cli.specs.Store.{Makes, Keeps}
 use Rattle.testr_cli.specs.Refreshing.{Refreshes}

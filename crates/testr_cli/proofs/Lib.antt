@@ -1,7 +1,6 @@
 pub mod Prefixes
 pub mod Lines
 pub mod StepLemmas
-pub mod WordsLemmas
 pub mod PrintingLemmas
 pub mod ReadLemmas
 pub mod RowsLemmas
@@ -50,7 +49,6 @@ pub mod SelectLemmas
 pub mod PlanLemmas
 pub mod RunLemmas
 pub mod FindingLemmas
-pub mod ValueLemmas
 mod ExactLemmas
 mod ExactFiles
 mod ExactSuite

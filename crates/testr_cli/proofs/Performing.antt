@@ -5,13 +5,13 @@ use Rattle.std.proofs.lemmas.Bool.{cond-true, cond-false, le-leb, lt-leb}
 use Rattle.sub_number.specs.declared.memory.NoMemory.{NoMemory}
 use Rattle.testr_cli.specs.Outside.{Work}
 use Rattle.testr_cli.specs.Program.{Performs, GivesUp}
-use Rattle.testr_cli.specs.Drawings.{drawing_of}
-use Rattle.testr_cli.specs.Tasks.{Task, load, selftest, task_with, quiet_of}
-use Rattle.testr_cli.specs.declared.command.Command.{Command}
-use Rattle.testr_cli.specs.declared.command.Verb.{Verb}
-use Rattle.testr_cli.specs.declared.command.Verb.TheVariants.{Load, Run, ListTests, SelfTest}
-use Rattle.testr_cli.specs.declared.drawing.Drawing.{Drawing}
-use Rattle.testr_cli.specs.declared.words.UsageFault.TheVariants.{Words}
+use Rattle.testr_words.specs.Drawings.{drawing_of}
+use Rattle.testr_words.specs.Tasks.{Task, load, selftest, task_with, quiet_of}
+use Rattle.testr_words.specs.declared.command.Command.{Command}
+use Rattle.testr_words.specs.declared.command.Verb.{Verb}
+use Rattle.testr_words.specs.declared.command.Verb.TheVariants.{Load, Run, ListTests, SelfTest}
+use Rattle.testr_words.specs.declared.drawing.Drawing.{Drawing}
+use Rattle.testr_words.specs.declared.words.UsageFault.TheVariants.{Words}
 use Rattle.testr_cli.specs.declared.answer.Verdict.{Verdict}
 use Rattle.testr_cli.specs.declared.answer.Refusal.{Refusal}
 use Rattle.testr_cli.specs.declared.answer.Refusal.TheVariants.{Usage, Memory}

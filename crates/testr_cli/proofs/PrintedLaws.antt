@@ -21,7 +21,8 @@ use Rattle.testr_cli.specs.Outside.{Work, Shown, work_out, shown_out}
 use Rattle.testr_cli.specs.Printed.{PrintsOfLoad, PrintsOfAnswer, PrintsOfListing}
 use Rattle.testr_cli.specs.Reporting.{Prints}
 use Rattle.testr_cli.specs.RunSuite.{ListsSuite}
-use Rattle.testr_cli.specs.Says.{OfLastRun, SaysOfFolder}
+use Rattle.testr_cli.specs.Says.{SaysOfFolder}
+use Rattle.testr_words.specs.Questions.{OfLastRun}
 use Rattle.testr_cli.specs.SelfTest.{TestsItself, rows_in_turn}
 use Rattle.testr_cli.specs.Steps.{Step, Then, stops, goes_on, Still, Gives, At}
 use Rattle.testr_cli.specs.Store.{HasRunFor}
@@ -31,9 +32,9 @@ use Rattle.testr_cli.specs.declared.answer.Refusal.{Refusal}
 use Rattle.testr_cli.specs.declared.answer.Refusal.TheVariants.{Print}
 use Rattle.testr_cli.specs.declared.answer.Verdict.{Verdict}
 use Rattle.testr_cli.specs.declared.answer.Verdict.TheVariants.{Passed}
-use Rattle.testr_cli.specs.declared.command.Question.{Question}
-use Rattle.testr_cli.specs.declared.command.Question.TheVariants.{Last}
-use Rattle.testr_cli.specs.declared.drawing.Drawing.{Drawing}
+use Rattle.testr_words.specs.declared.command.Question.{Question}
+use Rattle.testr_words.specs.declared.command.Question.TheVariants.{Last}
+use Rattle.testr_words.specs.declared.drawing.Drawing.{Drawing}
 use Rattle.testr_cli.proofs.AskLemmas.{either}
 use Rattle.testr_cli.proofs.CommandLaws.{of_shown}
 use Rattle.testr_cli.proofs.CopyLemmas.{bytes_said}

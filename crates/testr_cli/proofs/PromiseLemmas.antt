@@ -13,14 +13,14 @@ use Rattle.testr_cli.specs.Program.{Performs, Does, CanPerform, Leaves, Keeps, S
 use Rattle.testr_cli.specs.Runs.{KeepsFiles, KeepsRepository, KeepsRuns}
 use Rattle.testr_cli.specs.Stops.{PassesTask, PassesLoad, HasLoadedRun}
 use Rattle.testr_cli.specs.SuiteStops.{PassesSuiteRun}
-use Rattle.testr_cli.specs.Tasks.{Task, init, load, ask, list, run, selftest}
+use Rattle.testr_words.specs.Tasks.{Task, init, load, ask, list, run, selftest}
 use Rattle.testr_cli.specs.Verdicts.{verdict_code}
-use Rattle.testr_cli.specs.Words.{testr_word}
+use Rattle.testr_words.specs.Words.{testr_word}
 use Rattle.testr_cli.specs.declared.answer.Verdict.{Verdict}
 use Rattle.testr_cli.specs.declared.answer.Verdict.TheVariants.{Passed, Failed}
 use Rattle.testr_cli.specs.declared.answer.Refusal.{Refusal}
-use Rattle.testr_cli.specs.declared.command.Question.{Question}
-use Rattle.testr_cli.specs.declared.drawing.Drawing.{Drawing}
+use Rattle.testr_words.specs.declared.command.Question.{Question}
+use Rattle.testr_words.specs.declared.drawing.Drawing.{Drawing}
 use Rattle.testr_cli.proofs.CauseLaws.{init_never, load_never, ask_never}
 use Rattle.testr_cli.proofs.ChainLemmas.{IsRefused}
 use Rattle.testr_cli.proofs.CommandLaws.{load_refuses, load_counts, load_beside, ask_refuses, ask_counts, ask_quiet, init_refuses, init_counts}

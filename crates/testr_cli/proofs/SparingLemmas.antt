@@ -8,17 +8,17 @@ use Rattle.run_shelf.specs.Repository.{Shows, IsRepository}
 use Rattle.run_shelf.specs.Sides.{side_name}
 use Rattle.run_shelf.specs.declared.side.Side.TheVariants.{Failing}
 use Rattle.run_ledger.specs.Caches.{IsSound}
-use Rattle.testr_cli.specs.Drawings.{drawing_of}
-use Rattle.testr_cli.specs.Says.{OfBytes}
+use Rattle.testr_words.specs.Drawings.{drawing_of}
+use Rattle.testr_words.specs.Questions.{OfBytes}
 use Rattle.testr_cli.specs.Sparing.{SparesRuns, SparesFor, LooksOnly, SparesReads}
-use Rattle.testr_cli.specs.Tasks.{Task, load, ask, selftest, task_with}
-use Rattle.testr_cli.specs.Words.{testr_word, asked_by}
-use Rattle.testr_cli.specs.declared.command.Command.{Command}
-use Rattle.testr_cli.specs.declared.command.Question.{Question}
-use Rattle.testr_cli.specs.declared.command.Question.TheVariants.{Failing as AsksFailing}
-use Rattle.testr_cli.specs.declared.command.Verb.{Verb}
-use Rattle.testr_cli.specs.declared.command.Verb.TheVariants as verb
-use Rattle.testr_cli.specs.declared.drawing.Drawing.{Drawing}
+use Rattle.testr_words.specs.Tasks.{Task, load, ask, selftest, task_with}
+use Rattle.testr_words.specs.Words.{testr_word, asked_by}
+use Rattle.testr_words.specs.declared.command.Command.{Command}
+use Rattle.testr_words.specs.declared.command.Question.{Question}
+use Rattle.testr_words.specs.declared.command.Question.TheVariants.{Failing as AsksFailing}
+use Rattle.testr_words.specs.declared.command.Verb.{Verb}
+use Rattle.testr_words.specs.declared.command.Verb.TheVariants as verb
+use Rattle.testr_words.specs.declared.drawing.Drawing.{Drawing}
 
 -- so few calls, and no read behind them
 pub few_spare : (calls : ℕ) (told : Option Folder) (before now : ℕ) → TicksUpTo calls before now → SparesRuns calls told before now

@@ -16,7 +16,7 @@ use Rattle.testr_cli.specs.Recording.{Records, NoneFailed}
 use Rattle.testr_cli.specs.Refreshing.{Refreshes}
 use Rattle.testr_cli.specs.Reporting.{Prints}
 use Rattle.testr_cli.specs.Told.{Finds}
-use Rattle.testr_cli.specs.declared.command.Question.{Question}
+use Rattle.testr_words.specs.declared.command.Question.{Question}
 use Rattle.testr_cli.specs.declared.store.RunsFault.{RunsFault}
 use Rattle.testr_cli.specs.declared.store.KeepFault.{KeepFault}
 use Rattle.testr_cli.specs.declared.recording.RecordFault.{RecordFault}

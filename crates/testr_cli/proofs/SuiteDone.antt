@@ -36,7 +36,7 @@ use Rattle.testr_cli.specs.Selecting.{UsesCalled, CountsWorkers, Selects, Plans}
 use Rattle.testr_cli.specs.Steps.{Step, Then, Gives, At}
 use Rattle.testr_cli.specs.Causes.{SearchesAll}
 use Rattle.testr_cli.specs.SuiteProgram.{ListsAll, RunsAll}
-use Rattle.testr_cli.specs.Suites.{RunOptions, is_partial}
+use Rattle.testr_words.specs.Suites.{RunOptions, is_partial}
 use Rattle.testr_cli.specs.Verdicts.{verdict_code}
 use Rattle.testr_cli.specs.declared.answer.Refusal.{Refusal}
 use Rattle.testr_cli.specs.declared.answer.Refusal.TheVariants as refusal

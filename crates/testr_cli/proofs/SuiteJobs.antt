@@ -19,7 +19,7 @@ use Rattle.testr_cli.specs.Outside.{Work}
 use Rattle.testr_cli.specs.Selecting.{UsesCalled, UsesAsked, CountsWorkers, Selects, shares_of_ids, Plans}
 use Rattle.testr_cli.specs.Selecting.{Times as KnownTimes}
 use Rattle.testr_cli.specs.Steps.{Gives}
-use Rattle.testr_cli.specs.Suites.{RunOptions}
+use Rattle.testr_words.specs.Suites.{RunOptions}
 use Rattle.testr_cli.specs.declared.answer.Refusal.{Refusal}
 use Rattle.testr_cli.specs.declared.selecting.Selected.{Selected}
 use Rattle.testr_cli.proofs.ChainLemmas.{then_did}

@@ -9,8 +9,8 @@ use Rattle.testr_cli.specs.Causes.{candidates_in, FindsAmong, FindsCause, FindsE
 use Rattle.testr_cli.specs.RunSuite.{Works, TellsRun, TellsAndFinds, RunsSuite}
 use Rattle.testr_cli.specs.Steps.{Then, stops, goes_on, Gives}
 use Rattle.testr_cli.specs.Answer.{may_have_kept}
-use Rattle.testr_cli.specs.Suites.{RunOptions, is_partial}
-use Rattle.testr_cli.specs.Tasks.{run}
+use Rattle.testr_words.specs.Suites.{RunOptions, is_partial}
+use Rattle.testr_words.specs.Tasks.{run}
 use Rattle.testr_cli.specs.declared.answer.Refusal.{Refusal}
 use Rattle.testr_cli.specs.declared.answer.Refusal.TheVariants.{Report, Print, Suspects, Ran, Search}
 use Rattle.testr_cli.proofs.Resting.{rests_of_same}

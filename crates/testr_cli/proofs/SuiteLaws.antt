@@ -36,11 +36,11 @@ use Rattle.testr_cli.specs.RunSuite.{ListsBy, ListsSuite, Works, TellsRun, Tells
 use Rattle.testr_cli.specs.Selecting.{UsesCalled, UsesAsked, CountsWorkers, Selects, Plans}
 use Rattle.testr_cli.specs.SelfTest.{TestsItself}
 use Rattle.testr_cli.specs.Steps.{Step, Gives}
-use Rattle.testr_cli.specs.Suites.{RunOptions}
+use Rattle.testr_words.specs.Suites.{RunOptions}
 use Rattle.testr_cli.specs.Told.{fault_fails}
 use Rattle.testr_cli.specs.declared.answer.Refusal.{Refusal}
 use Rattle.testr_cli.specs.declared.answer.Refusal.TheVariants as refusal
-use Rattle.testr_cli.specs.declared.drawing.Drawing.{Drawing}
+use Rattle.testr_words.specs.declared.drawing.Drawing.{Drawing}
 use Rattle.testr_cli.specs.declared.selecting.Selected.{Selected}
 use Rattle.testr_cli.specs.declared.told.TellFault.{TellFault}
 use Rattle.testr_cli.proofs.ChainLemmas.{IsRefused, Counts, Refuses, then_counts, then_refuses, gives_refuses}

@@ -35,7 +35,7 @@ use Rattle.testr_cli.specs.Runs.{run_bytes, HasRunAndCaches, KeepsRepository}
 use Rattle.testr_cli.specs.Steps.{Then, stops, goes_on, Gives, At}
 use Rattle.testr_cli.specs.Store.{Begins, Keeps}
 use Rattle.testr_cli.specs.SuiteStops.{HasSuiteRun, PassesSuiteRun}
-use Rattle.testr_cli.specs.Suites.{RunOptions, is_partial}
+use Rattle.testr_words.specs.Suites.{RunOptions, is_partial}
 use Rattle.testr_cli.specs.Workers.{RunsWorkers, AsksFew, StartsInOrder, PrintsFirst, LeavesRun}
 use Rattle.testr_cli.specs.declared.answer.Verdict.{Verdict}
 use Rattle.testr_cli.specs.declared.answer.Refusal.{Refusal}

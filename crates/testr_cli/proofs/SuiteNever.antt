@@ -53,7 +53,7 @@ use Rattle.testr_cli.specs.Selecting.{Times, UsesCalled, UsesAsked, CountsWorker
 use Rattle.testr_cli.specs.Steps.{Step, stops, goes_on}
 use Rattle.testr_cli.specs.SuiteProgram.{calls_by, calls_of, EndsWell, CountIsTold, CallsOutNone, CanHand, CanRun}
 use Rattle.testr_cli.specs.SuiteTexts.{list_code, table_code, job_code, start_code, lanes_code}
-use Rattle.testr_cli.specs.Suites.{RunOptions, is_partial}
+use Rattle.testr_words.specs.Suites.{RunOptions, is_partial}
 use Rattle.testr_cli.specs.Told.{tell_code}
 use Rattle.testr_cli.specs.declared.answer.Refusal.{Refusal}
 use Rattle.testr_cli.specs.declared.answer.Refusal.TheVariants as refusal

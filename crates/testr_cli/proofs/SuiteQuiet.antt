@@ -10,7 +10,7 @@ use Rattle.testr_cli.specs.Perhaps.{Perhaps, not_asked, did, refused}
 use Rattle.testr_cli.specs.RunSuite.{ListsSuite}
 use Rattle.testr_cli.specs.Selecting.{UsesCalled, UsesAsked, CountsWorkers, Selects, Plans}
 use Rattle.testr_cli.specs.Steps.{Step, Gives}
-use Rattle.testr_cli.specs.Suites.{RunOptions}
+use Rattle.testr_words.specs.Suites.{RunOptions}
 use Rattle.testr_cli.specs.declared.answer.Refusal.{Refusal}
 use Rattle.testr_cli.specs.declared.selecting.Selected.{Selected}
 use Rattle.testr_cli.proofs.Resting.{Rests, rests_same, rests_of_stays}

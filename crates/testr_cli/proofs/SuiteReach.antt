@@ -24,7 +24,7 @@ use Rattle.testr_cli.specs.RunSuite.{Works, TellsAndFinds, RunsBy, RunsSuite}
 use Rattle.testr_cli.specs.Runs.{KeepsFiles}
 use Rattle.testr_cli.specs.Selecting.{Ids, UsesCalled, UsesAsked, CountsWorkers, Selects, Plans}
 use Rattle.testr_cli.specs.Steps.{Step, Then, stops, goes_on, Gives}
-use Rattle.testr_cli.specs.Suites.{RunOptions, is_partial}
+use Rattle.testr_words.specs.Suites.{RunOptions, is_partial}
 use Rattle.testr_cli.specs.Workers.{AsksFew, HasPlanned}
 use Rattle.testr_cli.specs.declared.answer.Refusal.{Refusal}
 use Rattle.testr_cli.specs.declared.answer.Verdict.{Verdict}

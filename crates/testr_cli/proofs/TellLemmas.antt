@@ -16,12 +16,13 @@ use Rattle.run_ledger.specs.Cached.{SaysItsFailing, SaysItsTimes}
 use Rattle.run_ledger.specs.Ledger.{HasRowsAt, IsFailingSet}
 use Rattle.sub_text.specs.Texts.{report_of, failing_text_of}
 use Rattle.testr_cli.specs.Verdicts.{verdict_of}
-use Rattle.testr_cli.specs.Says.{Says, SaysReport, SaysFailing, SoundFor, OfBytes, verdict_of_failing}
+use Rattle.testr_cli.specs.Says.{Says, SaysReport, SaysFailing, SoundFor, verdict_of_failing}
+use Rattle.testr_words.specs.Questions.{OfBytes}
 use Rattle.testr_cli.specs.Runs.{HasRuns}
 use Rattle.testr_cli.specs.Trusted.{SoundFailing, SoundTimes}
 use Rattle.testr_cli.specs.Told.{TellsSo, IsAnswer, fault_fails, fault_of_ledger}
-use Rattle.testr_cli.specs.declared.command.Question.{Question}
-use Rattle.testr_cli.specs.declared.command.Question.TheVariants.{Last}
+use Rattle.testr_words.specs.declared.command.Question.{Question}
+use Rattle.testr_words.specs.declared.command.Question.TheVariants.{Last}
 use Rattle.testr_cli.specs.declared.told.Told.{Told}
 use Rattle.testr_cli.specs.declared.told.TellFault.{TellFault}
 

@@ -5,8 +5,8 @@ use Rattle.run_shelf.specs.declared.faults.OpenFault.TheVariants as open_fault
 use Rattle.run_shelf.specs.declared.faults.ShelfCall.{ShelfCall}
 use Rattle.run_shelf.specs.declared.faults.ShelfCall.TheVariants.{Publish, SyncFolder}
 use Rattle.testr_cli.specs.Outside.{Place, in_folder, in_site, in_spawner, in_input, in_out}
-use Rattle.testr_cli.specs.Tasks.{Task, load, run}
-use Rattle.testr_cli.specs.Words.{usage_text}
+use Rattle.testr_words.specs.Tasks.{Task, load, run}
+use Rattle.testr_words.specs.Words.{usage_text}
 use Rattle.testr_cli.specs.Store.{init_code, init_text, open_code, open_text, runs_text, keep_text}
 use Rattle.testr_cli.specs.Recording.{record_code, record_text}
 use Rattle.testr_cli.specs.Reporting.{memory_text, print_text}

@@ -8,8 +8,8 @@ use Rattle.testr_cli.specs.Store.{Opens, HasRunFor}
 use Rattle.testr_cli.specs.Told.{Finds}
 use Rattle.testr_cli.specs.Copying.{Copies, copy_refusal}
 use Rattle.testr_cli.specs.Reporting.{Prints}
-use Rattle.testr_cli.specs.declared.command.Question.{Question}
-use Rattle.testr_cli.specs.declared.command.Question.TheVariants.{Last}
+use Rattle.testr_words.specs.declared.command.Question.{Question}
+use Rattle.testr_words.specs.declared.command.Question.TheVariants.{Last}
 use Rattle.testr_cli.specs.declared.answer.Verdict.{Verdict}
 use Rattle.testr_cli.specs.declared.answer.Verdict.TheVariants.{Passed}
 use Rattle.testr_cli.specs.declared.answer.Refusal.{Refusal}

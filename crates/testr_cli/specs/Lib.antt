@@ -1,9 +1,5 @@
 pub mod Steps
 pub mod Outside
-pub mod Suites
-pub mod Drawings
-pub mod Tasks
-pub mod Words
 pub mod Workers
 pub mod Runs
 pub mod Verdicts

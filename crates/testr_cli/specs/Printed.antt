@@ -16,10 +16,10 @@ use Rattle.testr_cli.specs.Files.{AreSources, HasRecordedInTurn}
 use Rattle.testr_cli.specs.Outside.{Work}
 use Rattle.testr_cli.specs.Says.{SaysOfFolder}
 use Rattle.testr_cli.specs.SelfTest.{rows_in_turn}
-use Rattle.testr_cli.specs.Tasks.{Task, load, ask, list, run, selftest}
+use Rattle.testr_words.specs.Tasks.{Task, load, ask, list, run, selftest}
 use Rattle.testr_cli.specs.Workers.{PrintsFirst}
 use Rattle.testr_cli.specs.declared.answer.Verdict.{Verdict}
-use Rattle.testr_cli.specs.declared.command.Question.{Question}
+use Rattle.testr_words.specs.declared.command.Question.{Question}
 
 -- the output took a first part of the report of the run that is recorded of these sources
 pub record PrintsOfLoad (names : List (List ℕ)) (before after : Work) : Type 0 where

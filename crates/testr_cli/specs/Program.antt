@@ -28,20 +28,21 @@ use Rattle.testr_cli.specs.Recording.{most_bytes}
 use Rattle.testr_cli.specs.Refreshing.{BringsCaches}
 use Rattle.testr_cli.specs.RunSuite.{ListsSuite, RunsSuite}
 use Rattle.testr_cli.specs.Runs.{HasRuns, KeepsFiles, KeepsRepository, KeepsRuns, AddsRun}
-use Rattle.testr_cli.specs.Says.{SaysOfFolder, OfLastRun}
+use Rattle.testr_cli.specs.Says.{SaysOfFolder}
+use Rattle.testr_words.specs.Questions.{OfLastRun}
 use Rattle.testr_cli.specs.SelfTest.{TestsItself, SumsUpAll}
 use Rattle.testr_cli.specs.Steps.{Step, At}
 use Rattle.testr_cli.specs.Stops.{PassesTask}
 use Rattle.testr_cli.specs.SuiteProgram.{ListsAll, RunsAll, CanList, CanRun}
-use Rattle.testr_cli.specs.Tasks.{Task, init, load, ask, list, run, selftest}
+use Rattle.testr_words.specs.Tasks.{Task, init, load, ask, list, run, selftest}
 use Rattle.testr_cli.specs.Verdicts.{verdict_code}
-use Rattle.testr_cli.specs.Words.{testr_word, asked_by}
+use Rattle.testr_words.specs.Words.{testr_word, asked_by}
 use Rattle.testr_cli.specs.declared.answer.Refusal.{Refusal}
 use Rattle.testr_cli.specs.declared.answer.Refusal.TheVariants.{Usage, Memory}
 use Rattle.testr_cli.specs.Workers.{LeavesRun}
 use Rattle.testr_cli.specs.declared.answer.Verdict.{Verdict}
-use Rattle.testr_cli.specs.declared.command.Question.{Question}
-use Rattle.testr_cli.specs.declared.words.UsageFault.TheVariants.{Words}
+use Rattle.testr_words.specs.declared.command.Question.{Question}
+use Rattle.testr_words.specs.declared.words.UsageFault.TheVariants.{Words}
 
 -- ---- refusals
 

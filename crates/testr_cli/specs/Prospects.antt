@@ -8,7 +8,7 @@ use Rattle.testr_conf.specs.Settings.{Settings}
 use Rattle.testr_cli.specs.Outside.{Work}
 use Rattle.testr_cli.specs.Runs.{KeepsFiles}
 use Rattle.testr_cli.specs.Selecting.{CountsWorkers, Selects, Plans}
-use Rattle.testr_cli.specs.Suites.{RunOptions}
+use Rattle.testr_words.specs.Suites.{RunOptions}
 use Rattle.testr_cli.specs.declared.selecting.Selected.{Selected}
 
 -- so many workers may be found, over these files and these children

@@ -20,7 +20,7 @@ use Rattle.testr_cli.specs.Reporting.{Reports, Prints}
 use Rattle.testr_cli.specs.Selecting.{Selects, Plans}
 use Rattle.testr_cli.specs.Steps.{Step, Then, Still, Gives, At}
 use Rattle.testr_cli.specs.Store.{Opens, TakesRun, Begins, Keeps}
-use Rattle.testr_cli.specs.Suites.{RunOptions, is_partial}
+use Rattle.testr_words.specs.Suites.{RunOptions, is_partial}
 use Rattle.suite_plan.specs.declared.patterns.Compiled.{Compiled}
 use Rattle.testr_cli.specs.declared.run.Asked.{Asked}
 use Rattle.testr_cli.specs.declared.working.Kept.{Kept}

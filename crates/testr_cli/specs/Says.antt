@@ -10,8 +10,8 @@ use Rattle.sub_text.specs.Texts.{report_of, slowest_of, failing_text_of}
 use Rattle.testr_cli.specs.Verdicts.{verdict_of}
 use Rattle.testr_cli.specs.Runs.{HasRuns}
 use Rattle.testr_cli.specs.Trusted.{SoundFailing}
-use Rattle.testr_cli.specs.declared.command.Question.{Question}
-use Rattle.testr_cli.specs.declared.command.Question.TheVariants.{Last, Failing, Slowest, Stats}
+use Rattle.testr_words.specs.declared.command.Question.{Question}
+use Rattle.testr_words.specs.declared.command.Question.TheVariants.{Last, Failing, Slowest, Stats}
 use Rattle.testr_cli.specs.declared.answer.Verdict.{Verdict}
 use Rattle.testr_cli.specs.declared.answer.Verdict.TheVariants as verdict
 
@@ -89,14 +89,3 @@ SoundFor question s = ⊤
 pub record SaysOfFolder (question : Question) (text : List ℕ) (v : Verdict) (s : Folder) : Type 0 where
   pub repository : IsRepository s.disk.published
   pub says : SoundFor question s → Says question s text v
-
--- whether it is of the last run's bytes
-abbrev pub OfBytes : Question → Type 0
-OfBytes (Last true) = Unit {0}
-OfBytes question = ⊥
-
--- whether the question is of the last run
-abbrev pub OfLastRun : Question → Type 0
-OfLastRun (Last subunit) = Unit {0}
-OfLastRun (Slowest all) = Unit {0}
-OfLastRun question = ⊥

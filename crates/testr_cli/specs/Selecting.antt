@@ -23,7 +23,7 @@ use Rattle.testr_cli.specs.Asking.{FindsFailing, FindsTimes}
 use Rattle.testr_cli.specs.Outside.{Work, work_folder, work_site, work_spawner}
 use Rattle.testr_cli.specs.Perhaps.{when, Perhaps}
 use Rattle.testr_cli.specs.Steps.{Step, Then, Still, Gives, At}
-use Rattle.testr_cli.specs.Suites.{RunOptions}
+use Rattle.testr_words.specs.Suites.{RunOptions}
 use Rattle.testr_cli.specs.declared.answer.Refusal.{Refusal}
 use Rattle.testr_cli.specs.declared.selecting.Selected.{Selected}
 use Rattle.testr_cli.specs.declared.answer.Refusal.TheVariants.{LoadList, Tell, Call, Table, Listing, Memory, Job as JobRefused}

@@ -22,7 +22,7 @@ use Rattle.testr_cli.specs.Verdicts.{verdict_of}
 use Rattle.testr_cli.specs.declared.answer.Verdict.{Verdict}
 use Rattle.testr_cli.specs.declared.answer.Refusal.{Refusal}
 use Rattle.testr_cli.specs.declared.answer.Refusal.TheVariants.{Memory, Print}
-use Rattle.testr_cli.specs.declared.drawing.Drawing.{Drawing}
+use Rattle.testr_words.specs.declared.drawing.Drawing.{Drawing}
 use Rattle.testr_cli.specs.declared.told.Told.{Told}
 
 -- the events of one lane's worker, under the lane

@@ -6,9 +6,9 @@ use Rattle.run_shelf.specs.Outcomes.{TicksUpTo}
 use Rattle.run_shelf.specs.Repository.{Run, Shows, IsRepository}
 use Rattle.run_ledger.specs.Cached.{ReadsSound, HoldsFailing}
 use Rattle.run_ledger.specs.Costs.{asked_for_each}
-use Rattle.testr_cli.specs.Tasks.{Task, ask}
-use Rattle.testr_cli.specs.declared.command.Question.{Question}
-use Rattle.testr_cli.specs.declared.command.Question.TheVariants.{Failing}
+use Rattle.testr_words.specs.Tasks.{Task, ask}
+use Rattle.testr_words.specs.declared.command.Question.{Question}
+use Rattle.testr_words.specs.declared.command.Question.TheVariants.{Failing}
 
 -- at most so many calls, and then the reads of the runs from this number on, each once
 abbrev pub ReadsBehind : (calls start before now : ℕ) → Folder → Type 0

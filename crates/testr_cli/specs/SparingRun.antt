@@ -10,8 +10,8 @@ use Rattle.run_ledger.specs.Refreshing.{HoldBoth}
 use Rattle.run_shelf.specs.Outcomes.{TicksUpTo}
 use Rattle.run_shelf.specs.Repository.{Run, Shows}
 use Rattle.testr_cli.specs.Runs.{AddsRun}
-use Rattle.testr_cli.specs.Suites.{RunOptions, is_partial}
-use Rattle.testr_cli.specs.Tasks.{Task, run}
+use Rattle.testr_words.specs.Suites.{RunOptions, is_partial}
+use Rattle.testr_words.specs.Tasks.{Task, run}
 
 -- the files are sound, and both caches cover so many runs
 pub record IsCoveredTo (number : ℕ) (s : Folder) : Type 0 where

@@ -11,7 +11,7 @@ use Rattle.run_shelf.specs.Images.{PassesOld, PassesFormat}
 use Rattle.testr_cli.specs.Runs.{run_bytes, HasRunAndCaches}
 use Rattle.testr_cli.specs.Outside.{Work}
 use Rattle.testr_cli.specs.SuiteStops.{PassesSuiteRun}
-use Rattle.testr_cli.specs.Tasks.{Task, init, load, ask, run}
+use Rattle.testr_words.specs.Tasks.{Task, init, load, ask, run}
 
 -- The files and one run more, whole: the run of what is recorded of all sources, which are the input's bytes or those of
 -- the files named, where these are told. Of other files only those of the caches may differ.

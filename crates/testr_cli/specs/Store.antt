@@ -17,8 +17,8 @@ use Rattle.run_shelf.specs.Holds.{kinds_of, HasRoom}
 use Rattle.run_shelf.specs.Images.{MakesRepository, KeepsRun, PassesFormat, PassesOld, PassesRun}
 use Rattle.run_shelf.specs.Outcomes.{InitFails, Surveys, OpenFails}
 use Rattle.run_shelf.specs.Repository.{run_of, run_name, most_runs}
-use Rattle.testr_cli.specs.declared.command.Question.{Question}
-use Rattle.testr_cli.specs.Says.{OfLastRun}
+use Rattle.testr_words.specs.declared.command.Question.{Question}
+use Rattle.testr_words.specs.Questions.{OfLastRun}
 use Rattle.testr_cli.specs.declared.store.RunsFault.{RunsFault}
 use Rattle.testr_cli.specs.declared.store.RunsFault.TheVariants.{Full, NoRuns}
 use Rattle.testr_cli.specs.declared.store.KeepFault.{KeepFault}

@@ -27,7 +27,7 @@ use Rattle.testr_cli.specs.Runs.{HasRuns, AddsRun}
 use Rattle.testr_cli.specs.Causes.{ProbesEnd, SearchesAll}
 use Rattle.testr_cli.specs.Prospects.{MayCount, MaySelect, MayPlan}
 use Rattle.testr_cli.specs.Selecting.{needs_listing}
-use Rattle.testr_cli.specs.Suites.{RunOptions, is_partial}
+use Rattle.testr_words.specs.Suites.{RunOptions, is_partial}
 use Rattle.testr_cli.specs.Workers.{RunsWorkers}
 use Rattle.testr_cli.specs.declared.selecting.Selected.{Selected}
 

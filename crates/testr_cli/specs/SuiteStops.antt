@@ -7,7 +7,7 @@ use Rattle.run_shelf.specs.Images.{PassesOld}
 use Rattle.run_shelf.specs.Repository.{run_of}
 use Rattle.testr_cli.specs.Outside.{Work}
 use Rattle.testr_cli.specs.Runs.{run_bytes, HasRunAndCaches}
-use Rattle.testr_cli.specs.Suites.{RunOptions, is_partial}
+use Rattle.testr_words.specs.Suites.{RunOptions, is_partial}
 use Rattle.testr_cli.specs.Workers.{RunsWorkers}
 
 -- The files and one run more, whole, of these events. Of other files only those of the caches may differ.

@@ -7,7 +7,7 @@ use Rattle.edge_io.specs.Causes.{RisesExactlyIf}
 use Rattle.run_ledger.specs.declared.fault.LedgerFault.{LedgerFault}
 use Rattle.run_ledger.specs.declared.fault.LedgerFault.TheVariants as ledger_fault
 use Rattle.testr_cli.specs.Says.{SaysOfFolder}
-use Rattle.testr_cli.specs.declared.command.Question.{Question}
+use Rattle.testr_words.specs.declared.command.Question.{Question}
 use Rattle.testr_cli.specs.declared.answer.Verdict.{Verdict}
 use Rattle.testr_cli.specs.declared.told.Told.{Told}
 use Rattle.testr_cli.specs.declared.told.TellFault.{TellFault}

@@ -20,7 +20,7 @@ use Rattle.testr_cli.specs.Causes.{SearchesSome, TakesFirst}
 use Rattle.testr_cli.specs.Outside.{Work, work_folder}
 use Rattle.testr_cli.specs.Runs.{KeepsFiles}
 use Rattle.testr_cli.specs.Selecting.{Selects, Plans}
-use Rattle.testr_cli.specs.Suites.{RunOptions}
+use Rattle.testr_words.specs.Suites.{RunOptions}
 use Rattle.testr_cli.specs.declared.selecting.Selected.{Selected}
 
 -- The jobs of a run: by the project's configuration tests and a number of workers were selected, and a job was made for each

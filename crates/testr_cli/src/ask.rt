@@ -3,10 +3,10 @@
 ghost use Rattle.std.specs.Prelude.{◌↔◌, IsTrue};
 ghost use Rattle.testr_cli.specs.Ask.{Asks};
 ghost use Rattle.testr_cli.specs.Outside.{shown};
-ghost use Rattle.testr_cli.specs.Says.{OfBytes};
+ghost use Rattle.testr_words.specs.Questions.{OfBytes};
 ghost use Rattle.testr_cli.specs.Sparing.{LooksOnly, SparesFor};
 
-use crate::command::Question;
+use testr_words::Question;
 use crate::copying::copy_last;
 use crate::reporting::print;
 use crate::store::{have_run, open};

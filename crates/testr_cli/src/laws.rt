@@ -10,7 +10,7 @@ ghost use Rattle.run_shelf.specs.declared.faults.OpenFault.{OpenFault as AnOpenF
 ghost use Rattle.run_shelf.specs.declared.faults.OpenFault.TheVariants.{NoStore, UnknownFormat, Gap};
 ghost use Rattle.run_shelf.specs.declared.found.Found.{Found as AFound};
 ghost use Rattle.run_shelf.specs.Repository.{format_name, HasFormat, HasOtherFormat, IsGap, most_runs};
-ghost use Rattle.testr_cli.specs.declared.command.Question.{Question as AQuestion};
+ghost use Rattle.testr_words.specs.declared.command.Question.{Question as AQuestion};
 ghost use Rattle.testr_cli.specs.declared.recording.RecordFault.{RecordFault as ARecordFault};
 ghost use Rattle.testr_cli.specs.declared.recording.RecordFault.TheVariants.{TooLong};
 ghost use Rattle.testr_cli.specs.declared.store.RunsFault.{RunsFault as ARunsFault};
@@ -22,7 +22,7 @@ ghost use Rattle.testr_cli.specs.Files.{RecordsFiles};
 ghost use Rattle.testr_cli.specs.Outside.{Fed, Filed};
 ghost use Rattle.testr_cli.specs.Recording.{Records, most_bytes};
 ghost use Rattle.testr_cli.specs.Refreshing.{Refreshes};
-ghost use Rattle.testr_cli.specs.Says.{OfLastRun};
+ghost use Rattle.testr_words.specs.Questions.{OfLastRun};
 ghost use Rattle.testr_cli.specs.Store.{Makes, Opens, TakesRun, HasRunFor};
 
 /// Where the cause of a named refusal is there, the step refuses by that name, unless a call failed or memory was wanting

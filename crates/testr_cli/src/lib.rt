@@ -6,7 +6,6 @@
 //!
 //! For want of memory a call refuses so, and for nothing else; what it did outside by then stands, and its status is 5.
 //!
-//! - `command`, `drawing`, `words`, `values`: which words are a command
 //! - `store`, `recording`, `files`, `refreshing`, `reporting`, `printing`, `told`, `copying`, `asking`: the steps, each with why it refuses
 //! - `selecting`, `planning`, `working`: which tests run, what each worker is started with, and the workers themselves
 //! - `causes`: which test makes another one fail
@@ -22,9 +21,7 @@ mod answer;
 mod ask;
 mod asking;
 mod causes;
-mod command;
 mod copying;
-mod drawing;
 mod files;
 mod init;
 mod laws;
@@ -44,12 +41,9 @@ mod suite_refusals;
 mod telling;
 mod told;
 mod top;
-mod values;
-mod words;
 mod working;
 
 pub use answer::{Refusal, Verdict};
-pub use command::{Command, Question, Verb};
 pub use copying::CopyFault;
 pub use laws::refusals_are_exact;
 pub use recording::RecordFault;
@@ -58,4 +52,4 @@ pub use store::{KeepFault, RunsFault};
 pub use suite_laws::suite_refusals_are_exact;
 pub use told::TellFault;
 pub use top::{program, quiet, testr};
-pub use words::{UsageFault, reads};
+pub use testr_words::{Command, Question, UsageFault, Verb, reads};

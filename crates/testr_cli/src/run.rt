@@ -14,11 +14,11 @@ ghost use Rattle.testr_cli.specs.RunSuite.{RunsBy, TellsAndFinds, TellsRun, comp
 ghost use Rattle.testr_cli.specs.SparingRun.{SparesRunOf};
 ghost use Rattle.testr_cli.specs.Verdicts.{verdict_of};
 ghost use Rattle.testr_cli.specs.declared.answer.Verdict.TheVariants.{Passed};
-ghost use Rattle.testr_cli.specs.Suites.{run_options, is_part, is_partial as is_partial_run};
+ghost use Rattle.testr_words.specs.Suites.{run_options, is_part, is_partial as is_partial_run};
 ghost use Rattle.suite_plan.specs.Patterns.{Compiles};
 
 use crate::causes::find_causes;
-use crate::command::Command;
+use testr_words::Command;
 use crate::planning::plan;
 use crate::printing::print_report;
 use crate::reporting::end_report;

@@ -13,11 +13,11 @@ ghost use Rattle.testr_cli.specs.Outside.{work};
 ghost use Rattle.testr_cli.specs.Perhaps.{when, Perhaps};
 ghost use Rattle.testr_cli.specs.Selecting.{CountsWorkers, Selects, needs_listing as is_listing_needed};
 ghost use Rattle.testr_cli.specs.SparingRun.{AsksByFew};
-ghost use Rattle.testr_cli.specs.Suites.{run_options};
+ghost use Rattle.testr_words.specs.Suites.{run_options};
 
 use crate::Refusal;
 use crate::asking::find_failing;
-use crate::command::Command;
+use testr_words::Command;
 use crate::files::name_of;
 use crate::told::TellFault;
 use edge_io::{Shelf, Site, Spawner};
@@ -30,6 +30,9 @@ use suite_plan::{
     read_load_list,
 };
 use testr_conf::Conf;
+
+// Words may ask for as many workers as a run may have.
+const _: () = prove!(testr_words::MOST_WORKERS == MOST_WORKERS);
 
 /// How many workers a run has, and which tests it is of: where no ids are given, one worker runs all that there are.
 #[derive(Drop)]

@@ -4,11 +4,11 @@ ghost use Rattle.std.specs.Prelude.{◌≡◌, ◌≤◌, true, ℕ, List, [], l
 ghost use Rattle.edge_io.specs.Seen.{Seen};
 ghost use Rattle.outcome_fold.specs.Summed.{Sums};
 ghost use Rattle.outcome_fold.specs.declared.row.Row.{Row as ARow};
-ghost use Rattle.testr_cli.specs.Drawings.{are_few};
+ghost use Rattle.testr_words.specs.Drawings.{are_few};
 ghost use Rattle.testr_cli.specs.Outside.{work};
 ghost use Rattle.testr_cli.specs.SelfTest.{TestsItself, SumsUp, RunsInTurn, rows_in_turn};
 
-use crate::drawing::Drawing;
+use testr_words::Drawing;
 use crate::reporting::{print, verdict_kept};
 use crate::store::{make, open, take_run};
 use crate::told::Told;

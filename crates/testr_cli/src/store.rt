@@ -8,7 +8,7 @@ ghost use Rattle.run_shelf.specs.Repository.{most_runs};
 ghost use Rattle.testr_cli.specs.Store.{Makes, Opens, TakesRun, HasRunFor, runs_text, Begins, Keeps, keep_text};
 ghost use Rattle.testr_cli.specs.Telling.{line_text};
 
-use crate::command::Question;
+use testr_words::Question;
 use crate::telling::{Line, Part, Refuses};
 use edge_io::Shelf;
 use run_shelf::{

@@ -6,14 +6,15 @@ ghost use Rattle.edge_io.specs.Causes.{RisesExactlyIf};
 ghost use Rattle.run_shelf.specs.Holds.{kinds_of, FitsWhereTold};
 ghost use Rattle.run_shelf.specs.Stores.{store_kinds, store_fault, FitsUnlessBroken};
 ghost use Rattle.run_ledger.specs.Ledger.{HasRowsAt};
-ghost use Rattle.testr_cli.specs.Says.{OfBytes, OfLastRun, SaysReport, SaysSlowest, SaysFailing, SaysStats, stats_of, verdict_of_failing};
+ghost use Rattle.testr_cli.specs.Says.{SaysReport, SaysSlowest, SaysFailing, SaysStats, stats_of, verdict_of_failing};
+ghost use Rattle.testr_words.specs.Questions.{OfBytes, OfLastRun};
 ghost use Rattle.testr_cli.specs.Sparing.{SparesFor, SparesRuns};
 ghost use Rattle.testr_cli.specs.Telling.{line_text};
 ghost use Rattle.testr_cli.specs.Told.{Finds, IsAnswer, TellsSo, tell_failed, fault_of_ledger, tell_code, tell_text};
 ghost use Rattle.testr_cli.specs.Trusted.{SoundFailing};
 
 use crate::Verdict;
-use crate::command::Question;
+use testr_words::Question;
 use crate::reporting::{report, verdict};
 use crate::telling::Line;
 use edge_io::Shelf;

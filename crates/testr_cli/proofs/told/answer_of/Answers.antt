@@ -1,5 +1,5 @@
 use Rattle.std.proofs.Common.{false}
-use Rattle.testr_cli.specs.declared.command.Question.TheVariants.{Last, Failing, Slowest, Stats}
+use Rattle.testr_words.specs.declared.command.Question.TheVariants.{Last, Failing, Slowest, Stats}
 use Rattle.testr_cli.proofs.TellLemmas.{answers_so, answers_where, is_report}
 use Rattle.testr_cli.proofs.told.answer_of.Goals as goal
 

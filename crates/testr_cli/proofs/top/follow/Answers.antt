@@ -1,5 +1,5 @@
 use Rattle.std.proofs.Common.{sym, ap}
-use Rattle.testr_cli.specs.Tasks.{task_with}
+use Rattle.testr_words.specs.Tasks.{task_with}
 use Rattle.testr_cli.proofs.CallLemmas.{of_asked, of_other, lists_not, draws_not}
 use Rattle.testr_cli.proofs.Performing.{all_done}
 use Rattle.testr_cli.proofs.PromiseLemmas.{asked_as}

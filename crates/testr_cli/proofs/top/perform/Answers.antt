@@ -1,5 +1,5 @@
 use Rattle.std.proofs.Common.{sym, ap, refl, ◌∙◌}
-use Rattle.testr_cli.specs.Tasks.{task_with, quiet_of}
+use Rattle.testr_words.specs.Tasks.{task_with, quiet_of}
 use Rattle.testr_cli.proofs.Performing.{performs, refuses, not_done, quiet_load}
 use Rattle.testr_cli.proofs.SparingLemmas.{none_spare, other_spare, silent_spare}
 use Rattle.testr_cli.proofs.top.perform.Goals as goal

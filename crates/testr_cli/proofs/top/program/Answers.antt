@@ -1,11 +1,11 @@
 use Rattle.std.proofs.Common.{◌≡◌, ◌∷◌, true, false, drop, refl, sym, ap, ◌∙◌}
 use Rattle.std.proofs.lemmas.List.{take_rest}
 use Rattle.command_words.specs.Items.{texts}
-use Rattle.testr_cli.specs.Words.{names_testr, testr_word}
+use Rattle.testr_words.specs.Words.{names_testr, testr_word}
 use Rattle.testr_cli.proofs.CallLemmas.{of_words}
 use Rattle.testr_cli.proofs.SparingLemmas.{none_spare, behind_spare}
 use Rattle.testr_cli.proofs.PromiseLemmas.{testr_behind}
-use Rattle.testr_cli.proofs.WordsLemmas.{names_first, names_other}
+use Rattle.testr_words.proofs.WordsLemmas.{names_first, names_other}
 use Rattle.testr_cli.proofs.top.program.Goals as goal
 
 pub returns-then-not-is_testr : goal.returns-then-not-is_testr

@@ -1,6 +1,6 @@
 use Rattle.std.proofs.Common.{inl, sym, ap, ◌∙◌}
 use Rattle.std.specs.Prelude.{option_map}
-use Rattle.testr_cli.specs.Tasks.{selftest}
+use Rattle.testr_words.specs.Tasks.{selftest}
 use Rattle.testr_cli.proofs.Performing.{performs, refuses}
 use Rattle.testr_cli.proofs.top.test_itself.Goals as goal
 

@@ -1,7 +1,7 @@
 use Rattle.std.proofs.Common.{Some, None, refl, sym, ap, ◌∙◌}
 use Rattle.std.specs.Option.{option_map}
-use Rattle.testr_cli.proofs.ValueLemmas.{none_counted, last_counts}
-use Rattle.testr_cli.proofs.values.workers_in.Goals as goal
+use Rattle.testr_words.proofs.ValueLemmas.{none_counted, last_counts}
+use Rattle.testr_words.proofs.values.workers_in.Goals as goal
 
 pub returns-then-not-are_worker_counts : goal.returns-then-not-are_worker_counts
 returns-then-not-are_worker_counts c = none_counted c.args.items.now _ c.are_worker_counts.ensures c.if-not-are_worker_counts.true

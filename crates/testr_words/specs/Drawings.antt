@@ -1,7 +1,7 @@
 -- What `selftest` asks for (docs/COMMANDS.md, "Words").
 use Rattle.std.specs.Prelude.{Bool, ◌&&◌, nat_le, ◌*◌, Option, Some, None, ℕ, if◌then◌else◌}
-use Rattle.testr_cli.specs.declared.command.Command.{Command}
-use Rattle.testr_cli.specs.declared.drawing.Drawing.{Drawing}
+use Rattle.testr_words.specs.declared.command.Command.{Command}
+use Rattle.testr_words.specs.declared.drawing.Drawing.{Drawing}
 
 -- there are 1 to 64 lanes, each has a test, and there are no more than 1,000,000 tests in all
 abbrev pub are_few : (lanes tests : ℕ) → Bool

@@ -12,7 +12,7 @@ use Rattle.std.proofs.lemmas.Slice.Eq.{bytes_eq-Decides}
 use Rattle.std.specs.Option.{option_to_list}
 use Rattle.command_words.specs.Code.{shown}
 use Rattle.command_words.specs.declared.item.Item as code
-use Rattle.testr_cli.specs.Words.{concurrency_word, value_of, values_in, last_of, is_number, number_of, is_worker_count, count_or_zero, workers_in}
+use Rattle.testr_words.specs.Words.{concurrency_word, value_of, values_in, last_of, is_number, number_of, is_worker_count, count_or_zero, workers_in}
 
 module _ (most : ℕ) (small : most < 2 ^ 32) where
   -- what is written as a number up to this tells that number

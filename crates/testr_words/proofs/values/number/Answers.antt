@@ -4,9 +4,9 @@ use Rattle.std.specs.Str.{bytes_eq}
 use Rattle.std.proofs.lemmas.Bool.{both_ways}
 use Rattle.std.proofs.lemmas.Slice.Eq.{bytes_eq-Decides}
 use Rattle.std.proofs.lemmas.Fmt.{parse-decimal}
-use Rattle.testr_cli.proofs.ValueLemmas.{tells, tells_none, ok_same}
-use Rattle.testr_cli.proofs.values.number.Goals as goal
-use Rattle.testr_cli.proofs.values.number.Goals.{else-number-most-via-then-number-most+else-eq, else-number-most-via-else-number-most}
+use Rattle.testr_words.proofs.ValueLemmas.{tells, tells_none, ok_same}
+use Rattle.testr_words.proofs.values.number.Goals as goal
+use Rattle.testr_words.proofs.values.number.Goals.{else-number-most-via-then-number-most+else-eq, else-number-most-via-else-number-most}
 
 pub returns-in_default : goal.returns-in_default
 returns-in_default c = tells_none c.args.most c.ranges.most.fits c.args.value.now (λ number few is.

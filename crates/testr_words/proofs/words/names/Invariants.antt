@@ -1,8 +1,8 @@
 use Rattle.std.proofs.Common.{◌≡◌, map, drop}
 use Rattle.command_words.specs.Code.{shown}
-use Rattle.testr_cli.specs.Words.{names_in, if_texts}
-use Rattle.testr_cli.proofs.WordsLemmas.{behind}
-use Rattle.testr_cli.proofs.words.names.Given as goal
+use Rattle.testr_words.specs.Words.{names_in, if_texts}
+use Rattle.testr_words.proofs.WordsLemmas.{behind}
+use Rattle.testr_words.proofs.words.names.Given as goal
 
 -- the names taken so far, with those of the items that are left
 abbrev pub invariant-loop-item : goal.invariant-loop-item

@@ -1,7 +1,7 @@
 use Rattle.std.proofs.Common.{◌≡◌, map, drop, option_map}
 use Rattle.command_words.specs.Code.{shown}
-use Rattle.testr_cli.specs.Words.{values_in, last_behind, last_of}
-use Rattle.testr_cli.proofs.values.last_value.Given as goal
+use Rattle.testr_words.specs.Words.{values_in, last_behind, last_of}
+use Rattle.testr_words.proofs.values.last_value.Given as goal
 
 -- the last value so far, and those of the items that are left
 abbrev pub invariant-loop-item : goal.invariant-loop-item

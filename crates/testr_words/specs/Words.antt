@@ -8,15 +8,15 @@ use Rattle.std.specs.Str.Parse.{digits_value}
 use Rattle.command_words.specs.declared.table.Kind.{Kind}
 use Rattle.command_words.specs.declared.table.Kind.TheVariants.{Flag, Valued}
 use Rattle.command_words.specs.Items.{Item, flag, valued, name, is_text, items_of}
-use Rattle.suite_plan.specs.declared.sharing.TheConstants.{MOST_WORKERS}
-use Rattle.testr_cli.specs.declared.words.UsageFault.{UsageFault}
-use Rattle.testr_cli.specs.declared.words.UsageFault.TheVariants.{Words}
-use Rattle.testr_cli.specs.declared.command.Verb.{Verb}
-use Rattle.testr_cli.specs.declared.command.Verb.TheVariants.{Init, Load, Run, Last, Failing, Slowest, Stats, ListTests, SelfTest}
-use Rattle.testr_cli.specs.declared.command.Command.{Command}
-use Rattle.testr_cli.specs.Drawings.{if_few}
-use Rattle.testr_cli.specs.declared.drawing.Drawing.{Drawing}
-use Rattle.testr_cli.specs.Tasks.{Task, task_of}
+use Rattle.testr_words.specs.declared.values.TheConstants.{MOST_WORKERS}
+use Rattle.testr_words.specs.declared.words.UsageFault.{UsageFault}
+use Rattle.testr_words.specs.declared.words.UsageFault.TheVariants.{Words}
+use Rattle.testr_words.specs.declared.command.Verb.{Verb}
+use Rattle.testr_words.specs.declared.command.Verb.TheVariants.{Init, Load, Run, Last, Failing, Slowest, Stats, ListTests, SelfTest}
+use Rattle.testr_words.specs.declared.command.Command.{Command}
+use Rattle.testr_words.specs.Drawings.{if_few}
+use Rattle.testr_words.specs.declared.drawing.Drawing.{Drawing}
+use Rattle.testr_words.specs.Tasks.{Task, task_of}
 
 -- the program's first word
 abbrev pub testr_word : List ℕ

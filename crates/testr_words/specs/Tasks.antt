@@ -1,13 +1,13 @@
 -- What a command asks for.
 use Rattle.std.specs.Prelude.{Bool, nat_le, Option, Some, None, option_map, List, ℕ, length, if◌then◌else◌}
-use Rattle.testr_cli.specs.Drawings.{drawing_of}
-use Rattle.testr_cli.specs.Suites.{RunOptions, run_options}
-use Rattle.testr_cli.specs.declared.command.Verb.{Verb}
-use Rattle.testr_cli.specs.declared.command.Verb.TheVariants as verb
-use Rattle.testr_cli.specs.declared.command.Command.{Command}
-use Rattle.testr_cli.specs.declared.command.Question.{Question}
-use Rattle.testr_cli.specs.declared.command.Question.TheVariants.{Last, Failing, Slowest, Stats}
-use Rattle.testr_cli.specs.declared.drawing.Drawing.{Drawing}
+use Rattle.testr_words.specs.Drawings.{drawing_of}
+use Rattle.testr_words.specs.Suites.{RunOptions, run_options}
+use Rattle.testr_words.specs.declared.command.Verb.{Verb}
+use Rattle.testr_words.specs.declared.command.Verb.TheVariants as verb
+use Rattle.testr_words.specs.declared.command.Command.{Command}
+use Rattle.testr_words.specs.declared.command.Question.{Question}
+use Rattle.testr_words.specs.declared.command.Question.TheVariants.{Last, Failing, Slowest, Stats}
+use Rattle.testr_words.specs.declared.drawing.Drawing.{Drawing}
 
 -- what is done for a command
 pub data Task : Type 0 where

@@ -2,8 +2,8 @@
 
 ghost use Rattle.std.specs.Prelude.{◌≡◌, map, option_map};
 ghost use Rattle.command_words.specs.Code.{shown};
-ghost use Rattle.testr_cli.specs.Drawings as drawings;
-ghost use Rattle.testr_cli.specs.Words as words;
+ghost use Rattle.testr_words.specs.Drawings as drawings;
+ghost use Rattle.testr_words.specs.Words as words;
 
 use crate::command::Command;
 use crate::values::number;
@@ -52,7 +52,7 @@ fn are_few(lanes: u32, tests: u32) -> bool
 }
 
 /// The drawing of the command's numbers. None comes exactly where it is not small enough.
-pub(crate) fn drawing_of(command: &Command) -> Option<Drawing>
+pub fn drawing_of(command: &Command) -> Option<Drawing>
     ensures { result ≡ drawings.drawing_of command.now }
 {
     Drawing {

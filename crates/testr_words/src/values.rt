@@ -4,13 +4,15 @@ ghost use Rattle.std.specs.Prelude.{◌≡◌, map, option_map, codes, IfOk};
 ghost use Rattle.std.specs.List.{list_all};
 ghost use Rattle.std.specs.Option.{option_to_list};
 ghost use Rattle.command_words.specs.Code.{shown};
-ghost use Rattle.testr_cli.specs.Words as words;
+ghost use Rattle.testr_words.specs.Words as words;
 
 use command_words::{Item, text_of};
 use itoa::Buffer;
 use std::alloc::Global;
 use sub_number::{NoMemory, Text};
-use suite_plan::MOST_WORKERS;
+
+/// How many workers words may ask for.
+pub const MOST_WORKERS: u32 = 64;
 
 /// How many workers are asked for: what the last option tells that tells it, or 0 where none does. None comes exactly
 /// where one of these options has another value than a number up to `MOST_WORKERS`, in decimal without sign or leading zero.

@@ -6,7 +6,7 @@ use Rattle.std.specs.List.{list_any, list_all}
 use Rattle.std.proofs.lemmas.List.Folds.{list_all-append}
 use Rattle.std.proofs.lemmas.Slice.Eq.{bytes_eq-Decides}
 use Rattle.command_words.specs.Items.{texts, is_text}
-use Rattle.testr_cli.specs.Words.{testr_word, names_testr, and_then, if_texts}
+use Rattle.testr_words.specs.Words.{testr_word, names_testr, and_then, if_texts}
 
 -- words that name this program are its name and the words behind it
 pub names_first : (words : List (String Global)) → names_testr (texts words) ≡ true → texts words ≡ testr_word ∷ texts (drop 1 words)

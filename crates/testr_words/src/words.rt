@@ -4,12 +4,10 @@ ghost use Rattle.std.specs.Prelude.{◌≡◌, ◌++◌, true, map, option_map, 
 ghost use Rattle.command_words.specs.Code.{shown};
 ghost use Rattle.command_words.specs.Items.{texts, is_text};
 ghost use Rattle.std.specs.List.{list_any, list_all};
-ghost use Rattle.testr_cli.specs.Telling.{line_text};
-ghost use Rattle.testr_cli.specs.Words.{usage_text, names_testr, verb_of, kinds_of, only_flag, run_kind, is_run_flag as is_flag_of_run, most_names, may_have as may_have_these, has_flag, is_flag as is_this_flag, names_in, names_of, if_texts, command_of_names as command_of_these_names, command_of_drawing, drawing_in as drawing_of_items, command_of_items, command_of_verb, command_of};
+ghost use Rattle.testr_words.specs.Words.{names_testr, verb_of, kinds_of, only_flag, run_kind, is_run_flag as is_flag_of_run, most_names, may_have as may_have_these, has_flag, is_flag as is_this_flag, names_in, names_of, if_texts, command_of_names as command_of_these_names, command_of_drawing, drawing_in as drawing_of_items, command_of_items, command_of_verb, command_of};
 
 use crate::command::{Command, Verb};
 use crate::drawing::drawing_in;
-use crate::telling::Line;
 use crate::values::{load_list_in, workers_in};
 use command_words::{Item, Kind, OptionTable, read_items, text_of};
 use std::alloc::Global;
@@ -23,17 +21,6 @@ pub const MOST_FILES: usize = 64;
 pub enum UsageFault {
     /// Those behind `testr` are none.
     Words,
-}
-
-impl UsageFault {
-    /// The line that tells of it.
-    pub fn line(self) -> Line<'static>
-        ensures { line_text result ≡ usage_text self }
-    {
-        match self {
-            UsageFault::Words => Line::of("testr: wrong usage\n"),
-        }
-    }
 }
 
 /// Whether the first word is `testr`.

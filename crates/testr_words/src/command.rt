@@ -82,7 +82,7 @@ pub enum Question {
 
 impl Question {
     ghost use Rattle.std.specs.Prelude.{◌↔◌, IsTrue};
-    ghost use Rattle.testr_cli.specs.Says.{OfLastRun};
+    ghost use Rattle.testr_words.specs.Questions.{OfLastRun};
 
     /// Whether it is of the last run.
     pub fn is_of_last_run(self) -> bool

@@ -1,6 +1,6 @@
 -- What `run` asks for.
 use Rattle.std.specs.Prelude.{Bool, not, ◌||◌, nat_eq, Option, Some, None, List, ℕ, length, is_some}
-use Rattle.testr_cli.specs.declared.command.Command.{Command}
+use Rattle.testr_words.specs.declared.command.Command.{Command}
 
 -- what `run` is asked to do
 pub record RunOptions : Type 0 where

@@ -1,0 +1,5 @@
+pub mod Questions
+pub mod Suites
+pub mod Drawings
+pub mod Tasks
+pub mod Words

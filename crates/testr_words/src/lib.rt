@@ -1,0 +1,25 @@
+//! Which words are a command.
+//!
+//! The words behind `testr` are read into a `Command`, by docs/COMMANDS.md, "Words". This room knows the name, the options
+//! and the names of each command, and what it asks for as a whole; it knows nothing of folders, files or programs, and
+//! does nothing.
+//!
+//! For want of memory a public call answers `NoMemory`, which comes for nothing else.
+//!
+//! - `command`: what words may ask for
+//! - `words`: the options and names of each verb
+//! - `values`: options with a value
+//! - `drawing`: the numbers of `selftest`
+//!
+//! Of a command its specs say the task: what is asked, as one sum.
+#![tactic(auto)]
+
+mod command;
+mod drawing;
+mod values;
+mod words;
+
+pub use command::{Command, Question, Verb};
+pub use drawing::{Drawing, drawing_of};
+pub use values::MOST_WORKERS;
+pub use words::{MOST_FILES, UsageFault, is_testr, reads};
