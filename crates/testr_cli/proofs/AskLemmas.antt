@@ -3,12 +3,12 @@ use Rattle.std.proofs.Common.{◌≡◌, ◌⊎◌, inl, inr, Bool, true, false,
 use Rattle.std.specs.Prelude.{◌↔◌}
 use Rattle.run_shelf.specs.declared.found.Found.{Found}
 use Rattle.testr_cli.specs.Ask.{CopiesLast, PrintsAnswer, AnswersOf}
-use Rattle.testr_cli.specs.Outside.{Shown}
+use Rattle.command_steps.specs.Outside.{Shown}
 use Rattle.testr_words.specs.Questions.{OfBytes}
 use Rattle.testr_words.specs.declared.command.Question.{Question}
 use Rattle.testr_words.specs.declared.command.Question.TheVariants.{Last}
-use Rattle.testr_cli.specs.declared.answer.Verdict.{Verdict}
-use Rattle.testr_cli.specs.declared.answer.Refusal.{Refusal}
+use Rattle.command_steps.specs.declared.answer.Verdict.{Verdict}
+use Rattle.command_steps.specs.declared.answer.Refusal.{Refusal}
 
 module _ (question : Question) (b : Bool) (is : IsTrue b ↔ OfBytes question) where
   pub of_bytes : b ≡ true → OfBytes question

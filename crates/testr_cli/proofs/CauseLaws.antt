@@ -10,28 +10,28 @@ use Rattle.run_shelf.specs.declared.found.Found.{Found}
 use Rattle.run_shelf.specs.Repository.{IsRepository, HasKinds, HasFormat, HasOtherFormat, IsGap, format_name, most_runs}
 use Rattle.run_shelf.specs.Holds.{kinds_of}
 use Rattle.run_shelf.specs.Outcomes.{InitFails, OpenFails, Surveys}
-use Rattle.testr_cli.specs.Steps.{stops, goes_on}
+use Rattle.command_steps.specs.Steps.{stops, goes_on}
 use Rattle.std.proofs.lemmas.List.Elements.{All-head, All-tail}
-use Rattle.testr_cli.specs.Outside.{Work, Filed, Shown, fed, filed}
-use Rattle.testr_cli.specs.Files.{RecordsSources, HasFilesCause}
-use Rattle.testr_cli.specs.Runs.{HasRuns}
-use Rattle.testr_cli.specs.Answer.{refusal_code}
-use Rattle.testr_cli.specs.Store.{Opens, open_code}
-use Rattle.testr_cli.specs.Recording.{Records, most_bytes, record_code}
+use Rattle.command_steps.specs.Outside.{Work, Filed, Shown, fed, filed}
+use Rattle.command_steps.specs.Files.{RecordsSources, HasFilesCause}
+use Rattle.command_steps.specs.Runs.{HasRuns}
+use Rattle.command_steps.specs.Refusals.{refusal_code}
+use Rattle.command_steps.specs.Store.{Opens, open_code}
+use Rattle.command_steps.specs.Recording.{Records, most_bytes, record_code}
 use Rattle.testr_cli.specs.Init.{Inits}
 use Rattle.testr_cli.specs.Load.{Loads}
 use Rattle.testr_cli.specs.Ask.{CopiesLast, PrintsAnswer, AnswersOf, Asks}
 use Rattle.testr_cli.specs.Program.{CanLoad, HasSources, CanAsk}
 use Rattle.testr_words.specs.declared.command.Question.{Question}
-use Rattle.testr_cli.specs.declared.copying.CopyFault.TheVariants as copy_fault
-use Rattle.testr_cli.specs.declared.recording.RecordFault.{RecordFault}
-use Rattle.testr_cli.specs.declared.recording.RecordFault.TheVariants as record_fault
-use Rattle.testr_cli.specs.declared.told.TellFault.TheVariants as tell_fault
-use Rattle.testr_cli.specs.declared.answer.Verdict.{Verdict}
-use Rattle.testr_cli.specs.declared.answer.Refusal.{Refusal}
-use Rattle.testr_cli.specs.declared.answer.Refusal.TheVariants as refusal
+use Rattle.command_steps.specs.declared.copying.CopyFault.TheVariants as copy_fault
+use Rattle.command_steps.specs.declared.recording.RecordFault.{RecordFault}
+use Rattle.command_steps.specs.declared.recording.RecordFault.TheVariants as record_fault
+use Rattle.command_steps.specs.declared.told.TellFault.TheVariants as tell_fault
+use Rattle.command_steps.specs.declared.answer.Verdict.{Verdict}
+use Rattle.command_steps.specs.declared.answer.Refusal.{Refusal}
+use Rattle.command_steps.specs.declared.answer.Refusal.TheVariants as refusal
 use Rattle.testr_cli.proofs.FolderLemmas.{none_or_some, takes_in_repository, not_no_store, not_other_format, not_gap, not_full, not_empty}
-use Rattle.testr_cli.proofs.Resting.{goes_before}
+use Rattle.command_steps.proofs.Resting.{goes_before}
 use Rattle.testr_cli.proofs.ChainLemmas.{gives_not}
 use Rattle.testr_cli.proofs.AskLemmas.{either}
 use Rattle.testr_cli.proofs.CommandLaws.{of_shown}

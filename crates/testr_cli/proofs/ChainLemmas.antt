@@ -2,12 +2,13 @@
 use Rattle.std.proofs.Common.{◌≡◌, ℕ, Option, None, Some, Result, Ok, Err, subst, ◌∙◌}
 use Rattle.edge_io.specs.Causes.{Rose}
 use Rattle.edge_io.specs.Steps.{Goes}
-use Rattle.testr_cli.specs.Steps.{Step, Then, stops, goes_on, Gives}
-use Rattle.testr_cli.specs.Outside.{Work, Place, in_folder, in_site, in_spawner, in_input, in_out, SameCounts, RisesAt}
-use Rattle.testr_cli.specs.Answer.{place_of, IsChildFault}
-use Rattle.testr_cli.specs.declared.answer.Refusal.{Refusal}
+use Rattle.command_steps.specs.Steps.{Step, Then, stops, goes_on, Gives}
+use Rattle.command_steps.specs.Outside.{Work, Place, in_folder, in_site, in_spawner, in_input, in_out, SameCounts, RisesAt}
+use Rattle.testr_cli.specs.Answer.{IsChildFault}
+use Rattle.command_steps.specs.Refusals.{place_of}
+use Rattle.command_steps.specs.declared.answer.Refusal.{Refusal}
 use Rattle.testr_cli.proofs.RefusalLemmas.{IsNamed}
-use Rattle.testr_cli.proofs.Resting.{Rests, rests_then}
+use Rattle.command_steps.proofs.Resting.{Rests, rests_then}
 
 -- a chain that was done is its first step done, and then the rest
 pub record Did {W A B E R : Type 0} (first : Step W A E) (second : A → Step W B R) (before after : W) (result : Result B R) : Type 0 where

@@ -5,8 +5,8 @@ use Rattle.edge_io.specs.Seen.{Seen}
 use Rattle.edge_io.specs.Spawners.{Spawning}
 use Rattle.run_shelf.specs.declared.found.Found.{Found}
 use Rattle.run_shelf.specs.Holds.{kinds_of}
-use Rattle.testr_cli.specs.Outside.{Work, Shown, work, work_spawner}
-use Rattle.testr_cli.specs.Files.{RecordsSources}
+use Rattle.command_steps.specs.Outside.{Work, Shown, work, work_spawner}
+use Rattle.command_steps.specs.Files.{RecordsSources}
 use Rattle.testr_cli.specs.Init.{Inits}
 use Rattle.testr_cli.specs.Load.{Loads}
 use Rattle.testr_cli.specs.Ask.{CopiesLast, PrintsAnswer, AnswersOf, Asks}

@@ -3,13 +3,13 @@ use Rattle.std.proofs.Common.{ℕ, List, Result, Ok, Err, refl}
 use Rattle.edge_io.specs.Disk.{Files}
 use Rattle.edge_io.specs.Seen.{Seen}
 use Rattle.edge_io.specs.Spawners.{Spawning}
-use Rattle.testr_cli.specs.Answer.{place_of}
-use Rattle.testr_cli.specs.Copying.{Copies, copy_refusal}
-use Rattle.testr_cli.specs.Outside.{Work, Shown, work, SameCounts, RisesAt}
-use Rattle.testr_cli.specs.declared.copying.CopyFault.{CopyFault}
-use Rattle.testr_cli.specs.declared.copying.CopyFault.TheVariants.{Read, Write}
-use Rattle.testr_cli.specs.declared.told.TellFault.TheVariants as tell_fault
-use Rattle.testr_cli.proofs.Resting.{rests_of_stays}
+use Rattle.command_steps.specs.Refusals.{place_of}
+use Rattle.command_steps.specs.Copying.{Copies, copy_refusal}
+use Rattle.command_steps.specs.Outside.{Work, Shown, work, SameCounts, RisesAt}
+use Rattle.command_steps.specs.declared.copying.CopyFault.{CopyFault}
+use Rattle.command_steps.specs.declared.copying.CopyFault.TheVariants.{Read, Write}
+use Rattle.command_steps.specs.declared.told.TellFault.TheVariants as tell_fault
+use Rattle.command_steps.proofs.Resting.{rests_of_stays}
 use Rattle.testr_cli.proofs.ChainLemmas.{IsQuiet, IsRefused}
 
 module _ (site : Seen Files) (spawner : Seen Spawning) (input : Seen (List ℕ)) (number : ℕ) (a b : Shown) where

@@ -1,5 +1,5 @@
 -- What a command has done, from its chain.
-use Rattle.std.proofs.Common.{◌≡◌, inl, inr, ℕ, ◌<◌, Bool, true, false, Option, None, Some, IfSome, All, Result, Ok, List, [], ◌∷◌, ◌++◌, length, refl, sym, ap, subst, ◌∙◌, if◌then◌else◌}
+use Rattle.std.proofs.Common.{◌≡◌, inl, inr, ℕ, ◌<◌, Bool, true, false, Option, None, Some, IfSome, All, Result, Ok, List, [], ◌∷◌, length, refl, sym, ap, subst, ◌∙◌, if◌then◌else◌}
 use Rattle.std.specs.Io.KnownBytes.{Appends}
 use Rattle.std.specs.List.{list_any}
 use Rattle.edge_io.specs.Disk.{Files, Folder, IsImage}
@@ -19,35 +19,34 @@ use Rattle.run_shelf.specs.Holds.{kinds_of, FitsFolder}
 use Rattle.run_shelf.specs.Images.{MakesRepository}
 use Rattle.run_shelf.proofs.DraftLemmas.{goes_writes, run_kept}
 use Rattle.run_shelf.proofs.Joining.{stays_some}
-use Rattle.run_shelf.proofs.SameLemmas.{shows_still}
 use Rattle.sub_text.specs.Texts.{report_of}
-use Rattle.testr_cli.specs.Outside.{Work, Shown, work_folder}
-use Rattle.testr_cli.specs.Runs.{run_bytes, HasRunAndCaches, KeepsFiles, AddsRun}
-use Rattle.testr_cli.specs.Verdicts.{verdict_of, verdict_code}
-use Rattle.testr_cli.specs.Says.{SaysOfFolder}
+use Rattle.command_steps.specs.Outside.{Work, Shown, work_folder}
+use Rattle.command_steps.specs.Runs.{run_bytes, HasRunAndCaches, KeepsFiles, AddsRun}
+use Rattle.command_steps.specs.Verdicts.{verdict_of, verdict_code}
+use Rattle.command_steps.specs.Says.{SaysOfFolder}
 use Rattle.testr_words.specs.Questions.{OfLastRun}
-use Rattle.testr_cli.specs.Files.{AreSources, HasRecordedInTurn, RecordsSources}
-use Rattle.testr_cli.specs.declared.recording.RecordFault.{RecordFault}
-use Rattle.testr_cli.specs.Refreshing.{Refreshes, BringsCaches}
-use Rattle.testr_cli.specs.Reporting.{Report, IsReport, Reports}
-use Rattle.testr_cli.specs.Steps.{Still, At}
-use Rattle.testr_cli.specs.Store.{Opens, TakesRun, Begins, Keeps}
-use Rattle.testr_cli.specs.declared.store.RunsFault.{RunsFault}
+use Rattle.command_steps.specs.Files.{AreSources, HasRecordedInTurn, RecordsSources}
+use Rattle.command_steps.specs.declared.recording.RecordFault.{RecordFault}
+use Rattle.command_steps.specs.Refreshing.{Refreshes, BringsCaches}
+use Rattle.command_steps.specs.Reporting.{Report, IsReport, Reports}
+use Rattle.command_steps.specs.Steps.{Still, At}
+use Rattle.command_steps.specs.Store.{Opens, TakesRun, Begins, Keeps}
+use Rattle.command_steps.specs.declared.store.RunsFault.{RunsFault}
 use Rattle.testr_cli.specs.Init.{Inits}
 use Rattle.testr_cli.specs.Load.{Loads}
 use Rattle.testr_cli.specs.Ask.{CopiesLast, PrintsAnswer, AnswersOf, Asks}
 use Rattle.testr_cli.specs.Program.{LoadsAll, ReadsInputFor, AnswersQuestion}
 use Rattle.testr_words.specs.declared.command.Question.{Question}
 use Rattle.testr_words.specs.declared.command.Question.TheVariants.{Last}
-use Rattle.testr_cli.specs.declared.answer.Verdict.{Verdict}
-use Rattle.testr_cli.specs.declared.answer.Verdict.TheVariants.{Passed, Failed}
-use Rattle.testr_cli.specs.declared.answer.Refusal.{Refusal}
+use Rattle.command_steps.specs.declared.answer.Verdict.{Verdict}
+use Rattle.command_steps.specs.declared.answer.Verdict.TheVariants.{Passed, Failed}
+use Rattle.command_steps.specs.declared.answer.Refusal.{Refusal}
 use Rattle.testr_cli.proofs.SourcesLemmas.{IsRunOf, writes_run}
 use Rattle.testr_cli.proofs.RowsLemmas.{have_in_turn, rows_of_written}
 use Rattle.testr_cli.proofs.AskLemmas.{either}
-use Rattle.testr_cli.proofs.CopyLemmas.{bytes_said}
-use Rattle.testr_cli.proofs.Resting.{Rests, surveyed_fits}
-use Rattle.testr_cli.proofs.SoundLemmas.{KeepsRunAndCaches, rests_calm, surveyed_calm, goes_cached, fresh_through}
+use Rattle.command_steps.proofs.CopyLemmas.{bytes_said}
+use Rattle.command_steps.proofs.Resting.{Rests, surveyed_fits}
+use Rattle.command_steps.proofs.SoundLemmas.{KeepsRunAndCaches, rests_calm, surveyed_calm, goes_cached, fresh_through, adds_run}
 use Rattle.testr_cli.proofs.ChainLemmas.{then_did}
 use Rattle.testr_cli.proofs.StepLaws.{open_quiet}
 use Rattle.testr_cli.proofs.CommandLaws.{of_shown, ask_quiet}
@@ -86,14 +85,6 @@ kept_through number run a b c quiet kept = goes_then a b c Rests (KeepsRunAndCac
   lasts = subst (λ (files : Files). (image : Files) → IsImage t.disk image → HasRunAndCaches files number run image) rests.files keeps.lasts;
   fresh = λ calm sound. keeps.fresh (rests_calm s m calm rests) (subst IsSound (sym rests.files) sound);
 })
-
-pub shows_more : (files image : Files) (number : ℕ) (run : Run) (runs : List Run) → HasRunAndCaches files number run image → Shows files runs → Shows image (runs ++ run ∷ [])
-shows_more files image number run runs has shows = shows_still has.between image has.but (runs ++ run ∷ []) (has.beside.shows runs shows)
-
-pub adds_run : (partial : Bool) (number : ℕ) (events : List Event) (s t : Folder) → KeepsRunAndCaches number (run_of partial (run_bytes events)) s t → AddsRun partial events s t
-adds_run partial number events s t kept runs shows =
-    let run = run_of partial (run_bytes events) in
-    (shows_more s.disk.published t.disk.published number run runs kept.reads shows, λ image left. shows_more s.disk.published image number run runs (kept.lasts image left) shows)
 
 reports : (partial : Bool) (folder folder' : Option Folder) (printed new : Option (List ℕ)) (number : ℕ) (events : List Event) → Goes folder folder' (KeepsRunAndCaches number (run_of partial (run_bytes events))) → Appends printed new (report_of (rows_of events) number [])
     → IfSome folder (λ s. (runs : List Run) → Shows s.disk.published runs → Appends printed new (report_of (rows_of events) (length runs) []))

@@ -3,12 +3,12 @@ use Rattle.std.proofs.Common.{◌≡◌, ◌<◌, ◌≤◌, ℕ, ◌⊎◌, inl
 use Rattle.std.proofs.lemmas.List.Elements.{All-nil, All-cons, All-head, All-tail}
 use Rattle.edge_io.specs.Disk.{Files}
 use Rattle.outcome_fold.specs.declared.row.Row.{Row}
-use Rattle.testr_cli.specs.declared.recording.RecordFault.{RecordFault}
-use Rattle.testr_cli.specs.declared.recording.RecordFault.TheVariants as record_fault
+use Rattle.command_steps.specs.declared.recording.RecordFault.{RecordFault}
+use Rattle.command_steps.specs.declared.recording.RecordFault.TheVariants as record_fault
 use Rattle.testr_cli.specs.Exact.{RecordEnds, IsNoFile, IsFileTooLong}
-use Rattle.testr_cli.specs.Files.{RecordsInTurn, RecordsAllFiles, RecordsFiles, StopsAtFile}
-use Rattle.testr_cli.specs.Outside.{Filed}
-use Rattle.testr_cli.specs.Recording.{most_bytes}
+use Rattle.command_steps.specs.Files.{RecordsInTurn, RecordsAllFiles, RecordsFiles, StopsAtFile}
+use Rattle.command_steps.specs.Outside.{Filed}
+use Rattle.command_steps.specs.Recording.{most_bytes}
 use Rattle.testr_cli.proofs.CauseLaws.{IsShort, short_at, not_absent, not_both}
 
 -- what was recorded was there, and not too long

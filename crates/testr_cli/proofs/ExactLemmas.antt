@@ -14,18 +14,18 @@ use Rattle.run_shelf.specs.declared.found.Found.{Found}
 use Rattle.run_shelf.specs.Outcomes.{Surveys}
 use Rattle.run_shelf.specs.Repository.{run_at, format_name, format_bytes, HasFormat, HasOtherFormat, IsGap, IsRepository, most_runs}
 use Rattle.testr_words.specs.declared.command.Question.{Question}
-use Rattle.testr_cli.specs.declared.recording.RecordFault.{RecordFault}
-use Rattle.testr_cli.specs.declared.recording.RecordFault.TheVariants as record_fault
-use Rattle.testr_cli.specs.declared.store.RunsFault.{RunsFault}
-use Rattle.testr_cli.specs.declared.store.RunsFault.TheVariants.{Full, NoRuns}
-use Rattle.testr_cli.specs.declared.told.TellFault.{TellFault}
-use Rattle.testr_cli.specs.declared.told.TellFault.TheVariants as tell_fault
+use Rattle.command_steps.specs.declared.recording.RecordFault.{RecordFault}
+use Rattle.command_steps.specs.declared.recording.RecordFault.TheVariants as record_fault
+use Rattle.command_steps.specs.declared.store.RunsFault.{RunsFault}
+use Rattle.command_steps.specs.declared.store.RunsFault.TheVariants.{Full, NoRuns}
+use Rattle.command_steps.specs.declared.told.TellFault.{TellFault}
+use Rattle.command_steps.specs.declared.told.TellFault.TheVariants as tell_fault
 use Rattle.testr_cli.specs.Exact.{InitEnds, OpenEnds, RecordEnds}
-use Rattle.testr_cli.specs.Outside.{Fed}
-use Rattle.testr_cli.specs.Recording.{Records, RecordsAll, most_bytes}
-use Rattle.testr_cli.specs.Refreshing.{Refreshes}
+use Rattle.command_steps.specs.Outside.{Fed}
+use Rattle.command_steps.specs.Recording.{Records, RecordsAll, most_bytes}
+use Rattle.command_steps.specs.Refreshing.{Refreshes}
 use Rattle.testr_words.specs.Questions.{OfLastRun}
-use Rattle.testr_cli.specs.Store.{Makes, Opens, TakesRun, HasRunFor}
+use Rattle.command_steps.specs.Store.{Makes, Opens, TakesRun, HasRunFor}
 use Rattle.testr_cli.proofs.FolderLemmas.{none_or_some}
 use Rattle.std.proofs.lemmas.Bool.{cases_lt}
 

@@ -51,7 +51,7 @@ use Rattle.testr_conf.specs.declared.fault.JobFault.TheVariants as job_fault
 use Rattle.testr_conf.specs.declared.ids.IdsFault.{IdsFault}
 use Rattle.testr_conf.specs.declared.ids.IdsFault.TheVariants.{NotText}
 use Rattle.testr_cli.specs.ExactSuite.{Comes, NextMeets, IsNamedBad, ListEnds, IsListAbsent, IsListTooLong, IsNoId}
-use Rattle.testr_cli.specs.Selecting.{HandsIds, MakesJobs}
+use Rattle.command_steps.specs.Selecting.{HandsIds, MakesJobs}
 use Rattle.testr_cli.proofs.SuiteCauses.{from_both, not_too_much, same_text, not_fault, regex_never, not_ok}
 use Rattle.testr_cli.proofs.SuiteNever.{no_number}
 

@@ -25,17 +25,19 @@ use Rattle.suite_causes.specs.Searching.{Ids, IsAmong, SearchesSo, StopsSearch}
 use Rattle.suite_causes.specs.Suspects.{candidates_of, ran_ids, suspects_of}
 use Rattle.suite_causes.specs.declared.suspects.Suspect.{Suspect}
 use Rattle.testr_conf.specs.Settings.{Settings}
-use Rattle.testr_cli.specs.Causes.{FindsRan, candidates_in, FindsAmong, FindsCause, FindsEach, FindsCauses, suspects_in, SearchesThen, SearchesFirsts, SearchesSome, SearchesAll}
-use Rattle.testr_cli.specs.Outside.{Work}
-use Rattle.testr_cli.specs.Runs.{run_bytes}
-use Rattle.testr_cli.specs.Steps.{stops, goes_on}
-use Rattle.testr_cli.specs.declared.answer.Refusal.{Refusal}
+use Rattle.command_steps.specs.Causes.{FindsRan, candidates_in, FindsAmong, FindsCause, FindsEach, FindsCauses}
+use Rattle.testr_cli.specs.Searches.{suspects_in, SearchesThen, SearchesFirsts, SearchesSome, SearchesAll}
+use Rattle.command_steps.specs.Outside.{Work}
+use Rattle.command_steps.specs.Runs.{run_bytes}
+use Rattle.command_steps.specs.Steps.{stops, goes_on}
+use Rattle.command_steps.specs.declared.answer.Refusal.{Refusal}
 use Rattle.testr_cli.proofs.ChainLemmas.{then_did, LeavesPart, then_leaves, gives_not}
-use Rattle.testr_cli.proofs.DoneLaws.{appended, shows_more}
+use Rattle.testr_cli.proofs.DoneLaws.{appended}
+use Rattle.command_steps.proofs.SoundLemmas.{shows_more}
 use Rattle.testr_cli.proofs.PacketBytes.{packets_bytes}
-use Rattle.testr_cli.proofs.Resting.{goes_ends, stays_is}
+use Rattle.command_steps.proofs.Resting.{goes_ends, stays_is}
 use Rattle.testr_cli.proofs.RowsLemmas.{one_events, written}
-use Rattle.testr_cli.proofs.SoundLemmas.{IsCalm, KeepsRunAndCaches}
+use Rattle.command_steps.proofs.SoundLemmas.{IsCalm, KeepsRunAndCaches}
 
 -- ---- the run that is read back
 

@@ -4,7 +4,7 @@ use Rattle.std.specs.Prelude.{slice_get}
 use Rattle.std.proofs.lemmas.Bool.{cases_lt}
 use Rattle.edge_io.specs.Disk.{Files, Folder}
 use Rattle.run_shelf.specs.Repository.{IsRepository, most_runs, format_name, format_bytes, HasFormat, HasOtherFormat, IsGap, HasKinds, run_at}
-use Rattle.testr_cli.specs.Runs.{HasRuns}
+use Rattle.command_steps.specs.Runs.{HasRuns}
 
 past_all : {A : Type 0} (xs : List A) (k : ℕ) → length xs ≤ k → slice_get xs k ≡ None
 past_all [] k past = refl

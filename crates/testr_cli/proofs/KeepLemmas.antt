@@ -15,22 +15,22 @@ use Rattle.run_shelf.specs.Outcomes.{InitFails, InitFailsAt}
 use Rattle.run_shelf.specs.Repository.{Run, Shows, IsRepository, run_at, run_of_files, run_name, full_name, partial_name, most_runs, format_name, format_bytes}
 use Rattle.run_shelf.proofs.NameLemmas.{format_differs}
 use Rattle.run_shelf.proofs.RunLemmas.{put_other}
-use Rattle.testr_cli.specs.Steps.{Step, Then, stops, goes_on, Gives, At}
-use Rattle.testr_cli.specs.Outside.{Work, work_folder, work_out}
+use Rattle.command_steps.specs.Steps.{Step, Then, stops, goes_on, Gives, At}
+use Rattle.command_steps.specs.Outside.{Work, work_folder, work_out}
 use Rattle.testr_words.specs.Tasks.{load}
-use Rattle.testr_cli.specs.Runs.{KeepsRuns, KeepsRepository, KeepsFiles}
-use Rattle.testr_cli.specs.Store.{Makes, Keeps}
-use Rattle.testr_cli.specs.Refreshing.{Refreshes}
-use Rattle.testr_cli.specs.Reporting.{Prints}
+use Rattle.command_steps.specs.Runs.{KeepsRuns, KeepsRepository, KeepsFiles}
+use Rattle.command_steps.specs.Store.{Makes, Keeps}
+use Rattle.command_steps.specs.Refreshing.{Refreshes}
+use Rattle.command_steps.specs.Reporting.{Prints}
 use Rattle.testr_cli.specs.Init.{Inits}
 use Rattle.testr_cli.specs.Load.{Loads}
 use Rattle.testr_cli.specs.Answer.{may_have_placed, may_have_kept}
-use Rattle.testr_cli.specs.declared.answer.Verdict.{Verdict}
-use Rattle.testr_cli.specs.declared.answer.Refusal.{Refusal}
-use Rattle.testr_cli.specs.declared.answer.Refusal.TheVariants.{Keep, Refresh, Print}
-use Rattle.testr_cli.specs.declared.store.KeepFault.{KeepFault}
-use Rattle.testr_cli.specs.declared.told.TellFault.{TellFault}
-use Rattle.testr_cli.proofs.Resting.{Rests}
+use Rattle.command_steps.specs.declared.answer.Verdict.{Verdict}
+use Rattle.command_steps.specs.declared.answer.Refusal.{Refusal}
+use Rattle.command_steps.specs.declared.answer.Refusal.TheVariants.{Keep, Refresh, Print}
+use Rattle.command_steps.specs.declared.store.KeepFault.{KeepFault}
+use Rattle.command_steps.specs.declared.told.TellFault.{TellFault}
+use Rattle.command_steps.proofs.Resting.{Rests}
 use Rattle.testr_cli.proofs.ChainLemmas.{Quiet, gives_not}
 use Rattle.testr_cli.proofs.StepLaws.{still_quiet, open_quiet, begin_quiet, record_quiet}
 

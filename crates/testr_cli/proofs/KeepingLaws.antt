@@ -13,15 +13,15 @@ use Rattle.run_shelf.specs.Drafts.{Writes}
 use Rattle.run_shelf.specs.Images.{KeepsRun, PassesRun}
 use Rattle.run_shelf.specs.Repository.{Run, run_of}
 use Rattle.run_shelf.proofs.DraftLemmas.{run_kept, run_passes}
-use Rattle.testr_cli.specs.Outside.{Work, work_folder}
-use Rattle.testr_cli.specs.Refreshing.{Refreshes}
-use Rattle.testr_cli.specs.Runs.{HasRunAndCaches, KeepsRepository}
-use Rattle.testr_cli.specs.Steps.{Step, Then, stops, goes_on, At}
-use Rattle.testr_cli.specs.Store.{Keeps}
-use Rattle.testr_cli.specs.declared.answer.Refusal.{Refusal}
-use Rattle.testr_cli.specs.declared.answer.Refusal.TheVariants.{Keep, Refresh}
-use Rattle.testr_cli.proofs.Resting.{Rests, rests_images}
-use Rattle.testr_cli.proofs.SoundLemmas.{IsCalm, PassesAll, goes_named, goes_refreshed, rests_repository, rests_sound, sound_then}
+use Rattle.command_steps.specs.Outside.{Work, work_folder}
+use Rattle.command_steps.specs.Refreshing.{Refreshes}
+use Rattle.command_steps.specs.Runs.{HasRunAndCaches, KeepsRepository}
+use Rattle.command_steps.specs.Steps.{Step, Then, stops, goes_on, At}
+use Rattle.command_steps.specs.Store.{Keeps}
+use Rattle.command_steps.specs.declared.answer.Refusal.{Refusal}
+use Rattle.command_steps.specs.declared.answer.Refusal.TheVariants.{Keep, Refresh}
+use Rattle.command_steps.proofs.Resting.{Rests, rests_images}
+use Rattle.command_steps.proofs.SoundLemmas.{IsCalm, PassesAll, goes_named, goes_refreshed, rests_repository, rests_sound, sound_then}
 
 module _ {A : Type 0} (partial : Bool) (number : ℕ) (bytes : List ℕ) (rows : List Row) (rest : Step Work A Refusal) (leaves : (a b : Work) (result : Result A Refusal) → rest a b result → b.folder ≡ a.folder) where
   abbrev run : Run

@@ -1,20 +1,9 @@
-pub mod Prefixes
-pub mod Lines
-pub mod StepLemmas
-pub mod PrintingLemmas
 pub mod ReadLemmas
 pub mod RowsLemmas
-pub mod SumLemmas
-pub mod RecordLemmas
-pub mod FilesLemmas
 pub mod SourcesLemmas
-pub mod TellLemmas
-pub mod CopyLemmas
 pub mod AskLemmas
 pub mod SparingLemmas
 pub mod FolderLemmas
-pub mod Resting
-pub mod SoundLemmas
 pub mod KeepingLaws
 pub mod RefusalLemmas
 pub mod ChainLemmas
@@ -45,10 +34,7 @@ pub mod PrintedLaws
 pub mod PromiseLemmas
 pub mod Performing
 pub mod SelfTestRows
-pub mod SelectLemmas
-pub mod PlanLemmas
 pub mod RunLemmas
-pub mod FindingLemmas
 mod ExactLemmas
 mod ExactFiles
 mod ExactSuite

@@ -17,22 +17,22 @@ use Rattle.run_shelf.proofs.DraftLemmas.{goes_writes}
 use Rattle.run_shelf.specs.Repository.{run_of}
 use Rattle.run_shelf.specs.Holds.{kinds_of}
 use Rattle.run_shelf.specs.Images.{HasFormatBeside, PassesFormat}
-use Rattle.testr_cli.specs.Steps.{Then, stops, goes_on, Still, Gives, At}
-use Rattle.testr_cli.specs.Outside.{Work, work_folder, work_out}
-use Rattle.testr_cli.specs.Runs.{HasRunAndCaches}
-use Rattle.testr_cli.specs.Store.{Makes, Opens, TakesRun, Keeps}
-use Rattle.testr_cli.specs.declared.store.RunsFault.{RunsFault}
-use Rattle.testr_cli.specs.Refreshing.{Refreshes}
-use Rattle.testr_cli.specs.Reporting.{Report, Reports, Prints}
+use Rattle.command_steps.specs.Steps.{Then, stops, goes_on, Still, Gives, At}
+use Rattle.command_steps.specs.Outside.{Work, work_folder, work_out}
+use Rattle.command_steps.specs.Runs.{HasRunAndCaches}
+use Rattle.command_steps.specs.Store.{Makes, Opens, TakesRun, Keeps}
+use Rattle.command_steps.specs.declared.store.RunsFault.{RunsFault}
+use Rattle.command_steps.specs.Refreshing.{Refreshes}
+use Rattle.command_steps.specs.Reporting.{Report, Reports, Prints}
 use Rattle.testr_cli.specs.Stops.{HasLoadedRun}
 use Rattle.testr_cli.specs.Init.{Inits}
 use Rattle.testr_cli.specs.Load.{Loads}
-use Rattle.testr_cli.specs.declared.answer.Verdict.{Verdict}
-use Rattle.testr_cli.specs.declared.answer.Refusal.{Refusal}
-use Rattle.testr_cli.specs.declared.answer.Refusal.TheVariants.{Memory, Keep, Refresh, Print}
+use Rattle.command_steps.specs.declared.answer.Verdict.{Verdict}
+use Rattle.command_steps.specs.declared.answer.Refusal.{Refusal}
+use Rattle.command_steps.specs.declared.answer.Refusal.TheVariants.{Memory, Keep, Refresh, Print}
 use Rattle.testr_cli.proofs.SourcesLemmas.{IsRunOf, writes_run}
-use Rattle.testr_cli.proofs.Resting.{Rests, rests_then}
-use Rattle.testr_cli.proofs.SoundLemmas.{IsCalm, PassesAll, surveyed_calm, goes_rested}
+use Rattle.command_steps.proofs.Resting.{Rests, rests_then}
+use Rattle.command_steps.proofs.SoundLemmas.{IsCalm, PassesAll, surveyed_calm, goes_rested}
 use Rattle.testr_cli.proofs.KeepingLaws.{keeps_moves, Moves, quiet_moves, run_moves}
 use Rattle.testr_cli.proofs.ChainLemmas.{IsQuiet}
 use Rattle.testr_cli.proofs.StepLaws.{still_quiet, open_quiet, begin_quiet, record_quiet}

@@ -3,7 +3,7 @@ use Rattle.std.proofs.Common.{◌≡◌, ◌⊎◌, inl, inr, ◌<◌, ◌≤◌
 use Rattle.std.specs.Prelude.{nat_le, option_map}
 use Rattle.std.proofs.lemmas.Bool.{cond-true, cond-false, le-leb, lt-leb}
 use Rattle.sub_number.specs.declared.memory.NoMemory.{NoMemory}
-use Rattle.testr_cli.specs.Outside.{Work}
+use Rattle.command_steps.specs.Outside.{Work}
 use Rattle.testr_cli.specs.Program.{Performs, GivesUp}
 use Rattle.testr_words.specs.Drawings.{drawing_of}
 use Rattle.testr_words.specs.Tasks.{Task, load, selftest, task_with, quiet_of}
@@ -12,9 +12,9 @@ use Rattle.testr_words.specs.declared.command.Verb.{Verb}
 use Rattle.testr_words.specs.declared.command.Verb.TheVariants.{Load, Run, ListTests, SelfTest}
 use Rattle.testr_words.specs.declared.drawing.Drawing.{Drawing}
 use Rattle.testr_words.specs.declared.words.UsageFault.TheVariants.{Words}
-use Rattle.testr_cli.specs.declared.answer.Verdict.{Verdict}
-use Rattle.testr_cli.specs.declared.answer.Refusal.{Refusal}
-use Rattle.testr_cli.specs.declared.answer.Refusal.TheVariants.{Usage, Memory}
+use Rattle.command_steps.specs.declared.answer.Verdict.{Verdict}
+use Rattle.command_steps.specs.declared.answer.Refusal.{Refusal}
+use Rattle.command_steps.specs.declared.answer.Refusal.TheVariants.{Usage, Memory}
 
 pub performs : {read asked : Option Task} (before after : Work) (outcome : Result Verdict Refusal) → read ≡ asked → Performs read before after outcome → Performs asked before after outcome
 performs before after outcome is done = subst (λ c. Performs c before after outcome) is done

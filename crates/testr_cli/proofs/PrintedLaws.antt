@@ -15,31 +15,31 @@ use Rattle.sub_text.specs.Texts.{summary_of}
 use Rattle.suite_plan.specs.Choosing.{Ids}
 use Rattle.suite_plan.specs.Listing.{ListsSo}
 use Rattle.testr_cli.specs.Ask.{CopiesLast, PrintsAnswer, AnswersOf, Asks}
-use Rattle.testr_cli.specs.Copying.{BeginsAt, Copies}
+use Rattle.command_steps.specs.Copying.{BeginsAt, Copies}
 use Rattle.testr_cli.specs.Load.{Loads}
-use Rattle.testr_cli.specs.Outside.{Work, Shown, work_out, shown_out}
+use Rattle.command_steps.specs.Outside.{Work, Shown, work_out, shown_out}
 use Rattle.testr_cli.specs.Printed.{PrintsOfLoad, PrintsOfAnswer, PrintsOfListing}
-use Rattle.testr_cli.specs.Reporting.{Prints}
+use Rattle.command_steps.specs.Reporting.{Prints}
 use Rattle.testr_cli.specs.RunSuite.{ListsSuite}
-use Rattle.testr_cli.specs.Says.{SaysOfFolder}
+use Rattle.command_steps.specs.Says.{SaysOfFolder}
 use Rattle.testr_words.specs.Questions.{OfLastRun}
 use Rattle.testr_cli.specs.SelfTest.{TestsItself, rows_in_turn}
-use Rattle.testr_cli.specs.Steps.{Step, Then, stops, goes_on, Still, Gives, At}
-use Rattle.testr_cli.specs.Store.{HasRunFor}
-use Rattle.testr_cli.specs.declared.store.RunsFault.{RunsFault}
-use Rattle.testr_cli.specs.declared.copying.CopyFault.{CopyFault}
-use Rattle.testr_cli.specs.declared.answer.Refusal.{Refusal}
-use Rattle.testr_cli.specs.declared.answer.Refusal.TheVariants.{Print}
-use Rattle.testr_cli.specs.declared.answer.Verdict.{Verdict}
-use Rattle.testr_cli.specs.declared.answer.Verdict.TheVariants.{Passed}
+use Rattle.command_steps.specs.Steps.{Step, Then, stops, goes_on, Still, Gives, At}
+use Rattle.command_steps.specs.Store.{HasRunFor}
+use Rattle.command_steps.specs.declared.store.RunsFault.{RunsFault}
+use Rattle.command_steps.specs.declared.copying.CopyFault.{CopyFault}
+use Rattle.command_steps.specs.declared.answer.Refusal.{Refusal}
+use Rattle.command_steps.specs.declared.answer.Refusal.TheVariants.{Print}
+use Rattle.command_steps.specs.declared.answer.Verdict.{Verdict}
+use Rattle.command_steps.specs.declared.answer.Verdict.TheVariants.{Passed}
 use Rattle.testr_words.specs.declared.command.Question.{Question}
 use Rattle.testr_words.specs.declared.command.Question.TheVariants.{Last}
 use Rattle.testr_words.specs.declared.drawing.Drawing.{Drawing}
 use Rattle.testr_cli.proofs.AskLemmas.{either}
 use Rattle.testr_cli.proofs.CommandLaws.{of_shown}
-use Rattle.testr_cli.proofs.CopyLemmas.{bytes_said}
+use Rattle.command_steps.proofs.CopyLemmas.{bytes_said}
 use Rattle.testr_cli.proofs.DoneLaws.{LoadedSo, loaded_so, out_stays}
-use Rattle.testr_cli.proofs.Resting.{surveyed_fits, goes_ends}
+use Rattle.command_steps.proofs.Resting.{surveyed_fits, goes_ends}
 use Rattle.testr_cli.proofs.SuiteLeaves.{prefix_rows}
 
 -- ---- one step after another

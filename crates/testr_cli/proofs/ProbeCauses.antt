@@ -25,14 +25,15 @@ use Rattle.suite_causes.proofs.AnalysisLemmas.{asked_is}
 use Rattle.suite_plan.specs.Children.{IsBroken}
 use Rattle.suite_run.specs.Starting.{StartsAll}
 use Rattle.testr_conf.specs.Settings.{Settings}
-use Rattle.testr_cli.specs.Causes.{candidates_in, FindsAmong, FindsCause, FindsEach, FindsCauses, suspects_in, UseNoBroken, ProbesEnd}
-use Rattle.testr_cli.specs.Outside.{Work}
-use Rattle.testr_cli.specs.Steps.{stops, goes_on}
-use Rattle.testr_cli.specs.Told.{tell_code}
-use Rattle.testr_cli.specs.declared.answer.Refusal.{Refusal}
-use Rattle.testr_cli.specs.declared.answer.Refusal.TheVariants as refusal
-use Rattle.testr_cli.specs.declared.told.TellFault.{TellFault}
-use Rattle.testr_cli.specs.declared.told.TellFault.TheVariants as tell_fault
+use Rattle.command_steps.specs.Causes.{candidates_in, FindsAmong, FindsCause, FindsEach, FindsCauses}
+use Rattle.testr_cli.specs.Searches.{suspects_in, UseNoBroken, ProbesEnd}
+use Rattle.command_steps.specs.Outside.{Work}
+use Rattle.command_steps.specs.Steps.{stops, goes_on}
+use Rattle.command_steps.specs.Told.{tell_code}
+use Rattle.command_steps.specs.declared.answer.Refusal.{Refusal}
+use Rattle.command_steps.specs.declared.answer.Refusal.TheVariants as refusal
+use Rattle.command_steps.specs.declared.told.TellFault.{TellFault}
+use Rattle.command_steps.specs.declared.told.TellFault.TheVariants as tell_fault
 use Rattle.testr_cli.proofs.ChainLemmas.{gives_not}
 use Rattle.testr_cli.proofs.FindLemmas.{TellsEvents, before_of, ids_so, cause_did, cause_still, suspects_are}
 use Rattle.testr_cli.proofs.MergeLaws.{AreOfOutputs}

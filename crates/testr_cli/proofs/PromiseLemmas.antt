@@ -6,19 +6,20 @@ use Rattle.edge_io.proofs.Going.{goes_weaker}
 use Rattle.edge_io.proofs.Passing.{passes_weaker}
 use Rattle.run_ledger.specs.Refreshing.{KeepsSound}
 use Rattle.run_shelf.specs.Images.{PassesOld, PassesFormat, HasFormatBeside}
-use Rattle.testr_cli.specs.Answer.{refusal_code, code_of, place_in, may_have_kept, IsChildFault}
-use Rattle.testr_cli.specs.Outside.{Outside, Work, work_of, shown, work_out, Place, SomeRose, SameCounts, RisesAt}
+use Rattle.testr_cli.specs.Answer.{may_have_kept, IsChildFault}
+use Rattle.command_steps.specs.Refusals.{refusal_code, code_of, place_in}
+use Rattle.command_steps.specs.Outside.{Outside, Work, work_of, shown, work_out, Place, SomeRose, SameCounts, RisesAt}
 use Rattle.testr_cli.specs.Printed.{PrintsInPart}
 use Rattle.testr_cli.specs.Program.{Performs, Does, CanPerform, Leaves, Keeps, StartsPrograms, SomeFailed, IsPerformed, GivesUp, Answers, Promises, AnswersQuestion, TestrPromises}
-use Rattle.testr_cli.specs.Runs.{KeepsFiles, KeepsRepository, KeepsRuns}
+use Rattle.command_steps.specs.Runs.{KeepsFiles, KeepsRepository, KeepsRuns}
 use Rattle.testr_cli.specs.Stops.{PassesTask, PassesLoad, HasLoadedRun}
 use Rattle.testr_cli.specs.SuiteStops.{PassesSuiteRun}
 use Rattle.testr_words.specs.Tasks.{Task, init, load, ask, list, run, selftest}
-use Rattle.testr_cli.specs.Verdicts.{verdict_code}
+use Rattle.command_steps.specs.Verdicts.{verdict_code}
 use Rattle.testr_words.specs.Words.{testr_word}
-use Rattle.testr_cli.specs.declared.answer.Verdict.{Verdict}
-use Rattle.testr_cli.specs.declared.answer.Verdict.TheVariants.{Passed, Failed}
-use Rattle.testr_cli.specs.declared.answer.Refusal.{Refusal}
+use Rattle.command_steps.specs.declared.answer.Verdict.{Verdict}
+use Rattle.command_steps.specs.declared.answer.Verdict.TheVariants.{Passed, Failed}
+use Rattle.command_steps.specs.declared.answer.Refusal.{Refusal}
 use Rattle.testr_words.specs.declared.command.Question.{Question}
 use Rattle.testr_words.specs.declared.drawing.Drawing.{Drawing}
 use Rattle.testr_cli.proofs.CauseLaws.{init_never, load_never, ask_never}
@@ -30,9 +31,9 @@ use Rattle.testr_cli.proofs.KeepingLaws.{Moves, quiet_moves}
 use Rattle.testr_cli.proofs.MomentLaws.{init_moves, init_sound, load_moves}
 use Rattle.testr_cli.proofs.PrintedLaws.{load_prints, ask_prints, list_prints, selftest_prints}
 use Rattle.testr_cli.proofs.RefusalLemmas.{codes, IsFault, of_part, of_child, faults, some_rose}
-use Rattle.testr_cli.proofs.Resting.{Rests, rests_same}
+use Rattle.command_steps.proofs.Resting.{Rests, rests_same}
 use Rattle.testr_cli.proofs.SelfTestLaws.{selftest_beside, selftest_failed, selftest_never, selftest_did}
-use Rattle.testr_cli.proofs.SoundLemmas.{rests_repository, rests_sound}
+use Rattle.command_steps.proofs.SoundLemmas.{rests_repository, rests_sound}
 use Rattle.testr_cli.proofs.StepLaws.{still_counts}
 use Rattle.testr_cli.proofs.SuiteCauses.{NoCause, list_never}
 use Rattle.testr_cli.proofs.SuiteDone.{list_did, run_did}

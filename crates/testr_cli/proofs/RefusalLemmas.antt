@@ -32,14 +32,15 @@ use Rattle.suite_run.specs.declared.recording.LanesRefusal.TheVariants as lanes
 use Rattle.suite_run.specs.declared.starting.StartRefusal.{StartRefusal}
 use Rattle.suite_run.specs.declared.starting.StartRefusal.TheVariants as start
 use Rattle.testr_conf.specs.declared.fault.JobFault.TheVariants as job
-use Rattle.testr_cli.specs.Answer.{refusal_code, place_of, IsChildFault}
-use Rattle.testr_cli.specs.Outside.{Work, Place, in_folder, in_site, in_spawner, in_input, in_out, RisesAt, SomeRose, of_folder, of_site, of_spawner, of_input, of_out}
-use Rattle.testr_cli.specs.Told.{fault_fails}
-use Rattle.testr_cli.specs.declared.answer.Refusal.{Refusal}
-use Rattle.testr_cli.specs.declared.answer.Refusal.TheVariants.{Usage, Init, Open, Record, Keep, Refresh, Tell, Print, Conf, Pattern, LoadList, Call, Table, Listing, Job, Start, Lanes, Ran, Search}
-use Rattle.testr_cli.specs.declared.recording.RecordFault.TheVariants as record_fault
-use Rattle.testr_cli.specs.declared.told.TellFault.{TellFault}
-use Rattle.testr_cli.specs.declared.told.TellFault.TheVariants as tell_fault
+use Rattle.testr_cli.specs.Answer.{IsChildFault}
+use Rattle.command_steps.specs.Refusals.{refusal_code, place_of}
+use Rattle.command_steps.specs.Outside.{Work, Place, in_folder, in_site, in_spawner, in_input, in_out, RisesAt, SomeRose, of_folder, of_site, of_spawner, of_input, of_out}
+use Rattle.command_steps.specs.Told.{fault_fails}
+use Rattle.command_steps.specs.declared.answer.Refusal.{Refusal}
+use Rattle.command_steps.specs.declared.answer.Refusal.TheVariants.{Usage, Init, Open, Record, Keep, Refresh, Tell, Print, Conf, Pattern, LoadList, Call, Table, Listing, Job, Start, Lanes, Ran, Search}
+use Rattle.command_steps.specs.declared.recording.RecordFault.TheVariants as record_fault
+use Rattle.command_steps.specs.declared.told.TellFault.{TellFault}
+use Rattle.command_steps.specs.declared.told.TellFault.TheVariants as tell_fault
 
 -- it is not that of the words
 abbrev pub IsNamed : Refusal → Type 0

@@ -12,8 +12,8 @@ use Rattle.worker_lane.proofs.NoteLemmas.{notes_have_packets, HavePackets}
 use Rattle.outcome_fold.specs.declared.row.Row.{Row}
 use Rattle.outcome_fold.specs.Rows.{rows_of}
 use Rattle.run_ledger.specs.Reading.{AreRowsOf}
-use Rattle.testr_cli.specs.Files.{HasRecordedInTurn}
-use Rattle.testr_cli.specs.Runs.{run_bytes}
+use Rattle.command_steps.specs.Files.{HasRecordedInTurn}
+use Rattle.command_steps.specs.Runs.{run_bytes}
 
 -- bytes have one list of events
 pub one_events : (bytes : List ℕ) (some others : List Event) → AreBytes bytes → HasEvents bytes some → HasEvents bytes others → some ≡ others

@@ -2,15 +2,15 @@
 use Rattle.std.proofs.Common.{◌≡◌, ◌⊎◌, inl, inr, ℕ, List, Bool, true, false, cond, Option, None, Some, Ok, Err, refl, sym, ap, subst, ◌∙◌, arith}
 use Rattle.edge_io.specs.Causes.{Rose}
 use Rattle.edge_io.specs.Seen.{Seen}
-use Rattle.testr_cli.specs.Answer.{refusal_code}
+use Rattle.command_steps.specs.Refusals.{refusal_code}
 use Rattle.testr_words.specs.Drawings.{are_few, drawing_of}
-use Rattle.testr_cli.specs.Outside.{Work, work_out}
+use Rattle.command_steps.specs.Outside.{Work, work_out}
 use Rattle.testr_cli.specs.SelfTest.{TestsItself, SumsUpAll, rows_in_turn}
-use Rattle.testr_cli.specs.Steps.{stops, goes_on}
-use Rattle.testr_cli.specs.Verdicts.{verdict_code}
-use Rattle.testr_cli.specs.declared.answer.Verdict.{Verdict}
-use Rattle.testr_cli.specs.declared.answer.Refusal.{Refusal}
-use Rattle.testr_cli.specs.declared.answer.Refusal.TheVariants.{Memory, Print}
+use Rattle.command_steps.specs.Steps.{stops, goes_on}
+use Rattle.command_steps.specs.Verdicts.{verdict_code}
+use Rattle.command_steps.specs.declared.answer.Verdict.{Verdict}
+use Rattle.command_steps.specs.declared.answer.Refusal.{Refusal}
+use Rattle.command_steps.specs.declared.answer.Refusal.TheVariants.{Memory, Print}
 use Rattle.testr_words.specs.declared.command.Command.{Command}
 use Rattle.testr_words.specs.declared.drawing.Drawing.{Drawing}
 use Rattle.testr_cli.proofs.ChainLemmas.{LeavesPart, then_leaves, gives_not}

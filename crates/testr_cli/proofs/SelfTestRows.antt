@@ -35,10 +35,10 @@ use Rattle.worker_lane.proofs.NoteLemmas.{recorded_whole}
 use Rattle.worker_lane.specs.Rest.{notes_of_stream, notes_are}
 use Rattle.worker_mux.specs.Outputs.{events_for, lists_from}
 use Rattle.testr_words.specs.Drawings.{are_few}
-use Rattle.testr_cli.specs.Outside.{Work, work}
-use Rattle.testr_cli.specs.RunSuite.{Works}
+use Rattle.command_steps.specs.Outside.{Work, work}
+use Rattle.command_steps.specs.Working.{Works}
 use Rattle.testr_cli.specs.SelfTest.{RunsInTurn, lane_of, rows_in_turn}
-use Rattle.testr_cli.specs.declared.answer.Refusal.{Refusal}
+use Rattle.command_steps.specs.declared.answer.Refusal.{Refusal}
 use Rattle.testr_words.specs.declared.drawing.Drawing.{Drawing}
 use Rattle.testr_cli.proofs.MergeLaws.{AreOfOutputs}
 use Rattle.testr_cli.proofs.PacketBytes.{packets_bytes}

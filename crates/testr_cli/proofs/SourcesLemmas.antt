@@ -7,10 +7,10 @@ use Rattle.packet_codec.specs.Grammar.{AreBytes}
 use Rattle.packet_codec.specs.declared.event.Event.{Event}
 use Rattle.outcome_fold.specs.declared.row.Row.{Row}
 use Rattle.run_ledger.specs.Reading.{AreRowsOf}
-use Rattle.testr_cli.specs.Files.{AreSources, HasRecordedInTurn, RecordsSources}
-use Rattle.testr_cli.specs.Outside.{Work}
+use Rattle.command_steps.specs.Files.{AreSources, HasRecordedInTurn, RecordsSources}
+use Rattle.command_steps.specs.Outside.{Work}
 use Rattle.testr_cli.specs.Program.{ReadsInputFor}
-use Rattle.testr_cli.specs.Runs.{run_bytes}
+use Rattle.command_steps.specs.Runs.{run_bytes}
 use Rattle.testr_cli.proofs.ReadLemmas.{told_all}
 
 -- the run is what is recorded of all sources

@@ -10,7 +10,8 @@ use Rattle.run_shelf.specs.declared.side.Side.TheVariants.{Failing}
 use Rattle.run_ledger.specs.Caches.{IsSound}
 use Rattle.testr_words.specs.Drawings.{drawing_of}
 use Rattle.testr_words.specs.Questions.{OfBytes}
-use Rattle.testr_cli.specs.Sparing.{SparesRuns, SparesFor, LooksOnly, SparesReads}
+use Rattle.testr_cli.specs.Sparing.{LooksOnly, SparesReads}
+use Rattle.command_steps.specs.Calls.{SparesRuns, SparesFor}
 use Rattle.testr_words.specs.Tasks.{Task, load, ask, selftest, task_with}
 use Rattle.testr_words.specs.Words.{testr_word, asked_by}
 use Rattle.testr_words.specs.declared.command.Command.{Command}

@@ -6,28 +6,29 @@ use Rattle.sub_number.specs.declared.memory.NoMemory.{NoMemory}
 use Rattle.run_shelf.specs.declared.faults.InitFault.{InitFault}
 use Rattle.run_shelf.specs.declared.faults.OpenFault.{OpenFault}
 use Rattle.run_shelf.specs.declared.found.Found.{Found}
-use Rattle.testr_cli.specs.Outside.{Work, fed, filed, work_folder, work_fed, work_filed, work_out, Place, in_folder, SameCounts, RisesAt}
-use Rattle.testr_cli.specs.Files.{RecordsSources, HasFilesCause, StopsAtFile, NoneFailed as NoFileFailed}
-use Rattle.testr_cli.proofs.FilesLemmas.{counts_then as files_counts}
-use Rattle.testr_cli.specs.Answer.{place_of, IsChildFault}
-use Rattle.testr_cli.specs.Steps.{Gives}
-use Rattle.testr_cli.specs.Store.{Makes, Opens, Begins, Keeps}
-use Rattle.testr_cli.specs.Recording.{Records, NoneFailed}
-use Rattle.testr_cli.specs.Refreshing.{Refreshes}
-use Rattle.testr_cli.specs.Reporting.{Prints}
-use Rattle.testr_cli.specs.Told.{Finds}
+use Rattle.command_steps.specs.Outside.{Work, fed, filed, work_folder, work_fed, work_filed, work_out, Place, in_folder, SameCounts, RisesAt}
+use Rattle.command_steps.specs.Files.{RecordsSources, HasFilesCause, StopsAtFile, NoneFailed as NoFileFailed}
+use Rattle.command_steps.proofs.FilesLemmas.{counts_then as files_counts}
+use Rattle.testr_cli.specs.Answer.{IsChildFault}
+use Rattle.command_steps.specs.Refusals.{place_of}
+use Rattle.command_steps.specs.Steps.{Gives}
+use Rattle.command_steps.specs.Store.{Makes, Opens, Begins, Keeps}
+use Rattle.command_steps.specs.Recording.{Records, NoneFailed}
+use Rattle.command_steps.specs.Refreshing.{Refreshes}
+use Rattle.command_steps.specs.Reporting.{Prints}
+use Rattle.command_steps.specs.Told.{Finds}
 use Rattle.testr_words.specs.declared.command.Question.{Question}
-use Rattle.testr_cli.specs.declared.store.RunsFault.{RunsFault}
-use Rattle.testr_cli.specs.declared.store.KeepFault.{KeepFault}
-use Rattle.testr_cli.specs.declared.recording.RecordFault.{RecordFault}
-use Rattle.testr_cli.specs.declared.recording.RecordFault.TheVariants as record_fault
-use Rattle.testr_cli.specs.declared.reporting.PrintFault.{PrintFault}
-use Rattle.testr_cli.specs.declared.told.Told.{Told}
-use Rattle.testr_cli.specs.declared.told.TellFault.{TellFault}
-use Rattle.testr_cli.specs.declared.answer.Verdict.{Verdict}
-use Rattle.testr_cli.specs.declared.answer.Refusal.{Refusal}
-use Rattle.testr_cli.specs.declared.answer.Refusal.TheVariants as refusal
-use Rattle.testr_cli.proofs.Resting.{rests_same, rests_of_stays, rests_of_same, open_rests, begin_rests}
+use Rattle.command_steps.specs.declared.store.RunsFault.{RunsFault}
+use Rattle.command_steps.specs.declared.store.KeepFault.{KeepFault}
+use Rattle.command_steps.specs.declared.recording.RecordFault.{RecordFault}
+use Rattle.command_steps.specs.declared.recording.RecordFault.TheVariants as record_fault
+use Rattle.command_steps.specs.declared.reporting.PrintFault.{PrintFault}
+use Rattle.command_steps.specs.declared.told.Told.{Told}
+use Rattle.command_steps.specs.declared.told.TellFault.{TellFault}
+use Rattle.command_steps.specs.declared.answer.Verdict.{Verdict}
+use Rattle.command_steps.specs.declared.answer.Refusal.{Refusal}
+use Rattle.command_steps.specs.declared.answer.Refusal.TheVariants as refusal
+use Rattle.command_steps.proofs.Resting.{rests_same, rests_of_stays, rests_of_same, open_rests, begin_rests}
 use Rattle.testr_cli.proofs.RefusalLemmas.{IsNamed, init_place, open_place, tell_place, refresh_place}
 use Rattle.testr_cli.proofs.ChainLemmas.{IsQuiet, IsRefused}
 

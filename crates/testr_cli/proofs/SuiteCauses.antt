@@ -26,14 +26,15 @@ use Rattle.testr_conf.specs.Jobs.{list_job_of}
 use Rattle.testr_conf.specs.Settings.{Settings, conf_of}
 use Rattle.testr_conf.specs.declared.fault.ConfFault.{ConfFault}
 use Rattle.testr_conf.specs.declared.fault.ConfFault.TheVariants as conf_fault
-use Rattle.testr_cli.specs.Answer.{refusal_code, IsChildFault}
-use Rattle.testr_cli.specs.Outside.{Work}
+use Rattle.testr_cli.specs.Answer.{IsChildFault}
+use Rattle.command_steps.specs.Refusals.{refusal_code}
+use Rattle.command_steps.specs.Outside.{Work}
 use Rattle.testr_cli.specs.RunSuite.{ListsBy, ListsSuite}
-use Rattle.testr_cli.specs.Steps.{stops, goes_on}
+use Rattle.command_steps.specs.Steps.{stops, goes_on}
 use Rattle.testr_cli.specs.SuiteProgram.{EndsWell, CanList}
-use Rattle.testr_cli.specs.SuiteTexts.{conf_code, pattern_code}
-use Rattle.testr_cli.specs.declared.answer.Refusal.{Refusal}
-use Rattle.testr_cli.specs.declared.answer.Refusal.TheVariants as refusal
+use Rattle.command_steps.specs.SuiteTexts.{conf_code, pattern_code}
+use Rattle.command_steps.specs.declared.answer.Refusal.{Refusal}
+use Rattle.command_steps.specs.declared.answer.Refusal.TheVariants as refusal
 use Rattle.testr_cli.proofs.ChainLemmas.{gives_not}
 
 -- it is of no cause that lies in what the command is given

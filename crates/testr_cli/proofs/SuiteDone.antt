@@ -26,30 +26,32 @@ use Rattle.suite_plan.specs.Processors.{CountsProcessors}
 use Rattle.suite_run.specs.Starting.{StartsAll}
 use Rattle.testr_conf.specs.Settings.{Settings}
 use Rattle.worker_mux.specs.Runs.{AddsMerge}
-use Rattle.testr_cli.specs.Asking.{FindsFailing, FindsTimes}
-use Rattle.testr_cli.specs.Outside.{Work, work_folder, work_site, work_spawner}
-use Rattle.testr_cli.specs.Perhaps.{Perhaps, not_asked, did, refused, when}
-use Rattle.testr_cli.specs.Reporting.{Report, IsReport}
-use Rattle.testr_cli.specs.RunSuite.{ListsSuite, RunsSuite, Works, TellsRun}
-use Rattle.testr_cli.specs.Runs.{run_bytes, KeepsFiles, AddsRun}
-use Rattle.testr_cli.specs.Selecting.{UsesCalled, CountsWorkers, Selects, Plans}
-use Rattle.testr_cli.specs.Steps.{Step, Then, Gives, At}
-use Rattle.testr_cli.specs.Causes.{SearchesAll}
+use Rattle.command_steps.specs.Asking.{FindsFailing, FindsTimes}
+use Rattle.command_steps.specs.Outside.{Work, work_folder, work_site, work_spawner}
+use Rattle.command_steps.specs.Perhaps.{Perhaps, not_asked, did, refused, when}
+use Rattle.command_steps.specs.Reporting.{Report, IsReport}
+use Rattle.testr_cli.specs.RunSuite.{ListsSuite, RunsSuite, TellsRun}
+use Rattle.command_steps.specs.Working.{Works}
+use Rattle.command_steps.specs.Runs.{run_bytes, KeepsFiles, AddsRun}
+use Rattle.command_steps.specs.Selecting.{UsesCalled, CountsWorkers, Selects, Plans}
+use Rattle.command_steps.specs.Steps.{Step, Then, Gives, At}
+use Rattle.testr_cli.specs.Searches.{SearchesAll}
 use Rattle.testr_cli.specs.SuiteProgram.{ListsAll, RunsAll}
 use Rattle.testr_words.specs.Suites.{RunOptions, is_partial}
-use Rattle.testr_cli.specs.Verdicts.{verdict_code}
-use Rattle.testr_cli.specs.declared.answer.Refusal.{Refusal}
-use Rattle.testr_cli.specs.declared.answer.Refusal.TheVariants as refusal
-use Rattle.testr_cli.specs.declared.answer.Verdict.{Verdict}
-use Rattle.testr_cli.specs.declared.selecting.Selected.{Selected}
+use Rattle.command_steps.specs.Verdicts.{verdict_code}
+use Rattle.command_steps.specs.declared.answer.Refusal.{Refusal}
+use Rattle.command_steps.specs.declared.answer.Refusal.TheVariants as refusal
+use Rattle.command_steps.specs.declared.answer.Verdict.{Verdict}
+use Rattle.command_steps.specs.declared.selecting.Selected.{Selected}
 use Rattle.testr_cli.proofs.ChainLemmas.{then_did}
-use Rattle.testr_cli.proofs.DoneLaws.{appended, same_verdict, status_is, kept_through, adds_run}
+use Rattle.testr_cli.proofs.DoneLaws.{appended, same_verdict, status_is, kept_through}
+use Rattle.command_steps.proofs.SoundLemmas.{adds_run}
 use Rattle.testr_cli.proofs.MergeLaws.{AreOfOutputs, have_outputs, of_outputs}
 use Rattle.testr_cli.proofs.PacketBytes.{packets_bytes}
-use Rattle.testr_cli.proofs.Resting.{Rests, goes_ends, stays_is}
+use Rattle.command_steps.proofs.Resting.{Rests, goes_ends, stays_is}
 use Rattle.testr_cli.proofs.FindLemmas.{TellsEvents, tells_behind, causes_still, causes_input, causes_did, all_some}
 use Rattle.testr_cli.proofs.KeepingLaws.{keeps_moves}
-use Rattle.testr_cli.proofs.SoundLemmas.{IsCalm, PassesAll, KeepsRunAndCaches, surveyed_calm, goes_cached, fresh_through}
+use Rattle.command_steps.proofs.SoundLemmas.{IsCalm, PassesAll, KeepsRunAndCaches, surveyed_calm, goes_cached, fresh_through}
 use Rattle.testr_cli.proofs.RowsLemmas.{rows_of_written}
 use Rattle.testr_cli.proofs.StepLaws.{open_quiet}
 use Rattle.testr_cli.proofs.SuiteJobs.{selected_range, few_jobs}

@@ -15,13 +15,13 @@ use Rattle.suite_plan.specs.Processors.{IsInRange}
 use Rattle.suite_plan.specs.Sharing.{dealt_among, shares_for}
 use Rattle.suite_plan.specs.declared.sharing.TheConstants.{MOST_WORKERS}
 use Rattle.suite_plan.proofs.ShareLemmas.{few_kept}
-use Rattle.testr_cli.specs.Outside.{Work}
-use Rattle.testr_cli.specs.Selecting.{UsesCalled, UsesAsked, CountsWorkers, Selects, shares_of_ids, Plans}
-use Rattle.testr_cli.specs.Selecting.{Times as KnownTimes}
-use Rattle.testr_cli.specs.Steps.{Gives}
+use Rattle.command_steps.specs.Outside.{Work}
+use Rattle.command_steps.specs.Selecting.{UsesCalled, UsesAsked, CountsWorkers, Selects, shares_of_ids, Plans}
+use Rattle.command_steps.specs.Selecting.{Times as KnownTimes}
+use Rattle.command_steps.specs.Steps.{Gives}
 use Rattle.testr_words.specs.Suites.{RunOptions}
-use Rattle.testr_cli.specs.declared.answer.Refusal.{Refusal}
-use Rattle.testr_cli.specs.declared.selecting.Selected.{Selected}
+use Rattle.command_steps.specs.declared.answer.Refusal.{Refusal}
+use Rattle.command_steps.specs.declared.selecting.Selected.{Selected}
 use Rattle.testr_cli.proofs.ChainLemmas.{then_did}
 
 -- ---- shares

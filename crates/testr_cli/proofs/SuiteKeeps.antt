@@ -4,16 +4,17 @@ use Rattle.edge_io.specs.declared.job.Job.{Job}
 use Rattle.outcome_fold.specs.declared.row.Row.{Row}
 use Rattle.suite_causes.specs.declared.suspects.Suspect.{Suspect}
 use Rattle.testr_conf.specs.Settings.{Settings}
-use Rattle.testr_cli.specs.Outside.{Work}
-use Rattle.testr_cli.specs.Causes.{candidates_in, FindsAmong, FindsCause, FindsEach, FindsCauses}
-use Rattle.testr_cli.specs.RunSuite.{Works, TellsRun, TellsAndFinds, RunsSuite}
-use Rattle.testr_cli.specs.Steps.{Then, stops, goes_on, Gives}
+use Rattle.command_steps.specs.Outside.{Work}
+use Rattle.command_steps.specs.Causes.{candidates_in, FindsAmong, FindsCause, FindsEach, FindsCauses}
+use Rattle.testr_cli.specs.RunSuite.{TellsRun, TellsAndFinds, RunsSuite}
+use Rattle.command_steps.specs.Working.{Works}
+use Rattle.command_steps.specs.Steps.{Then, stops, goes_on, Gives}
 use Rattle.testr_cli.specs.Answer.{may_have_kept}
 use Rattle.testr_words.specs.Suites.{RunOptions, is_partial}
 use Rattle.testr_words.specs.Tasks.{run}
-use Rattle.testr_cli.specs.declared.answer.Refusal.{Refusal}
-use Rattle.testr_cli.specs.declared.answer.Refusal.TheVariants.{Report, Print, Suspects, Ran, Search}
-use Rattle.testr_cli.proofs.Resting.{rests_of_same}
+use Rattle.command_steps.specs.declared.answer.Refusal.{Refusal}
+use Rattle.command_steps.specs.declared.answer.Refusal.TheVariants.{Report, Print, Suspects, Ran, Search}
+use Rattle.command_steps.proofs.Resting.{rests_of_same}
 use Rattle.testr_cli.proofs.ChainLemmas.{gives_not}
 use Rattle.testr_cli.proofs.KeepLemmas.{KeepsUnless, then_keeps, refused_as, never, named_last}
 use Rattle.testr_cli.proofs.StepLaws.{still_quiet, open_quiet, begin_quiet}

@@ -29,20 +29,21 @@ use Rattle.suite_run.specs.declared.starting.StartRefusal.{StartRefusal}
 use Rattle.testr_conf.specs.Settings.{Settings}
 use Rattle.testr_conf.specs.declared.fault.JobFault.{JobFault}
 use Rattle.worker_lane.specs.declared.lot.Lot.{Lot}
-use Rattle.testr_cli.specs.Causes.{candidates_in, FindsAmong, FindsCause, FindsEach, FindsCauses}
-use Rattle.testr_cli.specs.Outside.{Work, work_folder, work_site, work_spawner, in_site, in_spawner, SameCounts, RisesAt}
-use Rattle.testr_cli.specs.Perhaps.{Perhaps, not_asked, did, refused}
-use Rattle.testr_cli.specs.RunSuite.{ListsBy, ListsSuite, Works, TellsRun, TellsAndFinds, RunsBy, RunsSuite}
-use Rattle.testr_cli.specs.Selecting.{UsesCalled, UsesAsked, CountsWorkers, Selects, Plans}
+use Rattle.command_steps.specs.Causes.{candidates_in, FindsAmong, FindsCause, FindsEach, FindsCauses}
+use Rattle.command_steps.specs.Outside.{Work, work_folder, work_site, work_spawner, in_site, in_spawner, SameCounts, RisesAt}
+use Rattle.command_steps.specs.Perhaps.{Perhaps, not_asked, did, refused}
+use Rattle.testr_cli.specs.RunSuite.{ListsBy, ListsSuite, TellsRun, TellsAndFinds, RunsBy, RunsSuite}
+use Rattle.command_steps.specs.Working.{Works}
+use Rattle.command_steps.specs.Selecting.{UsesCalled, UsesAsked, CountsWorkers, Selects, Plans}
 use Rattle.testr_cli.specs.SelfTest.{TestsItself}
-use Rattle.testr_cli.specs.Steps.{Step, Gives}
+use Rattle.command_steps.specs.Steps.{Step, Gives}
 use Rattle.testr_words.specs.Suites.{RunOptions}
-use Rattle.testr_cli.specs.Told.{fault_fails}
-use Rattle.testr_cli.specs.declared.answer.Refusal.{Refusal}
-use Rattle.testr_cli.specs.declared.answer.Refusal.TheVariants as refusal
+use Rattle.command_steps.specs.Told.{fault_fails}
+use Rattle.command_steps.specs.declared.answer.Refusal.{Refusal}
+use Rattle.command_steps.specs.declared.answer.Refusal.TheVariants as refusal
 use Rattle.testr_words.specs.declared.drawing.Drawing.{Drawing}
-use Rattle.testr_cli.specs.declared.selecting.Selected.{Selected}
-use Rattle.testr_cli.specs.declared.told.TellFault.{TellFault}
+use Rattle.command_steps.specs.declared.selecting.Selected.{Selected}
+use Rattle.command_steps.specs.declared.told.TellFault.{TellFault}
 use Rattle.testr_cli.proofs.ChainLemmas.{IsRefused, Counts, Refuses, then_counts, then_refuses, gives_refuses}
 use Rattle.testr_cli.proofs.RefusalLemmas.{tell_place, ran_place, search_place, lanes_place, conf_place, list_place, table_place, call_place, listing_place, start_place}
 use Rattle.testr_cli.proofs.StepLaws.{folder_same, folder_counts, placed, still_counts, still_refuses, runs_refuse, memory_refuses, open_counts, open_refuses, begin_counts, begin_refuses, keep_counts, keep_refuses, refresh_counts, refresh_refuses, print_counts, print_refuses}

@@ -26,26 +26,28 @@ use Rattle.suite_run.specs.Starting.{StartsAll, StartsSome, StartsLanes}
 use Rattle.suite_run.specs.declared.starting.StartRefusal.{StartRefusal}
 use Rattle.worker_lane.specs.declared.lot.Lot.{Lot}
 use Rattle.worker_mux.specs.Runs.{AddsMerge}
-use Rattle.testr_cli.specs.Outside.{Work, work_folder, work_spawner}
-use Rattle.testr_cli.specs.Refreshing.{Refreshes}
-use Rattle.testr_cli.specs.Reporting.{Report, IsReport}
-use Rattle.testr_cli.specs.Causes.{FindsCauses, SearchesSome, TakesFirst}
-use Rattle.testr_cli.specs.RunSuite.{Works, TellsRun, TellsAndFinds, RunsSuite}
-use Rattle.testr_cli.specs.Runs.{run_bytes, HasRunAndCaches, KeepsRepository}
-use Rattle.testr_cli.specs.Steps.{Then, stops, goes_on, Gives, At}
-use Rattle.testr_cli.specs.Store.{Begins, Keeps}
+use Rattle.command_steps.specs.Outside.{Work, work_folder, work_spawner}
+use Rattle.command_steps.specs.Refreshing.{Refreshes}
+use Rattle.command_steps.specs.Reporting.{Report, IsReport}
+use Rattle.command_steps.specs.Causes.{FindsCauses}
+use Rattle.testr_cli.specs.Searches.{SearchesSome, TakesFirst}
+use Rattle.testr_cli.specs.RunSuite.{TellsRun, TellsAndFinds, RunsSuite}
+use Rattle.command_steps.specs.Working.{Works}
+use Rattle.command_steps.specs.Runs.{run_bytes, HasRunAndCaches, KeepsRepository}
+use Rattle.command_steps.specs.Steps.{Then, stops, goes_on, Gives, At}
+use Rattle.command_steps.specs.Store.{Begins, Keeps}
 use Rattle.testr_cli.specs.SuiteStops.{HasSuiteRun, PassesSuiteRun}
 use Rattle.testr_words.specs.Suites.{RunOptions, is_partial}
 use Rattle.testr_cli.specs.Workers.{RunsWorkers, AsksFew, StartsInOrder, PrintsFirst, LeavesRun}
-use Rattle.testr_cli.specs.declared.answer.Verdict.{Verdict}
-use Rattle.testr_cli.specs.declared.answer.Refusal.{Refusal}
-use Rattle.testr_cli.specs.declared.answer.Refusal.TheVariants.{Lanes, Keep, Refresh}
+use Rattle.command_steps.specs.declared.answer.Verdict.{Verdict}
+use Rattle.command_steps.specs.declared.answer.Refusal.{Refusal}
+use Rattle.command_steps.specs.declared.answer.Refusal.TheVariants.{Lanes, Keep, Refresh}
 use Rattle.testr_cli.proofs.ChainLemmas.{IsQuiet, gives_not}
 use Rattle.testr_cli.proofs.DoneLaws.{kept_through}
 use Rattle.testr_cli.proofs.KeepingLaws.{keeps_moves, Moves, run_moves as run_passes}
 use Rattle.testr_cli.proofs.MergeLaws.{HaveOutputs, AreOfOutputs, have_outputs, of_outputs}
-use Rattle.testr_cli.proofs.Resting.{Rests, rests_then, rests_of_same, goes_ends}
-use Rattle.testr_cli.proofs.SoundLemmas.{PassesAll, KeepsRunAndCaches, rests_repository, rests_sound}
+use Rattle.command_steps.proofs.Resting.{Rests, rests_then, rests_of_same, goes_ends}
+use Rattle.command_steps.proofs.SoundLemmas.{PassesAll, KeepsRunAndCaches, rests_repository, rests_sound}
 use Rattle.testr_cli.proofs.StepLaws.{begin_quiet}
 use Rattle.testr_cli.proofs.FindLemmas.{TellsEvents, TakesPart, tells_behind, causes_still, causes_left, none_searched, so_told}
 use Rattle.testr_cli.proofs.SuiteDone.{Worked, work_did, tell_did, rows_told, told_before, where_told}

@@ -43,30 +43,31 @@ use Rattle.testr_conf.specs.declared.fault.JobFault.{JobFault}
 use Rattle.testr_conf.specs.declared.fault.JobFault.TheVariants as job_fault
 use Rattle.testr_conf.specs.declared.ids.IdsFault.{IdsFault}
 use Rattle.testr_conf.specs.declared.ids.IdsFault.TheVariants.{NotText}
-use Rattle.testr_cli.specs.Outside.{Work}
-use Rattle.testr_cli.specs.Perhaps.{when, Perhaps, not_asked, did, refused}
-use Rattle.testr_cli.specs.RunSuite.{Works, TellsRun, TellsAndFinds, RunsBy, RunsSuite}
-use Rattle.testr_cli.specs.Causes.{ProbesEnd, suspects_in, UseNoBroken}
+use Rattle.command_steps.specs.Outside.{Work}
+use Rattle.command_steps.specs.Perhaps.{when, Perhaps, not_asked, did, refused}
+use Rattle.testr_cli.specs.RunSuite.{TellsRun, TellsAndFinds, RunsBy, RunsSuite}
+use Rattle.command_steps.specs.Working.{Works}
+use Rattle.testr_cli.specs.Searches.{ProbesEnd, suspects_in, UseNoBroken}
 use Rattle.testr_cli.specs.Prospects.{MayCount, MaySelect, MayPlan}
-use Rattle.testr_cli.specs.Runs.{HasRuns, KeepsFiles, run_bytes}
-use Rattle.testr_cli.specs.Selecting.{Times, UsesCalled, UsesAsked, CountsWorkers, needs_listing, Selects, shares_of_ids, MakesJobs, HandsIds, Plans}
-use Rattle.testr_cli.specs.Steps.{Step, stops, goes_on}
+use Rattle.command_steps.specs.Runs.{HasRuns, KeepsFiles, run_bytes}
+use Rattle.command_steps.specs.Selecting.{Times, UsesCalled, UsesAsked, CountsWorkers, needs_listing, Selects, shares_of_ids, MakesJobs, HandsIds, Plans}
+use Rattle.command_steps.specs.Steps.{Step, stops, goes_on}
 use Rattle.testr_cli.specs.SuiteProgram.{calls_by, calls_of, EndsWell, CountIsTold, CallsOutNone, CanHand, CanRun}
-use Rattle.testr_cli.specs.SuiteTexts.{list_code, table_code, job_code, start_code, lanes_code}
+use Rattle.command_steps.specs.SuiteTexts.{list_code, table_code, job_code, start_code, lanes_code}
 use Rattle.testr_words.specs.Suites.{RunOptions, is_partial}
-use Rattle.testr_cli.specs.Told.{tell_code}
-use Rattle.testr_cli.specs.declared.answer.Refusal.{Refusal}
-use Rattle.testr_cli.specs.declared.answer.Refusal.TheVariants as refusal
-use Rattle.testr_cli.specs.declared.selecting.Selected.{Selected}
-use Rattle.testr_cli.specs.declared.told.TellFault.{TellFault}
-use Rattle.testr_cli.specs.declared.told.TellFault.TheVariants as tell_fault
+use Rattle.command_steps.specs.Told.{tell_code}
+use Rattle.command_steps.specs.declared.answer.Refusal.{Refusal}
+use Rattle.command_steps.specs.declared.answer.Refusal.TheVariants as refusal
+use Rattle.command_steps.specs.declared.selecting.Selected.{Selected}
+use Rattle.command_steps.specs.declared.told.TellFault.{TellFault}
+use Rattle.command_steps.specs.declared.told.TellFault.TheVariants as tell_fault
 use Rattle.testr_cli.proofs.FolderLemmas.{takes_in_repository, not_full}
 use Rattle.testr_cli.proofs.ChainLemmas.{then_did, gives_not}
 use Rattle.testr_cli.proofs.FindLemmas.{TellsEvents, tells_behind}
 use Rattle.testr_cli.proofs.LeftIds.{no_shares}
 use Rattle.testr_cli.proofs.ProbeCauses.{causes_never, probes_behind}
-use Rattle.testr_cli.proofs.Resting.{Rests, goes_ends}
-use Rattle.testr_cli.proofs.SoundLemmas.{IsCalm, KeepsRunAndCaches, surveyed_calm}
+use Rattle.command_steps.proofs.Resting.{Rests, goes_ends}
+use Rattle.command_steps.proofs.SoundLemmas.{IsCalm, KeepsRunAndCaches, surveyed_calm}
 use Rattle.testr_cli.proofs.StepLaws.{open_quiet}
 use Rattle.testr_cli.proofs.SuiteDone.{select_leaves, plan_leaves, leaves_then, work_did, tell_did}
 use Rattle.testr_cli.proofs.SuiteJobs.{selected_range, few_jobs}

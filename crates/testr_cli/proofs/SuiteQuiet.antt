@@ -5,15 +5,15 @@ use Rattle.edge_io.specs.Disk.{Folder}
 use Rattle.edge_io.specs.Seen.{Seen}
 use Rattle.edge_io.specs.Steps.{Goes}
 use Rattle.testr_conf.specs.Settings.{Settings}
-use Rattle.testr_cli.specs.Outside.{Work, work_folder, work_site, work_spawner}
-use Rattle.testr_cli.specs.Perhaps.{Perhaps, not_asked, did, refused}
+use Rattle.command_steps.specs.Outside.{Work, work_folder, work_site, work_spawner}
+use Rattle.command_steps.specs.Perhaps.{Perhaps, not_asked, did, refused}
 use Rattle.testr_cli.specs.RunSuite.{ListsSuite}
-use Rattle.testr_cli.specs.Selecting.{UsesCalled, UsesAsked, CountsWorkers, Selects, Plans}
-use Rattle.testr_cli.specs.Steps.{Step, Gives}
+use Rattle.command_steps.specs.Selecting.{UsesCalled, UsesAsked, CountsWorkers, Selects, Plans}
+use Rattle.command_steps.specs.Steps.{Step, Gives}
 use Rattle.testr_words.specs.Suites.{RunOptions}
-use Rattle.testr_cli.specs.declared.answer.Refusal.{Refusal}
-use Rattle.testr_cli.specs.declared.selecting.Selected.{Selected}
-use Rattle.testr_cli.proofs.Resting.{Rests, rests_same, rests_of_stays}
+use Rattle.command_steps.specs.declared.answer.Refusal.{Refusal}
+use Rattle.command_steps.specs.declared.selecting.Selected.{Selected}
+use Rattle.command_steps.proofs.Resting.{Rests, rests_same, rests_of_stays}
 use Rattle.testr_cli.proofs.ChainLemmas.{IsQuiet, Quiet, then_quiet, LeavesPart, then_leaves}
 use Rattle.testr_cli.proofs.StepLaws.{still_quiet}
 

@@ -18,20 +18,21 @@ use Rattle.suite_plan.specs.declared.calling.CallRefusal.TheVariants as call
 use Rattle.suite_plan.specs.declared.listing.ListingRefusal.{ListingRefusal}
 use Rattle.suite_plan.specs.declared.listing.ListingRefusal.TheVariants as listing
 use Rattle.testr_conf.specs.Settings.{Settings}
-use Rattle.testr_cli.specs.Outside.{Work, work_folder, work_site, work_spawner}
-use Rattle.testr_cli.specs.Perhaps.{Perhaps, not_asked, did, refused}
-use Rattle.testr_cli.specs.RunSuite.{Works, TellsAndFinds, RunsBy, RunsSuite}
-use Rattle.testr_cli.specs.Runs.{KeepsFiles}
-use Rattle.testr_cli.specs.Selecting.{Ids, UsesCalled, UsesAsked, CountsWorkers, Selects, Plans}
-use Rattle.testr_cli.specs.Steps.{Step, Then, stops, goes_on, Gives}
+use Rattle.command_steps.specs.Outside.{Work, work_folder, work_site, work_spawner}
+use Rattle.command_steps.specs.Perhaps.{Perhaps, not_asked, did, refused}
+use Rattle.testr_cli.specs.RunSuite.{TellsAndFinds, RunsBy, RunsSuite}
+use Rattle.command_steps.specs.Working.{Works}
+use Rattle.command_steps.specs.Runs.{KeepsFiles}
+use Rattle.command_steps.specs.Selecting.{Ids, UsesCalled, UsesAsked, CountsWorkers, Selects, Plans}
+use Rattle.command_steps.specs.Steps.{Step, Then, stops, goes_on, Gives}
 use Rattle.testr_words.specs.Suites.{RunOptions, is_partial}
 use Rattle.testr_cli.specs.Workers.{AsksFew, HasPlanned}
-use Rattle.testr_cli.specs.declared.answer.Refusal.{Refusal}
-use Rattle.testr_cli.specs.declared.answer.Verdict.{Verdict}
-use Rattle.testr_cli.specs.declared.selecting.Selected.{Selected}
+use Rattle.command_steps.specs.declared.answer.Refusal.{Refusal}
+use Rattle.command_steps.specs.declared.answer.Verdict.{Verdict}
+use Rattle.command_steps.specs.declared.selecting.Selected.{Selected}
 use Rattle.testr_cli.proofs.ChainLemmas.{IsQuiet}
-use Rattle.testr_cli.proofs.Resting.{Rests, rests_then, rests_same, rests_of_stays}
-use Rattle.testr_cli.proofs.SoundLemmas.{IsCalm, calm_after, surveyed_calm}
+use Rattle.command_steps.proofs.Resting.{Rests, rests_then, rests_same, rests_of_stays}
+use Rattle.command_steps.proofs.SoundLemmas.{IsCalm, calm_after, surveyed_calm}
 use Rattle.testr_cli.proofs.StepLaws.{open_quiet}
 use Rattle.testr_cli.proofs.SuiteJobs.{few_jobs, selected_range}
 

@@ -2,18 +2,18 @@
 use Rattle.std.specs.Prelude.{◌-◌, true, length}
 use Rattle.run_shelf.specs.declared.found.Found.{Found}
 use Rattle.run_shelf.specs.Holds.{kinds_of}
-use Rattle.testr_cli.specs.Steps.{Step, Then, Still, Gives, At}
-use Rattle.testr_cli.specs.Outside.{Shown, shown_folder, shown_out}
-use Rattle.testr_cli.specs.Store.{Opens, HasRunFor}
-use Rattle.testr_cli.specs.Told.{Finds}
-use Rattle.testr_cli.specs.Copying.{Copies, copy_refusal}
-use Rattle.testr_cli.specs.Reporting.{Prints}
+use Rattle.command_steps.specs.Steps.{Step, Then, Still, Gives, At}
+use Rattle.command_steps.specs.Outside.{Shown, shown_folder, shown_out}
+use Rattle.command_steps.specs.Store.{Opens, HasRunFor}
+use Rattle.command_steps.specs.Told.{Finds}
+use Rattle.command_steps.specs.Copying.{Copies, copy_refusal}
+use Rattle.command_steps.specs.Reporting.{Prints}
 use Rattle.testr_words.specs.declared.command.Question.{Question}
 use Rattle.testr_words.specs.declared.command.Question.TheVariants.{Last}
-use Rattle.testr_cli.specs.declared.answer.Verdict.{Verdict}
-use Rattle.testr_cli.specs.declared.answer.Verdict.TheVariants.{Passed}
-use Rattle.testr_cli.specs.declared.answer.Refusal.{Refusal}
-use Rattle.testr_cli.specs.declared.answer.Refusal.TheVariants.{Open, Runs, Tell, Print}
+use Rattle.command_steps.specs.declared.answer.Verdict.{Verdict}
+use Rattle.command_steps.specs.declared.answer.Verdict.TheVariants.{Passed}
+use Rattle.command_steps.specs.declared.answer.Refusal.{Refusal}
+use Rattle.command_steps.specs.declared.answer.Refusal.TheVariants.{Open, Runs, Tell, Print}
 
 -- the last run is copied as it is
 abbrev pub CopiesLast : Found → Step Shown Verdict Refusal

@@ -1,12 +1,12 @@
 -- `testr init`, as the chain of its steps.
 use Rattle.edge_io.specs.Disk.{Folder}
 use Rattle.edge_io.specs.Seen.{Seen}
-use Rattle.testr_cli.specs.Steps.{Step, Then, Gives}
-use Rattle.testr_cli.specs.Store.{Makes}
-use Rattle.testr_cli.specs.declared.answer.Verdict.{Verdict}
-use Rattle.testr_cli.specs.declared.answer.Verdict.TheVariants.{Passed}
-use Rattle.testr_cli.specs.declared.answer.Refusal.{Refusal}
-use Rattle.testr_cli.specs.declared.answer.Refusal.TheVariants.{Init}
+use Rattle.command_steps.specs.Steps.{Step, Then, Gives}
+use Rattle.command_steps.specs.Store.{Makes}
+use Rattle.command_steps.specs.declared.answer.Verdict.{Verdict}
+use Rattle.command_steps.specs.declared.answer.Verdict.TheVariants.{Passed}
+use Rattle.command_steps.specs.declared.answer.Refusal.{Refusal}
+use Rattle.command_steps.specs.declared.answer.Refusal.TheVariants.{Init}
 
 -- the chain of `init`
 abbrev pub Inits : Step (Seen Folder) Verdict Refusal

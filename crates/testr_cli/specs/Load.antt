@@ -1,15 +1,15 @@
 -- `testr load`, as the chain of its steps.
 use Rattle.std.specs.Prelude.{Bool, ℕ, List, [], length}
 use Rattle.run_shelf.specs.Holds.{kinds_of}
-use Rattle.testr_cli.specs.Steps.{Step, Then, Still, Gives, At}
-use Rattle.testr_cli.specs.Outside.{Work, work_folder, work_out}
-use Rattle.testr_cli.specs.Store.{Opens, TakesRun, Begins, Keeps}
-use Rattle.testr_cli.specs.Files.{RecordsSources}
-use Rattle.testr_cli.specs.Refreshing.{Refreshes}
-use Rattle.testr_cli.specs.Reporting.{Reports, Prints}
-use Rattle.testr_cli.specs.declared.answer.Verdict.{Verdict}
-use Rattle.testr_cli.specs.declared.answer.Refusal.{Refusal}
-use Rattle.testr_cli.specs.declared.answer.Refusal.TheVariants.{Open, Runs, Keep, Record, Memory, Refresh, Print}
+use Rattle.command_steps.specs.Steps.{Step, Then, Still, Gives, At}
+use Rattle.command_steps.specs.Outside.{Work, work_folder, work_out}
+use Rattle.command_steps.specs.Store.{Opens, TakesRun, Begins, Keeps}
+use Rattle.command_steps.specs.Files.{RecordsSources}
+use Rattle.command_steps.specs.Refreshing.{Refreshes}
+use Rattle.command_steps.specs.Reporting.{Reports, Prints}
+use Rattle.command_steps.specs.declared.answer.Verdict.{Verdict}
+use Rattle.command_steps.specs.declared.answer.Refusal.{Refusal}
+use Rattle.command_steps.specs.declared.answer.Refusal.TheVariants.{Open, Runs, Keep, Record, Memory, Refresh, Print}
 
 -- the chain of `load`
 abbrev pub Loads : Bool → List (List ℕ) → Step Work Verdict Refusal

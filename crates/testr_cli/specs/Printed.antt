@@ -12,13 +12,13 @@ use Rattle.suite_plan.specs.ConfFile.{GivesSettings}
 use Rattle.suite_plan.specs.Listing.{ListsSo}
 use Rattle.testr_conf.specs.Jobs.{id_lines}
 use Rattle.testr_conf.specs.Settings.{Settings}
-use Rattle.testr_cli.specs.Files.{AreSources, HasRecordedInTurn}
-use Rattle.testr_cli.specs.Outside.{Work}
-use Rattle.testr_cli.specs.Says.{SaysOfFolder}
+use Rattle.command_steps.specs.Files.{AreSources, HasRecordedInTurn}
+use Rattle.command_steps.specs.Outside.{Work}
+use Rattle.command_steps.specs.Says.{SaysOfFolder}
 use Rattle.testr_cli.specs.SelfTest.{rows_in_turn}
 use Rattle.testr_words.specs.Tasks.{Task, load, ask, list, run, selftest}
 use Rattle.testr_cli.specs.Workers.{PrintsFirst}
-use Rattle.testr_cli.specs.declared.answer.Verdict.{Verdict}
+use Rattle.command_steps.specs.declared.answer.Verdict.{Verdict}
 use Rattle.testr_words.specs.declared.command.Question.{Question}
 
 -- the output took a first part of the report of the run that is recorded of these sources

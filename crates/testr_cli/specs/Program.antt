@@ -17,30 +17,31 @@ use Rattle.run_ledger.specs.Refreshing.{KeepsSound}
 use Rattle.run_shelf.specs.Images.{MakesRepository}
 use Rattle.run_shelf.specs.Repository.{Run, Shows, IsRepository, most_runs, format_name}
 use Rattle.sub_text.specs.Texts.{report_of}
-use Rattle.testr_cli.specs.Answer.{refusal_text, code_of, place_in, may_have_kept, IsChildFault}
+use Rattle.testr_cli.specs.Answer.{may_have_kept, IsChildFault}
+use Rattle.command_steps.specs.Refusals.{refusal_text, code_of, place_in}
 use Rattle.testr_cli.specs.Ask.{Asks}
-use Rattle.testr_cli.specs.Files.{AreSources, HasRecordedInTurn}
+use Rattle.command_steps.specs.Files.{AreSources, HasRecordedInTurn}
 use Rattle.testr_cli.specs.Init.{Inits}
 use Rattle.testr_cli.specs.Load.{Loads}
-use Rattle.testr_cli.specs.Outside.{Outside, LeavesOutside, Work, work_of, work_folder, work_shown, SomeRose, RisesAt}
+use Rattle.command_steps.specs.Outside.{Outside, LeavesOutside, Work, work_of, work_folder, work_shown, SomeRose, RisesAt}
 use Rattle.testr_cli.specs.Printed.{PrintsInPart}
-use Rattle.testr_cli.specs.Recording.{most_bytes}
-use Rattle.testr_cli.specs.Refreshing.{BringsCaches}
+use Rattle.command_steps.specs.Recording.{most_bytes}
+use Rattle.command_steps.specs.Refreshing.{BringsCaches}
 use Rattle.testr_cli.specs.RunSuite.{ListsSuite, RunsSuite}
-use Rattle.testr_cli.specs.Runs.{HasRuns, KeepsFiles, KeepsRepository, KeepsRuns, AddsRun}
-use Rattle.testr_cli.specs.Says.{SaysOfFolder}
+use Rattle.command_steps.specs.Runs.{HasRuns, KeepsFiles, KeepsRepository, KeepsRuns, AddsRun}
+use Rattle.command_steps.specs.Says.{SaysOfFolder}
 use Rattle.testr_words.specs.Questions.{OfLastRun}
 use Rattle.testr_cli.specs.SelfTest.{TestsItself, SumsUpAll}
-use Rattle.testr_cli.specs.Steps.{Step, At}
+use Rattle.command_steps.specs.Steps.{Step, At}
 use Rattle.testr_cli.specs.Stops.{PassesTask}
 use Rattle.testr_cli.specs.SuiteProgram.{ListsAll, RunsAll, CanList, CanRun}
 use Rattle.testr_words.specs.Tasks.{Task, init, load, ask, list, run, selftest}
-use Rattle.testr_cli.specs.Verdicts.{verdict_code}
+use Rattle.command_steps.specs.Verdicts.{verdict_code}
 use Rattle.testr_words.specs.Words.{testr_word, asked_by}
-use Rattle.testr_cli.specs.declared.answer.Refusal.{Refusal}
-use Rattle.testr_cli.specs.declared.answer.Refusal.TheVariants.{Usage, Memory}
+use Rattle.command_steps.specs.declared.answer.Refusal.{Refusal}
+use Rattle.command_steps.specs.declared.answer.Refusal.TheVariants.{Usage, Memory}
 use Rattle.testr_cli.specs.Workers.{LeavesRun}
-use Rattle.testr_cli.specs.declared.answer.Verdict.{Verdict}
+use Rattle.command_steps.specs.declared.answer.Verdict.{Verdict}
 use Rattle.testr_words.specs.declared.command.Question.{Question}
 use Rattle.testr_words.specs.declared.words.UsageFault.TheVariants.{Words}
 

@@ -5,11 +5,11 @@ use Rattle.edge_io.specs.Spawners.{Spawning}
 use Rattle.edge_io.specs.Steps.{Goes}
 use Rattle.edge_io.specs.declared.job.Job.{Job}
 use Rattle.testr_conf.specs.Settings.{Settings}
-use Rattle.testr_cli.specs.Outside.{Work}
-use Rattle.testr_cli.specs.Runs.{KeepsFiles}
-use Rattle.testr_cli.specs.Selecting.{CountsWorkers, Selects, Plans}
+use Rattle.command_steps.specs.Outside.{Work}
+use Rattle.command_steps.specs.Runs.{KeepsFiles}
+use Rattle.command_steps.specs.Selecting.{CountsWorkers, Selects, Plans}
 use Rattle.testr_words.specs.Suites.{RunOptions}
-use Rattle.testr_cli.specs.declared.selecting.Selected.{Selected}
+use Rattle.command_steps.specs.declared.selecting.Selected.{Selected}
 
 -- so many workers may be found, over these files and these children
 pub record MayCount (settings : Settings) (options : RunOptions) (site : Option Files) (children : Option Spawning) (workers : ℕ) : Type 0 where

@@ -1,8 +1,6 @@
 -- `testr run` and `testr list-tests`, as the chains of their steps.
 use Rattle.std.specs.Prelude.{◌≡◌, ℕ, Bool, None, List, length, Result, Ok, Err, IfOk}
-use Rattle.edge_io.specs.declared.job.Job.{Job}
 use Rattle.outcome_fold.specs.declared.row.Row.{Row}
-use Rattle.outcome_fold.specs.declared.summary.Summary.{Summary}
 use Rattle.run_shelf.specs.Holds.{kinds_of}
 use Rattle.sub_number.specs.declared.memory.NoMemory.{NoMemory}
 use Rattle.testr_conf.specs.Jobs.{id_lines}
@@ -11,24 +9,20 @@ use Rattle.suite_plan.specs.ConfFile.{ReadsConf}
 use Rattle.suite_plan.specs.Choosing.{Ids, chosen_of}
 use Rattle.suite_plan.specs.Listing.{ListsTests}
 use Rattle.suite_plan.specs.Patterns.{Compiles}
-use Rattle.suite_run.specs.Recording.{RecordsLanes}
-use Rattle.suite_run.specs.Starting.{StartsLanes}
-use Rattle.testr_cli.specs.Causes.{FindsCauses}
-use Rattle.testr_cli.specs.Outside.{Work, work_folder, work_site, work_spawner, work_out}
-use Rattle.testr_cli.specs.Refreshing.{Refreshes}
-use Rattle.testr_cli.specs.Reporting.{Reports, Prints}
-use Rattle.testr_cli.specs.Selecting.{Selects, Plans}
-use Rattle.testr_cli.specs.Steps.{Step, Then, Still, Gives, At}
-use Rattle.testr_cli.specs.Store.{Opens, TakesRun, Begins, Keeps}
+use Rattle.command_steps.specs.Causes.{FindsCauses}
+use Rattle.command_steps.specs.Outside.{Work, work_folder, work_site, work_spawner, work_out}
+use Rattle.command_steps.specs.Reporting.{Reports, Prints}
+use Rattle.command_steps.specs.Selecting.{Selects, Plans}
+use Rattle.command_steps.specs.Steps.{Step, Then, Still, Gives, At}
+use Rattle.command_steps.specs.Store.{Opens, TakesRun}
 use Rattle.testr_words.specs.Suites.{RunOptions, is_partial}
 use Rattle.suite_plan.specs.declared.patterns.Compiled.{Compiled}
 use Rattle.testr_cli.specs.declared.run.Asked.{Asked}
-use Rattle.testr_cli.specs.declared.working.Kept.{Kept}
-use Rattle.testr_cli.specs.declared.working.Ran.{Ran}
-use Rattle.testr_cli.specs.declared.answer.Verdict.{Verdict}
-use Rattle.testr_cli.specs.declared.answer.Verdict.TheVariants.{Passed}
-use Rattle.testr_cli.specs.declared.answer.Refusal.{Refusal}
-use Rattle.testr_cli.specs.declared.answer.Refusal.TheVariants.{Conf, Open, Runs, Pattern, Listing, Memory, Start, Lanes, Keep, Refresh, Report, Print}
+use Rattle.command_steps.specs.declared.answer.Verdict.{Verdict}
+use Rattle.command_steps.specs.declared.answer.Verdict.TheVariants.{Passed}
+use Rattle.command_steps.specs.declared.answer.Refusal.{Refusal}
+use Rattle.command_steps.specs.declared.answer.Refusal.TheVariants.{Conf, Open, Runs, Pattern, Listing, Memory, Report, Print}
+use Rattle.command_steps.specs.Working.{Works}
 
 -- ---- `list-tests`
 
@@ -48,29 +42,6 @@ ListsBy patterns settings =
 -- the chain of `list-tests`
 abbrev pub ListsSuite : Ids → Step Work Verdict Refusal
 ListsSuite patterns = Then Conf (At work_site ReadsConf) (ListsBy patterns)
-
--- ---- `run`
-
--- The workers are started, each with its job, and read to their ends, side by side; what is recorded of them becomes the
--- run of this number, and the caches cover it. It gives the run's rows.
-abbrev pub Works : (partial : Bool) → (number : ℕ) → List Job → Step Work (List Row) Refusal
-Works partial number jobs =
-    Then Keep (At work_folder Begins) (λ _.
-    Then Start (At work_spawner (StartsLanes jobs)) (λ rests.
-    Then Lanes (At work_folder (RecordsLanes rests)) (λ rows.
-    Then Keep (At work_folder (Keeps partial number)) (λ _.
-    Then Refresh (At work_folder (Refreshes number rows)) (λ _.
-    Gives rows)))))
-
--- the answer, of what was done what is kept of the rows alone
-abbrev pub summary_in : {E : Type 0} → Result Ran E → Result Summary E
-summary_in (Ok ran) = Ok ran.summary
-summary_in (Err refusal) = Err refusal
-
--- the same of what is known of a run that is kept
-abbrev pub kept_in : {E : Type 0} → Result Kept E → Result Summary E
-kept_in (Ok kept) = Ok kept.summary
-kept_in (Err refusal) = Err refusal
 
 -- the report of the run of these rows and this number is made and printed
 abbrev pub TellsRun : (number : ℕ) → (filter_tags : Ids) → List Row → Step Work Verdict Refusal

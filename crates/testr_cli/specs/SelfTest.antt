@@ -15,15 +15,15 @@ use Rattle.packet_codec.specs.declared.event.Event.{Event}
 use Rattle.sub_number.specs.declared.memory.NoMemory.{NoMemory}
 use Rattle.sub_text.specs.Texts.{summary_of}
 use Rattle.worker_mux.specs.Outputs.{lists_from}
-use Rattle.testr_cli.specs.Outside.{Work, work_out}
-use Rattle.testr_cli.specs.Reporting.{Prints}
-use Rattle.testr_cli.specs.Steps.{Step, Then, Still, Gives, At}
-use Rattle.testr_cli.specs.Verdicts.{verdict_of}
-use Rattle.testr_cli.specs.declared.answer.Verdict.{Verdict}
-use Rattle.testr_cli.specs.declared.answer.Refusal.{Refusal}
-use Rattle.testr_cli.specs.declared.answer.Refusal.TheVariants.{Memory, Print}
+use Rattle.command_steps.specs.Outside.{Work, work_out}
+use Rattle.command_steps.specs.Reporting.{Prints}
+use Rattle.command_steps.specs.Steps.{Step, Then, Still, Gives, At}
+use Rattle.command_steps.specs.Verdicts.{verdict_of}
+use Rattle.command_steps.specs.declared.answer.Verdict.{Verdict}
+use Rattle.command_steps.specs.declared.answer.Refusal.{Refusal}
+use Rattle.command_steps.specs.declared.answer.Refusal.TheVariants.{Memory, Print}
 use Rattle.testr_words.specs.declared.drawing.Drawing.{Drawing}
-use Rattle.testr_cli.specs.declared.told.Told.{Told}
+use Rattle.command_steps.specs.declared.told.Told.{Told}
 
 -- the events of one lane's worker, under the lane
 abbrev pub lane_of : Drawing → (lane : ℕ) → List Event

@@ -5,11 +5,11 @@ use Rattle.edge_io.specs.Steps.{Stays}
 use Rattle.edge_io.specs.Moments.{Passes}
 use Rattle.packet_codec.specs.Grammar.{AreBytes}
 use Rattle.packet_codec.specs.declared.event.Event.{Event}
-use Rattle.testr_cli.specs.Files.{AreSources, HasRecordedInTurn}
+use Rattle.command_steps.specs.Files.{AreSources, HasRecordedInTurn}
 use Rattle.run_shelf.specs.Repository.{run_of}
 use Rattle.run_shelf.specs.Images.{PassesOld, PassesFormat}
-use Rattle.testr_cli.specs.Runs.{run_bytes, HasRunAndCaches}
-use Rattle.testr_cli.specs.Outside.{Work}
+use Rattle.command_steps.specs.Runs.{run_bytes, HasRunAndCaches}
+use Rattle.command_steps.specs.Outside.{Work}
 use Rattle.testr_cli.specs.SuiteStops.{PassesSuiteRun}
 use Rattle.testr_words.specs.Tasks.{Task, init, load, ask, run}
 

@@ -21,15 +21,15 @@ use Rattle.suite_plan.specs.Processors.{table_name}
 use Rattle.suite_plan.specs.Texts.{most_text}
 use Rattle.testr_conf.specs.Jobs.{count_job_of, list_job_of, run_job_of, id_lines}
 use Rattle.testr_conf.specs.Settings.{Settings}
-use Rattle.testr_cli.specs.Outside.{Work}
-use Rattle.testr_cli.specs.Refreshing.{BringsCaches}
-use Rattle.testr_cli.specs.Runs.{HasRuns, AddsRun}
-use Rattle.testr_cli.specs.Causes.{ProbesEnd, SearchesAll}
+use Rattle.command_steps.specs.Outside.{Work}
+use Rattle.command_steps.specs.Refreshing.{BringsCaches}
+use Rattle.command_steps.specs.Runs.{HasRuns, AddsRun}
+use Rattle.testr_cli.specs.Searches.{ProbesEnd, SearchesAll}
 use Rattle.testr_cli.specs.Prospects.{MayCount, MaySelect, MayPlan}
-use Rattle.testr_cli.specs.Selecting.{needs_listing}
+use Rattle.command_steps.specs.Selecting.{needs_listing}
 use Rattle.testr_words.specs.Suites.{RunOptions, is_partial}
 use Rattle.testr_cli.specs.Workers.{RunsWorkers}
-use Rattle.testr_cli.specs.declared.selecting.Selected.{Selected}
+use Rattle.command_steps.specs.declared.selecting.Selected.{Selected}
 
 -- ---- `list-tests`
 

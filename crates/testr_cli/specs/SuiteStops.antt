@@ -5,8 +5,8 @@ use Rattle.edge_io.specs.Moments.{Passes}
 use Rattle.packet_codec.specs.declared.event.Event.{Event}
 use Rattle.run_shelf.specs.Images.{PassesOld}
 use Rattle.run_shelf.specs.Repository.{run_of}
-use Rattle.testr_cli.specs.Outside.{Work}
-use Rattle.testr_cli.specs.Runs.{run_bytes, HasRunAndCaches}
+use Rattle.command_steps.specs.Outside.{Work}
+use Rattle.command_steps.specs.Runs.{run_bytes, HasRunAndCaches}
 use Rattle.testr_words.specs.Suites.{RunOptions, is_partial}
 use Rattle.testr_cli.specs.Workers.{RunsWorkers}
 

@@ -16,12 +16,12 @@ use Rattle.suite_plan.specs.ConfFile.{GivesSettings}
 use Rattle.suite_run.specs.Starting.{StartsAll}
 use Rattle.testr_conf.specs.Settings.{Settings}
 use Rattle.worker_mux.specs.Outputs.{lists_from}
-use Rattle.testr_cli.specs.Causes.{SearchesSome, TakesFirst}
-use Rattle.testr_cli.specs.Outside.{Work, work_folder}
-use Rattle.testr_cli.specs.Runs.{KeepsFiles}
-use Rattle.testr_cli.specs.Selecting.{Selects, Plans}
+use Rattle.testr_cli.specs.Searches.{SearchesSome, TakesFirst}
+use Rattle.command_steps.specs.Outside.{Work, work_folder}
+use Rattle.command_steps.specs.Runs.{KeepsFiles}
+use Rattle.command_steps.specs.Selecting.{Selects, Plans}
 use Rattle.testr_words.specs.Suites.{RunOptions}
-use Rattle.testr_cli.specs.declared.selecting.Selected.{Selected}
+use Rattle.command_steps.specs.declared.selecting.Selected.{Selected}
 
 -- The jobs of a run: by the project's configuration tests and a number of workers were selected, and a job was made for each
 -- worker.

@@ -2,18 +2,16 @@
 
 ghost use Rattle.std.specs.Prelude.{◌↔◌, IsTrue};
 ghost use Rattle.testr_cli.specs.Ask.{Asks};
-ghost use Rattle.testr_cli.specs.Outside.{shown};
+ghost use Rattle.command_steps.specs.Outside.{shown};
 ghost use Rattle.testr_words.specs.Questions.{OfBytes};
-ghost use Rattle.testr_cli.specs.Sparing.{LooksOnly, SparesFor};
+ghost use Rattle.testr_cli.specs.Sparing.{LooksOnly};
+ghost use Rattle.command_steps.specs.Calls.{SparesFor};
 
-use testr_words::Question;
-use crate::copying::copy_last;
-use crate::reporting::print;
-use crate::store::{have_run, open};
-use crate::told::find;
 use crate::{Refusal, Verdict};
+use command_steps::{copy_last, find, have_run, open, print};
 use edge_io::{Shelf, Sink};
 use std::alloc::Global;
+use testr_words::Question;
 
 /// Prints the answer of the question.
 pub fn ask<H: Shelf, O: Sink>(

@@ -2,8 +2,8 @@
 
 ghost use Rattle.testr_cli.specs.Init.{Inits};
 
-use crate::store::make;
 use crate::{Refusal, Verdict};
+use command_steps::make;
 use edge_io::Shelf;
 
 /// Makes a repository. It takes no memory.

@@ -11,19 +11,19 @@ ghost use Rattle.run_shelf.specs.declared.faults.OpenFault.TheVariants.{NoStore,
 ghost use Rattle.run_shelf.specs.declared.found.Found.{Found as AFound};
 ghost use Rattle.run_shelf.specs.Repository.{format_name, HasFormat, HasOtherFormat, IsGap, most_runs};
 ghost use Rattle.testr_words.specs.declared.command.Question.{Question as AQuestion};
-ghost use Rattle.testr_cli.specs.declared.recording.RecordFault.{RecordFault as ARecordFault};
-ghost use Rattle.testr_cli.specs.declared.recording.RecordFault.TheVariants.{TooLong};
-ghost use Rattle.testr_cli.specs.declared.store.RunsFault.{RunsFault as ARunsFault};
-ghost use Rattle.testr_cli.specs.declared.store.RunsFault.TheVariants.{Full, NoRuns};
-ghost use Rattle.testr_cli.specs.declared.told.TellFault.{TellFault as ATellFault};
-ghost use Rattle.testr_cli.specs.declared.told.TellFault.TheVariants.{Shelf as CachesShelf};
+ghost use Rattle.command_steps.specs.declared.recording.RecordFault.{RecordFault as ARecordFault};
+ghost use Rattle.command_steps.specs.declared.recording.RecordFault.TheVariants.{TooLong};
+ghost use Rattle.command_steps.specs.declared.store.RunsFault.{RunsFault as ARunsFault};
+ghost use Rattle.command_steps.specs.declared.store.RunsFault.TheVariants.{Full, NoRuns};
+ghost use Rattle.command_steps.specs.declared.told.TellFault.{TellFault as ATellFault};
+ghost use Rattle.command_steps.specs.declared.told.TellFault.TheVariants.{Shelf as CachesShelf};
 ghost use Rattle.testr_cli.specs.Exact.{InitEnds, OpenEnds, RecordEnds, IsNoFile, IsFileTooLong};
-ghost use Rattle.testr_cli.specs.Files.{RecordsFiles};
-ghost use Rattle.testr_cli.specs.Outside.{Fed, Filed};
-ghost use Rattle.testr_cli.specs.Recording.{Records, most_bytes};
-ghost use Rattle.testr_cli.specs.Refreshing.{Refreshes};
+ghost use Rattle.command_steps.specs.Files.{RecordsFiles};
+ghost use Rattle.command_steps.specs.Outside.{Fed, Filed};
+ghost use Rattle.command_steps.specs.Recording.{Records, most_bytes};
+ghost use Rattle.command_steps.specs.Refreshing.{Refreshes};
 ghost use Rattle.testr_words.specs.Questions.{OfLastRun};
-ghost use Rattle.testr_cli.specs.Store.{Makes, Opens, TakesRun, HasRunFor};
+ghost use Rattle.command_steps.specs.Store.{Makes, Opens, TakesRun, HasRunFor};
 
 /// Where the cause of a named refusal is there, the step refuses by that name, unless a call failed or memory was wanting
 /// before. That it comes only there is what the step itself says. So each comes exactly where its cause is. Where the

@@ -7,11 +7,11 @@ ghost use Rattle.edge_io.specs.Disk.{Folder};
 ghost use Rattle.edge_io.specs.Seen.{Seen};
 ghost use Rattle.suite_plan.specs.Choosing.{chosen_of};
 ghost use Rattle.testr_conf.specs.Jobs.{id_lines};
-ghost use Rattle.testr_cli.specs.Outside.{work};
+ghost use Rattle.command_steps.specs.Outside.{work};
 ghost use Rattle.testr_cli.specs.RunSuite.{ListsBy};
 
-use crate::reporting::print;
 use crate::{Refusal, Verdict};
+use command_steps::print;
 use edge_io::{Sink, Spawner};
 use partition_times::Filters;
 use std::alloc::Global;

@@ -1,17 +1,15 @@
 //! `testr load`.
 
 ghost use Rattle.testr_cli.specs.Load.{Loads};
-ghost use Rattle.testr_cli.specs.Outside.{work};
+ghost use Rattle.command_steps.specs.Outside.{work};
 ghost use Rattle.std.specs.Prelude.{◌≤◌, length};
 ghost use Rattle.edge_io.specs.Seen.{Seen};
 ghost use Rattle.edge_io.specs.Spawners.{Spawning};
 
-use crate::files::record_sources;
-use crate::printing::print_report;
-use crate::refreshing::refresh;
-use crate::reporting::end_report;
-use crate::store::{begin, keep, open, take_run};
 use crate::{Refusal, Verdict};
+use command_steps::{
+    begin, end_report, keep, open, print_report, record_sources, refresh, take_run,
+};
 use edge_io::{Shelf, Sink, Site, Source};
 use std::alloc::Global;
 use std::mem::forget;

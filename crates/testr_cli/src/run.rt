@@ -5,27 +5,22 @@ ghost use Rattle.edge_io.specs.Disk.{Files, Folder};
 ghost use Rattle.edge_io.specs.Seen.{Seen};
 ghost use Rattle.outcome_fold.specs.Summed.{Sums};
 ghost use Rattle.outcome_fold.specs.declared.row.Row.{Row as ARow};
-ghost use Rattle.testr_cli.specs.Answer.{code_of};
-ghost use Rattle.testr_cli.specs.Outside.{work};
+ghost use Rattle.command_steps.specs.Refusals.{code_of};
+ghost use Rattle.command_steps.specs.Outside.{work};
 ghost use Rattle.run_shelf.specs.Holds.{kinds_of, FitsWhereTold};
 ghost use Rattle.suite_causes.specs.Searching.{CanHandIds};
-ghost use Rattle.testr_cli.specs.Causes.{FindsCauses};
+ghost use Rattle.command_steps.specs.Causes.{FindsCauses};
 ghost use Rattle.testr_cli.specs.RunSuite.{RunsBy, TellsAndFinds, TellsRun, compiled_in};
 ghost use Rattle.testr_cli.specs.SparingRun.{SparesRunOf};
-ghost use Rattle.testr_cli.specs.Verdicts.{verdict_of};
-ghost use Rattle.testr_cli.specs.declared.answer.Verdict.TheVariants.{Passed};
+ghost use Rattle.command_steps.specs.Verdicts.{verdict_of};
+ghost use Rattle.command_steps.specs.declared.answer.Verdict.TheVariants.{Passed};
 ghost use Rattle.testr_words.specs.Suites.{run_options, is_part, is_partial as is_partial_run};
 ghost use Rattle.suite_plan.specs.Patterns.{Compiles};
 
-use crate::causes::find_causes;
-use testr_words::Command;
-use crate::planning::plan;
-use crate::printing::print_report;
-use crate::reporting::end_report;
-use crate::selecting::select;
-use crate::store::{open, take_run};
-use crate::working::{Kept, run_workers};
 use crate::{Refusal, Verdict};
+use command_steps::{
+    Kept, end_report, find_causes, open, plan, print_report, run_workers, select, take_run,
+};
 use edge_io::{Shelf, Sink, Site, Spawner};
 use outcome_fold::{Summary, copies_of};
 use packet_codec::Tags;
@@ -37,6 +32,7 @@ use std::thread::Threads;
 use sub_number::NoMemory;
 use suite_plan::{Compiled, PatternRefusal, compile};
 use testr_conf::Conf;
+use testr_words::Command;
 
 /// Runs the tests that the command selects, by the project's configuration, in worker processes that are read side by side;
 /// keeps what is recorded of them as the next run; brings the caches up to it; and prints the run's report, by what is kept

@@ -5,15 +5,11 @@ ghost use Rattle.edge_io.specs.Seen.{Seen};
 ghost use Rattle.outcome_fold.specs.Summed.{Sums};
 ghost use Rattle.outcome_fold.specs.declared.row.Row.{Row as ARow};
 ghost use Rattle.testr_words.specs.Drawings.{are_few};
-ghost use Rattle.testr_cli.specs.Outside.{work};
+ghost use Rattle.command_steps.specs.Outside.{work};
 ghost use Rattle.testr_cli.specs.SelfTest.{TestsItself, SumsUp, RunsInTurn, rows_in_turn};
 
-use testr_words::Drawing;
-use crate::reporting::{print, verdict_kept};
-use crate::store::{make, open, take_run};
-use crate::told::Told;
-use crate::working::run_workers;
 use crate::{Refusal, Verdict};
+use command_steps::{Told, make, open, print, run_workers, take_run, verdict_kept};
 use drawn_lanes::plans;
 use edge_io::{Job, MemShelf, PlanSpawner, Shelf, Sink, Spawner};
 use itoa::Buffer;
@@ -24,6 +20,7 @@ use std::sync::Wait;
 use std::thread::Threads;
 use sub_number::{Bytes, NoMemory};
 use sub_text::summary_from;
+use testr_words::Drawing;
 
 /// Runs workers whose outputs are made up, in memory, as `testr run` runs those of a project; and prints the summary of
 /// that run. It may wait for the threads that read them.

@@ -38,7 +38,7 @@ ghost use Rattle.testr_conf.specs.declared.fault.ConfFault.{ConfFault as AConfFa
 ghost use Rattle.testr_conf.specs.declared.fault.JobFault.{JobFault as AJobFault};
 ghost use Rattle.testr_conf.specs.declared.fault.JobFault.TheVariants as job;
 ghost use Rattle.testr_cli.specs.ExactSuite.{Comes, NextMeets, IsNamedBad, ListEnds, IsListAbsent, IsListTooLong, IsNoId};
-ghost use Rattle.testr_cli.specs.Selecting.{HandsIds, MakesJobs};
+ghost use Rattle.command_steps.specs.Selecting.{HandsIds, MakesJobs};
 
 /// Where the cause of a named refusal of a step of `run` or `list-tests` is there, the step refuses by that name, unless a
 /// call failed or memory was wanting before. That it comes only there is what the step itself says. So each comes exactly

@@ -8,8 +8,8 @@ ghost use Rattle.edge_io.specs.Disk.{Files, Folder};
 ghost use Rattle.edge_io.specs.Seen.{Seen};
 ghost use Rattle.edge_io.specs.Spawners.{Spawning};
 ghost use Rattle.command_words.specs.Items.{texts};
-ghost use Rattle.testr_cli.specs.Answer.{refusal_text};
-ghost use Rattle.testr_cli.specs.Outside.{outside, work};
+ghost use Rattle.command_steps.specs.Refusals.{refusal_text};
+ghost use Rattle.command_steps.specs.Outside.{outside, work};
 ghost use Rattle.testr_cli.specs.Program.{Performs, Tells, Answers, Promises, TestrPromises, ProgramPromises};
 ghost use Rattle.testr_cli.specs.Sparing.{SparesReads};
 ghost use Rattle.testr_cli.specs.SparingRun.{SparesRun};
@@ -18,22 +18,20 @@ ghost use Rattle.testr_words.specs.Words.{testr_word, asked_by};
 ghost use Rattle.testr_words.specs.declared.command.Verb.TheVariants.{Load, Run, ListTests, SelfTest};
 
 use crate::ask::ask;
-use testr_words::{Command, Question, Verb};
-use testr_words::drawing_of;
 use crate::init::init;
 use crate::list::list;
 use crate::load::load;
 use crate::run::run;
 use crate::selftest::selftest;
-use crate::telling::tell;
-use testr_words::{MOST_FILES, UsageFault, is_testr, reads};
 use crate::{Refusal, Verdict};
+use command_steps::tell;
 use edge_io::{Failed, Shelf, Sink, Site, Source, Spawner, write_whole};
 use filter_cli::filters;
 use std::alloc::Global;
 use std::sync::Wait;
 use std::thread::Threads;
 use suite_plan::read_conf;
+use testr_words::{Command, MOST_FILES, Question, UsageFault, Verb, drawing_of, is_testr, reads};
 
 /// Does what the words say, and answers the exit status.
 ///

@@ -1,8 +1,8 @@
 use Rattle.std.proofs.Common.{refl}
 use Rattle.testr_cli.proofs.AskLemmas.{of_bytes, of_text, by_copy, by_text}
 use Rattle.testr_cli.proofs.SparingLemmas.{opens_spare, opened_spare, bytes_spare, looked, found}
-use Rattle.testr_cli.proofs.StepLemmas.{still_done, part_done, still_stops, part_stops, stopped, prints_as, gives}
-use Rattle.testr_cli.specs.Steps.{goes_on}
+use Rattle.command_steps.proofs.StepLemmas.{still_done, part_done, still_stops, part_stops, stopped, prints_as, gives}
+use Rattle.command_steps.specs.Steps.{goes_on}
 use Rattle.testr_cli.proofs.ask.ask.Goals as goal
 
 pub returns-in_err-found-clause-step : goal.returns-in_err-found-clause-step

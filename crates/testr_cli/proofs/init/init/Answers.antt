@@ -1,5 +1,5 @@
-use Rattle.testr_cli.specs.Steps.{goes_on}
-use Rattle.testr_cli.proofs.StepLemmas.{stopped, gives}
+use Rattle.command_steps.specs.Steps.{goes_on}
+use Rattle.command_steps.proofs.StepLemmas.{stopped, gives}
 use Rattle.testr_cli.proofs.init.init.Goals as goal
 
 pub returns-in_err-make : goal.returns-in_err-make

@@ -1,5 +1,5 @@
 use Rattle.std.proofs.Common.{refl}
-use Rattle.testr_cli.proofs.StepLemmas.{part_done, part_stops, still_done, still_stops, prints_as, gives}
+use Rattle.command_steps.proofs.StepLemmas.{part_done, part_stops, still_done, still_stops, prints_as, gives}
 use Rattle.testr_cli.proofs.list.list.Goals as goal
 
 pub returns-in_err-compiled : goal.returns-in_err-compiled

@@ -1,9 +1,9 @@
 use Rattle.std.proofs.Common.{[], refl}
 use Rattle.std.specs.List.{filter}
 use Rattle.outcome_fold.specs.Answers.{row_fails}
-use Rattle.testr_cli.specs.Reporting.{report_shown}
-use Rattle.testr_cli.specs.Steps.{stops, goes_on}
-use Rattle.testr_cli.proofs.StepLemmas.{stopped, still_done, part_done, still_stops, part_stops, reports_as, refreshes_as, gives}
+use Rattle.command_steps.specs.Reporting.{report_shown}
+use Rattle.command_steps.specs.Steps.{stops, goes_on}
+use Rattle.command_steps.proofs.StepLemmas.{stopped, still_done, part_done, still_stops, part_stops, reports_as, refreshes_as, gives}
 use Rattle.testr_cli.proofs.load.load.Goals as goal
 
 pub returns-in_err-found : goal.returns-in_err-found

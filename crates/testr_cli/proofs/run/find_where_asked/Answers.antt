@@ -1,4 +1,4 @@
-use Rattle.testr_cli.proofs.FindingLemmas.{causes_none, causes_asked}
+use Rattle.testr_cli.proofs.RunLemmas.{causes_none, causes_asked}
 use Rattle.testr_cli.proofs.run.find_where_asked.Goals as goal
 
 pub returns-then-not-asked-clause-step : goal.returns-then-not-asked-clause-step

@@ -1,7 +1,7 @@
 use Rattle.std.proofs.Common.{refl, arith}
-use Rattle.testr_cli.specs.Steps.{goes_on}
+use Rattle.command_steps.specs.Steps.{goes_on}
 use Rattle.testr_cli.proofs.CallLemmas.{early, refused, refused_so, asks_then, asked_first, refused_later, stored_later, finds_other}
-use Rattle.testr_cli.proofs.StepLemmas.{stopped, part_done, part_stops, still_done, still_stops}
+use Rattle.command_steps.proofs.StepLemmas.{stopped, part_done, part_stops, still_done, still_stops}
 use Rattle.testr_cli.proofs.RunLemmas.{works_as, finds_as, told_still}
 use Rattle.testr_cli.proofs.run.run.Goals as goal
 

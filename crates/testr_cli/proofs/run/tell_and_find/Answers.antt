@@ -1,8 +1,8 @@
 use Rattle.std.proofs.Common.{None}
 use Rattle.testr_cli.proofs.CallLemmas.{refused}
-use Rattle.testr_cli.proofs.FindingLemmas.{verdict_passed}
-use Rattle.testr_cli.specs.Steps.{goes_on}
-use Rattle.testr_cli.proofs.StepLemmas.{stopped, gives}
+use Rattle.testr_cli.proofs.RunLemmas.{verdict_passed}
+use Rattle.command_steps.specs.Steps.{goes_on}
+use Rattle.command_steps.proofs.StepLemmas.{stopped, gives}
 use Rattle.testr_cli.proofs.run.tell_and_find.Goals as goal
 
 pub returns-in_err-verdict-clause-step : goal.returns-in_err-verdict-clause-step

@@ -1,9 +1,9 @@
 use Rattle.std.proofs.Common.{refl}
 use Rattle.std.specs.List.{filter}
 use Rattle.outcome_fold.specs.Answers.{row_fails}
-use Rattle.testr_cli.specs.Reporting.{report_shown}
-use Rattle.testr_cli.specs.Steps.{stops}
-use Rattle.testr_cli.proofs.StepLemmas.{part_done, part_stops, still_done, gives}
+use Rattle.command_steps.specs.Reporting.{report_shown}
+use Rattle.command_steps.specs.Steps.{stops}
+use Rattle.command_steps.proofs.StepLemmas.{part_done, part_stops, still_done, gives}
 use Rattle.testr_cli.proofs.run.tell_run.Goals as goal
 
 pub returns-in-Err : goal.returns-in-Err

@@ -1,5 +1,5 @@
 use Rattle.std.proofs.Common.{refl}
-use Rattle.testr_cli.proofs.StepLemmas.{still_stops, still_done, part_done, part_stops, prints_as, gives}
+use Rattle.command_steps.proofs.StepLemmas.{still_stops, still_done, part_done, part_stops, prints_as, gives}
 use Rattle.testr_cli.proofs.selftest.selftest.Goals as goal
 
 pub returns-in_err-told : goal.returns-in_err-told

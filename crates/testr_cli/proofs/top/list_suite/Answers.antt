@@ -1,6 +1,6 @@
 use Rattle.std.proofs.Common.{inl, refl}
-use Rattle.testr_cli.specs.Steps.{stops}
-use Rattle.testr_cli.proofs.StepLemmas.{part_done}
+use Rattle.command_steps.specs.Steps.{stops}
+use Rattle.command_steps.proofs.StepLemmas.{part_done}
 use Rattle.testr_cli.proofs.top.list_suite.Goals as goal
 
 pub returns-in-Ok : goal.returns-in-Ok

@@ -1,8 +1,8 @@
 use Rattle.std.proofs.Common.{inl, refl}
-use Rattle.testr_cli.specs.Steps.{stops}
-use Rattle.testr_cli.specs.declared.answer.Refusal.TheVariants.{Conf}
+use Rattle.command_steps.specs.Steps.{stops}
+use Rattle.command_steps.specs.declared.answer.Refusal.TheVariants.{Conf}
 use Rattle.testr_cli.proofs.CallLemmas.{of_options, as_told, none_made, told_refused}
-use Rattle.testr_cli.proofs.StepLemmas.{part_done}
+use Rattle.command_steps.proofs.StepLemmas.{part_done}
 use Rattle.testr_cli.proofs.top.run_suite.Goals as goal
 
 pub returns-in-Ok : goal.returns-in-Ok

@@ -1,5 +1,5 @@
-use Rattle.testr_cli.proofs.Lines.{said_in_part, line_in_part, said_and_line}
-use Rattle.testr_cli.specs.Answer.{refusal_said, refusal_line}
+use Rattle.command_steps.proofs.Lines.{said_in_part, line_in_part, said_and_line}
+use Rattle.command_steps.specs.Refusals.{refusal_said, refusal_line}
 use Rattle.testr_cli.proofs.top.tell_refusal.Goals as goal
 
 pub returns-in_err-write_whole-clause-prefix : goal.returns-in_err-write_whole-clause-prefix

@@ -1,0 +1,16 @@
+pub mod Prefixes
+pub mod Lines
+pub mod StepLemmas
+pub mod PrintingLemmas
+pub mod SumLemmas
+pub mod RecordLemmas
+pub mod FilesLemmas
+pub mod TellLemmas
+pub mod CopyLemmas
+pub mod Resting
+pub mod SoundLemmas
+pub mod StepCalls
+pub mod SelectLemmas
+pub mod PlanLemmas
+pub mod WorkLemmas
+pub mod FindingLemmas

@@ -1,0 +1,39 @@
+use Rattle.std.proofs.Common.{[], ◌∙◌, ◌++◌, ap, sym, subst, take, length-append, append_assoc, arith}
+use Rattle.std.proofs.lemmas.List.{length-take-le}
+use Rattle.stream_reader.proofs.FrontLemmas.{are_both}
+use Rattle.run_ledger.specs.Writing.{HasWritten}
+use Rattle.run_shelf.proofs.DraftLemmas.{goes_grown_then}
+use Rattle.worker_lane.specs.Scribing.{Recording}
+use Rattle.command_steps.proofs.Resting.{same_then}
+use Rattle.command_steps.proofs.FilesLemmas.{front_next, fits_count}
+use Rattle.command_steps.proofs.files.record_pieces.Goals as goal
+
+pub loop-found-preserved : goal.loop-found-preserved
+loop-found-preserved g c =
+    let (bytes, front, size, run, recording, folded, are, written) = c.loop-found.invariant.read in
+    let piece = take c.in-Read.count c.read_at.new.buf in
+    let fits = fits_count c.read_at.new.buf c.in-Ok.found c.in-Read.count c.in-Read.is c.in-Ok.ensures.bound in
+    let next = front_next c.args.name.now _ _ bytes c.read_at.new.buf c.loop-found.total c.in-Read.count c.in-Ok.found c.loop-found.invariant.files size c.in-Read.is front c.in-Ok.ensures.found in
+    let more = c.in_ok-write_packets.ensures.written in
+    let given = more.given in
+    record {
+      read = (
+        bytes ++ piece,
+        next,
+        omega (arith, size, length-take-le c.in-Read.count c.read_at.new.buf fits, length-append bytes piece),
+        run ++ more.run,
+        subst (λ l. Recording (bytes ++ piece) c.write_packets.new.scribe (run ++ l)) (sym given.new_is) (given.recording (bytes ++ piece) run (c.feed.ensures.recording bytes run recording)),
+        λ front has. subst (λ l. HasWritten [] c.write_packets.new.run l) (append_assoc front run more.run) (more.folded (front ++ run) (folded front has)),
+        are_both run more.run are more.are_bytes,
+        goes_grown_then _ _ _ run more.run written more.written,
+      );
+      few = omega (arith, c.if-total-gt-MOST_BYTES.false);
+      draft = c.in_ok-write_packets.ensures.draft;
+      going_on = given.ended ∙ ap (λ s. s.held.ended) c.feed.ensures.ok;
+      held = c.in_ok-write_packets.ensures.held (given.ended ∙ ap (λ s. s.held.ended) c.feed.ensures.ok);
+      lane = given.lane ∙ ap (λ s. s.lane) c.feed.ensures.ok ∙ c.loop-found.invariant.lane;
+      empty = c.in_ok-write_packets.ensures.empty;
+      rests = same_then _ _ _ c.loop-found.invariant.rests c.in_ok-write_packets.ensures.rests;
+      counts = record { folder = more.count ∙ c.loop-found.invariant.counts.folder; site = c.in-Ok.ensures.cause.done ∙ c.loop-found.invariant.counts.site };
+      files = c.in-Ok.ensures.same ∙ c.loop-found.invariant.files;
+    }

@@ -1,0 +1,102 @@
+-- The steps of `run` that say which tests run, in how many workers, and what each worker is started with.
+use Rattle.std.specs.Prelude.{◌≡◌, ◌⊎◌, ℕ, zero, suc, Bool, true, false, not, ◌&&◌, ◌||◌, nat_lt, min, is_some, Option, Some, None, List, [], length, Result, Ok, Err, IfOk, IfErr, OnOk}
+use Rattle.std.specs.FinMap as fin
+use Rattle.std.specs.FinMap.{FinMap}
+use Rattle.std.specs.Option.{option_map, unwrap_or}
+use Rattle.outcome_fold.specs.Order.{text_cmp}
+use Rattle.edge_io.specs.declared.job.Job.{Job}
+use Rattle.sub_number.specs.declared.memory.NoMemory.{NoMemory}
+use Rattle.testr_conf.specs.Settings.{Settings}
+use Rattle.testr_conf.specs.declared.fault.JobFault.{JobFault}
+use Rattle.testr_conf.specs.declared.fault.JobFault.TheVariants as job_fault
+use Rattle.suite_causes.specs.Searching.{CanHandIds, probe_job}
+use Rattle.suite_plan.specs.Calling.{CallsOut}
+pub use Rattle.suite_plan.specs.Choosing.{Ids}
+use Rattle.suite_plan.specs.Choosing.{base_ids, chosen_ids}
+use Rattle.suite_plan.specs.LaneJobs.{lane_jobs}
+use Rattle.suite_plan.specs.Listing.{ListsTests}
+use Rattle.suite_plan.specs.LoadList.{ReadsLoadList}
+use Rattle.suite_plan.specs.Processors.{CountsProcessors}
+use Rattle.suite_plan.specs.Sharing.{shares_for}
+use Rattle.suite_plan.specs.declared.sharing.TheConstants.{MOST_WORKERS}
+use Rattle.command_steps.specs.Asking.{FindsFailing, FindsTimes}
+use Rattle.command_steps.specs.Outside.{Work, work_folder, work_site, work_spawner}
+use Rattle.command_steps.specs.Perhaps.{when, Perhaps}
+use Rattle.command_steps.specs.Steps.{Step, Then, Still, Gives, At}
+use Rattle.testr_words.specs.Suites.{RunOptions}
+use Rattle.command_steps.specs.declared.answer.Refusal.{Refusal}
+use Rattle.command_steps.specs.declared.selecting.Selected.{Selected}
+use Rattle.command_steps.specs.declared.answer.Refusal.TheVariants.{LoadList, Tell, Call, Table, Listing, Memory, Job as JobRefused}
+
+-- ---- the number of workers
+
+-- the number that the project's own command called out; where it called out none, or 0, that of the processors
+abbrev pub UsesCalled : Option ℕ → Step Work ℕ Refusal
+UsesCalled (Some (suc less)) = Gives (min (suc less) MOST_WORKERS)
+UsesCalled (Some zero) = Then Table (At work_site CountsProcessors) (λ number. Gives number)
+UsesCalled None = Then Table (At work_site CountsProcessors) (λ number. Gives number)
+
+-- the number that the words say, unless that is 0
+abbrev pub UsesAsked : Settings → ℕ → Step Work ℕ Refusal
+UsesAsked settings (suc less) = Gives (min (suc less) MOST_WORKERS)
+UsesAsked settings zero = Then Call (At work_spawner (CallsOut settings)) UsesCalled
+
+-- one worker, unless the tests run side by side
+abbrev pub CountsWorkers : Settings → (parallel : Bool) → (asked : ℕ) → Step Work ℕ Refusal
+CountsWorkers settings false asked = Gives 1
+CountsWorkers settings true asked = UsesAsked settings asked
+
+-- ---- which tests
+
+-- ids are given neither by the failing set nor by a file, and are wanted by a pattern or by several workers
+abbrev pub needs_listing : RunOptions → (workers : ℕ) → Bool
+needs_listing options workers = not options.failing && not (is_some options.load_list) && (nat_lt 0 (length options.patterns) || nat_lt 1 workers)
+
+-- of the ids that are given, those in which a pattern is found, each once
+pub record Chooses (patterns : Ids) (failing listed listing : Option Ids) (result : Result (Option Ids) NoMemory) : Type 0 where
+  pub chosen : IfOk result (λ ids. ids ≡ chosen_ids patterns (base_ids failing listed listing))
+
+-- the steps that find which tests a run has, and in how many workers they run
+abbrev pub Selects : Settings → RunOptions → Step Work Selected Refusal
+Selects settings options =
+    Then LoadList (At work_site (Perhaps options.load_list ReadsLoadList)) (λ listed.
+    Then Tell (At work_folder (Perhaps (when options.failing) (λ _. FindsFailing))) (λ failing.
+    Then (λ refusal. refusal) (CountsWorkers settings options.parallel options.concurrency) (λ workers.
+    Then Listing (At work_spawner (Perhaps (when (needs_listing options workers)) (λ _. ListsTests settings))) (λ listing.
+    Then Memory (Still (Chooses options.patterns failing listed listing)) (λ ids.
+    Gives (record { workers = workers; ids = ids }))))))
+
+-- ---- what each worker is started with
+
+-- the times of ids, as a map
+abbrev pub Times : Type 0
+Times = FinMap text_cmp ℕ
+
+-- the shares of the ids, where ids are given; times count where there are several workers
+abbrev pub shares_of_ids : (groups : Option (List ℕ)) → Option Times → Selected → Option (List Ids)
+shares_of_ids groups times selected = option_map (λ ids. shares_for (fin.get (unwrap_or times fin.empty)) groups ids selected.workers) selected.ids
+
+-- the share of each worker, where the tests are known
+pub record Divides (groups : Option (List ℕ)) (times : Option Times) (selected : Selected) (result : Result (Option (List Ids)) NoMemory) : Type 0 where
+  pub shares : IfOk result (λ shares. shares ≡ shares_of_ids groups times selected)
+
+-- the jobs are those of the lanes, or the first that is refused decides
+pub record MakesJobs (settings : Settings) (shares : Option (List Ids)) (result : Result (List Job) JobFault) : Type 0 where
+  pub jobs : IfOk result (λ jobs. lane_jobs settings shares ≡ Ok jobs)
+  pub refused : IfErr result (λ fault. (lane_jobs settings shares ≡ Err fault) ⊎ (fault ≡ job_fault.NoMemory))
+
+-- Where causes are looked for, ids can be handed to a probe, or the option that is missing for it is told. Where they are not, it
+-- is not asked.
+pub record HandsIds (asked : Bool) (settings : Settings) (result : Result (Unit {0}) JobFault) : Type 0 where
+  pub handed : asked ≡ true → OnOk result (CanHandIds settings)
+  pub refused : IfErr result (λ fault. (asked ≡ true) × ((probe_job settings [] ≡ Err fault) ⊎ (fault ≡ job_fault.NoMemory)))
+  pub exactly : asked ≡ true → IfErr (probe_job settings []) (λ fault. (result ≡ Err fault) ⊎ (result ≡ Err job_fault.NoMemory))
+
+-- the steps that make the job of each worker, and ask for that of a probe where causes are looked for
+abbrev pub Plans : Settings → (find_causes : Bool) → Selected → Step Work (List Job) Refusal
+Plans settings find_causes selected =
+    Then Tell (At work_folder (Perhaps (when (nat_lt 1 selected.workers)) (λ _. FindsTimes))) (λ times.
+    Then Memory (Still (Divides settings.group_regex times selected)) (λ shares.
+    Then JobRefused (Still (MakesJobs settings shares)) (λ jobs.
+    Then JobRefused (Still (HandsIds find_causes settings)) (λ _.
+    Gives jobs))))

@@ -1,0 +1,51 @@
+//! The steps that commands are chains of.
+//!
+//! Each step is one call, whose contract says what it does to the folder, the files, the programs and the sinks, and why it
+//! refuses. This room knows the refusals of all steps, with the status and the line of each. It knows neither the order of
+//! the steps in a command nor how words are written.
+//!
+//! For want of memory a call refuses so, and for nothing else; what it did outside by then stands, and its status is 5.
+//!
+//! - `store`, `refreshing`: the folder: made, opened, a run begun and kept, the caches brought up to it
+//! - `recording`, `files`: what is recorded of the input, or of files
+//! - `told`, `asking`, `copying`: what is told of the runs, and a run's bytes
+//! - `reporting`, `printing`: the report of a run, made and printed
+//! - `selecting`, `planning`, `working`: which tests run, what each worker is started with, and the workers themselves
+//! - `causes`: which test makes another one fail
+//! - `answer`, `suite_refusals`: the verdict of a command, and the refusals by step
+//! - `telling`: the lines that tell of them
+//!
+//! Its tests stand in rooms of their own above `testr_cli`, `load_trials` and `run_trials`.
+#![tactic(auto)]
+
+mod answer;
+mod asking;
+mod causes;
+mod copying;
+mod files;
+mod planning;
+mod printing;
+mod recording;
+mod refreshing;
+mod reporting;
+mod selecting;
+mod store;
+mod suite_refusals;
+mod telling;
+mod told;
+mod working;
+
+pub use answer::{Refusal, Verdict};
+pub use causes::find_causes;
+pub use copying::{CopyFault, copy_last};
+pub use files::record_sources;
+pub use planning::plan;
+pub use printing::print_report;
+pub use recording::RecordFault;
+pub use refreshing::refresh;
+pub use reporting::{Ending, PrintFault, end_report, print, verdict_kept};
+pub use selecting::{Selected, select};
+pub use store::{KeepFault, RunsFault, begin, have_run, keep, make, open, take_run};
+pub use telling::{Line, Part, tell};
+pub use told::{TellFault, Told, find};
+pub use working::{Kept, run_workers};

@@ -1,0 +1,167 @@
+//! Which tests a run is of, and in how many workers they run.
+
+ghost use Rattle.std.specs.Prelude.{◌≡◌, ℕ, List, length, IfOk, IfSome, OnOk};
+ghost use Rattle.std.specs.List.{IsDistinct};
+ghost use Rattle.std.specs.Str.{bytes_eq};
+ghost use Rattle.edge_io.specs.Seen.{Seen};
+ghost use Rattle.run_shelf.specs.Holds.{kinds_of, FitsWhereTold};
+ghost use Rattle.suite_plan.specs.Listing.{ListsTests};
+ghost use Rattle.suite_plan.specs.LoadList.{ReadsLoadList};
+ghost use Rattle.suite_plan.specs.Processors.{IsInRange};
+ghost use Rattle.command_steps.specs.Asking.{FindsFailing};
+ghost use Rattle.command_steps.specs.Outside.{work};
+ghost use Rattle.command_steps.specs.Perhaps.{when, Perhaps};
+ghost use Rattle.command_steps.specs.Selecting.{CountsWorkers, Selects, needs_listing as is_listing_needed};
+ghost use Rattle.command_steps.specs.Calls.{AsksByFew};
+ghost use Rattle.testr_words.specs.Suites.{run_options};
+
+use crate::Refusal;
+use crate::asking::find_failing;
+use crate::files::name_of;
+use crate::told::TellFault;
+use edge_io::{Shelf, Site, Spawner};
+use partition_times::Filters;
+use run_shelf::Found;
+use std::alloc::Global;
+use sub_number::{IdList, Text};
+use suite_plan::{
+    ListRefusal, ListingRefusal, MOST_WORKERS, call_out, chosen, count_processors, list_tests,
+    read_load_list,
+};
+use testr_conf::Conf;
+use testr_words::Command;
+
+// Words may ask for as many workers as a run may have.
+const _: () = prove!(testr_words::MOST_WORKERS == MOST_WORKERS);
+
+/// How many workers a run has, and which tests it is of: where no ids are given, one worker runs all that there are.
+#[derive(Drop)]
+pub struct Selected {
+    /// The number of workers, at least 1 and at most `MOST_WORKERS`.
+    pub workers: u32,
+    /// The ids of the tests, in their order, each once.
+    pub ids: Option<IdList>,
+}
+
+/// Selects the tests of a run and the number of its workers, in two calls of the folder at most where both caches cover the
+/// runs that were found. The patterns are those of the command.
+pub fn select<'a, H: Shelf, S: Spawner, F: Site>(
+    alloc: Global,
+    conf: &Conf,
+    command: &'a Command,
+    patterns: &Filters,
+    shelf: &mut H,
+    found: &Found,
+    spawner: &mut S,
+    site: &mut F,
+) -> Result<Selected, Refusal<'a>>
+    requires patterns { patterns.now ≡ command.now.names }
+    requires fits { FitsWhereTold (kinds_of found.now) (H.seen shelf.old).told }
+    ensures step { (input out : Seen (List ℕ)) → Selects conf.now (run_options command.now)
+        (work (H.seen shelf.old) (F.seen site.old) (S.seen spawner.old) input out)
+        (work (H.seen shelf.new) (F.seen site.new) (S.seen spawner.new) input out)
+        result }
+    ensures range { IfOk result (λ selected. IsInRange selected.workers) }
+    ensures fits { OnOk result (FitsWhereTold (kinds_of found.now) (H.seen shelf.new).told) }
+    ensures calls { AsksByFew (length (kinds_of found.now)) 2 (H.seen shelf.old).told (H.seen shelf.new).told (H.clock shelf.old) (H.clock shelf.new) }
+{
+    let listed = load_list(alloc, &command.load_list, site)?;
+    let failing = failing_ids(alloc, command.failing, shelf, found)?;
+    let workers = count_workers(
+        alloc,
+        conf,
+        command.parallel,
+        command.concurrency,
+        spawner,
+        site,
+    )?;
+    let listing = listing(alloc, needs_listing(command, workers), conf, spawner)?;
+    let ids = chosen(alloc, failing, listed, listing, patterns)?;
+    Ok(Selected { workers, ids })
+}
+
+// The ids of the file of this name, where one is named.
+fn load_list<'a, F: Site>(
+    alloc: Global,
+    name: &'a Option<Text>,
+    site: &mut F,
+) -> Result<Option<IdList>, ListRefusal<'a>>
+    ensures { Perhaps name.now ReadsLoadList (F.seen site.old) (F.seen site.new) result }
+{
+    match name {
+        Some(name) => Ok(Some(read_load_list(alloc, site, name_of(name))?)),
+        None => Ok(None),
+    }
+}
+
+// The ids that fail by the runs, where they are wanted.
+fn failing_ids<H: Shelf>(
+    alloc: Global,
+    wanted: bool,
+    shelf: &mut H,
+    found: &Found,
+) -> Result<Option<IdList>, TellFault>
+    requires { FitsWhereTold (kinds_of found.now) (H.seen shelf.old).told }
+    ensures step { Perhaps (when wanted) (λ _. FindsFailing) (H.seen shelf.old) (H.seen shelf.new) result }
+    ensures fits { OnOk result (FitsWhereTold (kinds_of found.now) (H.seen shelf.new).told) }
+    ensures calls { AsksByFew (length (kinds_of found.now)) 2 (H.seen shelf.old).told (H.seen shelf.new).told (H.clock shelf.old) (H.clock shelf.new) }
+{
+    if !wanted {
+        return Ok(None);
+    }
+    Ok(Some(find_failing(alloc, shelf, found)?))
+}
+
+// The number of workers, at least 1 and at most so many as a run may have.
+fn count_workers<S: Spawner, F: Site>(
+    alloc: Global,
+    conf: &Conf,
+    parallel: bool,
+    asked: u32,
+    spawner: &mut S,
+    site: &mut F,
+) -> Result<u32, Refusal<'static>>
+    ensures step { (folder : _) → (input out : Seen (List ℕ)) → CountsWorkers conf.now parallel asked
+        (work folder (F.seen site.old) (S.seen spawner.old) input out)
+        (work folder (F.seen site.new) (S.seen spawner.new) input out)
+        result }
+    ensures range { IfOk result IsInRange }
+{
+    if !parallel {
+        return Ok(1);
+    }
+    if asked > 0 {
+        return Ok(asked.min(MOST_WORKERS));
+    }
+    let called = call_out(alloc, conf, spawner)?.unwrap_or(0);
+    if called > 0 {
+        return Ok(called.min(MOST_WORKERS));
+    }
+    let counted = count_processors(alloc, site)?;
+    Ok(counted)
+}
+
+// Whether a listing is needed: ids are given neither by the failing set nor by a file, and are wanted by a pattern or by
+// several workers.
+fn needs_listing(command: &Command, workers: u32) -> bool
+    ensures { result ≡ is_listing_needed (run_options command.now) workers }
+{
+    let given = command.failing || command.load_list.is_some();
+    !given && (!command.names.list().is_empty() || workers > 1)
+}
+
+// The ids of a listing, where they are wanted.
+fn listing<S: Spawner>(
+    alloc: Global,
+    wanted: bool,
+    conf: &Conf,
+    spawner: &mut S,
+) -> Result<Option<IdList>, ListingRefusal>
+    ensures step { Perhaps (when wanted) (λ _. ListsTests conf.now) (S.seen spawner.old) (S.seen spawner.new) result }
+    ensures distinct { IfOk result (λ ids. IfSome ids (IsDistinct bytes_eq)) }
+{
+    if !wanted {
+        return Ok(None);
+    }
+    Ok(Some(list_tests(alloc, conf, spawner)?))
+}

@@ -1,0 +1,335 @@
+//! Why the steps of `run` and `list-tests` refuse: the status of each refusal, and the line that tells of it.
+
+ghost use Rattle.std.specs.Prelude.{◌≡◌, ◌++◌, codes};
+ghost use Rattle.std.specs.Fmt.{decimal, signed_decimal};
+ghost use Rattle.command_steps.specs.SuiteTexts.{call_code, call_said, call_text, listing_code, listing_said, listing_text, key_text};
+ghost use Rattle.command_steps.specs.Telling.{line_text};
+
+use crate::telling::{Line, Part, Refuses};
+use suite_causes::SearchFault;
+use suite_plan::{
+    CallRefusal, ConfRefusal, ListRefusal, ListingRefusal, PatternRefusal, TableRefusal,
+};
+use suite_run::{LanesRefusal, StartRefusal};
+use testr_conf::{JobFault, Key};
+
+const OUT_OF_MEMORY: &str = "testr: out of memory\n";
+
+const FAULT_OF_A_FILE: &str = "testr: fault reading a file\n";
+
+const FAULT_OF_A_START: &str = "testr: fault starting a program\n";
+
+const FAULT_OF_A_CHILD: &str = "testr: fault reading a program\n";
+
+impl<'a> Refuses<'a> for ConfRefusal {
+    ghost use Rattle.command_steps.specs.SuiteTexts.{conf_code, conf_text};
+
+    ghost status = { conf_code };
+
+    ghost text = { conf_text };
+
+    fn code(self) -> u8 {
+        match self {
+            ConfRefusal::TooLong
+            | ConfRefusal::Absent
+            | ConfRefusal::BadLine(_)
+            | ConfRefusal::NoSection(_)
+            | ConfRefusal::Repeated(_)
+            | ConfRefusal::NoCommand => 3,
+            ConfRefusal::Site => 4,
+            ConfRefusal::NoMemory => 5,
+        }
+    }
+
+    fn line(self) -> Line<'a> {
+        match self {
+            ConfRefusal::Site => Line::of(FAULT_OF_A_FILE),
+            ConfRefusal::TooLong => Line::of("testr: .testr.conf is too long\n"),
+            ConfRefusal::Absent => Line::of("testr: no .testr.conf\n"),
+            ConfRefusal::BadLine(number) => conf_line_at(number, ": not a setting\n"),
+            ConfRefusal::NoSection(number) => conf_line_at(number, ": outside a section\n"),
+            ConfRefusal::Repeated(number) => conf_line_at(number, ": repeated\n"),
+            ConfRefusal::NoCommand => Line::of("testr: .testr.conf: no test_command\n"),
+            ConfRefusal::NoMemory => Line::of(OUT_OF_MEMORY),
+        }
+    }
+}
+
+// What is told of a line of the configuration.
+fn conf_line_at(number: u32, rest: &'static str) -> Line<'static>
+    ensures { line_text result ≡ codes "testr: .testr.conf line " ++ decimal number ++ rest.now }
+{
+    Line {
+        front: "testr: .testr.conf line ",
+        part: Part::Number(number),
+        rest,
+    }
+}
+
+impl<'a> Refuses<'a> for PatternRefusal<'a> {
+    ghost use Rattle.command_steps.specs.SuiteTexts.{pattern_code, pattern_text};
+
+    ghost status = { pattern_code };
+
+    ghost text = { pattern_text };
+
+    fn code(self) -> u8 {
+        match self {
+            PatternRefusal::Bad(_) => 3,
+            PatternRefusal::NoMemory => 5,
+        }
+    }
+
+    fn line(self) -> Line<'a> {
+        match self {
+            PatternRefusal::Bad(pattern) => Line {
+                front: "testr: bad pattern: ",
+                part: Part::Name(pattern),
+                rest: "\n",
+            },
+            PatternRefusal::NoMemory => Line::of(OUT_OF_MEMORY),
+        }
+    }
+}
+
+impl<'a> Refuses<'a> for ListRefusal<'a> {
+    ghost use Rattle.command_steps.specs.SuiteTexts.{list_code, list_text};
+
+    ghost status = { list_code };
+
+    ghost text = { list_text };
+
+    fn code(self) -> u8 {
+        match self {
+            ListRefusal::TooLong(_) | ListRefusal::Absent(_) | ListRefusal::NotId(_, _) => 3,
+            ListRefusal::Site => 4,
+            ListRefusal::NoMemory => 5,
+        }
+    }
+
+    fn line(self) -> Line<'a> {
+        match self {
+            ListRefusal::Site => Line::of(FAULT_OF_A_FILE),
+            ListRefusal::TooLong(name) => Line {
+                front: "testr: ",
+                part: Part::Name(name),
+                rest: " is too long\n",
+            },
+            ListRefusal::Absent(name) => Line {
+                front: "testr: no file ",
+                part: Part::Name(name),
+                rest: "\n",
+            },
+            ListRefusal::NotId(name, number) => Line {
+                front: "testr: ",
+                part: Part::Place(name, number),
+                rest: ": not an id\n",
+            },
+            ListRefusal::NoMemory => Line::of(OUT_OF_MEMORY),
+        }
+    }
+}
+
+// The status where the number of workers was not called out.
+pub(crate) fn call_code(refusal: &CallRefusal) -> u8
+    ensures { result ≡ call_code refusal.now }
+{
+    match refusal {
+        CallRefusal::NoNumber(_) => 3,
+        CallRefusal::Spawn | CallRefusal::Child => 4,
+        CallRefusal::NoMemory => 5,
+    }
+}
+
+// What the program said that was to call it out, where it told none.
+pub(crate) fn call_said(refusal: &CallRefusal) -> &[u8]
+    ensures { result.now ≡ call_said refusal.now }
+{
+    match refusal {
+        CallRefusal::NoNumber(said) => said.bytes(),
+        CallRefusal::Spawn | CallRefusal::Child | CallRefusal::NoMemory => b"",
+    }
+}
+
+// The line that tells of it.
+pub(crate) fn call_line(refusal: &CallRefusal) -> Line<'static>
+    ensures { line_text result ≡ call_text refusal.now }
+{
+    match refusal {
+        CallRefusal::Spawn => Line::of(FAULT_OF_A_START),
+        CallRefusal::Child => Line::of(FAULT_OF_A_CHILD),
+        CallRefusal::NoNumber(_) => Line::of("testr: test_run_concurrency gave no number\n"),
+        CallRefusal::NoMemory => Line::of(OUT_OF_MEMORY),
+    }
+}
+
+impl<'a> Refuses<'a> for TableRefusal {
+    ghost use Rattle.command_steps.specs.SuiteTexts.{table_code, table_text};
+
+    ghost status = { table_code };
+
+    ghost text = { table_text };
+
+    fn code(self) -> u8 {
+        match self {
+            TableRefusal::TooLong => 3,
+            TableRefusal::Site => 4,
+            TableRefusal::NoMemory => 5,
+        }
+    }
+
+    fn line(self) -> Line<'a> {
+        match self {
+            TableRefusal::Site => Line::of(FAULT_OF_A_FILE),
+            TableRefusal::TooLong => Line::of("testr: /proc/cpuinfo is too long\n"),
+            TableRefusal::NoMemory => Line::of(OUT_OF_MEMORY),
+        }
+    }
+}
+
+// The status where the tests were not listed.
+pub(crate) fn listing_code(refusal: &ListingRefusal) -> u8
+    ensures { result ≡ listing_code refusal.now }
+{
+    match refusal {
+        ListingRefusal::NoListOption | ListingRefusal::Failed(_, _) => 3,
+        ListingRefusal::Spawn | ListingRefusal::Child => 4,
+        ListingRefusal::NoMemory => 5,
+    }
+}
+
+// What the listing said that failed.
+pub(crate) fn listing_said(refusal: &ListingRefusal) -> &[u8]
+    ensures { result.now ≡ listing_said refusal.now }
+{
+    match refusal {
+        ListingRefusal::Failed(_, said) => said.bytes(),
+        ListingRefusal::NoListOption
+        | ListingRefusal::Spawn
+        | ListingRefusal::Child
+        | ListingRefusal::NoMemory => b"",
+    }
+}
+
+// The line that tells of it.
+pub(crate) fn listing_line(refusal: &ListingRefusal) -> Line<'static>
+    ensures { line_text result ≡ listing_text refusal.now }
+{
+    match refusal {
+        ListingRefusal::NoListOption => key_line(Key::ListOption),
+        ListingRefusal::Spawn => Line::of(FAULT_OF_A_START),
+        ListingRefusal::Child => Line::of(FAULT_OF_A_CHILD),
+        ListingRefusal::Failed(status, _) => listing_ended(*status),
+        ListingRefusal::NoMemory => Line::of(OUT_OF_MEMORY),
+    }
+}
+
+// The line that tells how a listing ended.
+fn listing_ended(status: i32) -> Line<'static>
+    ensures { line_text result ≡ codes "testr: listing ended with " ++ signed_decimal status ++ codes "\n" }
+{
+    Line {
+        front: "testr: listing ended with ",
+        part: Part::Status(status),
+        rest: "\n",
+    }
+}
+
+// The line that tells which setting is missing.
+fn key_line(key: Key) -> Line<'static>
+    ensures { line_text result ≡ key_text key }
+{
+    match key {
+        Key::IdOption => Line::of("testr: .testr.conf: test_id_option is needed\n"),
+        Key::ListOption => Line::of("testr: .testr.conf: test_list_option is needed\n"),
+    }
+}
+
+impl<'a> Refuses<'a> for JobFault {
+    ghost use Rattle.command_steps.specs.SuiteTexts.{job_code, job_text};
+
+    ghost status = { job_code };
+
+    ghost text = { job_text };
+
+    fn code(self) -> u8 {
+        match self {
+            JobFault::NoOption(_) => 3,
+            JobFault::NoMemory => 5,
+        }
+    }
+
+    fn line(self) -> Line<'a> {
+        match self {
+            JobFault::NoOption(key) => key_line(key),
+            JobFault::NoMemory => Line::of(OUT_OF_MEMORY),
+        }
+    }
+}
+
+impl<'a> Refuses<'a> for StartRefusal {
+    ghost use Rattle.command_steps.specs.SuiteTexts.{start_code, start_text};
+
+    ghost status = { start_code };
+
+    ghost text = { start_text };
+
+    fn code(self) -> u8 {
+        match self {
+            StartRefusal::Spawn => 4,
+            StartRefusal::NoMemory => 5,
+        }
+    }
+
+    fn line(self) -> Line<'a> {
+        match self {
+            StartRefusal::Spawn => Line::of(FAULT_OF_A_START),
+            StartRefusal::NoMemory => Line::of(OUT_OF_MEMORY),
+        }
+    }
+}
+
+impl<'a> Refuses<'a> for LanesRefusal {
+    ghost use Rattle.command_steps.specs.SuiteTexts.{lanes_code, lanes_text};
+
+    ghost status = { lanes_code };
+
+    ghost text = { lanes_text };
+
+    fn code(self) -> u8 {
+        match self {
+            LanesRefusal::Shelf(_) => 4,
+            LanesRefusal::NoMemory => 5,
+        }
+    }
+
+    fn line(self) -> Line<'a> {
+        match self {
+            LanesRefusal::Shelf(_) => Line::of("testr: fault of the repository folder\n"),
+            LanesRefusal::NoMemory => Line::of(OUT_OF_MEMORY),
+        }
+    }
+}
+
+impl<'a> Refuses<'a> for SearchFault {
+    ghost use Rattle.command_steps.specs.SuiteTexts.{search_code, search_text};
+
+    ghost status = { search_code };
+
+    ghost text = { search_text };
+
+    fn code(self) -> u8 {
+        match self {
+            SearchFault::Spawn | SearchFault::Child => 4,
+            SearchFault::NoMemory => 5,
+        }
+    }
+
+    fn line(self) -> Line<'a> {
+        match self {
+            SearchFault::Spawn => Line::of(FAULT_OF_A_START),
+            SearchFault::Child => Line::of(FAULT_OF_A_CHILD),
+            SearchFault::NoMemory => Line::of(OUT_OF_MEMORY),
+        }
+    }
+}

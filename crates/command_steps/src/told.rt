@@ -1,0 +1,264 @@
+//! What is told of the runs of a repository.
+
+ghost use Rattle.std.specs.Prelude.{◌≡◌, ◌<◌, ◌-◌, None, length, IfSome, IfOk};
+ghost use Rattle.edge_io.specs.Steps.{Goes, Stays};
+ghost use Rattle.edge_io.specs.Causes.{RisesExactlyIf};
+ghost use Rattle.run_shelf.specs.Holds.{kinds_of, FitsWhereTold};
+ghost use Rattle.run_shelf.specs.Stores.{store_kinds, store_fault, FitsUnlessBroken};
+ghost use Rattle.run_ledger.specs.Ledger.{HasRowsAt};
+ghost use Rattle.command_steps.specs.Says.{SaysReport, SaysSlowest, SaysFailing, SaysStats, stats_of, verdict_of_failing};
+ghost use Rattle.testr_words.specs.Questions.{OfBytes, OfLastRun};
+ghost use Rattle.command_steps.specs.Calls.{SparesFor, SparesRuns};
+ghost use Rattle.command_steps.specs.Telling.{line_text};
+ghost use Rattle.command_steps.specs.Told.{Finds, IsAnswer, TellsSo, tell_failed, fault_of_ledger, tell_code, tell_text};
+ghost use Rattle.command_steps.specs.Trusted.{SoundFailing};
+
+use crate::Verdict;
+use crate::reporting::{report, verdict};
+use crate::telling::Line;
+use edge_io::Shelf;
+use itoa::Buffer;
+use outcome_fold::Rows;
+use run_ledger::{LedgerFault, failing, rows_of};
+use run_shelf::{Found, Store};
+use std::alloc::Global;
+use sub_number::{IdList, NoMemory};
+use sub_text::{failing_text, slowest_text};
+use testr_words::Question;
+
+/// What is told.
+#[derive(Drop)]
+pub struct Told {
+    /// What is printed.
+    pub text: Vec<u8>,
+    /// What the status says.
+    pub verdict: Verdict,
+}
+
+/// Why nothing is told.
+#[derive(Clone, Copy, Debug, PartialEq, Eq)]
+pub enum TellFault {
+    /// A call of the folder failed.
+    Shelf,
+    /// There is not enough memory.
+    NoMemory,
+}
+
+impl TellFault {
+    /// The exit status.
+    pub fn code(self) -> u8
+        ensures { result ≡ tell_code self }
+    {
+        match self {
+            TellFault::Shelf => 4,
+            TellFault::NoMemory => 5,
+        }
+    }
+
+    /// The line that tells of it.
+    pub fn line(self) -> Line<'static>
+        ensures { line_text result ≡ tell_text self }
+    {
+        match self {
+            TellFault::Shelf => Line::of("testr: fault of the repository folder\n"),
+            TellFault::NoMemory => Line::of("testr: out of memory\n"),
+        }
+    }
+}
+
+/// Finds the answer of the question, of the runs that were found. Where it is of the last run, there must be one; its bytes
+/// are not asked for here.
+pub fn find<H: Shelf>(
+    alloc: Global,
+    question: Question,
+    shelf: &mut H,
+    found: Found,
+) -> Result<Told, TellFault>
+    requires text { OfBytes question → ⊥ }
+    requires some { OfLastRun question → 0 < length (kinds_of found) }
+    requires fits { FitsWhereTold (kinds_of found) (H.seen shelf.old).told }
+    ensures step { Finds question (H.seen shelf.old) (H.seen shelf.new) result }
+    ensures spares { SparesFor 2 question (H.seen shelf.old).told (H.clock shelf.old) (H.clock shelf.new) }
+{
+    let mut store = Store::attach(shelf, found);
+    let told = answer_of(alloc, question, &mut store);
+    hand_back(store.into_shelf());
+    told
+}
+
+// The folder is with its lender again.
+pub(crate) fn hand_back<H: Shelf>(shelf: &mut H)
+    ensures { shelf.new ≡ shelf.old }
+{}
+
+// The answer of the question, of the runs of the store. Where it is of the last run, there must be one, and its report is
+// asked for.
+fn answer_of<H: Shelf>(
+    alloc: Global,
+    question: Question,
+    store: &mut Store<'_, H>,
+) -> Result<Told, TellFault>
+    requires text { OfBytes question → ⊥ }
+    requires some { OfLastRun question → 0 < length (store_kinds store.old) }
+    requires open { store_fault store.old ≡ None }
+    requires fits { FitsUnlessBroken (store_kinds store.old) (store_fault store.old) (H.seen store.old.shelf.now).told }
+    ensures same_reference { store.new.shelf.ghost_name ≡ store.old.shelf.ghost_name }
+    ensures told { IfOk result (λ told. IfSome (H.seen store.old.shelf.now).told (IsAnswer question told)) }
+    ensures spares { SparesFor 2 question (H.seen store.old.shelf.now).told (H.clock store.old.shelf.now) (H.clock store.new.shelf.now) }
+    ensures count { RisesExactlyIf (H.seen store.old.shelf.now).faults (H.seen store.new.shelf.now).faults (tell_failed result) }
+    ensures same { Goes (H.seen store.old.shelf.now).told (H.seen store.new.shelf.now).told Stays }
+{
+    match question {
+        Question::Last { .. } => tell_report(alloc, store),
+        Question::Failing { list } => tell_failing(alloc, list, store),
+        Question::Slowest { all } => tell_slowest(alloc, all, store),
+        Question::Stats => tell_stats(alloc, store),
+    }
+}
+
+// The rows of the last run.
+fn last_rows<H: Shelf>(alloc: Global, store: &mut Store<'_, H>) -> Result<Rows, TellFault>
+    requires some { 0 < length (store_kinds store.old) }
+    requires open { store_fault store.old ≡ None }
+    requires fits { FitsUnlessBroken (store_kinds store.old) (store_fault store.old) (H.seen store.old.shelf.now).told }
+    ensures same_reference { store.new.shelf.ghost_name ≡ store.old.shelf.ghost_name }
+    ensures rows { IfOk result (λ rows. IfSome (H.seen store.old.shelf.now).told (HasRowsAt (length (store_kinds store.old) - 1) rows)) }
+    ensures count { RisesExactlyIf (H.seen store.old.shelf.now).faults (H.seen store.new.shelf.now).faults (tell_failed result) }
+    ensures same { Goes (H.seen store.old.shelf.now).told (H.seen store.new.shelf.now).told Stays }
+{
+    let number = store.runs() - 1;
+    match rows_of(alloc, store, number) {
+        Ok(rows) => Ok(rows),
+        Err(fault) => Err(ledger_refusal(fault)),
+    }
+}
+
+// The report of the last run.
+fn tell_report<H: Shelf>(alloc: Global, store: &mut Store<'_, H>) -> Result<Told, TellFault>
+    requires some { 0 < length (store_kinds store.old) }
+    requires open { store_fault store.old ≡ None }
+    requires fits { FitsUnlessBroken (store_kinds store.old) (store_fault store.old) (H.seen store.old.shelf.now).told }
+    ensures same_reference { store.new.shelf.ghost_name ≡ store.old.shelf.ghost_name }
+    ensures told { IfOk result (λ told. IfSome (H.seen store.old.shelf.now).told (TellsSo SaysReport told)) }
+    ensures count { RisesExactlyIf (H.seen store.old.shelf.now).faults (H.seen store.new.shelf.now).faults (tell_failed result) }
+    ensures same { Goes (H.seen store.old.shelf.now).told (H.seen store.new.shelf.now).told Stays }
+{
+    let number = store.runs() - 1;
+    let rows = match last_rows(alloc, store) {
+        Ok(rows) => rows,
+        Err(fault) => return Err(fault),
+    };
+    let Ok(text) = report(alloc, &rows, number) else {
+        return Err(TellFault::NoMemory);
+    };
+    Ok(Told {
+        text,
+        verdict: verdict(&rows),
+    })
+}
+
+// The slowest tests of the last run.
+fn tell_slowest<H: Shelf>(
+    alloc: Global,
+    all: bool,
+    store: &mut Store<'_, H>,
+) -> Result<Told, TellFault>
+    requires some { 0 < length (store_kinds store.old) }
+    requires open { store_fault store.old ≡ None }
+    requires fits { FitsUnlessBroken (store_kinds store.old) (store_fault store.old) (H.seen store.old.shelf.now).told }
+    ensures same_reference { store.new.shelf.ghost_name ≡ store.old.shelf.ghost_name }
+    ensures told { IfOk result (λ told. IfSome (H.seen store.old.shelf.now).told (TellsSo (SaysSlowest all) told)) }
+    ensures count { RisesExactlyIf (H.seen store.old.shelf.now).faults (H.seen store.new.shelf.now).faults (tell_failed result) }
+    ensures same { Goes (H.seen store.old.shelf.now).told (H.seen store.new.shelf.now).told Stays }
+{
+    let rows = match last_rows(alloc, store) {
+        Ok(rows) => rows,
+        Err(fault) => return Err(fault),
+    };
+    let mut text = Vec::new(alloc);
+    let Ok(()) = slowest_text(alloc, &rows, all, &mut text) else {
+        return Err(TellFault::NoMemory);
+    };
+    Ok(Told {
+        text,
+        verdict: Verdict::Passed,
+    })
+}
+
+// The tests that fail by all runs, told with the help of their cache.
+fn tell_failing<H: Shelf>(
+    alloc: Global,
+    list: bool,
+    store: &mut Store<'_, H>,
+) -> Result<Told, TellFault>
+    requires open { store_fault store.old ≡ None }
+    requires fits { FitsUnlessBroken (store_kinds store.old) (store_fault store.old) (H.seen store.old.shelf.now).told }
+    ensures same_reference { store.new.shelf.ghost_name ≡ store.old.shelf.ghost_name }
+    ensures told { IfOk result (λ told. IfSome (H.seen store.old.shelf.now).told (λ s. SoundFailing s → TellsSo (SaysFailing list) told s)) }
+    ensures spares { SparesRuns 2 (H.seen store.old.shelf.now).told (H.clock store.old.shelf.now) (H.clock store.new.shelf.now) }
+    ensures count { RisesExactlyIf (H.seen store.old.shelf.now).faults (H.seen store.new.shelf.now).faults (tell_failed result) }
+    ensures same { Goes (H.seen store.old.shelf.now).told (H.seen store.new.shelf.now).told Stays }
+{
+    let ids = match failing(alloc, store) {
+        Ok(ids) => ids,
+        Err(fault) => return Err(ledger_refusal(fault)),
+    };
+    let mut text = Vec::new(alloc);
+    let Ok(()) = failing_text(&ids, list, &mut text) else {
+        return Err(TellFault::NoMemory);
+    };
+    Ok(Told {
+        text,
+        verdict: failing_verdict(&ids),
+    })
+}
+
+// How many runs there are.
+fn tell_stats<H: Shelf>(alloc: Global, store: &mut Store<'_, H>) -> Result<Told, TellFault>
+    requires open { store_fault store.old ≡ None }
+    requires fits { FitsUnlessBroken (store_kinds store.old) (store_fault store.old) (H.seen store.old.shelf.now).told }
+    ensures same_reference { store.new.shelf.ghost_name ≡ store.old.shelf.ghost_name }
+    ensures told { IfOk result (λ told. IfSome (H.seen store.old.shelf.now).told (TellsSo SaysStats told)) }
+    ensures count { RisesExactlyIf (H.seen store.old.shelf.now).faults (H.seen store.new.shelf.now).faults (tell_failed result) }
+    ensures same { Goes (H.seen store.old.shelf.now).told (H.seen store.new.shelf.now).told Stays }
+{
+    let Ok(text) = stats_text(alloc, store.runs()) else {
+        return Err(TellFault::NoMemory);
+    };
+    Ok(Told {
+        text,
+        verdict: Verdict::Passed,
+    })
+}
+
+fn stats_text(alloc: Global, runs: u32) -> Result<Vec<u8>, NoMemory>
+    ensures { IfOk result (λ text. text.items ≡ stats_of runs) }
+{
+    let mut digits = Buffer::new();
+    let mut text = Vec::new(alloc);
+    text.extend_from_slice(b"runs=")?;
+    text.extend_from_slice(digits.format(runs).as_bytes())?;
+    text.push(b'\n')?;
+    Ok(text)
+}
+
+// A set of failing tests that is not empty tells of a failure.
+fn failing_verdict(ids: &IdList) -> Verdict
+    ensures { result ≡ verdict_of_failing ids.now }
+{
+    if ids.list().is_empty() {
+        Verdict::Passed
+    } else {
+        Verdict::Failed
+    }
+}
+
+// What a store that could not be read answers.
+pub(crate) fn ledger_refusal(fault: LedgerFault) -> TellFault
+    ensures { result ≡ fault_of_ledger fault }
+{
+    match fault {
+        LedgerFault::Store(_) => TellFault::Shelf,
+        LedgerFault::NoMemory => TellFault::NoMemory,
+    }
+}

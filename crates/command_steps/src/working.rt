@@ -1,0 +1,141 @@
+//! Starts the workers of a run, and records them.
+
+ghost use Rattle.std.specs.Prelude.{◌≡◌, ◌≤◌, ◌<◌, ◌++◌, ◌∷◌, [], ℕ, List, length, map, IfOk, IfErr, IfSome, OnOk};
+ghost use Rattle.std.specs.List.{range_with_len};
+ghost use Rattle.edge_io.specs.Steps.{HasDraft};
+ghost use Rattle.suite_run.specs.Recording.{AddsByFew, RecordsLanes};
+ghost use Rattle.suite_run.specs.Summed.{GivesSums};
+ghost use Rattle.worker_lane.specs.Lanes.{rest, lane_number};
+ghost use Rattle.edge_io.specs.Disk.{Files};
+ghost use Rattle.edge_io.specs.Seen.{Seen};
+ghost use Rattle.run_shelf.specs.Holds.{kinds_of, HasRoom, FitsWhereTold};
+ghost use Rattle.run_shelf.specs.Repository.{most_runs};
+ghost use Rattle.command_steps.specs.Outside.{work};
+ghost use Rattle.command_steps.specs.Refusals.{refusal_code};
+ghost use Rattle.command_steps.specs.Working.{Works, kept_in, summary_in};
+ghost use Rattle.command_steps.specs.Calls.{IsCovered, StoresByFew};
+
+use crate::Refusal;
+use crate::refreshing::refresh;
+use crate::store::{begin, keep};
+use edge_io::{Child, Job, Shelf, Spawner};
+use outcome_fold::Summary;
+use packet_codec::Tags;
+use run_shelf::Found;
+use std::alloc::Global;
+use std::sync::Wait;
+use std::thread::Threads;
+use suite_run::{LanesRefusal, record_lanes, start_lanes};
+use worker_lane::Lane;
+
+/// What is known of a run that is kept.
+#[derive(Drop)]
+pub struct Kept {
+    /// The runs that there are with it, where they are wanted and there was memory for them.
+    pub found: Option<Found>,
+    /// What is kept of its rows.
+    pub summary: Summary,
+}
+
+// What was recorded of the workers.
+#[derive(Drop)]
+struct Ran {
+    // The runs that there are.
+    found: Found,
+    // What is kept of the rows of what was recorded.
+    summary: Summary,
+}
+
+/// Starts a worker for each of the jobs, 64 at most, reads them to their ends, side by side, keeps what is recorded of them
+/// as the next run, whose rows are summed up as it is recorded, where these tags filter, and brings the caches up to it. It
+/// gives what is kept of the rows, and the runs that there are then where these are wanted. It may wait for the workers. Where both caches cover the runs that were found, the folder
+/// is called 18 times at most, and once for each packet. No refusal of it has the status 3.
+pub fn run_workers<R: Threads + Wait + Sync, H: Shelf, S: Spawner>(
+    rt: &R,
+    alloc: Global,
+    jobs: &[Job],
+    partial: bool,
+    wanted: bool,
+    shelf: &mut H,
+    found: Found,
+    spawner: &mut S,
+    filter_tags: Tags,
+) -> Result<Kept, Refusal<'static>>
+    requires few { length jobs.now ≤ 64 }
+    requires free { length (kinds_of found) < most_runs }
+    requires room { HasRoom found }
+    requires fits { FitsWhereTold (kinds_of found) (H.seen shelf.old).told }
+    ensures step { GivesSums filter_tags (λ rows. (site : Seen Files) (input out : Seen (List ℕ)) → Works partial (length (kinds_of found)) jobs.now
+        (work (H.seen shelf.old) site (S.seen spawner.old) input out)
+        (work (H.seen shelf.new) site (S.seen spawner.new) input out)
+        rows) (kept_in result) }
+    ensures calls { OnOk result (IsCovered (length (kinds_of found)) (H.seen shelf.old).told → StoresByFew 18 partial (H.seen shelf.old).told (H.seen shelf.new).told (H.clock shelf.old) (H.clock shelf.new)) }
+    ensures found { IfOk result (λ kept. IfSome kept.found (λ runs. kinds_of runs ≡ kinds_of found ++ partial ∷ [])) }
+    ensures fits { IfOk result (λ kept. IfSome kept.found (λ runs. FitsWhereTold (kinds_of runs) (H.seen shelf.new).told)) }
+    ensures code { IfErr result (λ refusal. refusal_code refusal ≡ 3 → ⊥) }
+{
+    begin(shelf)?;
+    let lanes = start_lanes(alloc, spawner, jobs)?;
+    let Ran { mut found, summary } = record_workers(
+        rt,
+        alloc,
+        lanes,
+        shelf,
+        found,
+        partial,
+        filter_tags,
+    )?;
+    keep(shelf, &mut found, partial)?;
+    let runs = copy_where(alloc, wanted, &found);
+    match refresh(alloc, shelf, found, &summary) {
+        Ok(()) => Ok(Kept {
+            found: runs,
+            summary,
+        }),
+        Err(fault) => Err(Refusal::Refresh(fault)),
+    }
+}
+
+// The runs that were found, where they are wanted and there is memory for them.
+fn copy_where(alloc: Global, wanted: bool, found: &Found) -> Option<Found>
+    ensures { IfSome result (λ runs. kinds_of runs ≡ kinds_of found.now) }
+{
+    if !wanted {
+        return None;
+    }
+    match found.copy(alloc) {
+        Ok(runs) => Some(runs),
+        Err(_) => None,
+    }
+}
+
+// Records the lanes of the workers behind the draft that was begun, and gives the runs that there are, and what is kept of
+// the rows of what was recorded.
+fn record_workers<R: Threads + Wait + Sync, C: Child + Send + Drop, H: Shelf>(
+    rt: &R,
+    alloc: Global,
+    lanes: Vec<Lane<C>>,
+    shelf: &mut H,
+    found: Found,
+    partial: bool,
+    filter_tags: Tags,
+) -> Result<Ran, LanesRefusal>
+    requires numbers { map lane_number lanes.items ≡ range_with_len 0 (length lanes.items) }
+    requires few { length lanes.items ≤ 64 }
+    requires free { length (kinds_of found) < most_runs }
+    requires room { HasRoom found }
+    requires fits { FitsWhereTold (kinds_of found) (H.seen shelf.old).told }
+    requires draft { HasDraft (H.seen shelf.old).told }
+    ensures step { GivesSums filter_tags (RecordsLanes (map (rest C.seen) lanes.items) (H.seen shelf.old) (H.seen shelf.new)) (summary_in result) }
+    ensures calls { OnOk result (AddsByFew (H.seen shelf.old).told (H.seen shelf.new).told (H.clock shelf.old) (H.clock shelf.new)) }
+    ensures draft { OnOk result (HasDraft (H.seen shelf.new).told) }
+    ensures fits { IfOk result (λ ran. FitsWhereTold (kinds_of ran.found) (H.seen shelf.new).told) }
+    ensures kinds { IfOk result (λ ran. kinds_of ran.found ≡ kinds_of found) }
+    ensures room { IfOk result (λ ran. HasRoom ran.found) }
+{
+    let (found, recorded) = record_lanes(rt, alloc, lanes, shelf, found, partial, filter_tags);
+    match recorded {
+        Ok(summary) => Ok(Ran { found, summary }),
+        Err(refusal) => Err(refusal),
+    }
+}
