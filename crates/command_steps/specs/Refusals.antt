@@ -1,9 +1,10 @@
 -- The refusals, each of one step, with its status and its line, which are that step's (docs/COMMANDS.md, "Refusals").
-use Rattle.std.specs.Prelude.{ℕ, Option, None, Some, List, [], ◌++◌, Result, Ok, Err}
+use Rattle.std.specs.Prelude.{codes, ℕ, Option, None, Some, List, [], ◌++◌, Result, Ok, Err}
 use Rattle.run_shelf.specs.declared.faults.InitFault.TheVariants as init_fault
 use Rattle.run_shelf.specs.declared.faults.OpenFault.TheVariants as open_fault
 use Rattle.command_steps.specs.Outside.{Place, in_folder, in_site, in_spawner, in_input, in_out}
-use Rattle.testr_words.specs.Words.{usage_text}
+use Rattle.command_steps.specs.declared.usage.UsageFault.{UsageFault}
+use Rattle.command_steps.specs.declared.usage.UsageFault.TheVariants.{Words}
 use Rattle.command_steps.specs.Store.{init_code, init_text, open_code, open_text, runs_text, keep_text}
 use Rattle.command_steps.specs.Recording.{record_code, record_text}
 use Rattle.command_steps.specs.Reporting.{memory_text, print_text}
@@ -49,6 +50,10 @@ refusal_code (Report fault) = 5
 refusal_code (Suspects fault) = 5
 refusal_code (Ran fault) = tell_code fault
 refusal_code (Search fault) = search_code fault
+
+-- the line where the words are no command
+abbrev pub usage_text : UsageFault → List ℕ
+usage_text Words = codes "testr: wrong usage\n"
 
 -- the line of a refusal
 abbrev pub refusal_line : Refusal → List ℕ

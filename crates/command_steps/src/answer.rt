@@ -2,7 +2,6 @@
 
 ghost use Rattle.std.specs.Prelude.{◌≡◌};
 ghost use Rattle.command_steps.specs.Telling.{line_text};
-ghost use Rattle.testr_words.specs.Words.{usage_text};
 
 use crate::copying::CopyFault;
 use crate::recording::RecordFault;
@@ -13,6 +12,7 @@ use crate::suite_refusals::{
 };
 use crate::telling::{Line, Refuses};
 use crate::told::TellFault;
+use crate::usage::UsageFault;
 use run_shelf::{InitFault, OpenFault};
 use sub_number::NoMemory;
 use suite_causes::SearchFault;
@@ -21,7 +21,6 @@ use suite_plan::{
 };
 use suite_run::{LanesRefusal, StartRefusal};
 use testr_conf::JobFault;
-use testr_words::UsageFault;
 
 /// Whether the tests of a run passed. A command that tells of no tests answers `Passed`.
 #[derive(Clone, Copy, Debug, PartialEq, Eq)]
@@ -326,7 +325,7 @@ impl<'a> Refusal<'a> {
     {
         // Each arm returns: some lines hold a part of the refusal and others none, and no proof is made where such arms join.
         match self {
-            Refusal::Usage(fault) => return usage_line(*fault),
+            Refusal::Usage(fault) => return (*fault).line(),
             Refusal::Init(fault) => return (*fault).line(),
             Refusal::Open(fault) => return (*fault).line(),
             Refusal::Runs(fault) => return (*fault).line(),
@@ -350,14 +349,5 @@ impl<'a> Refusal<'a> {
             Refusal::Lanes(refusal) => return (*refusal).line(),
             Refusal::Search(fault) => return (*fault).line(),
         }
-    }
-}
-
-// The line where the words are no command.
-fn usage_line(fault: UsageFault) -> Line<'static>
-    ensures { line_text result ≡ usage_text fault }
-{
-    match fault {
-        UsageFault::Words => Line::of("testr: wrong usage\n"),
     }
 }

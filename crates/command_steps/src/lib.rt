@@ -12,7 +12,7 @@
 //! - `reporting`, `printing`: the report of a run, made and printed
 //! - `selecting`, `planning`, `working`: which tests run, what each worker is started with, and the workers themselves
 //! - `causes`: which test makes another one fail
-//! - `answer`, `suite_refusals`: the verdict of a command, and the refusals by step
+//! - `answer`, `usage`, `suite_refusals`: the verdict of a command, and the refusals by step
 //! - `telling`: the lines that tell of them
 //!
 //! Its tests stand in rooms of their own above `testr_cli`, `load_trials` and `run_trials`.
@@ -33,6 +33,7 @@ mod store;
 mod suite_refusals;
 mod telling;
 mod told;
+mod usage;
 mod working;
 
 pub use answer::{Refusal, Verdict};
@@ -48,4 +49,5 @@ pub use selecting::{Selected, select};
 pub use store::{KeepFault, RunsFault, begin, have_run, keep, make, open, take_run};
 pub use telling::{Line, Part, tell};
 pub use told::{TellFault, Told, find};
+pub use usage::UsageFault;
 pub use working::{Kept, run_workers};

@@ -24,7 +24,7 @@ use Rattle.suite_plan.specs.declared.patterns.Compiled.{Compiled}
 use Rattle.suite_plan.specs.declared.patterns.PatternRefusal.{PatternRefusal}
 use Rattle.suite_plan.specs.declared.patterns.PatternRefusal.TheVariants as pattern
 use Rattle.partition_times.specs.Patterns.{IsPattern}
-use Rattle.filter_cli.proofs.BadLemmas.{good_not_bad}
+use Rattle.testr_cli.proofs.PatternLemmas.{good_not_bad}
 use Rattle.std.proofs.lemmas.Bool.{cases_lt}
 use Rattle.suite_plan.proofs.ToldLemmas.{one_text}
 use Rattle.suite_plan.specs.Listing.{ListsSo, HasFailed, HasListingCause, ListsTests}

@@ -11,7 +11,7 @@ use Rattle.testr_words.specs.declared.command.Command.{Command}
 use Rattle.testr_words.specs.declared.command.Verb.{Verb}
 use Rattle.testr_words.specs.declared.command.Verb.TheVariants.{Load, Run, ListTests, SelfTest}
 use Rattle.testr_words.specs.declared.drawing.Drawing.{Drawing}
-use Rattle.testr_words.specs.declared.words.UsageFault.TheVariants.{Words}
+use Rattle.command_steps.specs.declared.usage.UsageFault.TheVariants.{Words}
 use Rattle.command_steps.specs.declared.answer.Verdict.{Verdict}
 use Rattle.command_steps.specs.declared.answer.Refusal.{Refusal}
 use Rattle.command_steps.specs.declared.answer.Refusal.TheVariants.{Usage, Memory}

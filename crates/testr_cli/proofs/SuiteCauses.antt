@@ -8,7 +8,7 @@ use Rattle.edge_io.specs.Spawners.{Spawning}
 use Rattle.edge_io.specs.Steps.{Goes}
 use Rattle.edge_io.specs.declared.child.Finish.TheVariants.{Exit}
 use Rattle.edge_io.specs.declared.job.Job.{Job}
-use Rattle.filter_cli.proofs.BadLemmas.{good_not_bad}
+use Rattle.testr_cli.proofs.PatternLemmas.{good_not_bad}
 use Rattle.partition_times.specs.Patterns.{IsPattern}
 use Rattle.suite_plan.specs.Children.{StartsFor, IsBroken}
 use Rattle.suite_plan.specs.Choosing.{Ids}

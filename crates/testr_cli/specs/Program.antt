@@ -11,8 +11,6 @@ use Rattle.packet_codec.specs.declared.event.Event.{Event}
 use Rattle.packet_codec.specs.Grammar.{AreBytes}
 use Rattle.outcome_fold.specs.Rows.{rows_of}
 use Rattle.outcome_fold.specs.Answers.{status_of}
-use Rattle.filter_cli.specs.Outside.{outside as piped}
-use Rattle.filter_cli.specs.Promises.{Promises as FilterPromises}
 use Rattle.run_ledger.specs.Refreshing.{KeepsSound}
 use Rattle.run_shelf.specs.Images.{MakesRepository}
 use Rattle.run_shelf.specs.Repository.{Run, Shows, IsRepository, most_runs, format_name}
@@ -37,13 +35,13 @@ use Rattle.testr_cli.specs.Stops.{PassesTask}
 use Rattle.testr_cli.specs.SuiteProgram.{ListsAll, RunsAll, CanList, CanRun}
 use Rattle.testr_words.specs.Tasks.{Task, init, load, ask, list, run, selftest}
 use Rattle.command_steps.specs.Verdicts.{verdict_code}
-use Rattle.testr_words.specs.Words.{testr_word, asked_by}
+use Rattle.testr_words.specs.Words.{asked_by}
 use Rattle.command_steps.specs.declared.answer.Refusal.{Refusal}
 use Rattle.command_steps.specs.declared.answer.Refusal.TheVariants.{Usage, Memory}
 use Rattle.testr_cli.specs.Workers.{LeavesRun}
 use Rattle.command_steps.specs.declared.answer.Verdict.{Verdict}
 use Rattle.testr_words.specs.declared.command.Question.{Question}
-use Rattle.testr_words.specs.declared.words.UsageFault.TheVariants.{Words}
+use Rattle.command_steps.specs.declared.usage.UsageFault.TheVariants.{Words}
 
 -- ---- refusals
 
@@ -229,15 +227,3 @@ pub record Promises (reading : Bool) (asked : Option Task) (before after : Outsi
 -- what `testr` promises for all its words
 abbrev pub TestrPromises : List (List ℕ) → Outside → Outside → ℕ → Type 0
 TestrPromises words = Promises true (asked_by words)
-
--- what the filters do for the words, from the files and the input to the output; the folder and the spawner stay
-pub record PromisesOfFilters (words : List (List ℕ)) (before after : Outside) (answer : ℕ) : Type 0 where
-  pub filtered : FilterPromises words (piped before.site before.input before.out before.errors) (piped after.site after.input after.out after.errors) answer
-  pub folder : after.folder ≡ before.folder
-  pub spawner : after.spawner ≡ before.spawner
-
--- What each call of the program promises for all its words: what `testr` does for those behind its name, and for others
--- what the filters do, which also say where words are neither.
-pub record ProgramPromises (words : List (List ℕ)) (before after : Outside) (answer : ℕ) : Type 0 where
-  pub testr : (behind : List (List ℕ)) → words ≡ testr_word ∷ behind → TestrPromises behind before after answer
-  pub filters : ((behind : List (List ℕ)) → words ≡ testr_word ∷ behind → ⊥) → PromisesOfFilters words before after answer

@@ -1,4 +1,4 @@
-//! The top call.
+//! The top call: `testr`, and `quiet`.
 
 ghost use Rattle.std.specs.Prelude.{◌≡◌, ◌∷◌, ℕ, List, true, false, Some, None, OnOk};
 ghost use Rattle.std.specs.Io.KnownBytes.{Appends};
@@ -10,11 +10,11 @@ ghost use Rattle.edge_io.specs.Spawners.{Spawning};
 ghost use Rattle.command_words.specs.Items.{texts};
 ghost use Rattle.command_steps.specs.Refusals.{refusal_text};
 ghost use Rattle.command_steps.specs.Outside.{outside, work};
-ghost use Rattle.testr_cli.specs.Program.{Performs, Tells, Answers, Promises, TestrPromises, ProgramPromises};
+ghost use Rattle.testr_cli.specs.Program.{Performs, Tells, Answers, Promises, TestrPromises};
 ghost use Rattle.testr_cli.specs.Sparing.{SparesReads};
 ghost use Rattle.testr_cli.specs.SparingRun.{SparesRun};
 ghost use Rattle.testr_words.specs.Tasks.{task_of, task_with, quiet_of};
-ghost use Rattle.testr_words.specs.Words.{testr_word, asked_by};
+ghost use Rattle.testr_words.specs.Words.{asked_by};
 ghost use Rattle.testr_words.specs.declared.command.Verb.TheVariants.{Load, Run, ListTests, SelfTest};
 
 use crate::ask::ask;
@@ -24,64 +24,13 @@ use crate::load::load;
 use crate::run::run;
 use crate::selftest::selftest;
 use crate::{Refusal, Verdict};
-use command_steps::tell;
+use command_steps::{UsageFault, tell};
 use edge_io::{Failed, Shelf, Sink, Site, Source, Spawner, write_whole};
-use filter_cli::filters;
 use std::alloc::Global;
 use std::sync::Wait;
 use std::thread::Threads;
 use suite_plan::read_conf;
-use testr_words::{Command, MOST_FILES, Question, UsageFault, Verb, drawing_of, is_testr, reads};
-
-/// Does what the words say, and answers the exit status.
-///
-/// Where the first word is `testr`, it is that of [`testr`] for the words behind it. For all other words it is that of
-/// [`filters`]; where the first one is no filter's name either, the usage line of the whole program is written to `err`,
-/// and the status is 2.
-///
-/// The workers of `run` and `selftest` are read on threads of `rt`. `run` and `list-tests` may wait for the programs that
-/// they start, and `selftest` for its threads.
-pub fn program<
-    R: Threads + Wait + Sync,
-    H: Shelf,
-    S: Spawner,
-    F: Site,
-    I: Source,
-    O: Sink,
-    E: Sink,
->(
-    rt: &R,
-    alloc: Global,
-    words: &[String],
-    shelf: &mut H,
-    spawner: &mut S,
-    site: &mut F,
-    input: &mut I,
-    out: &mut O,
-    err: &mut E,
-) -> u8
-    ensures promises { ProgramPromises (texts words.now)
-        (outside (H.seen shelf.old) (F.seen site.old) (S.seen spawner.old) (I.seen input.old) (O.seen out.old) (E.seen err.old))
-        (outside (H.seen shelf.new) (F.seen site.new) (S.seen spawner.new) (I.seen input.new) (O.seen out.new) (E.seen err.new))
-        result }
-    ensures spares { (behind : List (List ℕ)) → texts words.now ≡ testr_word ∷ behind → SparesReads (asked_by behind) (H.seen shelf.old).told (H.clock shelf.old) (H.clock shelf.new) }
-    ensures spares_run { (behind : List (List ℕ)) → texts words.now ≡ testr_word ∷ behind → SparesRun (asked_by behind) (H.seen shelf.old).told (H.seen shelf.new).told result (H.clock shelf.old) (H.clock shelf.new) }
-{
-    if !is_testr(words) {
-        return filters(alloc, words, site, input, out, err);
-    }
-    testr(
-        rt,
-        alloc,
-        &words[1..],
-        shelf,
-        spawner,
-        site,
-        input,
-        out,
-        err,
-    )
-}
+use testr_words::{Command, MOST_FILES, Question, Verb, drawing_of, reads};
 
 /// Does what the words behind `testr` say, and answers the exit status: 0 where it was done and no test failed, 1 where a
 /// test failed, 2 where the words are no command, 3 for a named refusal, 4 for a fault of the outside, 5 for want of

@@ -9,8 +9,6 @@ use Rattle.command_words.specs.declared.table.Kind.{Kind}
 use Rattle.command_words.specs.declared.table.Kind.TheVariants.{Flag, Valued}
 use Rattle.command_words.specs.Items.{Item, flag, valued, name, is_text, items_of}
 use Rattle.testr_words.specs.declared.values.TheConstants.{MOST_WORKERS}
-use Rattle.testr_words.specs.declared.words.UsageFault.{UsageFault}
-use Rattle.testr_words.specs.declared.words.UsageFault.TheVariants.{Words}
 use Rattle.testr_words.specs.declared.command.Verb.{Verb}
 use Rattle.testr_words.specs.declared.command.Verb.TheVariants.{Init, Load, Run, Last, Failing, Slowest, Stats, ListTests, SelfTest}
 use Rattle.testr_words.specs.declared.command.Command.{Command}
@@ -26,10 +24,6 @@ testr_word = codes "testr"
 abbrev pub names_testr : List (List ℕ) → Bool
 names_testr [] = false
 names_testr (word ∷ words) = bytes_eq word testr_word
-
--- the line where the words are no command
-abbrev pub usage_text : UsageFault → List ℕ
-usage_text Words = codes "testr: wrong usage\n"
 
 -- the second answer is made of the first, where that is there
 abbrev pub and_then : {A B : Type 0} → Option A → (A → Option B) → Option B

@@ -22,4 +22,4 @@ mod words;
 pub use command::{Command, Question, Verb};
 pub use drawing::{Drawing, drawing_of};
 pub use values::MOST_WORKERS;
-pub use words::{MOST_FILES, UsageFault, is_testr, reads};
+pub use words::{MOST_FILES, is_testr, reads};

@@ -16,13 +16,6 @@ use sub_number::{IdList, NoMemory};
 /// How many files a load may be given.
 pub const MOST_FILES: usize = 64;
 
-/// Why words are no command.
-#[derive(Clone, Copy, Debug, PartialEq, Eq)]
-pub enum UsageFault {
-    /// Those behind `testr` are none.
-    Words,
-}
-
 /// Whether the first word is `testr`.
 pub fn is_testr(words: &[String]) -> bool
     ensures { result ≡ names_testr (texts words.now) }

@@ -3,7 +3,7 @@ use Rattle.testr_words.specs.Tasks.{task_of}
 use Rattle.testr_words.specs.Words.{and_then}
 use Rattle.testr_cli.proofs.PromiseLemmas.{promises, read_for}
 use Rattle.command_steps.specs.declared.answer.Refusal.TheVariants.{Usage, Memory}
-use Rattle.testr_words.specs.declared.words.UsageFault.TheVariants.{Words}
+use Rattle.command_steps.specs.declared.usage.UsageFault.TheVariants.{Words}
 use Rattle.testr_cli.proofs.CallLemmas.{of_asked, none_made, told_refused}
 use Rattle.testr_cli.proofs.Performing.{refuses, gives_up}
 use Rattle.testr_cli.proofs.SparingLemmas.{none_spare, read_spare}

@@ -6,7 +6,7 @@ use Rattle.testr_cli.proofs.CallLemmas.{of_words}
 use Rattle.testr_cli.proofs.SparingLemmas.{none_spare, behind_spare}
 use Rattle.testr_cli.proofs.PromiseLemmas.{testr_behind}
 use Rattle.testr_words.proofs.WordsLemmas.{names_first, names_other}
-use Rattle.testr_cli.proofs.top.program.Goals as goal
+use Rattle.two_faces.proofs.faces.program.Goals as goal
 
 pub returns-then-not-is_testr : goal.returns-then-not-is_testr
 returns-then-not-is_testr g c =
