@@ -1,8 +1,8 @@
 -- Which command words are.
-use Rattle.std.proofs.Common.{◌≡◌, ℕ, Bool, true, false, List, [], ◌∷◌, ◌++◌, drop, map, None, Some, Option, String, string_bytes, cond, append_assoc, refl, sym, ap, ◌∙◌}
+use Rattle.std.proofs.Common.{◌≡◌, ℕ, Bool, true, false, List, [], ◌∷◌, ◌++◌, drop, None, Some, Option, String, string_bytes, cond, append_assoc, refl, sym, ap, ◌∙◌}
 use Rattle.std.specs.declared.alloc.Global.{Global}
-use Rattle.std.specs.Prelude.{◌&&◌, ◌||◌}
-use Rattle.std.specs.List.{list_any, list_all}
+use Rattle.std.specs.Prelude.{◌&&◌}
+use Rattle.std.specs.List.{list_all}
 use Rattle.std.proofs.lemmas.List.Folds.{list_all-append}
 use Rattle.std.proofs.lemmas.Slice.Eq.{bytes_eq-Decides}
 use Rattle.command_words.specs.Items.{texts, is_text}
@@ -30,7 +30,3 @@ by_case false done front rest = refl
 pub behind_none : (done front rest : List (List ℕ)) → list_all is_text front ≡ false → behind done (front ++ rest) ≡ None
 behind_none done front rest no_texts =
     ap (λ b. and_then (cond b (Some (front ++ rest)) None) (λ r. Some (done ++ r))) (list_all-append is_text front rest ∙ ap (λ b. b && list_all is_text rest) no_texts)
-
-pub any_map : {A B : Type 0} (p : B → Bool) (f : A → B) (xs : List A) → list_any p (map f xs) ≡ list_any (λ x. p (f x)) xs
-any_map p f [] = refl
-any_map p f (x ∷ xs) = ap (λ b. p (f x) || b) (any_map p f xs)

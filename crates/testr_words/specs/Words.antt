@@ -1,13 +1,13 @@
 -- Which words are a command (docs/COMMANDS.md, "Words").
 use Rattle.std.specs.Prelude.{Bool, true, false, ◌&&◌, ◌||◌, nat_le, Option, Some, None, List, [], ◌∷◌, ℕ, length, codes, if◌then◌else◌}
 use Rattle.std.specs.Fmt.{decimal}
-use Rattle.std.specs.List.{list_any, list_all, flat_map, fold}
+use Rattle.std.specs.List.{list_all, flat_map, fold}
 use Rattle.std.specs.Option.{option_map, option_to_list}
 use Rattle.std.specs.Str.{bytes_eq}
 use Rattle.std.specs.Str.Parse.{digits_value}
 use Rattle.command_words.specs.declared.table.Kind.{Kind}
 use Rattle.command_words.specs.declared.table.Kind.TheVariants.{Flag, Valued}
-use Rattle.command_words.specs.Items.{Item, flag, valued, name, is_text, items_of}
+use Rattle.command_words.specs.Items.{Item, flag, valued, name, is_text, has_flag, items_of}
 use Rattle.testr_words.specs.declared.values.TheConstants.{MOST_WORKERS}
 use Rattle.testr_words.specs.declared.command.Verb.{Verb}
 use Rattle.testr_words.specs.declared.command.Verb.TheVariants.{Init, Load, Run, Last, Failing, Slowest, Stats, ListTests, SelfTest}
@@ -91,16 +91,6 @@ may_have None names = true
 may_have (Some most) names = nat_le names most
 
 -- ---- what the items say
-
--- the item is this flag
-abbrev pub is_flag : List ℕ → Item → Bool
-is_flag key (flag word) = bytes_eq word key
-is_flag key (valued word value) = false
-is_flag key (name word) = false
-
--- this flag stands among the items, however often
-abbrev pub has_flag : List ℕ → List Item → Bool
-has_flag key items = list_any (is_flag key) items
 
 -- the name that the item is, or none
 abbrev pub names_of : Item → List (List ℕ)

@@ -3,13 +3,13 @@
 ghost use Rattle.std.specs.Prelude.{◌≡◌, ◌++◌, true, map, option_map, IfOk};
 ghost use Rattle.command_words.specs.Code.{shown};
 ghost use Rattle.command_words.specs.Items.{texts, is_text};
-ghost use Rattle.std.specs.List.{list_any, list_all};
-ghost use Rattle.testr_words.specs.Words.{names_testr, verb_of, kinds_of, only_flag, run_kind, is_run_flag as is_flag_of_run, most_names, may_have as may_have_these, has_flag, is_flag as is_this_flag, names_in, names_of, if_texts, command_of_names as command_of_these_names, command_of_drawing, drawing_in as drawing_of_items, command_of_items, command_of_verb, command_of};
+ghost use Rattle.std.specs.List.{list_all};
+ghost use Rattle.testr_words.specs.Words.{names_testr, verb_of, kinds_of, only_flag, run_kind, is_run_flag as is_flag_of_run, most_names, may_have as may_have_these, names_in, names_of, if_texts, command_of_names as command_of_these_names, command_of_drawing, drawing_in as drawing_of_items, command_of_items, command_of_verb, command_of};
 
 use crate::command::{Command, Verb};
 use crate::drawing::drawing_in;
 use crate::values::{load_list_in, workers_in};
-use command_words::{Item, Kind, OptionTable, read_items, text_of};
+use command_words::{Item, Kind, OptionTable, has_flag, read_items, text_of};
 use std::alloc::Global;
 use sub_number::{IdList, NoMemory};
 
@@ -190,42 +190,20 @@ fn command_of_names(
     }
     Ok(Some(Command {
         verb,
-        partial: has(items, "--partial"),
-        failing: has(items, "--failing"),
-        parallel: has(items, "--parallel"),
-        find_causes: has(items, "--find-causes"),
+        partial: has_flag(items, "--partial"),
+        failing: has_flag(items, "--failing"),
+        parallel: has_flag(items, "--parallel"),
+        find_causes: has_flag(items, "--find-causes"),
         concurrency,
         load_list,
-        list: has(items, "--list"),
-        all: has(items, "--all"),
-        subunit: has(items, "--subunit"),
+        list: has_flag(items, "--list"),
+        all: has_flag(items, "--all"),
+        subunit: has_flag(items, "--subunit"),
         names,
         seed: 0,
         lanes: 0,
         tests: 0,
     }))
-}
-
-// Whether this flag stands among the items.
-fn has(items: &[Item<'_>], key: &str) -> bool
-    ensures { result ≡ has_flag key.now (map shown items.now) }
-{
-    any_is(items, key)
-}
-
-fn any_is(items: &[Item<'_>], key: &str) -> bool
-    ensures { result ≡ list_any (λ item. is_this_flag key.now (shown item)) items.now }
-{
-    items.iter().any(|item| is_flag(*item, key))
-}
-
-fn is_flag(item: Item<'_>, key: &str) -> bool
-    ensures { result ≡ is_this_flag key.now (shown item.entry) }
-{
-    match item {
-        Item::Flag(word) => word == key,
-        Item::Valued(_, _) | Item::Name(_) => false,
-    }
 }
 
 // The names among the items. None comes where one of them is no text.
