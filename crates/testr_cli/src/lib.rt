@@ -1,33 +1,20 @@
-//! The commands of `testr`: words become an answer.
+//! One program, two faces.
 //!
-//! `testr` does what the words behind that name say, over traits that stand for the outside: a folder of runs, files by
-//! name, a spawner of programs, an input and two sinks. Its contract is the theorem of each command. It knows the order of
-//! the steps, and never a real file or process. `testr_words` reads the words, and `command_steps` has the steps.
+//! `program` is what the real program's `main` calls, over traits that stand for the outside: a folder of runs, files by
+//! name, a spawner of programs, an input and two sinks. It looks at the first word: where that is `testr`, it is a call of
+//! `testr`, and else one of `filter_cli::filters`. Its contract is what these two promise.
 //!
-//! For want of memory a call refuses so, and for nothing else; what it did outside by then stands, and its status is 5.
+//! - `faces`: the first word, and what it leads to
 //!
-//! - `init`, `load`, `ask`, `run`, `list`, `selftest`: the commands, each a chain of steps
-//! - `top`: `testr` and `quiet`
-//! - `laws`, `suite_laws`: each named refusal comes exactly where its cause is
-//!
-//! Its tests stand in rooms of their own above it, `load_trials` and `run_trials`.
+//! The commands of `testr` stand in `testr_commands`, and are brought in here for those who call the program. Its tests
+//! stand in rooms of their own above it, `load_trials` and `run_trials`.
 #![tactic(auto)]
 
-mod ask;
-mod init;
-mod laws;
-mod list;
-mod load;
-mod run;
-mod selftest;
-mod suite_laws;
-mod top;
+mod faces;
 
-pub use command_steps::{
-    CopyFault, KeepFault, PrintFault, RecordFault, Refusal, RunsFault, TellFault, UsageFault,
-    Verdict,
+pub use faces::program;
+pub use testr_commands::{
+    Command, CopyFault, KeepFault, PrintFault, Question, RecordFault, Refusal, RunsFault,
+    TellFault, UsageFault, Verb, Verdict, quiet, reads, refusals_are_exact,
+    suite_refusals_are_exact, testr,
 };
-pub use laws::refusals_are_exact;
-pub use suite_laws::suite_refusals_are_exact;
-pub use testr_words::{Command, Question, Verb, reads};
-pub use top::{quiet, testr};

@@ -18,7 +18,7 @@ use std::io::{ErrorKind, Stderr, Stdout};
 use std::process::ExitCode;
 use std::sync::Wait;
 use std::thread::Threads;
-use two_faces::program;
+use testr_cli::program;
 
 // The exit status where the folder to work in is not there.
 const REFUSED: u8 = 3;

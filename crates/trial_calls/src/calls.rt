@@ -7,7 +7,7 @@ use std::sync::Wait;
 use std::test::Fail;
 use std::thread::Threads;
 use sub_number::Bytes;
-use two_faces::program;
+use testr_cli::program;
 
 // A loop that owns nothing, so that an early end drops nothing.
 fn push_words(alloc: Global, list: &mut Vec<String>, words: &[&str]) -> Result<(), Fail> {

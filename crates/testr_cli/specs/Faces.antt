@@ -1,0 +1,19 @@
+-- What the program promises: what the one face does, or the other.
+use Rattle.std.specs.Prelude.{◌≡◌, ℕ, List, ◌∷◌}
+use Rattle.command_steps.specs.Outside.{Outside}
+use Rattle.filter_cli.specs.Outside.{outside as piped}
+use Rattle.filter_cli.specs.Promises.{Promises as FilterPromises}
+use Rattle.testr_commands.specs.Program.{TestrPromises}
+use Rattle.testr_words.specs.Words.{testr_word}
+
+-- what the filters do for the words, from the files and the input to the output; the folder and the spawner stay
+pub record PromisesOfFilters (words : List (List ℕ)) (before after : Outside) (answer : ℕ) : Type 0 where
+  pub filtered : FilterPromises words (piped before.site before.input before.out before.errors) (piped after.site after.input after.out after.errors) answer
+  pub folder : after.folder ≡ before.folder
+  pub spawner : after.spawner ≡ before.spawner
+
+-- What each call of the program promises for all its words: what `testr` does for those behind its name, and for others
+-- what the filters do, which also say where words are neither.
+pub record ProgramPromises (words : List (List ℕ)) (before after : Outside) (answer : ℕ) : Type 0 where
+  pub testr : (behind : List (List ℕ)) → words ≡ testr_word ∷ behind → TestrPromises behind before after answer
+  pub filters : ((behind : List (List ℕ)) → words ≡ testr_word ∷ behind → ⊥) → PromisesOfFilters words before after answer

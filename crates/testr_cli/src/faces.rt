@@ -1,0 +1,67 @@
+//! The first word, and what it leads to.
+
+ghost use Rattle.std.specs.Prelude.{◌≡◌, ◌∷◌, ℕ, List};
+ghost use Rattle.command_steps.specs.Outside.{outside};
+ghost use Rattle.command_words.specs.Items.{texts};
+ghost use Rattle.testr_commands.specs.Sparing.{SparesReads};
+ghost use Rattle.testr_commands.specs.SparingRun.{SparesRun};
+ghost use Rattle.testr_words.specs.Words.{testr_word, asked_by};
+ghost use Rattle.testr_cli.specs.Faces.{ProgramPromises};
+
+use edge_io::{Shelf, Sink, Site, Source, Spawner};
+use filter_cli::filters;
+use std::alloc::Global;
+use std::sync::Wait;
+use std::thread::Threads;
+use testr_commands::testr;
+use testr_words::is_testr;
+
+/// Does what the words say, and answers the exit status.
+///
+/// Where the first word is `testr`, it is that of `testr` for the words behind it. For all other words it is that of
+/// `filters`; where the first one is no filter's name either, the usage line of the whole program is written to `err`,
+/// and the status is 2.
+///
+/// The workers of `run` and `selftest` are read on threads of `rt`. `run` and `list-tests` may wait for the programs that
+/// they start, and `selftest` for its threads.
+pub fn program<
+    R: Threads + Wait + Sync,
+    H: Shelf,
+    S: Spawner,
+    F: Site,
+    I: Source,
+    O: Sink,
+    E: Sink,
+>(
+    rt: &R,
+    alloc: Global,
+    words: &[String],
+    shelf: &mut H,
+    spawner: &mut S,
+    site: &mut F,
+    input: &mut I,
+    out: &mut O,
+    err: &mut E,
+) -> u8
+    ensures promises { ProgramPromises (texts words.now)
+        (outside (H.seen shelf.old) (F.seen site.old) (S.seen spawner.old) (I.seen input.old) (O.seen out.old) (E.seen err.old))
+        (outside (H.seen shelf.new) (F.seen site.new) (S.seen spawner.new) (I.seen input.new) (O.seen out.new) (E.seen err.new))
+        result }
+    ensures spares { (behind : List (List ℕ)) → texts words.now ≡ testr_word ∷ behind → SparesReads (asked_by behind) (H.seen shelf.old).told (H.clock shelf.old) (H.clock shelf.new) }
+    ensures spares_run { (behind : List (List ℕ)) → texts words.now ≡ testr_word ∷ behind → SparesRun (asked_by behind) (H.seen shelf.old).told (H.seen shelf.new).told result (H.clock shelf.old) (H.clock shelf.new) }
+{
+    if !is_testr(words) {
+        return filters(alloc, words, site, input, out, err);
+    }
+    testr(
+        rt,
+        alloc,
+        &words[1..],
+        shelf,
+        spawner,
+        site,
+        input,
+        out,
+        err,
+    )
+}

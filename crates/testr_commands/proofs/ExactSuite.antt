@@ -1,0 +1,342 @@
+-- Where the cause of a named refusal of a step of `run` or `list-tests` is there, it comes.
+use Rattle.std.proofs.Common.{◌≡◌, ◌⊎◌, inl, inr, ℕ, ℤ, ◌<◌, ◌≤◌, pos, true, Option, None, Some, IfSome, IsSome, IsSomeAnd, IfOk, IfErr, IsOk, IsErr, All, Result, Ok, Err, List, [], ◌∷◌, length, slice_index_or, refl, sym, ap, subst, ◌∙◌, arith}
+use Rattle.edge_io.specs.Children.{Output}
+use Rattle.edge_io.specs.Disk.{Files}
+use Rattle.edge_io.specs.Seen.{Seen}
+use Rattle.edge_io.specs.Spawners.{Spawning}
+use Rattle.edge_io.specs.Steps.{Goes}
+use Rattle.edge_io.specs.declared.child.Finish.{Finish}
+use Rattle.edge_io.specs.declared.child.Finish.TheVariants.{Exit}
+use Rattle.edge_io.specs.declared.job.Job.{Job}
+use Rattle.isolation_bisect.specs.declared.found.Found.{Found}
+use Rattle.suite_causes.specs.Analysis.{UsesNoBroken}
+use Rattle.suite_causes.specs.Searching.{Searches, SearchesSo, probe_job}
+use Rattle.suite_causes.specs.declared.searching.SearchFault.{SearchFault}
+use Rattle.suite_causes.specs.declared.searching.SearchFault.TheVariants as search_fault
+use Rattle.suite_causes.proofs.AnalysisLemmas.{none_broken}
+use Rattle.suite_plan.specs.Calling.{TellsNumber, TellsNone, CallsSo, HasCallCause, CallsOut}
+use Rattle.suite_plan.specs.Children.{IsBroken, StartsFor}
+use Rattle.suite_plan.specs.Choosing.{Ids}
+use Rattle.suite_plan.specs.ConfFile.{GivesSettings, GivesFault, HasConfCause, ReadsConf, conf_name, refused_conf}
+use Rattle.suite_plan.specs.LaneJobs.{lane_jobs}
+use Rattle.suite_plan.specs.Patterns.{Compiles, IsFirstBadText, IsBadRegex}
+use Rattle.suite_plan.specs.declared.patterns.Compiled.{Compiled}
+use Rattle.suite_plan.specs.declared.patterns.PatternRefusal.{PatternRefusal}
+use Rattle.suite_plan.specs.declared.patterns.PatternRefusal.TheVariants as pattern
+use Rattle.partition_times.specs.Patterns.{IsPattern}
+use Rattle.testr_commands.proofs.PatternLemmas.{good_not_bad}
+use Rattle.std.proofs.lemmas.Bool.{cases_lt}
+use Rattle.suite_plan.proofs.ToldLemmas.{one_text}
+use Rattle.suite_plan.specs.Listing.{ListsSo, HasFailed, HasListingCause, ListsTests}
+use Rattle.suite_plan.specs.LoadList.{IsLoadList, HasNoId, HasListCause, NamesList, ReadsLoadList}
+use Rattle.suite_plan.specs.Processors.{GivesProcessors, CountsProcessors, table_name}
+use Rattle.suite_plan.specs.Texts.{most_text, HasTooMuch}
+use Rattle.suite_plan.specs.declared.calling.CallRefusal.{CallRefusal}
+use Rattle.suite_plan.specs.declared.calling.CallRefusal.TheVariants as call
+use Rattle.suite_plan.specs.declared.conf_file.ConfRefusal.{ConfRefusal}
+use Rattle.suite_plan.specs.declared.conf_file.ConfRefusal.TheVariants as conf
+use Rattle.suite_plan.specs.declared.listing.ListingRefusal.{ListingRefusal}
+use Rattle.suite_plan.specs.declared.listing.ListingRefusal.TheVariants as listing
+use Rattle.suite_plan.specs.declared.load_list.ListRefusal.{ListRefusal}
+use Rattle.suite_plan.specs.declared.load_list.ListRefusal.TheVariants as load_list
+use Rattle.suite_plan.specs.declared.processors.TableRefusal.{TableRefusal}
+use Rattle.suite_plan.specs.declared.processors.TableRefusal.TheVariants as table
+use Rattle.testr_conf.specs.Jobs.{count_job_of, list_job_of}
+use Rattle.testr_conf.specs.ListedIds.{ids_in}
+use Rattle.testr_conf.specs.Settings.{Settings, conf_of}
+use Rattle.testr_conf.specs.declared.fault.ConfFault.{ConfFault}
+use Rattle.testr_conf.specs.declared.fault.ConfFault.TheVariants as conf_fault
+use Rattle.testr_conf.specs.declared.fault.JobFault.{JobFault}
+use Rattle.testr_conf.specs.declared.fault.JobFault.TheVariants as job_fault
+use Rattle.testr_conf.specs.declared.ids.IdsFault.{IdsFault}
+use Rattle.testr_conf.specs.declared.ids.IdsFault.TheVariants.{NotText}
+use Rattle.testr_commands.specs.ExactSuite.{Comes, NextMeets, IsNamedBad, ListEnds, IsListAbsent, IsListTooLong, IsNoId}
+use Rattle.command_steps.specs.Selecting.{HandsIds, MakesJobs}
+use Rattle.testr_commands.proofs.SuiteCauses.{from_both, not_too_much, same_text, not_fault, regex_never, not_ok}
+use Rattle.testr_commands.proofs.SuiteNever.{no_number}
+
+-- ---- files
+
+-- a file that is missing has no text
+not_there : {X : Type 0} (file : Option (List ℕ)) (text : List ℕ) → file ≡ None → file ≡ Some text → X
+not_there file text none there =
+    let both : None ≡ Some text = sym none ∙ there in
+    absurd cc
+
+-- nor too much of it
+not_long : {X : Type 0} (file : Option (List ℕ)) → file ≡ None → IsSomeAnd file (λ text. most_text < length text) → X
+not_long None none long = absurd long
+not_long (Some text) none long = absurd cc
+
+-- ---- the configuration
+
+module _ (before after : Seen Files) (result : Result Settings ConfRefusal) (reads : ReadsConf before after result) where
+  pub no_conf : IsSomeAnd before.told (λ files. files conf_name ≡ None) → Comes conf.Absent conf.Site conf.NoMemory result
+  no_conf there = by before.told result there reads.conf reads.refused
+    where
+      by : (told : Option Files) (result : Result Settings ConfRefusal) → IsSomeAnd told (λ files. files conf_name ≡ None) → IfOk result (λ settings. IfSome told (GivesSettings settings)) → IfErr result (λ refusal. IfSome told (HasConfCause refusal)) → Comes conf.Absent conf.Site conf.NoMemory result
+      by None result none gives cause = absurd none
+      by (Some files) (Ok settings) none gives cause = not_there (files conf_name) gives.text none gives.has.there
+      by (Some files) (Err conf.Site) none gives cause = inr (inl refl)
+      by (Some files) (Err conf.TooLong) none gives cause = not_long (files conf_name) none cause
+      by (Some files) (Err conf.Absent) none gives cause = inl refl
+      by (Some files) (Err (conf.BadLine number)) none gives cause = not_there (files conf_name) cause.text none cause.has.there
+      by (Some files) (Err (conf.NoSection number)) none gives cause = not_there (files conf_name) cause.text none cause.has.there
+      by (Some files) (Err (conf.Repeated number)) none gives cause = not_there (files conf_name) cause.text none cause.has.there
+      by (Some files) (Err conf.NoCommand) none gives cause = not_there (files conf_name) cause.text none cause.has.there
+      by (Some files) (Err conf.NoMemory) none gives cause = inr (inr refl)
+
+  pub conf_too_long : IsSomeAnd before.told (λ files. HasTooMuch files conf_name) → Comes conf.TooLong conf.Site conf.NoMemory result
+  conf_too_long there = by before.told result there reads.conf reads.refused
+    where
+      by : (told : Option Files) (result : Result Settings ConfRefusal) → IsSomeAnd told (λ files. HasTooMuch files conf_name) → IfOk result (λ settings. IfSome told (GivesSettings settings)) → IfErr result (λ refusal. IfSome told (HasConfCause refusal)) → Comes conf.TooLong conf.Site conf.NoMemory result
+      by None result long gives cause = absurd long
+      by (Some files) (Ok settings) long gives cause = absurd (not_too_much (files conf_name) gives.text gives.has.there gives.has.short long)
+      by (Some files) (Err conf.Site) long gives cause = inr (inl refl)
+      by (Some files) (Err conf.TooLong) long gives cause = inl refl
+      by (Some files) (Err conf.Absent) long gives cause = not_long (files conf_name) cause long
+      by (Some files) (Err (conf.BadLine number)) long gives cause = absurd (not_too_much (files conf_name) cause.text cause.has.there cause.has.short long)
+      by (Some files) (Err (conf.NoSection number)) long gives cause = absurd (not_too_much (files conf_name) cause.text cause.has.there cause.has.short long)
+      by (Some files) (Err (conf.Repeated number)) long gives cause = absurd (not_too_much (files conf_name) cause.text cause.has.there cause.has.short long)
+      by (Some files) (Err conf.NoCommand) long gives cause = absurd (not_too_much (files conf_name) cause.text cause.has.there cause.has.short long)
+      by (Some files) (Err conf.NoMemory) long gives cause = inr (inr refl)
+
+  -- a text is refused in one way
+  same_fault : (one other : ConfFault) (files : Files) → GivesFault one files → GivesFault other files → one ≡ other
+  same_fault one other files first second =
+      let same : first.text ≡ second.text = same_text (files conf_name) first.text second.text first.has.there second.has.there in
+      let both : ◌≡◌ {A = Result Settings ConfFault} (Err one) (Err other) = sym first.says ∙ ap conf_of same ∙ second.says in
+      cc
+
+  pub bad_conf : (fault : ConfFault) → IsSomeAnd before.told (GivesFault fault) → Comes (refused_conf fault) conf.Site conf.NoMemory result
+  bad_conf fault there = by before.told result there reads.conf reads.refused
+    where
+      here : (other : ConfFault) (files : Files) → GivesFault fault files → GivesFault other files → ◌≡◌ {A = Result Settings ConfRefusal} (Err (refused_conf other)) (Err (refused_conf fault))
+      here other files one two = ap (λ (f : ConfFault). Err (refused_conf f)) (same_fault other fault files two one)
+
+      by : (told : Option Files) (result : Result Settings ConfRefusal) → IsSomeAnd told (GivesFault fault) → IfOk result (λ settings. IfSome told (GivesSettings settings)) → IfErr result (λ refusal. IfSome told (HasConfCause refusal)) → Comes (refused_conf fault) conf.Site conf.NoMemory result
+      by None result bad gives cause = absurd bad
+      by (Some files) (Ok settings) bad gives cause = absurd (not_fault settings fault files gives bad)
+      by (Some files) (Err conf.Site) bad gives cause = inr (inl refl)
+      by (Some files) (Err conf.TooLong) bad gives cause = absurd (not_too_much (files conf_name) bad.text bad.has.there bad.has.short cause)
+      by (Some files) (Err conf.Absent) bad gives cause = not_there (files conf_name) bad.text cause bad.has.there
+      by (Some files) (Err (conf.BadLine number)) bad gives cause = inl (here (conf_fault.BadLine number) files bad cause)
+      by (Some files) (Err (conf.NoSection number)) bad gives cause = inl (here (conf_fault.NoSection number) files bad cause)
+      by (Some files) (Err (conf.Repeated number)) bad gives cause = inl (here (conf_fault.Repeated number) files bad cause)
+      by (Some files) (Err conf.NoCommand) bad gives cause = inl (here conf_fault.NoCommand files bad cause)
+      by (Some files) (Err conf.NoMemory) bad gives cause = inr (inr refl)
+
+-- ---- the list of ids
+
+module _ (name : List ℕ) (before after : Seen Files) (result : Result Ids ListRefusal) (reads : ReadsLoadList name before after result) where
+  abbrev Listed : Option Files → Result Ids ListRefusal → Type 0
+  Listed told result = IfOk result (λ ids. IfSome told (IsLoadList name ids))
+
+  abbrev Refused : Option Files → Result Ids ListRefusal → Type 0
+  Refused told result = IfErr result (λ refusal. IfSome told (HasListCause name refusal))
+
+  pub no_list : IsSomeAnd before.told (λ files. files name ≡ None) → IsListAbsent name result ⊎ ListEnds result
+  no_list there = by before.told result there reads.ids reads.refused reads.named
+    where
+      by : (told : Option Files) (result : Result Ids ListRefusal) → IsSomeAnd told (λ files. files name ≡ None) → Listed told result → Refused told result → IfErr result (NamesList name) → IsListAbsent name result ⊎ ListEnds result
+      by None result none lists cause named = absurd none
+      by (Some files) (Ok ids) none lists cause named = not_there (files name) lists.text none lists.has.there
+      by (Some files) (Err load_list.Site) none lists cause named = inr (inl refl)
+      by (Some files) (Err (load_list.TooLong given)) none lists cause named = not_long (files name) none cause
+      by (Some files) (Err (load_list.Absent given)) none lists cause named = inl named
+      by (Some files) (Err (load_list.NotId given number)) none lists cause named = not_there (files name) cause.text none cause.has.there
+      by (Some files) (Err load_list.NoMemory) none lists cause named = inr (inr refl)
+
+  pub list_too_long : IsSomeAnd before.told (λ files. HasTooMuch files name) → IsListTooLong name result ⊎ ListEnds result
+  list_too_long there = by before.told result there reads.ids reads.refused reads.named
+    where
+      by : (told : Option Files) (result : Result Ids ListRefusal) → IsSomeAnd told (λ files. HasTooMuch files name) → Listed told result → Refused told result → IfErr result (NamesList name) → IsListTooLong name result ⊎ ListEnds result
+      by None result long lists cause named = absurd long
+      by (Some files) (Ok ids) long lists cause named = absurd (not_too_much (files name) lists.text lists.has.there lists.has.short long)
+      by (Some files) (Err load_list.Site) long lists cause named = inr (inl refl)
+      by (Some files) (Err (load_list.TooLong given)) long lists cause named = inl named
+      by (Some files) (Err (load_list.Absent given)) long lists cause named = not_long (files name) cause long
+      by (Some files) (Err (load_list.NotId given number)) long lists cause named = absurd (not_too_much (files name) cause.text cause.has.there cause.has.short long)
+      by (Some files) (Err load_list.NoMemory) long lists cause named = inr (inr refl)
+
+  pub no_id : (number : ℕ) → IsSomeAnd before.told (HasNoId name number) → IsNoId name number result ⊎ ListEnds result
+  no_id number there = by before.told result there reads.ids reads.refused reads.named
+    where
+      same_line : (line : ℕ) (files : Files) → HasNoId name number files → HasNoId name line files → line ≡ number
+      same_line line files first second =
+          let same : second.text ≡ first.text = same_text (files name) second.text first.text second.has.there first.has.there in
+          let both : ◌≡◌ {A = Result Ids IdsFault} (Err (NotText line)) (Err (NotText number)) = sym second.says ∙ ap ids_in same ∙ first.says in
+          cc
+
+      no_ids : (ids : Ids) (files : Files) → HasNoId name number files → IsLoadList name ids files → ⊥
+      no_ids ids files bad lists =
+          let same : lists.text ≡ bad.text = same_text (files name) lists.text bad.text lists.has.there bad.has.there in
+          let both : ◌≡◌ {A = Result Ids IdsFault} (Ok ids) (Err (NotText number)) = sym lists.says ∙ ap ids_in same ∙ bad.says in
+          cc
+
+      by : (told : Option Files) (result : Result Ids ListRefusal) → IsSomeAnd told (HasNoId name number) → Listed told result → Refused told result → IfErr result (NamesList name) → IsNoId name number result ⊎ ListEnds result
+      by None result bad lists cause named = absurd bad
+      by (Some files) (Ok ids) bad lists cause named = absurd (no_ids ids files bad lists)
+      by (Some files) (Err load_list.Site) bad lists cause named = inr (inl refl)
+      by (Some files) (Err (load_list.TooLong given)) bad lists cause named = absurd (not_too_much (files name) bad.text bad.has.there bad.has.short cause)
+      by (Some files) (Err (load_list.Absent given)) bad lists cause named = not_there (files name) bad.text cause bad.has.there
+      by (Some files) (Err (load_list.NotId given line)) bad lists cause named = inl (named, same_line line files bad cause)
+      by (Some files) (Err load_list.NoMemory) bad lists cause named = inr (inr refl)
+
+-- ---- the table of processors
+
+pub table_too_long : (before after : Seen Files) (result : Result ℕ TableRefusal) → CountsProcessors before after result → IsSomeAnd before.told (λ files. HasTooMuch files table_name) → Comes table.TooLong table.Site table.NoMemory result
+table_too_long before after result counts there = by before.told result there counts.number
+  where
+    short : (file : Option (List ℕ)) → IfSome file (λ text. length text ≤ most_text) → IsSomeAnd file (λ text. most_text < length text) → ⊥
+    short None few long = long
+    short (Some text) few long = omega (arith, few, long)
+
+    by : (told : Option Files) (result : Result ℕ TableRefusal) → IsSomeAnd told (λ files. HasTooMuch files table_name) → IfOk result (λ number. IfSome told (GivesProcessors number)) → Comes table.TooLong table.Site table.NoMemory result
+    by None result long gives = absurd long
+    by (Some files) (Ok number) long gives = absurd (short (files table_name) gives.short long)
+    by (Some files) (Err table.Site) long gives = inr (inl refl)
+    by (Some files) (Err table.TooLong) long gives = inl refl
+    by (Some files) (Err table.NoMemory) long gives = inr (inr refl)
+
+-- ---- patterns
+
+-- there is one first bad pattern
+same_bad : (patterns : Ids) (one other : List ℕ) → IsFirstBadText patterns one → IsFirstBadText patterns other → other ≡ one
+same_bad patterns one other a b = elim (cases_lt a.index b.index) [
+  | inl less ↦ absurd (good_not_bad _ (b.first.good_before a.index less) a.first.bad)
+  | inr rest ↦ elim (cases_lt b.index a.index) [
+    | inl less ↦ absurd (good_not_bad _ (a.first.good_before b.index less) b.first.bad)
+    | inr also ↦
+        let same : b.index ≡ a.index = omega (arith, rest, also) in
+        b.there ∙ ap (λ i. slice_index_or patterns i []) same ∙ sym a.there
+  ]
+]
+
+not_all_good : (patterns : Ids) (text : List ℕ) → IsFirstBadText patterns text → All IsPattern patterns → ⊥
+not_all_good patterns text bad good = good_not_bad _ (good bad.index [] bad.first.in_range) bad.first.bad
+
+same_regex : (regex : Option (List ℕ)) (one other : List ℕ) → IsBadRegex regex one → IsBadRegex regex other → other ≡ one
+same_regex None one other a b = absurd a
+same_regex (Some regex) one other a b = b.0 ∙ sym a.0
+
+module _ (patterns : Ids) (regex : Option (List ℕ)) (text : List ℕ) where
+  pub bad_pattern : (result : Result Compiled PatternRefusal) → Compiles patterns regex result → IsFirstBadText patterns text → IsNamedBad text result ⊎ (result ≡ Err pattern.NoMemory)
+  bad_pattern (Ok compiled) compiles bad = absurd (not_all_good patterns text bad compiles.good)
+  bad_pattern (Err (pattern.Bad given)) (inl first) bad = inl (same_bad patterns text given.now bad first)
+  bad_pattern (Err (pattern.Bad given)) (inr (all, second)) bad = absurd (not_all_good patterns text bad all)
+  bad_pattern (Err pattern.NoMemory) compiles bad = inr refl
+
+  pub bad_regex : (result : Result Compiled PatternRefusal) → Compiles patterns regex result → All IsPattern patterns → IsBadRegex regex text → IsNamedBad text result ⊎ (result ≡ Err pattern.NoMemory)
+  bad_regex (Ok compiled) compiles good bad = absurd (regex_never regex text compiles.good_regex bad)
+  bad_regex (Err (pattern.Bad given)) (inl first) good bad = absurd (not_all_good patterns given.now first good)
+  bad_regex (Err (pattern.Bad given)) (inr (all, second)) good bad = inl (same_regex regex text given.now bad second)
+  bad_regex (Err pattern.NoMemory) compiles good bad = inr refl
+
+-- ---- children
+
+-- the child that was started is the first
+first_is : (s t : Spawning) (job : Job) (output first : Output) (later : List Output) → s.outputs ≡ first ∷ later → StartsFor job output s t → output ≡ first
+first_is s t job output first later is starts =
+    let both : output ∷ t.outputs ≡ first ∷ later = sym starts.first ∙ is in
+    cc
+
+-- a child that ends with a status is not broken
+not_broken : (finish : Finish) (status : ℤ) → finish ≡ Exit status → IsBroken finish → ⊥
+not_broken finish status ended (inl broken) =
+    let both : Exit status ≡ _ = sym ended ∙ broken in
+    cc
+not_broken finish status ended (inr broken) =
+    let both : Exit status ≡ _ = sym ended ∙ broken in
+    cc
+
+abbrev Next : (Output → Type 0) → Spawning → Type 0
+Next Meets s = (output : Output) × (later : List Output) × (s.outputs ≡ output ∷ later) × Meets output
+
+module _ (settings : Settings) (before after : Seen Spawning) (result : Result (Option ℕ) CallRefusal) (calls : CallsOut settings before after result) where
+  pub bad_number : (said : List ℕ) → IsSome (count_job_of settings) → NextMeets (TellsNone said) before → Comes (call.NoNumber said) call.Spawn call.NoMemory result
+  bad_number said some next = by before.told after.told result next calls.told calls.refused calls.jobless
+    where
+      by : (x y : Option Spawning) (result : Result (Option ℕ) CallRefusal) → IsSomeAnd x (Next (TellsNone said)) → IfOk result (λ number. Goes x y (CallsSo settings number)) → IfErr result (λ refusal. Goes x y (HasCallCause settings refusal)) → (result ≡ Ok None → count_job_of settings ≡ None) → Comes (call.NoNumber said) call.Spawn call.NoMemory result
+      by None y result next gives cause jobless = absurd next
+      by (Some s) y (Ok None) next gives cause jobless = absurd (some_job (count_job_of settings) some (jobless refl))
+        where
+          some_job : (job : Option Job) → IsSome job → job ≡ None → ⊥
+          some_job None some none = cc
+          some_job (Some job) some none = cc
+      by (Some s) None (Ok (Some number)) next gives cause jobless = absurd gives
+      by (Some s) (Some t) (Ok (Some number)) next gives cause jobless =
+          let same : gives.output ≡ next.0 = first_is s t gives.job gives.output next.0 next.1 next.2 gives.started in
+          absurd (no_number number said next.0 (subst (TellsNumber number) same gives.meets) next.3)
+      by (Some s) y (Err call.Spawn) next gives cause jobless = inr (inl refl)
+      by (Some s) None (Err call.Child) next gives cause jobless = absurd cause
+      by (Some s) (Some t) (Err call.Child) next gives cause jobless =
+          let same : cause.output ≡ next.0 = first_is s t cause.job cause.output next.0 next.1 next.2 cause.started in
+          absurd (not_broken next.0.finish next.3.status next.3.ended (subst (λ (o : Output). IsBroken o.finish) same cause.meets))
+      by (Some s) None (Err (call.NoNumber other)) next gives cause jobless = absurd cause
+      by (Some s) (Some t) (Err (call.NoNumber other)) next gives cause jobless =
+          let same : cause.output ≡ next.0 = first_is s t cause.job cause.output next.0 next.1 next.2 cause.started in
+          let meets : TellsNone other next.0 = subst (TellsNone other) same cause.meets in
+          inl (ap (λ (text : List ℕ). Err (call.NoNumber text)) (meets.says ∙ sym next.3.says))
+      by (Some s) y (Err call.NoMemory) next gives cause jobless = inr (inr refl)
+
+module _ (settings : Settings) (before after : Seen Spawning) (result : Result Ids ListingRefusal) (lists : ListsTests settings before after result) where
+  pub no_list_option : IsErr (list_job_of settings) → (result ≡ Err listing.NoListOption) ⊎ (result ≡ Err listing.NoMemory)
+  no_list_option jobless = lists.exactly jobless
+
+  pub listing_failed : (status : ℤ) (said : List ℕ) → IsOk (list_job_of settings) → NextMeets (HasFailed status said) before → Comes (listing.Failed status said) listing.Spawn listing.NoMemory result
+  listing_failed status said job next = by before.told after.told result next lists.listed lists.refused lists.jobless
+    where
+      same_status : (other : ℤ) (text : List ℕ) (output : Output) → HasFailed status said output → HasFailed other text output → ◌≡◌ {A = Result Ids ListingRefusal} (Err (listing.Failed other text)) (Err (listing.Failed status said))
+      same_status other text output one two =
+          let both : Exit other ≡ Exit status = sym two.ended ∙ one.ended in
+          let texts : text ≡ said = one_text output.bytes text said two.says one.says in
+          cc
+
+      by : (x y : Option Spawning) (result : Result Ids ListingRefusal) → IsSomeAnd x (Next (HasFailed status said)) → IfOk result (λ ids. Goes x y (ListsSo settings ids)) → IfErr result (λ refusal. Goes x y (HasListingCause settings refusal)) → (result ≡ Err listing.NoListOption → IsErr (list_job_of settings)) → Comes (listing.Failed status said) listing.Spawn listing.NoMemory result
+      by None y result next gives cause jobless = absurd next
+      by (Some s) None (Ok ids) next gives cause jobless = absurd gives
+      by (Some s) (Some t) (Ok ids) next gives cause jobless =
+          let same : gives.output ≡ next.0 = first_is s t gives.job gives.output next.0 next.1 next.2 gives.started in
+          let both : Exit status ≡ Exit (pos 0) = sym next.3.ended ∙ ap (λ (o : Output). o.finish) (sym same) ∙ gives.ended in
+          absurd (next.3.other cc)
+      by (Some s) y (Err listing.NoListOption) next gives cause jobless = absurd (not_ok (list_job_of settings) job (jobless refl))
+      by (Some s) y (Err listing.Spawn) next gives cause jobless = inr (inl refl)
+      by (Some s) None (Err listing.Child) next gives cause jobless = absurd cause
+      by (Some s) (Some t) (Err listing.Child) next gives cause jobless =
+          let same : cause.output ≡ next.0 = first_is s t cause.job cause.output next.0 next.1 next.2 cause.started in
+          absurd (not_broken next.0.finish status next.3.ended (subst (λ (o : Output). IsBroken o.finish) same cause.meets))
+      by (Some s) None (Err (listing.Failed other text)) next gives cause jobless = absurd cause
+      by (Some s) (Some t) (Err (listing.Failed other text)) next gives cause jobless =
+          let same : cause.output ≡ next.0 = first_is s t cause.job cause.output next.0 next.1 next.2 cause.started in
+          inl (same_status other text next.0 next.3 (subst (HasFailed other text) same cause.meets))
+      by (Some s) y (Err listing.NoMemory) next gives cause jobless = inr (inr refl)
+
+-- ---- the jobs
+
+pub no_option : (settings : Settings) (shares : Option (List Ids)) (fault : JobFault) (result : Result (List Job) JobFault) → MakesJobs settings shares result → lane_jobs settings shares ≡ Err fault → (result ≡ Err fault) ⊎ (result ≡ Err job_fault.NoMemory)
+no_option settings shares fault result makes refused = by result makes.jobs makes.refused
+  where
+    same_fault : (other : JobFault) → lane_jobs settings shares ≡ Err other → ◌≡◌ {A = Result (List Job) JobFault} (Err other) (Err fault)
+    same_fault other is = sym is ∙ refused
+
+    told : (other : JobFault) → (lane_jobs settings shares ≡ Err other) ⊎ (other ≡ job_fault.NoMemory) → (◌≡◌ {A = Result (List Job) JobFault} (Err other) (Err fault)) ⊎ ◌≡◌ {A = Result (List Job) JobFault} (Err other) (Err job_fault.NoMemory)
+    told other (inl is) = inl (same_fault other is)
+    told other (inr is) = inr (ap Err is)
+
+    by : (result : Result (List Job) JobFault) → IfOk result (λ jobs. lane_jobs settings shares ≡ Ok jobs) → IfErr result (λ fault. (lane_jobs settings shares ≡ Err fault) ⊎ (fault ≡ job_fault.NoMemory)) → (result ≡ Err fault) ⊎ (result ≡ Err job_fault.NoMemory)
+    by (Ok jobs) is cause =
+        let both : ◌≡◌ {A = Result (List Job) JobFault} (Ok jobs) (Err fault) = sym is ∙ refused in
+        absurd cc
+    by (Err other) is cause = told other cause
+
+pub no_id_option : (settings : Settings) (fault : JobFault) (result : Result (Unit {0}) JobFault) → HandsIds true settings result → probe_job settings [] ≡ Err fault → (result ≡ Err fault) ⊎ (result ≡ Err job_fault.NoMemory)
+no_id_option settings fault result hands refused = subst (λ (job : Result Job JobFault). IfErr job (λ f. (result ≡ Err f) ⊎ (result ≡ Err job_fault.NoMemory))) refused (hands.exactly refl)
+
+-- ---- the search for causes
+
+pub probe_broken : (settings : Settings) (candidates : Ids) (test : List ℕ) (before after : Seen Spawning) (result : Result Found SearchFault) → Searches settings candidates test before after result → IsSomeAnd before.told (λ s. UsesNoBroken test candidates s.outputs → ⊥) → Comes search_fault.Child search_fault.Spawn search_fault.NoMemory result
+probe_broken settings candidates test before after (Ok found) searches broken = absurd (from_both before.told after.told (λ s. UsesNoBroken test candidates s.outputs → ⊥) (SearchesSo settings candidates test found) broken searches.found (λ s t never so. never (none_broken settings candidates test found s t so)))
+probe_broken settings candidates test before after (Err search_fault.Spawn) searches broken = inr (inl refl)
+probe_broken settings candidates test before after (Err search_fault.Child) searches broken = inl refl
+probe_broken settings candidates test before after (Err search_fault.NoMemory) searches broken = inr (inr refl)

@@ -1,0 +1,129 @@
+-- That runs are spared, by how many calls of the folder there were.
+use Rattle.std.proofs.Common.{◌≡◌, ℕ, Bool, true, false, Option, None, Some, List, ◌∷◌, length, sym, ap, subst, ◌∙◌, arith}
+use Rattle.std.specs.Prelude.{⊤, nat_le, option_map, if◌then◌else◌}
+use Rattle.edge_io.specs.Disk.{Files, Folder}
+use Rattle.edge_io.specs.Steps.{Goes}
+use Rattle.run_shelf.specs.Outcomes.{Surveys, TicksUpTo}
+use Rattle.run_shelf.specs.Repository.{Shows, IsRepository}
+use Rattle.run_shelf.specs.Sides.{side_name}
+use Rattle.run_shelf.specs.declared.side.Side.TheVariants.{Failing}
+use Rattle.run_ledger.specs.Caches.{IsSound}
+use Rattle.testr_words.specs.Drawings.{drawing_of}
+use Rattle.testr_words.specs.Questions.{OfBytes}
+use Rattle.testr_commands.specs.Sparing.{LooksOnly, SparesReads}
+use Rattle.command_steps.specs.Calls.{SparesRuns, SparesFor}
+use Rattle.testr_words.specs.Tasks.{Task, load, ask, selftest, task_with}
+use Rattle.testr_words.specs.Words.{testr_word, asked_by}
+use Rattle.testr_words.specs.declared.command.Command.{Command}
+use Rattle.testr_words.specs.declared.command.Question.{Question}
+use Rattle.testr_words.specs.declared.command.Question.TheVariants.{Failing as AsksFailing}
+use Rattle.testr_words.specs.declared.command.Verb.{Verb}
+use Rattle.testr_words.specs.declared.command.Verb.TheVariants as verb
+use Rattle.testr_words.specs.declared.drawing.Drawing.{Drawing}
+
+-- so few calls, and no read behind them
+pub few_spare : (calls : ℕ) (told : Option Folder) (before now : ℕ) → TicksUpTo calls before now → SparesRuns calls told before now
+few_spare calls None before now few = λ sound. tt
+few_spare calls (Some s) before now few = λ sound covers ids holds runs shown. omega (arith, few)
+
+-- the folder was looked at, and that is all
+pub looked : (told : Option Folder) (before now : ℕ) → TicksUpTo 4 before now → LooksOnly told before now
+looked None before now few = tt
+looked (Some s) before now few = λ none. few
+
+-- the look found a repository
+pub found : (kinds : List Bool) (told opened : Option Folder) (before now : ℕ) → Goes told opened (Surveys kinds) → LooksOnly told before now
+found kinds None opened before now survey = tt
+found kinds (Some s) None before now survey = absurd survey
+found kinds (Some s) (Some t) before now survey = λ none.
+    let same : t.disk.published ≡ s.disk.published = ap (λ (x : Folder). x.disk.published) survey.settled in
+    absurd (none (subst IsRepository same survey.fits.repository))
+
+-- no call
+pub none_spare : (asked : Option Task) (told : Option Folder) (before now : ℕ) → now ≡ before → SparesReads asked told before now
+none_spare asked told before now same = record {
+  failing = λ list is. few_spare 6 told before now (omega (arith, same));
+  looks = λ question is. looked told before now (omega (arith, same));
+}
+
+-- the folder was opened, and that is all
+pub opens_spare : (told : Option Folder) (before now : ℕ) → TicksUpTo 4 before now → SparesRuns 6 told before now
+opens_spare told before now few = few_spare 6 told before now (omega (arith, few))
+
+-- The folder was opened, and then the failing set was told of it. The files that are read are as they were.
+pub opened_spare : (kinds : List Bool) (told opened : Option Folder) (before middle now : ℕ) → Goes told opened (Surveys kinds) → TicksUpTo 4 before middle → SparesRuns 2 opened middle now → SparesRuns 6 told before now
+opened_spare kinds None None before middle now survey few spares = λ sound. tt
+opened_spare kinds None (Some t) before middle now survey few spares = absurd survey
+opened_spare kinds (Some s) None before middle now survey few spares = absurd survey
+opened_spare kinds (Some s) (Some t) before middle now survey few spares = λ sound covers ids holds runs shown.
+    let same : t.disk.published ≡ s.disk.published = ap (λ (x : Folder). x.disk.published) survey.settled in
+    let file = ap (λ (files : Files). files (side_name Failing)) same ∙ holds.file in
+    let reads = spares (subst IsSound (sym same) sound) covers ids (record { bytes = holds.bytes; file = file; form = holds.form }) runs (subst (λ (files : Files). Shows files runs) (sym same) shown) in
+    omega (arith, few, reads)
+
+-- a question of bytes is not that of the failing set
+pub bytes_spare : (calls : ℕ) (question : Question) (told : Option Folder) (before now : ℕ) → OfBytes question → SparesFor calls question told before now
+bytes_spare calls question told before now of list is = absurd (subst OfBytes is of)
+
+-- a verb that asks for no failing set
+abbrev pub IsOther : Verb → Type 0
+IsOther verb.Failing = ⊥
+IsOther other = ⊤
+
+no_load : (few : Bool) (c : Command) (list : Bool) → (if few then Some (load c.partial c.names) else None) ≡ Some (ask (AsksFailing list)) → ⊥
+no_load true c list is = cc
+no_load false c list is = cc
+
+no_drawn : (drawn : Option Drawing) (question : Question) → option_map selftest drawn ≡ Some (ask question) → ⊥
+no_drawn None question is = cc
+no_drawn (Some drawing) question is = cc
+
+not_asked : (v : Verb) (c : Command) (list : Bool) → IsOther v → task_with v c ≡ Some (ask (AsksFailing list)) → ⊥
+not_asked verb.Load c list other is = no_load (nat_le (length c.names) 64) c list is
+not_asked verb.Failing c list other is = other
+not_asked verb.SelfTest c list other is = no_drawn (drawing_of c) (AsksFailing list) is
+not_asked v c list other is = cc
+
+-- a question, but not that of the failing set
+pub other_spare : (v : Verb) {w : Verb} (c : Command) (told : Option Folder) (before now : ℕ) → v ≡ w → IsOther w → LooksOnly told before now → SparesReads (task_with v c) told before now
+other_spare v c told before now is other looks = record {
+  failing = λ list asks. absurd (not_asked v c list (subst IsOther (sym is) other) asks);
+  looks = λ question asks. looks;
+}
+
+-- a verb that asks nothing
+abbrev pub AsksNothing : Verb → Type 0
+AsksNothing verb.Init = ⊤
+AsksNothing verb.Load = ⊤
+AsksNothing verb.Run = ⊤
+AsksNothing verb.ListTests = ⊤
+AsksNothing verb.SelfTest = ⊤
+AsksNothing question = ⊥
+
+no_question : (few : Bool) (c : Command) (question : Question) → (if few then Some (load c.partial c.names) else None) ≡ Some (ask question) → ⊥
+no_question true c question is = cc
+no_question false c question is = cc
+
+nothing_asked : (v : Verb) (c : Command) (question : Question) → AsksNothing v → task_with v c ≡ Some (ask question) → ⊥
+nothing_asked verb.Init c question silent is = cc
+nothing_asked verb.Load c question silent is = no_question (nat_le (length c.names) 64) c question is
+nothing_asked verb.Run c question silent is = cc
+nothing_asked verb.ListTests c question silent is = cc
+nothing_asked verb.SelfTest c question silent is = no_drawn (drawing_of c) question is
+nothing_asked asks c question silent is = silent
+
+pub silent_spare : (v : Verb) {w : Verb} (c : Command) (told : Option Folder) (before now : ℕ) → v ≡ w → AsksNothing w → SparesReads (task_with v c) told before now
+silent_spare v c told before now is silent = record {
+  failing = λ list asks. absurd (nothing_asked v c (AsksFailing list) (subst AsksNothing (sym is) silent) asks);
+  looks = λ question asks. absurd (nothing_asked v c question (subst AsksNothing (sym is) silent) asks);
+}
+
+-- what the words ask for is the command's task
+pub read_spare : {asked read : Option Task} → asked ≡ read → (told : Option Folder) (before now : ℕ) → SparesReads asked told before now → SparesReads read told before now
+read_spare is told before now spares = subst (λ (o : Option Task). SparesReads o told before now) is spares
+
+-- the words behind the same name
+pub behind_spare : (rest behind : List (List ℕ)) (told : Option Folder) (before now : ℕ) → testr_word ∷ rest ≡ testr_word ∷ behind → SparesReads (asked_by rest) told before now → SparesReads (asked_by behind) told before now
+behind_spare rest behind told before now is spares =
+    let same : rest ≡ behind = cc in
+    subst (λ (l : List (List ℕ)). SparesReads (asked_by l) told before now) same spares

@@ -1,0 +1,32 @@
+use Rattle.std.proofs.Common.{refl}
+use Rattle.command_steps.proofs.StepLemmas.{part_done, part_stops, still_done, still_stops, prints_as, gives}
+use Rattle.testr_commands.proofs.list.list.Goals as goal
+
+pub returns-in_err-compiled : goal.returns-in_err-compiled
+returns-in_err-compiled g c = λ folder site input. still_stops _ c.from_residual.ensures.1 c.in_err-compiled.ensures refl
+
+pub returns-in_err-ids : goal.returns-in_err-ids
+returns-in_err-ids g c = λ folder site input.
+    still_done _ c.in_ok-compiled.ensures
+    (part_stops _ c.from_residual-in_err-ids.ensures.1 c.in_err-ids.ensures.step refl)
+
+pub returns-in_err-text : goal.returns-in_err-text
+returns-in_err-text g c = λ folder site input.
+    still_done _ c.in_ok-compiled.ensures
+    (part_done _ _ c.in_ok-ids.ensures.step
+    (still_stops _ c.from_residual-in_err-text.ensures.1 (record { lines = tt }) refl))
+
+pub returns-in_err-print : goal.returns-in_err-print
+returns-in_err-print g c = λ folder site input.
+    still_done _ c.in_ok-compiled.ensures
+    (part_done _ _ c.in_ok-ids.ensures.step
+    (still_done c.in_ok-text.text.items (record { lines = rw c.in_ok-compiled.ensures.filters at c.in_ok-text.ensures })
+    (part_stops _ c.from_residual-in_err-print.ensures.1 (prints_as c.deref.ensures.value c.in_err-print.ensures) refl)))
+
+pub returns : goal.returns
+returns g c = λ folder site input.
+    still_done _ c.in_ok-compiled.ensures
+    (part_done _ _ c.in_ok-ids.ensures.step
+    (still_done c.in_ok-text.text.items (record { lines = rw c.in_ok-compiled.ensures.filters at c.in_ok-text.ensures })
+    (part_done _ _ (prints_as c.deref.ensures.value c.in_ok-print.ensures)
+    gives)))

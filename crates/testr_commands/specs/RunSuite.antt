@@ -1,0 +1,78 @@
+-- `testr run` and `testr list-tests`, as the chains of their steps.
+use Rattle.std.specs.Prelude.{◌≡◌, ℕ, Bool, None, List, length, Result, Ok, Err, IfOk}
+use Rattle.outcome_fold.specs.declared.row.Row.{Row}
+use Rattle.run_shelf.specs.Holds.{kinds_of}
+use Rattle.sub_number.specs.declared.memory.NoMemory.{NoMemory}
+use Rattle.testr_conf.specs.Jobs.{id_lines}
+use Rattle.testr_conf.specs.Settings.{Settings}
+use Rattle.suite_plan.specs.ConfFile.{ReadsConf}
+use Rattle.suite_plan.specs.Choosing.{Ids, chosen_of}
+use Rattle.suite_plan.specs.Listing.{ListsTests}
+use Rattle.suite_plan.specs.Patterns.{Compiles}
+use Rattle.command_steps.specs.Causes.{FindsCauses}
+use Rattle.command_steps.specs.Outside.{Work, work_folder, work_site, work_spawner, work_out}
+use Rattle.command_steps.specs.Reporting.{Reports, Prints}
+use Rattle.command_steps.specs.Selecting.{Selects, Plans}
+use Rattle.command_steps.specs.Steps.{Step, Then, Still, Gives, At}
+use Rattle.command_steps.specs.Store.{Opens, TakesRun}
+use Rattle.testr_words.specs.Suites.{RunOptions, is_partial}
+use Rattle.suite_plan.specs.declared.patterns.Compiled.{Compiled}
+use Rattle.testr_commands.specs.declared.run.Asked.{Asked}
+use Rattle.command_steps.specs.declared.answer.Verdict.{Verdict}
+use Rattle.command_steps.specs.declared.answer.Verdict.TheVariants.{Passed}
+use Rattle.command_steps.specs.declared.answer.Refusal.{Refusal}
+use Rattle.command_steps.specs.declared.answer.Refusal.TheVariants.{Conf, Open, Runs, Pattern, Listing, Memory, Report, Print}
+use Rattle.command_steps.specs.Working.{Works}
+
+-- ---- `list-tests`
+
+-- of the tests listed, those in which a pattern is found, each on a line
+pub record WritesIds (patterns ids : Ids) (result : Result (List ℕ) NoMemory) : Type 0 where
+  pub lines : IfOk result (λ text. text ≡ id_lines (chosen_of patterns ids))
+
+-- what is done with a configuration
+abbrev pub ListsBy : Ids → Settings → Step Work Verdict Refusal
+ListsBy patterns settings =
+    Then Pattern (Still (Compiles patterns None)) (λ _.
+    Then Listing (At work_spawner (ListsTests settings)) (λ ids.
+    Then Memory (Still (WritesIds patterns ids)) (λ text.
+    Then Print (At work_out (Prints text)) (λ _.
+    Gives Passed))))
+
+-- the chain of `list-tests`
+abbrev pub ListsSuite : Ids → Step Work Verdict Refusal
+ListsSuite patterns = Then Conf (At work_site ReadsConf) (ListsBy patterns)
+
+-- the report of the run of these rows and this number is made and printed
+abbrev pub TellsRun : (number : ℕ) → (filter_tags : Ids) → List Row → Step Work Verdict Refusal
+TellsRun number filter_tags rows =
+    Then Report (Still (Reports number filter_tags rows)) (λ report.
+    Then Print (At work_out (Prints report.text)) (λ _.
+    Gives report.verdict))
+
+-- the report, and then the search for causes, where it is asked for; the verdict is that of the report
+abbrev pub TellsAndFinds : (find_causes : Bool) → Settings → (number : ℕ) → List Row → Step Work Verdict Refusal
+TellsAndFinds find_causes settings number rows =
+    Then (λ refusal. refusal) (TellsRun number settings.filter_tags rows) (λ verdict.
+    Then (λ refusal. refusal) (FindsCauses find_causes settings number rows) (λ _.
+    Gives verdict))
+
+-- the answer, of what is asked the patterns alone
+abbrev pub compiled_in : {E : Type 0} → Result Asked E → Result Compiled E
+compiled_in (Ok asked) = Ok asked.compiled
+compiled_in (Err refusal) = Err refusal
+
+-- what is done with a configuration
+abbrev pub RunsBy : RunOptions → Settings → Step Work Verdict Refusal
+RunsBy options settings =
+    Then Open (At work_folder Opens) (λ found.
+    Then Runs (Still (TakesRun (length (kinds_of found)))) (λ _.
+    Then Pattern (Still (Compiles options.patterns settings.group_regex)) (λ _.
+    Then (λ refusal. refusal) (Selects settings options) (λ selected.
+    Then (λ refusal. refusal) (Plans settings options.find_causes selected) (λ jobs.
+    Then (λ refusal. refusal) (Works (is_partial options) (length (kinds_of found)) jobs) (λ rows.
+    TellsAndFinds options.find_causes settings (length (kinds_of found)) rows))))))
+
+-- the chain of `run`
+abbrev pub RunsSuite : RunOptions → Step Work Verdict Refusal
+RunsSuite options = Then Conf (At work_site ReadsConf) (RunsBy options)

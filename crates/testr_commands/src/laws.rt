@@ -1,0 +1,50 @@
+//! Laws of the refusals.
+
+ghost use Rattle.std.specs.Prelude.{◌≡◌, ◌≢◌, ◌⊎◌, ◌<◌, ◌≤◌, ℕ, List, ◌∷◌, ◌++◌, Result, Ok, Err, None, IsSome, IsSomeAnd, All, length};
+ghost use Rattle.edge_io.specs.Disk.{Folder};
+ghost use Rattle.edge_io.specs.Seen.{Seen};
+ghost use Rattle.outcome_fold.specs.declared.row.Row.{Row as ARow};
+ghost use Rattle.run_shelf.specs.declared.faults.InitFault.{InitFault as AnInitFault};
+ghost use Rattle.run_shelf.specs.declared.faults.InitFault.TheVariants.{Exists};
+ghost use Rattle.run_shelf.specs.declared.faults.OpenFault.{OpenFault as AnOpenFault};
+ghost use Rattle.run_shelf.specs.declared.faults.OpenFault.TheVariants.{NoStore, UnknownFormat, Gap};
+ghost use Rattle.run_shelf.specs.declared.found.Found.{Found as AFound};
+ghost use Rattle.run_shelf.specs.Repository.{format_name, HasFormat, HasOtherFormat, IsGap, most_runs};
+ghost use Rattle.testr_words.specs.declared.command.Question.{Question as AQuestion};
+ghost use Rattle.command_steps.specs.declared.recording.RecordFault.{RecordFault as ARecordFault};
+ghost use Rattle.command_steps.specs.declared.recording.RecordFault.TheVariants.{TooLong};
+ghost use Rattle.command_steps.specs.declared.store.RunsFault.{RunsFault as ARunsFault};
+ghost use Rattle.command_steps.specs.declared.store.RunsFault.TheVariants.{Full, NoRuns};
+ghost use Rattle.command_steps.specs.declared.told.TellFault.{TellFault as ATellFault};
+ghost use Rattle.command_steps.specs.declared.told.TellFault.TheVariants.{Shelf as CachesShelf};
+ghost use Rattle.testr_commands.specs.Exact.{InitEnds, OpenEnds, RecordEnds, IsNoFile, IsFileTooLong};
+ghost use Rattle.command_steps.specs.Files.{RecordsFiles};
+ghost use Rattle.command_steps.specs.Outside.{Fed, Filed};
+ghost use Rattle.command_steps.specs.Recording.{Records, most_bytes};
+ghost use Rattle.command_steps.specs.Refreshing.{Refreshes};
+ghost use Rattle.testr_words.specs.Questions.{OfLastRun};
+ghost use Rattle.command_steps.specs.Store.{Makes, Opens, TakesRun, HasRunFor};
+
+/// Where the cause of a named refusal is there, the step refuses by that name, unless a call failed or memory was wanting
+/// before. That it comes only there is what the step itself says. So each comes exactly where its cause is. Where the
+/// folder's count rose in the step of the caches, this refuses by the folder's fault.
+pub fn refusals_are_exact()
+    ensures already_here { (before after : Seen Folder) (result : Result (Unit {0}) AnInitFault) → Makes before after result
+        → IsSomeAnd before.told (λ s. IsSome (s.disk.published format_name)) → (result ≡ Err Exists) ⊎ InitEnds result }
+    ensures no_repository { (before after : Seen Folder) (result : Result AFound AnOpenFault) → Opens before after result
+        → IsSomeAnd before.told (λ s. s.disk.published format_name ≡ None) → (result ≡ Err NoStore) ⊎ OpenEnds result }
+    ensures unknown_format { (before after : Seen Folder) (result : Result AFound AnOpenFault) → Opens before after result
+        → IsSomeAnd before.told (λ s. HasOtherFormat s.disk.published) → (result ≡ Err UnknownFormat) ⊎ OpenEnds result }
+    ensures missing_run { (before after : Seen Folder) (result : Result AFound AnOpenFault) (number : ℕ) → Opens before after result
+        → IsSomeAnd before.told (λ s. HasFormat s.disk.published × IsGap s.disk.published number) → (result ≡ Err (Gap number)) ⊎ OpenEnds result }
+    ensures full { (result : Result (Unit {0}) ARunsFault) → TakesRun most_runs result → result ≡ Err Full }
+    ensures no_runs { (question : AQuestion) (result : Result (Unit {0}) ARunsFault) → HasRunFor question 0 result → OfLastRun question → result ≡ Err NoRuns }
+    ensures too_long { (before after : Fed) (result : Result (List ARow) ARecordFault) → Records before after result
+        → IsSomeAnd before.input.told (λ bytes. most_bytes < length bytes) → (result ≡ Err TooLong) ⊎ RecordEnds result }
+    ensures caches_not_kept { (number : ℕ) (rows : List ARow) (before after : Seen Folder) (result : Result (Unit {0}) ATellFault) → Refreshes number rows before after result
+        → after.faults ≢ before.faults → result ≡ Err CachesShelf }
+    ensures no_file { (front back : List (List ℕ)) (name : List ℕ) (before after : Filed) (result : Result (List ARow) ARecordFault) → RecordsFiles (front ++ name ∷ back) before after result
+        → IsSomeAnd before.site.told (λ files. All (λ n. IsSomeAnd (files n) (λ bytes. length bytes ≤ most_bytes)) front × (files name ≡ None)) → IsNoFile name result ⊎ RecordEnds result }
+    ensures file_too_long { (front back : List (List ℕ)) (name : List ℕ) (before after : Filed) (result : Result (List ARow) ARecordFault) → RecordsFiles (front ++ name ∷ back) before after result
+        → IsSomeAnd before.site.told (λ files. All (λ n. IsSomeAnd (files n) (λ bytes. length bytes ≤ most_bytes)) front × IsSomeAnd (files name) (λ bytes. most_bytes < length bytes)) → IsFileTooLong name result ⊎ RecordEnds result }
+{}

@@ -1,0 +1,235 @@
+//! `testr run`.
+
+ghost use Rattle.std.specs.Prelude.{◌≡◌, ◌<◌, ◌≤◌, ℕ, List, length, true, IfOk, IfSome};
+ghost use Rattle.edge_io.specs.Disk.{Files, Folder};
+ghost use Rattle.edge_io.specs.Seen.{Seen};
+ghost use Rattle.outcome_fold.specs.Summed.{Sums};
+ghost use Rattle.outcome_fold.specs.declared.row.Row.{Row as ARow};
+ghost use Rattle.command_steps.specs.Refusals.{code_of};
+ghost use Rattle.command_steps.specs.Outside.{work};
+ghost use Rattle.run_shelf.specs.Holds.{kinds_of, FitsWhereTold};
+ghost use Rattle.suite_causes.specs.Searching.{CanHandIds};
+ghost use Rattle.command_steps.specs.Causes.{FindsCauses};
+ghost use Rattle.testr_commands.specs.RunSuite.{RunsBy, TellsAndFinds, TellsRun, compiled_in};
+ghost use Rattle.testr_commands.specs.SparingRun.{SparesRunOf};
+ghost use Rattle.command_steps.specs.Verdicts.{verdict_of};
+ghost use Rattle.command_steps.specs.declared.answer.Verdict.TheVariants.{Passed};
+ghost use Rattle.testr_words.specs.Suites.{run_options, is_part, is_partial as is_partial_run};
+ghost use Rattle.suite_plan.specs.Patterns.{Compiles};
+
+use crate::{Refusal, Verdict};
+use command_steps::{
+    Kept, end_report, find_causes, open, plan, print_report, run_workers, select, take_run,
+};
+use edge_io::{Shelf, Sink, Site, Spawner};
+use outcome_fold::{Summary, copies_of};
+use packet_codec::Tags;
+use run_shelf::Found;
+use std::alloc::Global;
+use std::mem::forget;
+use std::sync::Wait;
+use std::thread::Threads;
+use sub_number::NoMemory;
+use suite_plan::{Compiled, PatternRefusal, compile};
+use testr_conf::Conf;
+use testr_words::Command;
+
+/// Runs the tests that the command selects, by the project's configuration, in worker processes that are read side by side;
+/// keeps what is recorded of them as the next run; brings the caches up to it; and prints the run's report, by what is kept
+/// of the rows that were told as it was recorded. Where causes are looked for, each test that fails is searched behind that, and
+/// its line printed. It may wait for the workers.
+pub fn run<'a, R: Threads + Wait + Sync, H: Shelf, S: Spawner, F: Site, O: Sink>(
+    rt: &R,
+    alloc: Global,
+    command: &'a Command,
+    conf: &'a Conf,
+    shelf: &mut H,
+    spawner: &mut S,
+    site: &mut F,
+    out: &mut O,
+) -> Result<Verdict, Refusal<'a>>
+    ensures step { (input : Seen (List ℕ)) → RunsBy (run_options command.now) conf.now
+        (work (H.seen shelf.old) (F.seen site.old) (S.seen spawner.old) input (O.seen out.old))
+        (work (H.seen shelf.new) (F.seen site.new) (S.seen spawner.new) input (O.seen out.new))
+        result }
+    ensures calls { SparesRunOf command.now.find_causes (is_partial_run (run_options command.now)) (H.seen shelf.old).told (H.seen shelf.new).told (code_of result) (H.clock shelf.old) (H.clock shelf.new) }
+{
+    let found = open(alloc, shelf)?;
+    take_run(&found)?;
+    let number = found.runs();
+    let asked = read_asked(alloc, command, conf)?;
+    let selected = select(
+        alloc,
+        conf,
+        command,
+        &asked.compiled.filters,
+        shelf,
+        &found,
+        spawner,
+        site,
+    )?;
+    let jobs = plan(
+        alloc,
+        conf,
+        &asked.compiled.groups,
+        command.find_causes,
+        selected,
+        shelf,
+        &found,
+    )?;
+    let kept = run_workers(
+        rt,
+        alloc,
+        &jobs,
+        asked.partial,
+        command.find_causes,
+        shelf,
+        found,
+        spawner,
+        asked.filter_tags,
+    )?;
+    let Kept { found, summary } = kept;
+    let answer = tell_and_find(
+        alloc,
+        conf,
+        command.find_causes,
+        number,
+        found,
+        &summary,
+        shelf,
+        spawner,
+        out,
+    );
+    // The program ends here, and the system takes the memory back in one piece.
+    forget(summary);
+    answer
+}
+
+// Prints the report of the run of this number, which is kept, and of whose rows this is; and then, where causes are looked for,
+// searches for what makes each test that fails do so. These are the runs that there are, where there was memory for them.
+fn tell_and_find<H: Shelf, S: Spawner, O: Sink>(
+    alloc: Global,
+    conf: &Conf,
+    find_causes: bool,
+    number: u32,
+    found: Option<Found>,
+    summary: &Summary,
+    shelf: &mut H,
+    spawner: &mut S,
+    out: &mut O,
+) -> Result<Verdict, Refusal<'static>>
+    requires handed { find_causes ≡ true → CanHandIds conf.now }
+    requires known { IfSome found (λ runs. number < length (kinds_of runs)) }
+    requires fits { IfSome found (λ runs. FitsWhereTold (kinds_of runs) (H.seen shelf.old).told) }
+    ensures step { (site : Seen Files) → (input : Seen (List ℕ)) → (rows : List ARow) → Sums conf.now.filter_tags rows summary.now → TellsAndFinds find_causes conf.now number rows
+        (work (H.seen shelf.old) site (S.seen spawner.old) input (O.seen out.old))
+        (work (H.seen shelf.new) site (S.seen spawner.new) input (O.seen out.new))
+        result }
+    ensures still { (rows : List ARow) → Sums conf.now.filter_tags rows summary.now → code_of result ≤ 1 → (find_causes ≡ true → code_of result ≡ 0) → (H.seen shelf.new ≡ H.seen shelf.old) × (H.clock shelf.new ≡ H.clock shelf.old) }
+{
+    let verdict = tell_run(alloc, number, summary, out)?;
+    find_where_asked(
+        alloc,
+        conf,
+        find_causes,
+        number,
+        found,
+        summary,
+        shelf,
+        spawner,
+        out,
+    )?;
+    Ok(verdict)
+}
+
+// The search for causes, where it is asked for.
+fn find_where_asked<H: Shelf, S: Spawner, O: Sink>(
+    alloc: Global,
+    conf: &Conf,
+    asked: bool,
+    number: u32,
+    found: Option<Found>,
+    summary: &Summary,
+    shelf: &mut H,
+    spawner: &mut S,
+    out: &mut O,
+) -> Result<(), Refusal<'static>>
+    requires handed { asked ≡ true → CanHandIds conf.now }
+    requires known { IfSome found (λ runs. number < length (kinds_of runs)) }
+    requires fits { IfSome found (λ runs. FitsWhereTold (kinds_of runs) (H.seen shelf.old).told) }
+    ensures step { (site : Seen Files) → (input : Seen (List ℕ)) → (filter_tags : List (List ℕ)) (rows : List ARow) → Sums filter_tags rows summary.now → FindsCauses asked conf.now number rows
+        (work (H.seen shelf.old) site (S.seen spawner.old) input (O.seen out.old))
+        (work (H.seen shelf.new) site (S.seen spawner.new) input (O.seen out.new))
+        result }
+    ensures still { (filter_tags : List (List ℕ)) (rows : List ARow) → Sums filter_tags rows summary.now → (asked ≡ true → verdict_of rows ≡ Passed) → (H.seen shelf.new ≡ H.seen shelf.old) × (H.clock shelf.new ≡ H.clock shelf.old) }
+{
+    if !asked {
+        return Ok(());
+    }
+    find_causes(alloc, conf, number, found, summary, shelf, spawner, out)
+}
+
+// What the command and the configuration say before anything is read.
+#[derive(Drop)]
+struct Asked {
+    // The patterns of the command and the regex of the configuration's groups.
+    compiled: Compiled,
+    // The run is of a part of the tests.
+    partial: bool,
+    // The tags of the configuration, whose tests are not counted.
+    filter_tags: Tags,
+}
+
+fn read_asked<'a>(
+    alloc: Global,
+    command: &'a Command,
+    conf: &'a Conf,
+) -> Result<Asked, PatternRefusal<'a>>
+    ensures compiled { Compiles command.now.names conf.now.group_regex (compiled_in result) }
+    ensures filter_tags { IfOk result (λ asked. asked.filter_tags ≡ conf.now.filter_tags) }
+    ensures partial { IfOk result (λ asked. asked.partial ≡ is_part command.now.partial command.now.failing command.now.load_list command.now.names) }
+{
+    let partial = is_partial(command);
+    match compile(alloc, &command.names, conf.group_regex()) {
+        Ok(compiled) => match copies_of(alloc, conf.filter_tags().list()) {
+            Ok(filter_tags) => Ok(Asked {
+                compiled,
+                partial,
+                filter_tags,
+            }),
+            Err(NoMemory) => Err(PatternRefusal::NoMemory),
+        },
+        Err(refusal) => Err(refusal),
+    }
+}
+
+// Whether the run is of a part of the tests: it is called so, or its tests are chosen.
+fn is_partial(command: &Command) -> bool
+    ensures { result ≡ is_part command.now.partial command.now.failing command.now.load_list command.now.names }
+{
+    command.partial
+        || command.failing
+        || command.load_list.is_some()
+        || !command.names.list().is_empty()
+}
+
+// Prints the report of the run of this number, which is kept, and of whose rows this is. Its last lines are made before the
+// first one is printed.
+fn tell_run<O: Sink>(
+    alloc: Global,
+    number: u32,
+    summary: &Summary,
+    out: &mut O,
+) -> Result<Verdict, Refusal<'static>>
+    ensures { (folder : Seen Folder) → (site : _) → (spawner : _) → (input : Seen (List ℕ)) → (filter_tags : List (List ℕ)) (rows : List ARow) → Sums filter_tags rows summary.now → TellsRun number filter_tags rows
+        (work folder site spawner input (O.seen out.old))
+        (work folder site spawner input (O.seen out.new))
+        result }
+{
+    let ending = match end_report(alloc, number, summary) {
+        Ok(ending) => ending,
+        Err(fault) => return Err(Refusal::Report(fault)),
+    };
+    print_report(out, &ending, summary)?;
+    Ok(ending.verdict)
+}
