@@ -29,8 +29,8 @@ commands =
 -- the filters, each of which has a text
 abbrev pub filters : List (List ℕ)
 filters =
-    codes "subunit-filter" ∷ codes "subunit-tags" ∷ codes "subunit-ls" ∷ codes "subunit-stats" ∷ codes "tap2subunit"
-    ∷ codes "subunit2tap" ∷ codes "subunit2csv" ∷ codes "subunit2junitxml" ∷ codes "subunit-output"
+    codes "subunit-filter" ∷ codes "subunit-tags" ∷ codes "subunit-ls" ∷ codes "subunit-stats"
+    ∷ codes "subunit-trace" ∷ codes "tap2subunit" ∷ codes "subunit2tap" ∷ codes "subunit2csv" ∷ codes "subunit2junitxml" ∷ codes "subunit-output"
     ∷ codes "subunit-1to2" ∷ codes "subunit-2to1" ∷ []
 
 -- the word is one of these
