@@ -12,17 +12,21 @@ use Rattle.sub_export.specs.declared.job.Attachment.{Attachment}
 use Rattle.sub_export.specs.declared.job.Job.{Job}
 use Rattle.sub_export.specs.Output.{last_event}
 use Rattle.filter_cli.specs.Attached.{IsOutputSeen, IsOutput, WritesAlone}
-use Rattle.filter_cli.specs.Exporting.{IsCsvSeen, IsCsvFiltered}
+use Rattle.sub_export.specs.Records.{csv_head_text}
+use Rattle.event_sift.specs.Keeping.{keeps}
+use Rattle.filter_cli.specs.Exporting.{csv_plan, IsCsvSeen, IsCsvFiltered}
+use Rattle.filter_cli.specs.Headed.{IsSeenBelow, IsWholeBelow}
 use Rattle.filter_cli.specs.Pipe.{Pipe, pipe}
 use Rattle.filter_cli.specs.Plan.{Plan, IsSeen, IsFiltered}
 use Rattle.filter_cli.specs.Pumping.{Pumps}
 use Rattle.filter_cli.specs.Tagging.{tags_plan, tags_plan_of}
-use Rattle.filter_cli.specs.Streams.{of_job, writing_of, unread_by, unread_text, patterns_of, file_of}
+use Rattle.filter_cli.specs.Streams.{of_job, writing_of, unread_by, unread_text, sees_by, ends_by, patterns_of}
 use Rattle.filter_cli.specs.FileReads.{FeedsFile}
 use Rattle.filter_cli.specs.Outside.{Reach}
 use Rattle.filter_cli.specs.declared.file_loop.FileFault.{FileFault}
-use Rattle.filter_cli.specs.Program.{PumpsOrLeaves, Passes, Checked, Takes, Performs, Tells}
+use Rattle.filter_cli.specs.Program.{PumpsOrLeaves, Passes, Checked, FeedsNamed, MakesAndFeeds, Takes, Performs, Tells}
 use Rattle.filter_cli.specs.declared.asked.Asked.{Asked}
+use Rattle.filter_cli.specs.declared.asked.Request.{Request}
 use Rattle.filter_cli.specs.declared.asked.Asked.TheVariants.{Output}
 use Rattle.filter_cli.specs.declared.pass.PumpFault.{PumpFault}
 use Rattle.filter_cli.specs.declared.refusal.UsageFault.{UsageFault}
@@ -53,12 +57,36 @@ none_given k d lt = absurd (omega (arith, lt))
 
 -- ---- the same of another term of the same value
 
-pub performs_as : (fault given : UsageFault) (asked other : Option Asked) (before after : Reach) (result : Result ℕ Refusal) → given ≡ fault → other ≡ asked → Performs given other before after result → Performs fault asked before after result
-performs_as fault given asked other before after result fault_is is done =
-    subst (λ (a : Option Asked). Performs fault a before after result) is (subst (λ (f : UsageFault). Performs f other before after result) fault_is done)
+pub performs_as : (fault given : UsageFault) (request other : Option Request) (before after : Reach) (result : Result ℕ Refusal) → given ≡ fault → other ≡ request → Performs given other before after result → Performs fault request before after result
+performs_as fault given request other before after result fault_is is done =
+    subst (λ (r : Option Request). Performs fault r before after result) is (subst (λ (f : UsageFault). Performs f other before after result) fault_is done)
 
-pub takes_as : (asked given : Asked) (before after : Reach) (result : Result ℕ Refusal) → given ≡ asked → Takes (file_of given) given before after result → Takes (file_of asked) asked before after result
-takes_as asked given before after result is done = subst (λ (a : Asked). Takes (file_of a) a before after result) is done
+pub takes_as : (file given : Option (List ℕ)) (asked : Asked) (before after : Reach) (result : Result ℕ Refusal) → given ≡ file → Takes given asked before after result → Takes file asked before after result
+takes_as file given asked before after result is done = subst (λ (f : Option (List ℕ)). Takes f asked before after result) is done
+
+pub checked_as : (asked given : Asked) (before after : Pipe) (result : Result ℕ Refusal) → given ≡ asked → Checked given before after result → Checked asked before after result
+checked_as asked given before after result is done = subst (λ (a : Asked). Checked a before after result) is done
+
+-- ---- with a file by its name
+
+pub named_as : (asked given : Asked) (name : List ℕ) (before after : Reach) (result : Result ℕ Refusal) → given ≡ asked → Takes (Some name) given before after result → Takes (Some name) asked before after result
+named_as asked given name before after result is done = subst (λ (a : Asked). Takes (Some name) a before after result) is done
+
+-- good patterns, and then the filter and its file
+pub checked_named : (asked : Asked) (name : List ℕ) (before after : Reach) (result : Result ℕ Refusal) → All IsPattern (patterns_of asked) → MakesAndFeeds name (sees_by (writing_of asked)) (ends_by (writing_of asked)) before after result → Takes (Some name) asked before after result
+checked_named asked name before after result good next = still_done tt good next
+
+-- the filter was made
+pub made : (name : List ℕ) (sees : List ℕ → List ℕ → Type 0) (ends : List ℕ → List ℕ → ℕ → Type 0) (before after : Reach) (result : Result ℕ Refusal) → FeedsNamed name sees ends before after result → MakesAndFeeds name sees ends before after result
+made name sees ends before after result next = still_done tt tt next
+
+-- by a plan of the same value
+pub plan_named : (plan given : Plan) (name : List ℕ) (before after : Reach) (result : Result ℕ Refusal) → given ≡ plan → MakesAndFeeds name (IsSeen given) (IsFiltered given) before after result → MakesAndFeeds name (IsSeen plan) (IsFiltered plan) before after result
+plan_named plan given name before after result is feeds = subst (λ (p : Plan). MakesAndFeeds name (IsSeen p) (IsFiltered p) before after result) is feeds
+
+-- the records by the same rules
+pub records_named_as : (rules given : Rules) (name : List ℕ) (before after : Reach) (result : Result ℕ Refusal) → given ≡ rules → MakesAndFeeds name (IsCsvSeen given) (IsCsvFiltered given) before after result → MakesAndFeeds name (IsCsvSeen rules) (IsCsvFiltered rules) before after result
+records_named_as rules given name before after result is feeds = subst (λ (r : Rules). MakesAndFeeds name (IsCsvSeen r) (IsCsvFiltered r) before after result) is feeds
 
 pub tells_as : (name given : List ℕ) (outcome : Result ℕ Refusal) (before after : Seen (List ℕ)) (answer : ℕ) → given ≡ name → Tells given outcome before after answer → Tells name outcome before after answer
 tells_as name given outcome before after answer is tells = subst (λ (n : List ℕ). Tells n outcome before after answer) is tells
@@ -96,6 +124,12 @@ tags_is tagger add remove add_is remove_is = ap (λ (l : List (List ℕ)). tags_
 pub file_as : (name given : List ℕ) (sees : List ℕ → List ℕ → Type 0) (ends : List ℕ → List ℕ → ℕ → Type 0) (before after : Reach) (result : Result ℕ FileFault) → given ≡ name → FeedsFile given sees ends before after result → FeedsFile name sees ends before after result
 file_as name given sees ends before after result is feeds = subst (λ (n : List ℕ). FeedsFile n sees ends before after result) is feeds
 
+-- the same head, and the same rules
+pub csv_named : (head : List ℕ) (rules other : Rules) (name : List ℕ) (before after : Reach) (result : Result ℕ Refusal) → head ≡ csv_head_text → other ≡ rules → MakesAndFeeds name (IsSeenBelow head (IsSeen (csv_plan (keeps other)))) (IsWholeBelow head (IsFiltered (csv_plan (keeps other)))) before after result → MakesAndFeeds name (IsCsvSeen rules) (IsCsvFiltered rules) before after result
+csv_named head rules other name before after result is same feeds =
+    records_named_as rules other name before after result same
+    (subst (λ (h : List ℕ). MakesAndFeeds name (IsSeenBelow h (IsSeen (csv_plan (keeps other)))) (IsWholeBelow h (IsFiltered (csv_plan (keeps other)))) before after result) is feeds)
+
 -- a job by the same value
-pub job_as : (job given : Job) (name : List ℕ) (before after : Reach) (result : Result ℕ FileFault) → given ≡ job → FeedsFile name (IsOutputSeen given) (IsOutput given) before after result → FeedsFile name (IsOutputSeen job) (IsOutput job) before after result
-job_as job given name before after result is feeds = subst (λ (j : Job). FeedsFile name (IsOutputSeen j) (IsOutput j) before after result) is feeds
+pub job_as : (job given : Job) (name : List ℕ) (before after : Reach) (result : Result ℕ Refusal) → given ≡ job → MakesAndFeeds name (IsOutputSeen given) (IsOutput given) before after result → MakesAndFeeds name (IsOutputSeen job) (IsOutput job) before after result
+job_as job given name before after result is feeds = subst (λ (j : Job). MakesAndFeeds name (IsOutputSeen j) (IsOutput j) before after result) is feeds

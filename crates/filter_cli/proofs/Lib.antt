@@ -29,3 +29,4 @@ pub mod TaggedLemmas
 pub mod V1Lemmas
 pub mod V1Prefix
 pub mod V1TextLemmas
+pub mod SeparatorLemmas

@@ -7,10 +7,10 @@ use Rattle.edge_io.specs.Seen.{Seen}
 use Rattle.filter_cli.specs.Pipe.{Pipe, NoFault}
 use Rattle.filter_cli.specs.Pumping.{PumpsAll, ReadFails, WriteFails, IsDue, IsTooLong, Pumps, most_bytes}
 use Rattle.filter_cli.specs.Tools.{tool_of}
-use Rattle.filter_cli.specs.Words.{asked_of}
-use Rattle.filter_cli.specs.Streams.{writing_of, unread_text, text_unread, file_in, sees_by, ends_by, AsksFor, HasBadPattern, IsSeenBy, IsFilteredBy}
+use Rattle.filter_cli.specs.Words.{asked_of, file_in}
+use Rattle.filter_cli.specs.Streams.{writing_of, unread_text, text_unread, sees_by, ends_by, AsksFor, HasBadPattern, IsSeenBy, IsFilteredBy}
 use Rattle.filter_cli.specs.FileReads.{file_pipe, IsAbsent}
-use Rattle.filter_cli.specs.Outside.{Outside, reach_of, SomeRose}
+use Rattle.filter_cli.specs.Outside.{Outside, Reach, reach_of, SomeRose}
 use Rattle.filter_cli.specs.Refusals.{code_of}
 use Rattle.filter_cli.specs.Program.{Answers, LeavesUnread}
 use Rattle.filter_cli.specs.Promises.{CanFilter, FaultsOf, IsDone, OutputFails, GivesAll, GivesFirst, GiveFails, feed_of, Rests, IsMissing, RefusesMissing, Feeds, Promises}
@@ -21,10 +21,9 @@ use Rattle.filter_cli.specs.declared.pass.PumpFault.TheVariants as pump_fault
 use Rattle.filter_cli.proofs.PumpLemmas.{pumped_prefix, if_told}
 use Rattle.filter_cli.proofs.BadLemmas.{same_asked, asks_no_bad}
 use Rattle.filter_cli.proofs.StatusLemmas.{status_at_most}
-use Rattle.filter_cli.proofs.UnreadLemmas.{unread_whole, gives_first, gives_none, gives_all}
+use Rattle.filter_cli.proofs.UnreadLemmas.{unread_own, named_asks, unread_whole, gives_first, gives_none, gives_all}
 use Rattle.filter_cli.proofs.WritingLaws.{by_front, by_one}
-use Rattle.std.specs.Option.{option_and_then}
-use Rattle.filter_cli.proofs.Courses.{Course, FileWays, by_pipe, by_name, named_well, filters_course}
+use Rattle.filter_cli.proofs.Courses.{Course, FileWays, by_pipe, by_name, filters_course}
 use Rattle.filter_cli.proofs.Ways.{Ways, by_usage, by_memory, by_bad, by_want, passed, by_input, by_file_read, by_length, by_file_length, by_output, by_file_output, by_room, by_file_room, by_no_file, gave, by_sink, by_space}
 
 -- ---- of a filter, and of words that ask for it
@@ -81,7 +80,7 @@ module _ (words : List (List ℕ)) (asked : Asked) (asks : AsksFor words asked) 
   alone_of : (shown : List ℕ) (result : Result ℕ PumpFault) → text_unread words ≡ Some shown → LeavesUnread shown a b result → (bytes text : List ℕ) (status : ℕ) → IsFilteredBy words bytes text status → AppendsPrefix a.out.told b.out.told text
   alone_of shown result leaves p bytes text status e =
       let whole = subst (λ (x : Asked). ends_by (writing_of x) bytes text status) (same_asked words e.asked asked e.asks.named asks.named) e.whole in
-      let own : unread_text asked ≡ Some shown = sym (ap (option_and_then unread_text) asks.named) ∙ leaves in
+      let own = unread_own words asked shown asks.named leaves in
       subst (AppendsPrefix a.out.told b.out.told) (sym (unread_whole asked shown bytes text status own whole)) (gives_first shown a b result p).wrote
 
 -- ---- of the text that words write where they leave the input unread
@@ -388,6 +387,11 @@ module _ (words : List (List ℕ)) (answer : ℕ) (outcome : Result ℕ Refusal)
         named = named_of words ⊥ a b answer outcome code ways;
       }
 
+  -- a bad pattern touches nothing, and words that name a file ask for a filter
+  nothing_named : (name : List ℕ) → file_in words ≡ Some name → (r s : Reach) → FileWays words name r s outcome → (asked_of words ≡ None) ⊎ HasBadPattern words → s ≡ r
+  nothing_named name is r s w (inl none) = absurd (named_asks words name is none)
+  nothing_named name is r s w (inr bad) = w.nothing bad
+
   rest_of_file : (before after : Outside) (name : List ℕ) → file_in words ≡ Some name → FileWays words name (reach_of before) (reach_of after) outcome → Rest (Some name) before after
   rest_of_file before after name is w =
       let a = file_pipe name 0 (reach_of before) in
@@ -399,7 +403,7 @@ module _ (words : List (List ℕ)) (answer : ℕ) (outcome : Result ℕ Refusal)
         feeds = feeds_of absent a b w.ways;
         rests = w.rest;
         missing = subst (λ (n : ℕ). RefusesMissing (Some name) before after n) (sym code) w.missing;
-        nothing = λ none. absurd (named_well words name is none);
+        nothing = nothing_named name is (reach_of before) (reach_of after) w;
         usage = usage_of words absent a b answer outcome code w.ways;
         refused = refused_of words absent a b answer outcome code w.ways;
         named = named_of words absent a b answer outcome code w.ways;

@@ -8,7 +8,7 @@ use Rattle.filter_cli.specs.Events.{events_in}
 use Rattle.filter_cli.specs.Streams.{writing_of, ends_by}
 use Rattle.filter_cli.specs.TapRows.{tap_rows}
 use Rattle.filter_cli.specs.declared.asked.Asked.{Asked}
-use Rattle.filter_cli.specs.declared.asked.Asked.TheVariants.{Filter, Tags, Ls, Stats, FromTap, ToTap, ToCsv, ToJunit, Output, OutputFile, FromV1, ToV1, Tracing}
+use Rattle.filter_cli.specs.declared.asked.Asked.TheVariants.{Filter, Tags, Ls, Stats, FromTap, ToTap, ToCsv, ToJunit, Output, FromV1, ToV1, Tracing}
 
 one_at_most : (b : Bool) → (if b then 1 else 0) ≤ 1
 one_at_most true = omega arith
@@ -29,7 +29,6 @@ status_at_most ToTap bytes text status w =
     omega (arith, few, w.status)
 status_at_most (ToCsv selection) bytes text status w = omega (arith, w.holds.status)
 status_at_most (Output job) bytes text status w = omega (arith, w.1)
-status_at_most (OutputFile job name) bytes text status w = omega (arith, w.1)
 status_at_most ToJunit bytes text status w =
     let few = one_at_most (list_any row_fails (rows_of (events_in w.notes))) in
     omega (arith, few, w.status)

@@ -1,7 +1,7 @@
 -- What is written where the input is left unread.
 use Rattle.std.proofs.Common.{◌≡◌, ℕ, Option, None, Some, Result, Ok, Err, List, [], ◌∷◌, ◌++◌, refl, sym, ap, subst, ◌∙◌, append-nil, arith}
 use Rattle.std.proofs.KnownBytes.{Appends-nil}
-use Rattle.std.specs.Option.{option_map, option_to_list}
+use Rattle.std.specs.Option.{option_map, option_and_then, option_to_list}
 use Rattle.edge_io.specs.Bytes.{AppendsPrefix}
 use Rattle.edge_io.specs.Seen.{Seen}
 use Rattle.packet_codec.specs.declared.event.Event.{Event}
@@ -14,9 +14,13 @@ use Rattle.filter_cli.specs.Events.{packets_of}
 use Rattle.filter_cli.specs.Pipe.{Pipe}
 use Rattle.filter_cli.specs.Program.{LeavesUnread}
 use Rattle.filter_cli.specs.Promises.{GivesAll, GivesFirst}
-use Rattle.filter_cli.specs.Streams.{writing_of, ends_by, unread_by, unread_text}
+use Rattle.filter_cli.specs.Streams.{writing_of, ends_by, unread_by, unread_text, unread_with, text_unread}
+use Rattle.filter_cli.specs.Words.{asked_behind, request_of, asked_of, file_in}
+use Rattle.filter_cli.specs.Tools.{tool_named, tool_of}
+use Rattle.filter_cli.specs.declared.tool.Tool.{Tool}
 use Rattle.filter_cli.specs.declared.asked.Asked.{Asked}
-use Rattle.filter_cli.specs.declared.asked.Asked.TheVariants.{Filter, Tags, Ls, Stats, FromTap, ToTap, ToCsv, ToJunit, Output, OutputFile, FromV1, ToV1, Tracing}
+use Rattle.filter_cli.specs.declared.asked.Request.{Request}
+use Rattle.filter_cli.specs.declared.asked.Asked.TheVariants.{Filter, Tags, Ls, Stats, FromTap, ToTap, ToCsv, ToJunit, Output, FromV1, ToV1, Tracing}
 use Rattle.filter_cli.specs.declared.pass.PumpFault.{PumpFault}
 use Rattle.filter_cli.specs.declared.pass.PumpFault.TheVariants as pump_fault
 use Rattle.filter_cli.proofs.Prefixes.{prefix_all}
@@ -50,10 +54,60 @@ unread_whole FromV1 text bytes all status is w = absurd (cc)
 unread_whole ToV1 text bytes all status is w = absurd (cc)
 unread_whole (Tracing trace) text bytes all status is w = absurd (cc)
 unread_whole (ToCsv selection) text bytes all status is w = absurd (cc)
-unread_whole (OutputFile job name) text bytes all status is w = absurd (cc)
 unread_whole (Output job) text bytes all status is w =
     let both = unread_job job job.attachment text refl is in
     w.0 ∙ output_alone job bytes both.0 ∙ both.1
+
+-- ---- of what words ask for
+
+-- with a file nothing is left unread
+with_none : (file : Option (List ℕ)) (asked : Asked) (shown : List ℕ) → unread_with file asked ≡ Some shown → unread_text asked ≡ Some shown
+with_none None asked shown some = some
+with_none (Some name) asked shown some = absurd (cc)
+
+own_of : (request : Option Request) (asked : Asked) (shown : List ℕ) → option_map (λ (r : Request). r.asked) request ≡ Some asked → option_and_then (λ (r : Request). unread_with r.file r.asked) request ≡ Some shown → unread_text asked ≡ Some shown
+own_of None asked shown named some = absurd (cc)
+own_of (Some r) asked shown named some =
+    let same : r.asked ≡ asked = cc in
+    subst (λ (a : Asked). unread_text a ≡ Some shown) same (with_none r.file r.asked shown some)
+
+-- the text of words is that of their filter
+pub unread_own : (words : List (List ℕ)) (asked : Asked) (shown : List ℕ) → asked_of words ≡ Some asked → text_unread words ≡ Some shown → unread_text asked ≡ Some shown
+unread_own words asked shown named some = own_of (request_of words) asked shown named some
+
+-- words of a request ask for its filter
+pub asked_is : (words : List (List ℕ)) (r : Request) → request_of words ≡ Some r → asked_of words ≡ Some r.asked
+asked_is words r named = ap (option_map (λ (q : Request). q.asked)) named
+
+pub file_is : (words : List (List ℕ)) (r : Request) → request_of words ≡ Some r → file_in words ≡ r.file
+file_is words r named = ap (option_and_then (λ (q : Request). q.file)) named
+
+pub unread_is : (words : List (List ℕ)) (r : Request) → request_of words ≡ Some r → text_unread words ≡ unread_with r.file r.asked
+unread_is words r named = ap (option_and_then (λ (q : Request). unread_with q.file q.asked)) named
+
+-- words that ask for nothing
+pub file_none : (words : List (List ℕ)) → request_of words ≡ None → file_in words ≡ None
+file_none words none = ap (option_and_then (λ (q : Request). q.file)) none
+
+pub asked_none : (words : List (List ℕ)) → request_of words ≡ None → asked_of words ≡ None
+asked_none words none = ap (option_map (λ (q : Request). q.asked)) none
+
+file_asks : (request : Option Request) (name : List ℕ) → option_and_then (λ (q : Request). q.file) request ≡ Some name → option_map (λ (q : Request). q.asked) request ≡ None → ⊥
+file_asks None name is none = cc
+file_asks (Some r) name is none = cc
+
+-- words that name a file ask for a filter
+pub named_asks : (words : List (List ℕ)) (name : List ℕ) → file_in words ≡ Some name → asked_of words ≡ None → ⊥
+named_asks words name is none = file_asks (request_of words) name is none
+
+asks_named : (first : List ℕ) (words : List (List ℕ)) (asked : Asked) (t : Option Tool) → option_map (λ (q : Request). q.asked) (option_and_then (λ u. asked_behind u words) t) ≡ Some asked → t ≡ None → ⊥
+asks_named first words asked None named none = cc
+asks_named first words asked (Some t) named none = cc
+
+-- words that ask for a filter begin with its name
+pub asks_tool : (words : List (List ℕ)) (asked : Asked) → asked_of words ≡ Some asked → tool_of words ≡ None → ⊥
+asks_tool [] asked named none = cc
+asks_tool (first ∷ words) asked named none = asks_named first words asked (tool_named first) named none
 
 -- ---- what stands at each exit
 

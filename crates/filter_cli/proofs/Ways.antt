@@ -1,6 +1,5 @@
 -- The ways in which a filter ends. `missing` says that there is no file of the name that it is to read.
-use Rattle.std.proofs.Common.{◌≡◌, ℕ, Option, None, Some, Result, Ok, Err, List, sym, ap, subst}
-use Rattle.std.specs.Option.{option_and_then}
+use Rattle.std.proofs.Common.{◌≡◌, ℕ, Option, None, Some, Result, Ok, Err, List, sym, subst}
 use Rattle.filter_cli.specs.Steps.{Then, Gives}
 use Rattle.sub_number.specs.declared.memory.NoMemory.{NoMemory}
 use Rattle.filter_cli.specs.Steps.{stops, goes_on}
@@ -15,7 +14,7 @@ use Rattle.filter_cli.specs.declared.asked.Asked.{Asked}
 use Rattle.filter_cli.specs.declared.patterns.PatternsFault.TheVariants as patterns_fault
 use Rattle.filter_cli.specs.declared.pass.PumpFault.TheVariants as pump_fault
 use Rattle.filter_cli.specs.declared.refusal.Refusal.{Refusal}
-use Rattle.filter_cli.specs.declared.refusal.Refusal.TheVariants.{Usage, Memory, Patterns, Pump, Attach}
+use Rattle.filter_cli.specs.declared.refusal.Refusal.TheVariants.{Usage, Memory, Patterns, Pump, File}
 use Rattle.filter_cli.specs.declared.file_loop.FileFault.TheVariants as file_fault
 
 pub data Ways (words : List (List ℕ)) (missing : Type 0) (a b : Pipe) (outcome : Result ℕ Refusal) : Type 0 where
@@ -25,14 +24,14 @@ pub data Ways (words : List (List ℕ)) (missing : Type 0) (a b : Pipe) (outcome
   by_want : (asked : Asked) → outcome ≡ Err (Patterns patterns_fault.NoMemory) → asked_of words ≡ Some asked → b ≡ a → Ways words missing a b outcome
   passed : (asked : Asked) (status : ℕ) → outcome ≡ Ok status → AsksFor words asked → text_unread words ≡ None → PumpsAll (ends_by (writing_of asked)) a b status → Ways words missing a b outcome
   by_input : (asked : Asked) → outcome ≡ Err (Pump pump_fault.Input) → AsksFor words asked → text_unread words ≡ None → ReadFails (sees_by (writing_of asked)) a b → Ways words missing a b outcome
-  by_file_read : (asked : Asked) (name : List ℕ) → outcome ≡ Err (Attach name file_fault.Read) → AsksFor words asked → text_unread words ≡ None → ReadFails (sees_by (writing_of asked)) a b → Ways words missing a b outcome
+  by_file_read : (asked : Asked) (name : List ℕ) → outcome ≡ Err (File name file_fault.Read) → AsksFor words asked → text_unread words ≡ None → ReadFails (sees_by (writing_of asked)) a b → Ways words missing a b outcome
   by_length : (asked : Asked) → outcome ≡ Err (Pump pump_fault.TooLong) → AsksFor words asked → text_unread words ≡ None → PassesLimit (sees_by (writing_of asked)) a b → Ways words missing a b outcome
-  by_file_length : (asked : Asked) (name : List ℕ) → outcome ≡ Err (Attach name file_fault.TooLong) → AsksFor words asked → text_unread words ≡ None → PassesLimit (sees_by (writing_of asked)) a b → Ways words missing a b outcome
+  by_file_length : (asked : Asked) (name : List ℕ) → outcome ≡ Err (File name file_fault.TooLong) → AsksFor words asked → text_unread words ≡ None → PassesLimit (sees_by (writing_of asked)) a b → Ways words missing a b outcome
   by_output : (asked : Asked) → outcome ≡ Err (Pump pump_fault.Output) → AsksFor words asked → text_unread words ≡ None → WriteFails (sees_by (writing_of asked)) (ends_by (writing_of asked)) a b → Ways words missing a b outcome
-  by_file_output : (asked : Asked) (name : List ℕ) → outcome ≡ Err (Attach name file_fault.Output) → AsksFor words asked → text_unread words ≡ None → WriteFails (sees_by (writing_of asked)) (ends_by (writing_of asked)) a b → Ways words missing a b outcome
+  by_file_output : (asked : Asked) (name : List ℕ) → outcome ≡ Err (File name file_fault.Output) → AsksFor words asked → text_unread words ≡ None → WriteFails (sees_by (writing_of asked)) (ends_by (writing_of asked)) a b → Ways words missing a b outcome
   by_room : (asked : Asked) → outcome ≡ Err (Pump pump_fault.NoMemory) → AsksFor words asked → text_unread words ≡ None → StopsBefore (sees_by (writing_of asked)) a b → Ways words missing a b outcome
-  by_file_room : (asked : Asked) (name : List ℕ) → outcome ≡ Err (Attach name file_fault.NoMemory) → AsksFor words asked → text_unread words ≡ None → StopsBefore (sees_by (writing_of asked)) a b → Ways words missing a b outcome
-  by_no_file : (asked : Asked) (name : List ℕ) → outcome ≡ Err (Attach name file_fault.NoFile) → AsksFor words asked → text_unread words ≡ None → StopsBefore (sees_by (writing_of asked)) a b → a.input.told ≡ None → missing → Ways words missing a b outcome
+  by_file_room : (asked : Asked) (name : List ℕ) → outcome ≡ Err (File name file_fault.NoMemory) → AsksFor words asked → text_unread words ≡ None → StopsBefore (sees_by (writing_of asked)) a b → Ways words missing a b outcome
+  by_no_file : (asked : Asked) (name : List ℕ) → outcome ≡ Err (File name file_fault.NoFile) → AsksFor words asked → text_unread words ≡ None → StopsBefore (sees_by (writing_of asked)) a b → a.input.told ≡ None → missing → Ways words missing a b outcome
   gave : (asked : Asked) (text : List ℕ) (status : ℕ) → outcome ≡ Ok status → AsksFor words asked → text_unread words ≡ Some text → LeavesUnread text a b (Ok status) → Ways words missing a b outcome
   by_sink : (asked : Asked) (text : List ℕ) → outcome ≡ Err (Pump pump_fault.Output) → AsksFor words asked → text_unread words ≡ Some text → LeavesUnread text a b (Err pump_fault.Output) → Ways words missing a b outcome
   by_space : (asked : Asked) (text : List ℕ) → outcome ≡ Err (Pump pump_fault.NoMemory) → AsksFor words asked → text_unread words ≡ Some text → LeavesUnread text a b (Err pump_fault.NoMemory) → Ways words missing a b outcome
@@ -52,8 +51,8 @@ module _ (words : List (List ℕ)) (missing : Type 0) (a b : Pipe) (outcome : Re
   passes_ways asked (Some text) asks leaves (goes_on status between gives next) =
       gave asked text status next.answer asks leaves (subst (λ (w : Pipe). LeavesUnread text a w (Ok status)) (sym next.same) gives)
 
-  pub checked_ways : (asked : Asked) → asked_of words ≡ Some asked → Checked asked a b outcome → Ways words missing a b outcome
-  checked_ways asked named (stops (patterns_fault.Bad text) is step) = by_bad text is (record { asked = asked; named = named; text = text; bad = step.says }) step.same
-  checked_ways asked named (stops patterns_fault.NoMemory is step) = by_want asked is named step.same
-  checked_ways asked named (goes_on value between step next) =
-      passes_ways asked (unread_text asked) (record { named = named; good = step.says }) (ap (option_and_then unread_text) named) (subst (λ (w : Pipe). Passes asked w b outcome) step.same next)
+  pub checked_ways : (asked : Asked) → asked_of words ≡ Some asked → text_unread words ≡ unread_text asked → Checked asked a b outcome → Ways words missing a b outcome
+  checked_ways asked named own (stops (patterns_fault.Bad text) is step) = by_bad text is (record { asked = asked; named = named; text = text; bad = step.says }) step.same
+  checked_ways asked named own (stops patterns_fault.NoMemory is step) = by_want asked is named step.same
+  checked_ways asked named own (goes_on value between step next) =
+      passes_ways asked (unread_text asked) (record { named = named; good = step.says }) own (subst (λ (w : Pipe). Passes asked w b outcome) step.same next)

@@ -1,4 +1,4 @@
--- A file that a filter reads by its name (docs/COMMANDS.md, "subunit-output", and the refusals of filters).
+-- A file that a filter reads by its name (docs/COMMANDS.md, "Filters", and the refusals of filters).
 use Rattle.std.specs.Prelude.{◌≡◌, ◌⊎◌, ℕ, ◌+◌, ◌<◌, ⊤, Option, None, IfSome, List, length, take, drop, Result, Ok, Err}
 use Rattle.std.specs.Option.{option_map, option_and_then}
 use Rattle.std.specs.Io.KnownBytes.{Consumes, IsAtEnd}

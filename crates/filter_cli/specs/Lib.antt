@@ -21,6 +21,7 @@ pub mod Tools
 pub mod Selecting
 pub mod Retagging
 pub mod Patterns
+pub mod Letters
 pub mod Words
 -- The top call.
 pub mod Steps

@@ -1,9 +1,10 @@
--- What a filter does, step by step: its words, its patterns, its input.
-use Rattle.std.specs.Prelude.{◌≡◌, ◌⊎◌, ℕ, Option, Some, None, List, Result, Ok, Err}
+-- What a filter does, step by step: its words, its patterns, its input or its file.
+use Rattle.std.specs.Prelude.{◌≡◌, ◌⊎◌, ℕ, ⊤, Option, Some, None, List, Result, Ok, Err}
 use Rattle.std.specs.Io.KnownBytes.{Appends}
 use Rattle.edge_io.specs.Bytes.{AppendsPrefix}
 use Rattle.edge_io.specs.Causes.{Rose}
 use Rattle.edge_io.specs.Seen.{Seen}
+use Rattle.sub_number.specs.declared.memory.NoMemory.{NoMemory}
 use Rattle.filter_cli.specs.Steps.{Step, Then, Still, Gives, At}
 use Rattle.filter_cli.specs.Pipe.{Pipe}
 use Rattle.filter_cli.specs.Pumping.{Pumps}
@@ -11,14 +12,15 @@ use Rattle.filter_cli.specs.Attached.{WritesAlone}
 use Rattle.filter_cli.specs.declared.pass.PumpFault.{PumpFault}
 use Rattle.filter_cli.specs.Patterns.{Compiles}
 use Rattle.filter_cli.specs.Words.{Reads}
-use Rattle.filter_cli.specs.Streams.{Writing, writing_of, unread_text, sees_by, ends_by, patterns_of, file_of}
+use Rattle.filter_cli.specs.Streams.{Writing, writing_of, unread_text, sees_by, ends_by, patterns_of}
 use Rattle.filter_cli.specs.Refusals.{usage_fault, name_in, refusal_line, code_of}
 use Rattle.filter_cli.specs.FileReads.{FeedsFile}
 use Rattle.filter_cli.specs.Outside.{Outside, Reach, reach_of, reach_pipe}
 use Rattle.filter_cli.specs.declared.asked.Asked.{Asked}
+use Rattle.filter_cli.specs.declared.asked.Request.{Request}
 use Rattle.filter_cli.specs.declared.refusal.UsageFault.{UsageFault}
 use Rattle.filter_cli.specs.declared.refusal.Refusal.{Refusal}
-use Rattle.filter_cli.specs.declared.refusal.Refusal.TheVariants.{Usage, Memory, Patterns, Pump, Attach}
+use Rattle.filter_cli.specs.declared.refusal.Refusal.TheVariants.{Usage, Memory, Patterns, Pump, File}
 
 -- words that are no filter are refused, and touch nothing
 pub record Refuses (fault : UsageFault) (before after : Reach) (outcome : Result ℕ Refusal) : Type 0 where
@@ -35,6 +37,10 @@ abbrev pub PumpsOrLeaves : Option (List ℕ) → Writing → Step Pipe ℕ PumpF
 PumpsOrLeaves None writing = Pumps (sees_by writing) (ends_by writing)
 PumpsOrLeaves (Some text) writing = LeavesUnread text
 
+-- making a filter touches nothing, and needs memory alone
+abbrev pub MayBeMade : Result (Unit {0}) NoMemory → Type 0
+MayBeMade made = ⊤
+
 abbrev pub Passes : Asked → Step Pipe ℕ Refusal
 Passes asked = Then Pump (PumpsOrLeaves (unread_text asked) (writing_of asked)) (λ status. Gives status)
 
@@ -42,17 +48,25 @@ Passes asked = Then Pump (PumpsOrLeaves (unread_text asked) (writing_of asked)) 
 abbrev pub Checked : Asked → Step Pipe ℕ Refusal
 Checked asked = Then Patterns (Still (Compiles {A = Unit {0}} (patterns_of asked))) (λ _. Passes asked)
 
--- A file that is read by its name stands in the place of the input. A filter that reads one has no patterns.
+-- the file of this name is filtered
+abbrev pub FeedsNamed : (name : List ℕ) (sees : List ℕ → List ℕ → Type 0) (ends : List ℕ → List ℕ → ℕ → Type 0) → Step Reach ℕ Refusal
+FeedsNamed name sees ends = Then (File name) (FeedsFile name sees ends) (λ status. Gives status)
+
+-- First the filter is made, for which there may be no memory. The file is not looked at before.
+abbrev pub MakesAndFeeds : (name : List ℕ) (sees : List ℕ → List ℕ → Type 0) (ends : List ℕ → List ℕ → ℕ → Type 0) → Step Reach ℕ Refusal
+MakesAndFeeds name sees ends = Then Memory (Still MayBeMade) (λ _. FeedsNamed name sees ends)
+
+-- A file that is read by its name stands in the place of the input. Its patterns are checked before it is looked at.
 abbrev pub Takes : Option (List ℕ) → Asked → Step Reach ℕ Refusal
 Takes None asked = At reach_pipe (Checked asked)
-Takes (Some name) asked = Then (Attach name) (FeedsFile name (sees_by (writing_of asked)) (ends_by (writing_of asked))) (λ status. Gives status)
+Takes (Some name) asked = Then Patterns (Still (Compiles {A = Unit {0}} (patterns_of asked))) (λ _. MakesAndFeeds name (sees_by (writing_of asked)) (ends_by (writing_of asked)))
 
-abbrev pub Performs : UsageFault → Option Asked → Step Reach ℕ Refusal
+abbrev pub Performs : UsageFault → Option Request → Step Reach ℕ Refusal
 Performs fault None = Refuses fault
-Performs fault (Some asked) = Takes (file_of asked) asked
+Performs fault (Some request) = Takes request.file request.asked
 
 abbrev pub Filters : List (List ℕ) → Step Reach ℕ Refusal
-Filters words = Then Memory (Still (Reads words)) (λ asked. Performs (usage_fault words) asked)
+Filters words = Then Memory (Still (Reads words)) (λ request. Performs (usage_fault words) request)
 
 -- the line of a refusal went to the errors' sink: whole, or in part where that sink failed
 abbrev pub TellsLine : (name : List ℕ) → Result ℕ Refusal → Seen (List ℕ) → Seen (List ℕ) → Type 0

@@ -9,13 +9,13 @@ use Rattle.filter_cli.specs.FileReads.{file_pipe, IsAbsent, LeavesRest, SaysMiss
 use Rattle.filter_cli.specs.Pipe.{Pipe, pipe, NoFault}
 use Rattle.filter_cli.specs.Pumping.{PumpsAll, ReadFails, WriteFails, IsTooLong, most_bytes}
 use Rattle.filter_cli.specs.Tools.{tool_of}
-use Rattle.filter_cli.specs.Words.{asked_of}
-use Rattle.filter_cli.specs.Streams.{AsksFor, HasBadPattern, IsSeenBy, IsFilteredBy, text_unread, file_in}
+use Rattle.filter_cli.specs.Words.{asked_of, file_in}
+use Rattle.filter_cli.specs.Streams.{AsksFor, HasBadPattern, IsSeenBy, IsFilteredBy, text_unread}
 use Rattle.filter_cli.specs.Outside.{Outside, reach_of, SomeRose}
 use Rattle.filter_cli.specs.Program.{Answers}
 use Rattle.filter_cli.specs.declared.asked.Asked.{Asked}
 use Rattle.filter_cli.specs.declared.refusal.Refusal.{Refusal}
-use Rattle.filter_cli.specs.declared.refusal.Refusal.TheVariants.{Pump, Attach}
+use Rattle.filter_cli.specs.declared.refusal.Refusal.TheVariants.{Pump, File}
 use Rattle.filter_cli.specs.declared.file_loop.FileFault.TheVariants as file_fault
 use Rattle.filter_cli.specs.declared.pass.PumpFault.TheVariants as pump_fault
 
@@ -56,8 +56,8 @@ OutputFails words (Some text) = GiveFails text
 abbrev pub FaultsOf : List (List ℕ) → Result ℕ Refusal → Pipe → Pipe → Type 0
 FaultsOf words (Err (Pump pump_fault.Input)) = ReadFails (IsSeenBy words)
 FaultsOf words (Err (Pump pump_fault.Output)) = OutputFails words (text_unread words)
-FaultsOf words (Err (Attach name file_fault.Read)) = ReadFails (IsSeenBy words)
-FaultsOf words (Err (Attach name file_fault.Output)) = OutputFails words (text_unread words)
+FaultsOf words (Err (File name file_fault.Read)) = ReadFails (IsSeenBy words)
+FaultsOf words (Err (File name file_fault.Output)) = OutputFails words (text_unread words)
 FaultsOf words outcome = NoFault
 
 -- no refusal but a fault or want of memory has a cause

@@ -3,7 +3,7 @@ use Rattle.std.specs.Prelude.{ℕ, Option, None, Some, List, [], ◌∷◌, ◌+
 use Rattle.filter_cli.specs.declared.refusal.UsageFault.{UsageFault}
 use Rattle.filter_cli.specs.declared.refusal.UsageFault.TheVariants.{Tool, Words}
 use Rattle.filter_cli.specs.declared.refusal.Refusal.{Refusal}
-use Rattle.filter_cli.specs.declared.refusal.Refusal.TheVariants.{Usage, Memory, Patterns, Pump, Attach}
+use Rattle.filter_cli.specs.declared.refusal.Refusal.TheVariants.{Usage, Memory, Patterns, Pump, File}
 use Rattle.filter_cli.specs.declared.pass.PumpFault.{PumpFault}
 use Rattle.filter_cli.specs.declared.pass.PumpFault.TheVariants as pump_fault
 use Rattle.filter_cli.specs.declared.file_loop.FileFault.{FileFault}
@@ -60,14 +60,14 @@ refusal_code (Usage fault) = 2
 refusal_code (Memory fault) = 5
 refusal_code (Patterns fault) = patterns_code fault
 refusal_code (Pump fault) = pump_code fault
-refusal_code (Attach file fault) = file_code fault
+refusal_code (File file fault) = file_code fault
 
 abbrev pub refusal_line : (name : List ℕ) → Refusal → List ℕ
 refusal_line name (Usage fault) = usage_line name fault
 refusal_line name (Memory fault) = name ++ codes ": out of memory\n"
 refusal_line name (Patterns fault) = name ++ patterns_text fault
 refusal_line name (Pump fault) = name ++ pump_text fault
-refusal_line name (Attach file fault) = name ++ file_text file fault
+refusal_line name (File file fault) = name ++ file_text file fault
 
 abbrev pub code_of : Result ℕ Refusal → ℕ
 code_of (Ok status) = status

@@ -9,7 +9,8 @@ use Rattle.sub_export.specs.Output.{last_event}
 use Rattle.sub_export.specs.Records.{csv_head_text}
 use Rattle.partition_times.specs.Patterns.{IsPattern}
 use Rattle.filter_cli.specs.declared.asked.Asked.{Asked}
-use Rattle.filter_cli.specs.declared.asked.Asked.TheVariants.{Filter, Tags, Ls, Stats, FromTap, ToTap, ToCsv, ToJunit, Output, OutputFile, FromV1, ToV1, Tracing}
+use Rattle.filter_cli.specs.declared.asked.Request.{Request}
+use Rattle.filter_cli.specs.declared.asked.Asked.TheVariants.{Filter, Tags, Ls, Stats, FromTap, ToTap, ToCsv, ToJunit, Output, FromV1, ToV1, Tracing}
 use Rattle.filter_cli.specs.Attached.{IsOutputSeen, IsOutput}
 use Rattle.filter_cli.specs.Exporting.{csv_plan}
 use Rattle.filter_cli.specs.Headed.{IsSeenBelow, IsWholeBelow}
@@ -25,7 +26,7 @@ use Rattle.filter_cli.specs.TapRows.{tap_plan}
 use Rattle.filter_cli.specs.V1.{IsV1Seen, IsV1Filtered}
 use Rattle.filter_cli.specs.V1Parts.{v1_plan}
 use Rattle.filter_cli.specs.Patterns.{rules_of, IsFirstBadText}
-use Rattle.filter_cli.specs.Words.{asked_of}
+use Rattle.filter_cli.specs.Words.{request_of, asked_of}
 
 -- what a filter writes, by what its input is cut into: notes, lines, notes below a text, or pieces of a job's file
 pub data Writing : Type 0 where
@@ -45,7 +46,6 @@ writing_of ToTap = of_notes tap_plan
 writing_of (ToCsv selection) = below_head csv_head_text (csv_plan (keeps (rules_of selection)))
 writing_of ToJunit = of_notes junit_plan
 writing_of (Output job) = of_job job
-writing_of (OutputFile job name) = of_job job
 writing_of FromV1 = of_v1_lines
 writing_of ToV1 = of_notes v1_plan
 writing_of (Tracing trace) = of_notes (trace_plan trace)
@@ -77,7 +77,6 @@ patterns_of ToTap = []
 patterns_of (ToCsv selection) = selection.patterns
 patterns_of ToJunit = []
 patterns_of (Output job) = []
-patterns_of (OutputFile job name) = []
 patterns_of FromV1 = []
 patterns_of ToV1 = []
 patterns_of (Tracing trace) = []
@@ -99,36 +98,18 @@ unread_text ToTap = None
 unread_text (ToCsv selection) = None
 unread_text ToJunit = None
 unread_text (Output job) = unread_by job job.attachment
-unread_text (OutputFile job name) = None
 unread_text FromV1 = None
 unread_text ToV1 = None
 unread_text (Tracing trace) = None
 
--- the same of the filter that the words ask for
+-- the same where a file may be named, which is read then
+abbrev pub unread_with : (file : Option (List ℕ)) → Asked → Option (List ℕ)
+unread_with None asked = unread_text asked
+unread_with (Some name) asked = None
+
+-- the same of what the words ask for
 abbrev pub text_unread : List (List ℕ) → Option (List ℕ)
-text_unread words = option_and_then unread_text (asked_of words)
-
--- ---- what is read
-
--- The file that a filter reads by its name. All others read the input, or nothing.
-abbrev pub file_of : Asked → Option (List ℕ)
-file_of (Filter selection) = None
-file_of (Tags retagging) = None
-file_of (Ls listing) = None
-file_of Stats = None
-file_of FromTap = None
-file_of ToTap = None
-file_of (ToCsv selection) = None
-file_of ToJunit = None
-file_of (Output job) = None
-file_of (OutputFile job name) = Some name
-file_of FromV1 = None
-file_of ToV1 = None
-file_of (Tracing trace) = None
-
--- the same of the filter that the words ask for
-abbrev pub file_in : List (List ℕ) → Option (List ℕ)
-file_in words = option_and_then file_of (asked_of words)
+text_unread words = option_and_then (λ (r : Request). unread_with r.file r.asked) (request_of words)
 
 -- ---- what words write
 

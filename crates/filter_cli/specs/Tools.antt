@@ -37,18 +37,19 @@ abbrev pub tool_of : List (List ℕ) → Option Tool
 tool_of [] = None
 tool_of (name ∷ words) = tool_named name
 
--- the flags of `subunit-filter`
+-- the flags of `subunit-filter`, of which `--no-error` changes nothing: a stream tells of no errors beside failures
 abbrev pub is_switch : List ℕ → Bool
 is_switch name =
     bytes_eq name (codes "--success")
     || (bytes_eq name (codes "--no-success")
     || (bytes_eq name (codes "--failure")
     || (bytes_eq name (codes "--no-failure")
+    || (bytes_eq name (codes "--no-error")
     || (bytes_eq name (codes "--no-skip")
     || (bytes_eq name (codes "--xfail")
     || (bytes_eq name (codes "--no-xfail")
     || (bytes_eq name (codes "--only-genuine-failures")
-    || bytes_eq name (codes "--no-passthrough"))))))))
+    || bytes_eq name (codes "--no-passthrough")))))))))
 
 -- its options with a value, which `subunit2csv` has too
 abbrev pub is_addition : List ℕ → Bool

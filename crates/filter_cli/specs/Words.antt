@@ -1,27 +1,56 @@
--- Which filter words ask for (docs/COMMANDS.md, "Filters").
+-- Which filter words ask for, and which file it reads (docs/COMMANDS.md, "Filters").
 use Rattle.std.specs.Prelude.{◌≡◌, ℕ, Bool, true, false, Option, Some, None, List, [], ◌∷◌, codes, if◌then◌else◌, Result, Ok, Err}
-use Rattle.std.specs.List.{list_any}
-use Rattle.std.specs.Option.{option_map, option_and_then}
+use Rattle.std.specs.List.{list_any, flat_map, before_first, after_first}
+use Rattle.std.specs.Option.{option_map, option_and_then, option_to_list}
 use Rattle.std.specs.Str.{bytes_eq}
 use Rattle.sub_number.specs.declared.memory.NoMemory.{NoMemory}
-use Rattle.command_words.specs.Items.{Item, flag, valued, name, items_of, has_flag}
+use Rattle.command_words.specs.Items.{Item, flag, valued, name, is_text, items_of, has_flag}
 use Rattle.sub_export.specs.declared.job.Job.{Job}
 use Rattle.sub_export.specs.Output.{job_of, path_of}
 use Rattle.filter_cli.specs.declared.ls.Listing.{Listing}
 use Rattle.filter_cli.specs.declared.tool.Tool.{Tool}
 use Rattle.filter_cli.specs.declared.tool.Tool.TheVariants as tool
 use Rattle.filter_cli.specs.declared.asked.Asked.{Asked}
-use Rattle.filter_cli.specs.declared.asked.Asked.TheVariants.{Filter, Tags, Ls, Stats, FromTap, ToTap, ToCsv, ToJunit, Output, OutputFile, FromV1, ToV1, Tracing}
+use Rattle.filter_cli.specs.declared.asked.Asked.TheVariants.{Filter, Tags, Ls, Stats, FromTap, ToTap, ToCsv, ToJunit, Output, FromV1, ToV1, Tracing}
+use Rattle.filter_cli.specs.declared.asked.Request.{Request}
+use Rattle.filter_cli.specs.Letters.{long_words}
 use Rattle.filter_cli.specs.Tracing.{trace_of}
 use Rattle.filter_cli.specs.Tools.{tool_of, tool_named, kind_in}
 use Rattle.filter_cli.specs.Selecting.{selection_of, csv_selection_of}
 use Rattle.filter_cli.specs.Retagging.{retagging_of}
 
 -- a word that is no option
-abbrev pub is_name : Item → Bool
-is_name (flag given) = false
-is_name (valued option value) = false
-is_name (name word) = true
+abbrev pub name_of : Item → Option (List ℕ)
+name_of (flag given) = None
+name_of (valued option value) = None
+name_of (name word) = Some word
+
+-- the words that are no options, in their order
+abbrev pub names_in : List Item → List (List ℕ)
+names_in items = flat_map (λ item. option_to_list (name_of item)) items
+
+-- there may be one name or none; two and more are refused
+abbrev pub only_of : List (List ℕ) → Option (Option (List ℕ))
+only_of [] = Some None
+only_of (file ∷ []) = Some (Some file)
+only_of (file ∷ another ∷ more) = None
+
+-- the file of a name, where there is one; a name that is no text is refused
+abbrev pub text_named : Option (List ℕ) → Option (Option (List ℕ))
+text_named None = Some None
+text_named (Some file) = if is_text file then Some (Some file) else None
+
+-- the same, where names may have been refused
+abbrev pub text_of_only : Option (Option (List ℕ)) → Option (Option (List ℕ))
+text_of_only only = option_and_then text_named only
+
+-- the file that names tell
+abbrev pub file_named : List (List ℕ) → Option (Option (List ℕ))
+file_named names = text_of_only (only_of names)
+
+-- a filter and the file that names tell, where both are told
+abbrev pub with_file : Option Asked → Option (Option (List ℕ)) → Option Request
+with_file asked file = option_and_then (λ a. option_map (λ f. record { asked = a; file = f }) file) asked
 
 abbrev pub listing_of : List Item → Listing
 listing_of items = record {
@@ -45,27 +74,39 @@ asked_for tool.FromV1 items = Some FromV1
 asked_for tool.ToV1 items = Some ToV1
 asked_for tool.Trace items = option_map Tracing (trace_of items)
 
--- no filter that has options has names
-abbrev pub asked_with : Tool → List Item → Option Asked
-asked_with t items = if list_any is_name items then None else asked_for t items
+-- a filter that has options has one name at most, of the file that it reads
+abbrev pub asked_with : Tool → List Item → Option Request
+asked_with t items = with_file (asked_for t items) (file_named (names_in items))
 
-abbrev pub asked_tags : List (List ℕ) → Option Asked
-asked_tags words = option_map Tags (retagging_of words)
+-- the word behind which a file's name stands
+abbrev pub is_separator : List ℕ → Bool
+is_separator word = bytes_eq word (codes "--")
 
--- what a job is asked: with the path of a file, that file is read, and else the input, where it attaches one
-abbrev pub asked_with_file : Job → Option (List ℕ) → Asked
-asked_with_file job None = Output job
-asked_with_file job (Some path) = OutputFile job path
+-- the change of tags that words ask for
+abbrev pub asked_change : List (List ℕ) → Option Asked
+asked_change words = option_map Tags (retagging_of words)
 
-abbrev pub asked_output : List (List ℕ) → Option Asked
-asked_output words = option_map (λ job. asked_with_file job (path_of job)) (job_of words)
+-- tags up to the first separator, and behind it the name of a file
+abbrev pub asked_tags : List (List ℕ) → Option Request
+asked_tags words = with_file (asked_change (before_first is_separator words)) (file_named (after_first is_separator words))
 
-abbrev pub asked_by_options : Tool → List (List ℕ) → Option Asked
+-- a job reads the file that it attaches by its path, and else the input, where it attaches that
+abbrev pub job_request : Job → Request
+job_request job = record { asked = Output job; file = path_of job }
+
+abbrev pub asked_output : List (List ℕ) → Option Request
+asked_output words = option_map job_request (job_of words)
+
+abbrev pub asked_by_options : Tool → List (List ℕ) → Option Request
 asked_by_options t words = option_and_then (asked_with t) (items_of (kind_in t) words)
 
+-- of `subunit-filter`, which has options of one letter, too
+abbrev pub asked_by_letters : List (List ℕ) → Option Request
+asked_by_letters words = asked_by_options tool.Filter (long_words words)
+
 -- what a filter is asked by the words behind its name; those of `subunit-tags` are no options
-abbrev pub asked_behind : Tool → List (List ℕ) → Option Asked
-asked_behind tool.Filter words = asked_by_options tool.Filter words
+abbrev pub asked_behind : Tool → List (List ℕ) → Option Request
+asked_behind tool.Filter words = asked_by_letters words
 asked_behind tool.Tags words = asked_tags words
 asked_behind tool.Ls words = asked_by_options tool.Ls words
 asked_behind tool.Stats words = asked_by_options tool.Stats words
@@ -78,12 +119,20 @@ asked_behind tool.FromV1 words = asked_by_options tool.FromV1 words
 asked_behind tool.ToV1 words = asked_by_options tool.ToV1 words
 asked_behind tool.Trace words = asked_by_options tool.Trace words
 
+-- what the words ask for: a filter, and the file that it reads
+abbrev pub request_of : List (List ℕ) → Option Request
+request_of [] = None
+request_of (first ∷ words) = option_and_then (λ t. asked_behind t words) (tool_named first)
+
 -- the filter that the words ask for
 abbrev pub asked_of : List (List ℕ) → Option Asked
-asked_of [] = None
-asked_of (first ∷ words) = option_and_then (λ t. asked_behind t words) (tool_named first)
+asked_of words = option_map (λ (r : Request). r.asked) (request_of words)
+
+-- the file that it reads in place of the input
+abbrev pub file_in : List (List ℕ) → Option (List ℕ)
+file_in words = option_and_then (λ (r : Request). r.file) (request_of words)
 
 -- the words are read; memory can be wanting only where the first one names a filter
-abbrev pub Reads : List (List ℕ) → Result (Option Asked) NoMemory → Type 0
-Reads words (Ok asked) = asked ≡ asked_of words
+abbrev pub Reads : List (List ℕ) → Result (Option Request) NoMemory → Type 0
+Reads words (Ok request) = request ≡ request_of words
 Reads words (Err none) = tool_of words ≡ None → ⊥

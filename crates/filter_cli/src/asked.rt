@@ -1,8 +1,7 @@
-//! Which filter the words ask for.
+//! What the words ask for: a filter, and the file that it reads.
 
-ghost use Rattle.std.specs.Prelude.{◌≡◌, map, IfOk};
-ghost use Rattle.std.specs.Option.{option_map};
-ghost use Rattle.std.specs.List.{list_any};
+ghost use Rattle.std.specs.Prelude.{◌≡◌, map, option_map, string_bytes, IfOk};
+ghost use Rattle.std.specs.List.{list_any, before_first, after_first, position};
 ghost use Rattle.command_words.specs.Items.{texts};
 ghost use Rattle.command_words.specs.Code.{shown};
 ghost use Rattle.sub_export.specs.Output as output;
@@ -10,12 +9,13 @@ ghost use Rattle.filter_cli.specs.Tracing.{trace_of};
 ghost use Rattle.filter_cli.specs.Words as asking;
 ghost use Rattle.filter_cli.specs.declared.asked.Asked.TheVariants as wanted;
 
+use crate::letters::long_words;
 use crate::ls::Listing;
 use crate::retagging::{Retagging, read_retagging};
 use crate::selection::{Selection, csv_selection_of, selection_of};
 use crate::tool::{Tool, tool_of};
 use crate::tracing::{Trace, trace_of};
-use command_words::{Item, has_flag, read_items};
+use command_words::{Item, has_flag, read_items, text_of};
 use std::alloc::Global;
 use sub_export::OutputJob;
 use sub_number::{NoMemory, Text};
@@ -39,10 +39,8 @@ pub enum Asked {
     ToCsv(Selection),
     /// `subunit2junitxml`: tests as a document for build servers.
     ToJunit,
-    /// `subunit-output`: the events that words ask for. The file that they attach, where they attach one, is the input.
+    /// `subunit-output`: the events that words ask for.
     Output(OutputJob),
-    /// `subunit-output`: the same, with the file of this name.
-    OutputFile(OutputJob, Text),
     /// `subunit-1to2`: lines of version 1 as packets.
     FromV1,
     /// `subunit-2to1`: tests as lines of version 1.
@@ -51,10 +49,19 @@ pub enum Asked {
     Tracing(Trace),
 }
 
-/// The filter that the words ask for. None comes exactly where they ask for none.
+/// A filter, and what it reads.
+#[derive(Drop)]
+pub struct Request {
+    /// The filter, with what it is asked to do.
+    pub asked: Asked,
+    /// The name of the file that it reads in place of the input. Where there is none it reads the input, or nothing.
+    pub file: Option<Text>,
+}
+
+/// What the words ask for. None comes exactly where they ask for no filter.
 ///
 /// `NoMemory` does not come where the first word names no filter.
-pub fn read_asked(alloc: Global, words: &[String]) -> Result<Option<Asked>, NoMemory>
+pub fn read_request(alloc: Global, words: &[String]) -> Result<Option<Request>, NoMemory>
     ensures { asking.Reads (texts words.now) result }
 {
     let Some(tool) = tool_of(words) else {
@@ -64,8 +71,8 @@ pub fn read_asked(alloc: Global, words: &[String]) -> Result<Option<Asked>, NoMe
 }
 
 // That of this name and these words behind it.
-fn read_behind(alloc: Global, tool: Tool, words: &[String]) -> Result<Option<Asked>, NoMemory>
-    ensures { IfOk result (λ asked. asked ≡ asking.asked_behind tool (texts words.now)) }
+fn read_behind(alloc: Global, tool: Tool, words: &[String]) -> Result<Option<Request>, NoMemory>
+    ensures { IfOk result (λ request. request ≡ asking.asked_behind tool (texts words.now)) }
 {
     if tool == Tool::Tags {
         return read_tags(alloc, words);
@@ -73,26 +80,126 @@ fn read_behind(alloc: Global, tool: Tool, words: &[String]) -> Result<Option<Ask
     if tool == Tool::Output {
         return read_output(alloc, words);
     }
+    if tool == Tool::Filter {
+        return by_letters(alloc, words);
+    }
+    by_options(alloc, tool, words)
+}
+
+fn by_options(alloc: Global, tool: Tool, words: &[String]) -> Result<Option<Request>, NoMemory>
+    ensures { IfOk result (λ request. request ≡ asking.asked_by_options tool (texts words.now)) }
+{
     match read_items(alloc, &tool, words)? {
         Some(items) => asked_with(alloc, tool, &items),
         None => Ok(None),
     }
 }
 
-fn read_tags(alloc: Global, words: &[String]) -> Result<Option<Asked>, NoMemory>
-    ensures { IfOk result (λ asked. asked ≡ asking.asked_tags (texts words.now)) }
+// `subunit-filter` has options of one letter, too.
+fn by_letters(alloc: Global, words: &[String]) -> Result<Option<Request>, NoMemory>
+    ensures { IfOk result (λ request. request ≡ asking.asked_by_letters (texts words.now)) }
 {
-    match read_retagging(alloc, words)? {
+    let longer = long_words(alloc, words)?;
+    by_options(alloc, Tool::Filter, &longer)
+}
+
+// Tags stand up to the separator, and behind it may stand the name of a file.
+fn read_tags(alloc: Global, words: &[String]) -> Result<Option<Request>, NoMemory>
+    ensures { IfOk result (λ request. request ≡ asking.asked_tags (texts words.now)) }
+{
+    let (tags, names) = parted(words);
+    let asked = asked_tags(alloc, tags)?;
+    let file = text_named(alloc, only_word(names))?;
+    Ok(with_file(asked, file))
+}
+
+fn asked_tags(alloc: Global, tags: &[String]) -> Result<Option<Asked>, NoMemory>
+    ensures { IfOk result (λ asked. asked ≡ asking.asked_change (texts tags.now)) }
+{
+    match read_retagging(alloc, tags)? {
         Some(retagging) => Ok(Some(Asked::Tags(retagging))),
         None => Ok(None),
     }
 }
 
-fn read_output(alloc: Global, words: &[String]) -> Result<Option<Asked>, NoMemory>
-    ensures { IfOk result (λ asked. asked ≡ asking.asked_output (texts words.now)) }
+// The words up to the first separator, and those behind it.
+fn parted(words: &[String]) -> (&[String], &[String])
+    ensures front { texts result.0.now ≡ before_first asking.is_separator (texts words.now) }
+    ensures behind { texts result.1.now ≡ after_first asking.is_separator (texts words.now) }
+{
+    match place_of_separator(words) {
+        Some(place) => (&words[..place], &words[place + 1..]),
+        None => (words, &[]),
+    }
+}
+
+fn place_of_separator(words: &[String]) -> Option<usize>
+    ensures { result ≡ position (λ word. asking.is_separator (string_bytes word)) words.now }
+{
+    words.iter().position(|word| is_separator(word.as_str()))
+}
+
+// Whether a file's name stands behind the word.
+fn is_separator(word: &str) -> bool
+    ensures { result ≡ asking.is_separator word.now }
+{
+    word == "--"
+}
+
+// The one word, or none where there is none; two and more are refused.
+fn only_word(words: &[String]) -> Option<Option<&str>>
+    ensures { option_map (option_map (λ word. word.now)) result ≡ asking.only_of (texts words.now) }
+{
+    match words {
+        [] => Some(None),
+        [word] => Some(Some(word.as_str())),
+        _ => None,
+    }
+}
+
+// The same of the words that are no options.
+fn only_name<'a>(items: &[Item<'a>]) -> Option<Option<&'a str>>
+    ensures { option_map (option_map (λ name. name.now)) result ≡ asking.only_of (asking.names_in (map shown items.now)) }
+{
+    let mut found = None;
+    for item in items {
+        if let Item::Name(name) = item {
+            if found.is_some() {
+                return None;
+            }
+            found = Some(*name);
+        }
+    }
+    Some(found)
+}
+
+// The file of the name that may be given, where none was refused.
+fn text_named(alloc: Global, only: Option<Option<&str>>) -> Result<Option<Option<Text>>, NoMemory>
+    ensures { IfOk result (λ file. file ≡ asking.text_of_only (option_map (option_map (λ name. name.now)) only.entry)) }
+{
+    match only {
+        None => Ok(None),
+        Some(None) => Ok(Some(None)),
+        Some(Some(name)) => match text_of(alloc, name)? {
+            Some(file) => Ok(Some(Some(file))),
+            None => Ok(None),
+        },
+    }
+}
+
+fn with_file(asked: Option<Asked>, file: Option<Option<Text>>) -> Option<Request>
+    ensures { result ≡ asking.with_file asked file }
+{
+    let asked = asked?;
+    let file = file?;
+    Some(Request { asked, file })
+}
+
+fn read_output(alloc: Global, words: &[String]) -> Result<Option<Request>, NoMemory>
+    ensures { IfOk result (λ request. request ≡ asking.asked_output (texts words.now)) }
 {
     match OutputJob::read(alloc, words)? {
-        Some(job) => Ok(Some(with_file(job)?)),
+        Some(job) => Ok(Some(job_request(job)?)),
         None => Ok(None),
     }
 }
@@ -108,22 +215,29 @@ fn path_of(job: &OutputJob) -> Result<Option<Text>, NoMemory>
 }
 
 // The job with the file that it attaches by its name, where it does.
-fn with_file(job: OutputJob) -> Result<Asked, NoMemory>
-    ensures { IfOk result (λ asked. asked ≡ asking.asked_with_file job (output.path_of job)) }
+fn job_request(job: OutputJob) -> Result<Request, NoMemory>
+    ensures { IfOk result (λ request. request ≡ asking.job_request job) }
 {
-    match path_of(&job)? {
-        Some(path) => Ok(Asked::OutputFile(job, path)),
-        None => Ok(Asked::Output(job)),
-    }
+    let file = path_of(&job)?;
+    Ok(Request {
+        asked: Asked::Output(job),
+        file,
+    })
 }
 
 // That of this name and these options.
-fn asked_with(alloc: Global, tool: Tool, items: &[Item<'_>]) -> Result<Option<Asked>, NoMemory>
-    ensures { IfOk result (λ asked. asked ≡ asking.asked_with tool (map shown items.now)) }
+fn asked_with(alloc: Global, tool: Tool, items: &[Item<'_>]) -> Result<Option<Request>, NoMemory>
+    ensures { IfOk result (λ request. request ≡ asking.asked_with tool (map shown items.now)) }
 {
-    if has_name(items) {
-        return Ok(None);
-    }
+    let asked = asked_for(alloc, tool, items)?;
+    let file = text_named(alloc, only_name(items))?;
+    Ok(with_file(asked, file))
+}
+
+// What a filter of options is asked, whatever names there are.
+fn asked_for(alloc: Global, tool: Tool, items: &[Item<'_>]) -> Result<Option<Asked>, NoMemory>
+    ensures { IfOk result (λ asked. asked ≡ asking.asked_for tool (map shown items.now)) }
+{
     match tool {
         Tool::Filter => Ok(Some(Asked::Filter(selection_of(alloc, items)?))),
         Tool::Ls => Ok(Some(Asked::Ls(listing_of(items)))),
@@ -148,19 +262,6 @@ fn asked_trace(items: &[Item<'_>]) -> Option<Asked>
         Some(trace) => Some(Asked::Tracing(trace)),
         None => None,
     }
-}
-
-// Whether a word is no option.
-fn has_name(items: &[Item<'_>]) -> bool
-    ensures { result ≡ list_any (λ item. asking.is_name (shown item)) items.now }
-{
-    items.iter().any(|item| is_name(item))
-}
-
-fn is_name(item: &Item<'_>) -> bool
-    ensures { result ≡ asking.is_name (shown item.now) }
-{
-    matches!(item, Item::Name(_))
 }
 
 fn listing_of(items: &[Item<'_>]) -> Listing

@@ -5,16 +5,12 @@ ghost use Rattle.filter_cli.specs.Pumping.{Pumps, WritesFirst};
 ghost use Rattle.packet_codec.specs.Canonical.{canonical};
 ghost use Rattle.sub_export.specs.Output.{last_event, piece_size, pieces_of};
 ghost use Rattle.filter_cli.specs.Attached.{events_of_pieces, HasAttached, IsOutput, IsOutputSeen, WritesAlone};
-ghost use Rattle.edge_io.specs.Seen.{Seen};
 ghost use Rattle.filter_cli.specs.Events.{packets_of};
-ghost use Rattle.filter_cli.specs.FileReads.{FeedsFile};
-ghost use Rattle.filter_cli.specs.Outside.{reach};
 ghost use Rattle.filter_cli.specs.Pipe.{Adds, pipe};
 
-use crate::file_loop::{FileFault, pump_file};
 use crate::filter::Filter;
 use crate::pass::{PumpFault, pump};
-use edge_io::{Sink, Site, Source, write_whole};
+use edge_io::{Sink, Source, write_whole};
 use packet_codec::encode;
 use std::alloc::Global;
 use sub_export::OutputJob;
@@ -139,19 +135,6 @@ pub fn attach_stream<I: Source, O: Sink>(
     ensures prefix { IfSome (I.seen input.old).told (WritesFirst (IsOutput job) (O.seen out.old).told (O.seen out.new).told) }
 {
     pump(alloc, Attaching::new(alloc, job), input, out)
-}
-
-/// The same of the file of this name, in place of the input.
-pub fn attach_named<S: Site, O: Sink>(
-    alloc: Global,
-    job: OutputJob,
-    name: &str,
-    site: &mut S,
-    out: &mut O,
-) -> Result<u8, FileFault>
-    ensures { (input : Seen (List ℕ)) → FeedsFile name.now (IsOutputSeen job) (IsOutput job) (reach (S.seen site.old) input (O.seen out.old)) (reach (S.seen site.new) input (O.seen out.new)) result }
-{
-    pump_file(alloc, Attaching::new(alloc, job), name, site, out)
 }
 
 /// Gives the one event of a job that attaches nothing. No input is read. The status is 0.

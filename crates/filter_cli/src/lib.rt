@@ -4,7 +4,7 @@
 //! before, where it does not say otherwise. What it did outside by then stands.
 //!
 //! - `top`: the top call, from words to an answer
-//! - `asked`, `patterns`, `retagging`, `selection`, `tool`: which filter the words ask for
+//! - `asked`, `letters`, `patterns`, `retagging`, `selection`, `tool`: which filter the words ask for
 //! - `refusal`, `telling`: why a filter was not done, and the lines that tell of it
 //! - `filter`, `pass`: what a filter is, and the one loop that serves them all
 //! - `notes`, `of_notes`, `taking`, `through`: filters that go by the notes of a stream
@@ -12,7 +12,8 @@
 //! - `of_tap`, `open_line`, `packets`, `pass_tap`: lines of the Test Anything Protocol as packets
 //! - `headed`, `exporting`: a text in front of what a filter writes, and the records of tests below the names of their fields
 //! - `of_v1`, `pass_v1`, `subunit_to_v1`: lines of version 1 as packets, and tests as such lines
-//! - `attaching`, `file_loop`: the events that words ask for, with the input as a file, or a file by its name
+//! - `attaching`: the events that words ask for, with the input as a file
+//! - `named`, `file_loop`: all of them over a file by its name, in place of the input
 //! - `event_laws`, `laws`: what filters write of all streams
 //!
 //! Its tests stand in a room above it, `filter_trials`.
@@ -26,7 +27,9 @@ mod file_loop;
 mod filter;
 mod headed;
 mod laws;
+mod letters;
 mod ls;
+mod named;
 mod notes;
 mod of_notes;
 mod of_tap;
@@ -54,8 +57,8 @@ mod tool;
 mod top;
 mod tracing;
 
-pub use asked::{Asked, read_asked};
-pub use attaching::{attach_named, attach_stream, give_event};
+pub use asked::{Asked, Request, read_request};
+pub use attaching::{attach_stream, give_event};
 pub use event_laws::packets_of_streams;
 pub use exporting::{export_stream, records_of_streams};
 pub use file_loop::{FileFault, pump_file};

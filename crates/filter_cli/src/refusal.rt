@@ -25,14 +25,14 @@ pub enum UsageFault {
 pub enum Refusal {
     /// The words are no filter.
     Usage(UsageFault),
-    /// There was not enough memory to read the words.
+    /// There was not enough memory to read the words, or to make the filter of a file.
     Memory(NoMemory),
     /// The patterns are not all good.
     Patterns(PatternsFault),
     /// The input was not filtered to its end.
     Pump(PumpFault),
     /// The file of this name was not.
-    Attach(Text, FileFault),
+    File(Text, FileFault),
 }
 
 impl From<NoMemory> for Refusal {
@@ -77,7 +77,7 @@ impl Refusal {
             Refusal::Memory(_) => 5,
             Refusal::Patterns(fault) => code_of_patterns(fault),
             Refusal::Pump(fault) => code_of_pump(*fault),
-            Refusal::Attach(_, fault) => code_of_file(*fault),
+            Refusal::File(_, fault) => code_of_file(*fault),
         }
     }
 
@@ -90,7 +90,7 @@ impl Refusal {
             Refusal::Memory(_) => Line::of(name, ": out of memory\n"),
             Refusal::Patterns(fault) => line_of_patterns(name, fault),
             Refusal::Pump(fault) => Line::of(name, text_of_pump(*fault)),
-            Refusal::Attach(file, fault) => line_of_file(name, file, *fault),
+            Refusal::File(file, fault) => line_of_file(name, file, *fault),
         }
     }
 }

@@ -130,7 +130,7 @@ fn filter_kind(name: &str) -> Option<Kind>
     None
 }
 
-// Whether it is a flag of `subunit-filter`.
+// Whether it is a flag of `subunit-filter`. `--no-error` changes nothing: a stream tells of no errors beside failures.
 fn is_switch(name: &str) -> bool
     ensures { result ≡ tools.is_switch name.now }
 {
@@ -138,6 +138,7 @@ fn is_switch(name: &str) -> bool
         || name == "--no-success"
         || name == "--failure"
         || name == "--no-failure"
+        || name == "--no-error"
         || name == "--no-skip"
         || name == "--xfail"
         || name == "--no-xfail"
@@ -146,7 +147,7 @@ fn is_switch(name: &str) -> bool
 }
 
 // Whether it is an option with a value of `subunit-filter` and `subunit2csv`.
-fn is_addition(name: &str) -> bool
+pub(crate) fn is_addition(name: &str) -> bool
     ensures { result ≡ tools.is_addition name.now }
 {
     name == "--with-tag" || name == "--without-tag" || name == "--with-id" || name == "--without-id"

@@ -1,6 +1,6 @@
 //! The top call of the filters.
 
-ghost use Rattle.std.specs.Prelude.{◌≡◌, ℕ, List, IsTrue, Some, None, is_some};
+ghost use Rattle.std.specs.Prelude.{◌≡◌, ℕ, List, IsTrue, None, is_some};
 ghost use Rattle.edge_io.specs.Seen.{Seen};
 ghost use Rattle.command_words.specs.Items.{texts};
 ghost use Rattle.filter_cli.specs.Outside.{outside, reach};
@@ -8,13 +8,13 @@ ghost use Rattle.filter_cli.specs.Pipe.{pipe};
 ghost use Rattle.filter_cli.specs.Program.{Filters, Performs, Takes, Checked, Tells};
 ghost use Rattle.filter_cli.specs.Promises.{Promises};
 ghost use Rattle.filter_cli.specs.Refusals.{usage_fault, name_in};
-ghost use Rattle.filter_cli.specs.Streams.{file_of};
 ghost use Rattle.filter_cli.specs.declared.asked.Asked.TheVariants as wanted;
 
-use crate::asked::{Asked, read_asked};
-use crate::attaching::{attach_named, attach_stream, give_event};
+use crate::asked::{Asked, Request, read_request};
+use crate::attaching::{attach_stream, give_event};
 use crate::exporting::export_stream;
 use crate::ls::{Listing, Ls};
+use crate::named::pass_named;
 use crate::pass_tap::tap_to_subunit;
 use crate::pass_v1::v1_to_subunit;
 use crate::patterns::rules_of;
@@ -34,17 +34,15 @@ use crate::tracing::{Trace, trace_stream};
 use edge_io::{Sink, Site, Source};
 use event_sift::Tagger;
 use std::alloc::Global;
-use std::str;
 use sub_export::OutputJob;
-use sub_number::Text;
 
 /// Does what the words say, of which the first is a filter's name, and answers the exit status: 0 where it was done and
 /// no test failed, 1 where a test failed, 2 where the words are no filter, 3 for a named refusal, 4 for a fault of the
 /// outside, 5 for want of memory.
 ///
 /// The input is read to its end in pieces of 65,536 bytes, and what each piece decides is written before the next one is
-/// read; where the words attach no input to their events, it is left unread. A file that they attach by its name is read in
-/// its place. A refusal prints one line to `err`. Words that are no filter, and bad patterns, touch neither input nor output.
+/// read; where the words attach no input to their events, it is left unread. A file that they name is read in its place, in
+/// the same way. A refusal prints one line to `err`. Words that are no filter, and bad patterns, touch neither input nor output.
 pub fn filters<S: Site, I: Source, O: Sink, E: Sink>(
     alloc: Global,
     words: &[String],
@@ -72,36 +70,52 @@ fn filter<S: Site, I: Source, O: Sink>(
 ) -> Result<u8, Refusal>
     ensures { Filters (texts words.now) (reach (S.seen site.old) (I.seen input.old) (O.seen out.old)) (reach (S.seen site.new) (I.seen input.new) (O.seen out.new)) result }
 {
-    let asked = read_asked(alloc, words)?;
-    perform(alloc, usage_fault(words), asked, site, input, out)
+    let request = read_request(alloc, words)?;
+    perform(alloc, usage_fault(words), request, site, input, out)
 }
 
 // Does what is asked for; where that is nothing, this is why.
 fn perform<S: Site, I: Source, O: Sink>(
     alloc: Global,
     fault: UsageFault,
-    asked: Option<Asked>,
+    request: Option<Request>,
     site: &mut S,
     input: &mut I,
     out: &mut O,
 ) -> Result<u8, Refusal>
-    ensures { Performs fault asked (reach (S.seen site.old) (I.seen input.old) (O.seen out.old)) (reach (S.seen site.new) (I.seen input.new) (O.seen out.new)) result }
+    ensures { Performs fault request (reach (S.seen site.old) (I.seen input.old) (O.seen out.old)) (reach (S.seen site.new) (I.seen input.new) (O.seen out.new)) result }
 {
-    match asked {
+    match request {
         None => Err(Refusal::Usage(fault)),
-        Some(asked) => pass(alloc, asked, site, input, out),
+        Some(request) => pass(alloc, request, site, input, out),
     }
 }
 
-// Does what is asked for.
+// Does what is asked for, with the file that is named, or with the input.
 fn pass<S: Site, I: Source, O: Sink>(
     alloc: Global,
-    asked: Asked,
+    request: Request,
     site: &mut S,
     input: &mut I,
     out: &mut O,
 ) -> Result<u8, Refusal>
-    ensures { Takes (file_of asked) asked (reach (S.seen site.old) (I.seen input.old) (O.seen out.old)) (reach (S.seen site.new) (I.seen input.new) (O.seen out.new)) result }
+    ensures { Takes request.file request.asked (reach (S.seen site.old) (I.seen input.old) (O.seen out.old)) (reach (S.seen site.new) (I.seen input.new) (O.seen out.new)) result }
+{
+    let Request { asked, file } = request;
+    match file {
+        None => pass_input(alloc, asked, input, out),
+        Some(name) => pass_named(alloc, asked, name, site, out),
+    }
+}
+
+// Does what is asked for, with the input.
+fn pass_input<I: Source, O: Sink>(
+    alloc: Global,
+    asked: Asked,
+    input: &mut I,
+    out: &mut O,
+) -> Result<u8, Refusal>
+    ensures { Checked asked (pipe (I.seen input.old) (O.seen out.old)) (pipe (I.seen input.new) (O.seen out.new)) result }
 {
     match asked {
         Asked::Filter(selection) => filter_tests(alloc, selection, input, out),
@@ -113,7 +127,6 @@ fn pass<S: Site, I: Source, O: Sink>(
         Asked::ToCsv(selection) => export(alloc, selection, input, out),
         Asked::ToJunit => write_junit(alloc, input, out),
         Asked::Output(job) => give(alloc, job, input, out),
-        Asked::OutputFile(job, name) => attach_file(alloc, job, name, site, out),
         Asked::FromV1 => read_v1(alloc, input, out),
         Asked::ToV1 => write_v1(alloc, input, out),
         Asked::Tracing(trace) => trace_tests(alloc, trace, input, out),
@@ -273,32 +286,6 @@ fn give_alone<O: Sink>(alloc: Global, job: OutputJob, out: &mut O) -> Result<u8,
 {
     let status = give_event(alloc, &job, out)?;
     Ok(status)
-}
-
-// The same, with the file of this name.
-fn attach_file<S: Site, O: Sink>(
-    alloc: Global,
-    job: OutputJob,
-    name: Text,
-    site: &mut S,
-    out: &mut O,
-) -> Result<u8, Refusal>
-    ensures { (input : Seen (List ℕ)) → Takes (Some name) (wanted.OutputFile job name) (reach (S.seen site.old) input (O.seen out.old)) (reach (S.seen site.new) input (O.seen out.new)) result }
-{
-    match attach_named(alloc, job, word_of(&name), site, out) {
-        Ok(status) => Ok(status),
-        Err(fault) => Err(Refusal::Attach(name, fault)),
-    }
-}
-
-// The text as a word.
-fn word_of(name: &Text) -> &str
-    ensures { result.now ≡ name.now }
-{
-    match str::from_utf8(name.bytes()) {
-        Ok(name) => name,
-        Err(_) => unreachable!(),
-    }
 }
 
 // Tells of a refusal, and gives the status.

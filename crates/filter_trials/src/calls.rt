@@ -3,7 +3,7 @@
 use edge_io::{ListSink, ListSource, MapSite, Site};
 use filter_cli::filters;
 use std::alloc::Global;
-use sub_number::Bytes;
+use sub_number::{Bytes, Text};
 
 // Words as a program is given them.
 fn owned(alloc: Global, words: &[&str]) -> Option<Vec<String>> {
@@ -89,3 +89,33 @@ pub type Done = (&'static [&'static str], &'static [u8], &'static [u8], u8);
 pub fn does(alloc: Global, row: &Done) -> bool {
     gives(alloc, row.0, row.1, row.2, row.3)
 }
+
+// The file `log` alone, of which these reads fail.
+pub fn site_with(alloc: Global, bytes: Vec<u8>, fails: &[u64]) -> Option<MapSite> {
+    let mut site = MapSite::new(alloc, fails.to_vec(alloc).ok()?);
+    let name = Text::new(alloc, b"log").ok()?;
+    site.put(name, Bytes::from_vec(bytes)).ok()?;
+    Some(site)
+}
+
+// The status of the words over the files, where this is written and this said, and the input is left, which is `x`.
+pub fn status_over<S: Site>(
+    alloc: Global,
+    words: &[&str],
+    site: &mut S,
+    fails: &[u64],
+    told: &Told<'_>,
+) -> Option<u8> {
+    let mut input = source(alloc, b"x", &[])?;
+    let mut out = ListSink::new(alloc, fails.to_vec(alloc).ok()?);
+    let mut err = ListSink::new(alloc, Vec::new(alloc));
+    let status = ran_over(alloc, words, site, &mut input, &mut out, &mut err);
+    if are_texts(&out, &err, told.0, told.1) && input.left().len() == 1 {
+        status
+    } else {
+        None
+    }
+}
+
+// What is written, and what is said of a refusal.
+pub type Told<'a> = (&'a [u8], &'a [u8]);

@@ -99,7 +99,16 @@ fn tests_are_let_through_as_is_asked_for(rt: HostRuntime) {
     }
 }
 
-const RETAGGED: [Done; 1] = [(&["subunit-tags", "foo", "-bar"], WITH_BAR, WITH_FOO, 0)];
+const RETAGGED: [Done; 2] = [
+    (&["subunit-tags", "foo", "-bar"], WITH_BAR, WITH_FOO, 0),
+    // Behind the separator may stand nothing.
+    (
+        &["subunit-tags", "foo", "-bar", "--"],
+        WITH_BAR,
+        WITH_FOO,
+        0,
+    ),
+];
 
 #[test]
 fn tags_are_added_and_removed(rt: HostRuntime) {
@@ -143,7 +152,7 @@ fn tests_are_listed_and_counted(rt: HostRuntime) {
 // Words, the line that refuses them, and the status.
 const REFUSED: [(&[&str], &[u8], u8); 6] = [
     (
-        &["subunit-filter", "--success", "x"],
+        &["subunit-filter", "--success", "x", "y"],
         b"subunit-filter: wrong usage\n",
         2,
     ),

@@ -121,7 +121,7 @@ const REFUSED: [Refused; 7] = [
         OUTPUT_USAGE,
         2,
     ),
-    (&["subunit2csv", "x"], b"subunit2csv: wrong usage\n", 2),
+    (&["subunit2csv", "x", "y"], b"subunit2csv: wrong usage\n", 2),
     (
         &["subunit2csv", "--success"],
         b"subunit2csv: wrong usage\n",

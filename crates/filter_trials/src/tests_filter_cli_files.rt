@@ -1,40 +1,8 @@
 //! Files that `subunit-output` attaches by their names.
 
-use crate::calls::{Faults, NO_FAULT, are_texts, ran_over, source};
+use crate::calls::{Faults, NO_FAULT, site_with, status_over};
 use crate::slow_site::SlowSite;
-use edge_io::{ListSink, MapSite, Site};
 use std::alloc::Global;
-use sub_number::{Bytes, Text};
-
-// The file `log` alone, of which these reads fail.
-fn site_with(alloc: Global, bytes: Vec<u8>, fails: &[u64]) -> Option<MapSite> {
-    let mut site = MapSite::new(alloc, fails.to_vec(alloc).ok()?);
-    let name = Text::new(alloc, b"log").ok()?;
-    site.put(name, Bytes::from_vec(bytes)).ok()?;
-    Some(site)
-}
-
-// The status of the words over the files, where this is written and this said, and the input is left, which is `x`.
-fn status_over<S: Site>(
-    alloc: Global,
-    words: &[&str],
-    site: &mut S,
-    fails: &[u64],
-    told: &Told<'_>,
-) -> Option<u8> {
-    let mut input = source(alloc, b"x", &[])?;
-    let mut out = ListSink::new(alloc, fails.to_vec(alloc).ok()?);
-    let mut err = ListSink::new(alloc, Vec::new(alloc));
-    let status = ran_over(alloc, words, site, &mut input, &mut out, &mut err);
-    if are_texts(&out, &err, told.0, told.1) && input.left().len() == 1 {
-        status
-    } else {
-        None
-    }
-}
-
-// What is written, and what is said of a refusal.
-type Told<'a> = (&'a [u8], &'a [u8]);
 
 // ---- small files
 

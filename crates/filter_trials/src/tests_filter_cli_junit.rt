@@ -82,7 +82,7 @@ const ROWS: [Row; 8] = [
         2,
     ),
     (
-        &["subunit2junitxml", "x"],
+        &["subunit2junitxml", "x", "y"],
         TIMED,
         NO_FAULT,
         b"",

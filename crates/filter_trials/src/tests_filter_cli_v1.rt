@@ -76,7 +76,7 @@ type Refused = (
 // A read gives 13 bytes.
 const REFUSED: [Refused; 5] = [
     (
-        &["subunit-1to2", "x"],
+        &["subunit-1to2", "x", "y"],
         PART,
         (&[], &[]),
         b"",

@@ -1,5 +1,5 @@
 -- Which words ask the program to tell of itself (docs/COMMANDS.md, "Words that the program answers itself").
-use Rattle.std.specs.Prelude.{ℕ, Bool, false, ◌&&◌, ◌||◌, List, [], ◌∷◌, map, codes, String, string_bytes, if◌then◌else◌}
+use Rattle.std.specs.Prelude.{ℕ, Bool, false, not, ◌&&◌, ◌||◌, List, [], ◌∷◌, map, codes, String, string_bytes, if◌then◌else◌}
 use Rattle.std.specs.List.{list_any}
 use Rattle.std.specs.Str.{bytes_eq}
 use Rattle.std.specs.declared.alloc.Global.{Global}
@@ -15,6 +15,10 @@ testr_face = codes "testr"
 -- the word behind a face or a command that asks for its text
 abbrev pub help_word : List ℕ
 help_word = codes "--help"
+
+-- the same of a filter, in one letter
+abbrev pub short_help_word : List ℕ
+short_help_word = codes "-h"
 
 -- the word that asks which program this is
 abbrev pub version_word : List ℕ
@@ -41,9 +45,13 @@ is_one_of names word = list_any (bytes_eq word) names
 abbrev pub asks_of_program : List ℕ → Bool
 asks_of_program word = bytes_eq word help_word || bytes_eq word version_word
 
+-- a filter's word that asks for its text; `subunit-tags` reads the short one as a tag to remove
+abbrev pub asks_of_filter : List ℕ → List ℕ → Bool
+asks_of_filter face word = bytes_eq word help_word || (bytes_eq word short_help_word && not (bytes_eq face (codes "subunit-tags")))
+
 -- a face and one word ask for a text
 abbrev pub asks_by_two : List ℕ → List ℕ → Bool
-asks_by_two face word = if bytes_eq face testr_face then asks_of_program word else is_one_of filters face && bytes_eq word help_word
+asks_by_two face word = if bytes_eq face testr_face then asks_of_program word else is_one_of filters face && asks_of_filter face word
 
 -- a face, a command and one word ask for a text
 abbrev pub asks_by_three : List ℕ → List ℕ → List ℕ → Bool

@@ -1,11 +1,11 @@
 // What the program tells of itself.
 ghost use Rattle.std.specs.Prelude.{◌≡◌, is_some};
-ghost use Rattle.help_texts.specs.Asking.{texts, asks, asks_by_two, asks_by_three, asks_of_program, is_one_of, commands};
+ghost use Rattle.help_texts.specs.Asking.{asks_of_filter, texts, asks, asks_by_two, asks_by_three, asks_of_program, is_one_of, commands};
 
 use crate::filter_help::of_filter;
 
 /// The text that these words ask for, where they are `testr --help`, `testr --version`, a command of `testr` and `--help`,
-/// or a filter and `--help`.
+/// or a filter and `--help` or `-h`. Of `subunit-tags`, `-h` removes a tag.
 pub fn help(words: &[String]) -> Option<&'static str>
     ensures asked { is_some result ≡ asks (texts words.now) }
 {
@@ -24,11 +24,18 @@ fn by_two(face: &str, word: &str) -> Option<&'static str>
 {
     if face == "testr" {
         of_program(word)
-    } else if word == "--help" {
+    } else if asks_filter(face, word) {
         of_filter(face)
     } else {
         None
     }
+}
+
+// Whether the word asks a filter of this name for its text.
+fn asks_filter(face: &str, word: &str) -> bool
+    ensures { result ≡ asks_of_filter face.now word.now }
+{
+    word == "--help" || (word == "-h" && face != "subunit-tags")
 }
 
 // The same of a face, a command and one word.

@@ -75,6 +75,7 @@ fn check_filter(rt: &impl Abort, host: &HostRuntime, name: &str) -> io::Result<(
     assert!(rt; !has_help(host, &[name])?);
     assert!(rt; !has_help(host, &[name, "--help", "--help"])?);
     assert!(rt; !has_help(host, &[name, "--version"])?);
+    assert!(rt; has_help(host, &[name, "-h"])? == (name != "subunit-tags"));
     Ok(())
 }
 
