@@ -55,7 +55,7 @@ fn help_is_for_its_words_alone(rt: HostRuntime) -> Result<(), Fail> {
     Ok(())
 }
 
-const FILTERS: [&str; 11] = [
+const FILTERS: [&str; 12] = [
     "subunit-filter",
     "subunit-tags",
     "subunit-ls",
