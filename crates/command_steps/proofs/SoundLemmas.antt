@@ -29,7 +29,6 @@ use Rattle.command_steps.specs.Runs.{HasRunAndCaches, KeepsRepository, run_bytes
 use Rattle.command_steps.specs.declared.told.TellFault.{TellFault}
 use Rattle.command_steps.proofs.Resting.{Rests, rests_images, passes_leaves, goes_both, surveyed_fits}
 use Rattle.packet_codec.specs.declared.event.Event.{Event}
-use Rattle.command_steps.proofs.SoundLemmas.{KeepsRunAndCaches, rests_calm, surveyed_calm, goes_cached, fresh_through}
 
 -- ---- one step after another
 
