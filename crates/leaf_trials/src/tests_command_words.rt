@@ -24,12 +24,18 @@ impl OptionTable for Table {
     }
 }
 
-// Words as a program is given them.
-fn owned(alloc: Global, words: &[&str]) -> Option<Vec<String>> {
-    let mut owned = Vec::new(alloc);
+// A loop that owns nothing, so that an early end drops nothing.
+fn push_words(alloc: Global, owned: &mut Vec<String>, words: &[&str]) -> Option<()> {
     for word in words {
         owned.push(word.to_string(alloc).ok()?).ok()?;
     }
+    Some(())
+}
+
+// Words as a program is given them.
+fn owned(alloc: Global, words: &[&str]) -> Option<Vec<String>> {
+    let mut owned = Vec::new(alloc);
+    push_words(alloc, &mut owned, words)?;
     Some(owned)
 }
 

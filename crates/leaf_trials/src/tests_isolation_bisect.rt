@@ -111,11 +111,17 @@ fn each_cause_is_found_with_few_probes(rt: HostRuntime) {
     assert!(rt; finds_each(1_000, 22));
 }
 
-fn list_of(alloc: Global, names: &[&str]) -> Option<IdList> {
-    let mut ids = IdList::new(alloc);
+// A loop that owns nothing, so that an early end drops nothing.
+fn push_all(alloc: Global, ids: &mut IdList, names: &[&str]) -> Option<()> {
     for name in names {
         ids.push(Text::new(alloc, name.as_bytes()).ok()?).ok()?;
     }
+    Some(())
+}
+
+fn list_of(alloc: Global, names: &[&str]) -> Option<IdList> {
+    let mut ids = IdList::new(alloc);
+    push_all(alloc, &mut ids, names)?;
     Some(ids)
 }
 
