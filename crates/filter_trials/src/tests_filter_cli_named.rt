@@ -58,7 +58,7 @@ fn does(alloc: Global, row: &Row) -> Option<bool> {
     Some(status == Some(row.5))
 }
 
-const DONE: [Row; 11] = [
+const DONE: [Row; 12] = [
     (
         &["subunit-filter", "log"],
         BOTH,
@@ -129,6 +129,14 @@ const DONE: [Row; 11] = [
         COMMA,
         NO_FAULT,
         COMMA_DOCUMENT,
+        b"",
+        1,
+    ),
+    (
+        &["subunit-trace", "--no-summary", "log"],
+        COMMA,
+        NO_FAULT,
+        b"{0} a,b ... ok\n{0} c ... FAILED\n",
         b"",
         1,
     ),
