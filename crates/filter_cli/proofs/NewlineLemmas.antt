@@ -45,3 +45,13 @@ module _ (piece : List ℕ) (from : ℕ) (within : from ≤ length piece) where
         ∙ ap (λ (l : List ℕ). l ++ 10 ∷ []) (take-add from count piece)
         ∙ append_assoc (take from piece) (take count (drop from piece)) (10 ∷ [])
         ∙ ap (λ (n : ℕ). take from piece ++ (take n (drop from piece) ++ 10 ∷ [])) same
+
+    -- the bytes up to the newline, and that
+    pub ended_is : take (from + count + 1 - from) (drop from piece) ≡ take (from + count - from) (drop from piece) ++ 10 ∷ []
+    ended_is =
+        let same : count ≡ from + count - from = omega arith in
+        let more : from + count + 1 - from ≡ count + 1 = omega arith in
+        ap (λ (n : ℕ). take n (drop from piece)) more
+        ∙ take_more (drop from piece) count 0 (omega (arith, length-drop from piece, place_fits))
+        ∙ ap (λ (n : ℕ). take count (drop from piece) ++ n ∷ []) (get_or-drop from piece count 0 ∙ newline_is)
+        ∙ ap (λ (n : ℕ). take n (drop from piece) ++ 10 ∷ []) same

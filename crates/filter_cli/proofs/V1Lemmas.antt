@@ -211,6 +211,17 @@ fed_line reader middle after held long fed shown end later pushed longer old mid
       };
     }
 
+-- the line with its newline, of which nothing was held
+pub fed_whole : (reader after : V1Reader) (held : List ℕ) (long : Bool) (fed shown end ended : List ℕ) (old new : List ℕ) → held ≡ [] → long ≡ false → IsPlain end → length end ≤ longest_line → ended ≡ end ++ 10 ∷ [] → HasFed reader held long fed shown
+    → Hears reader after (line ended ∷ []) old new → Adds old new (λ more. HasFed after [] false (fed ++ (end ++ 10 ∷ [])) (shown ++ more))
+fed_whole reader after held long fed shown end ended old new none whole plain few is h hears =
+    let open_line : HasFed reader [] false fed shown = subst (λ (b : Bool). HasFed reader [] b fed shown) whole (subst (λ (l : List ℕ). HasFed reader l long fed shown) none h) in
+    fed_line reader reader after [] false fed shown end end ended false old old new plain open_line (added_few reader [] end end false old refl (omega (arith, few))) is hears
+
+-- it is short enough
+pub whole_is_short : (end ended : List ℕ) → ended ≡ end ++ 10 ∷ [] → length end ≤ longest_line → length (without_newline ended) ≤ longest_line
+whole_is_short end ended is few = subst (λ (l : List ℕ). length l ≤ longest_line) (sym (ap without_newline is ∙ newline_gone end)) few
+
 -- ---- the end
 
 -- what is held of a line that was not taken in pieces is all of it

@@ -155,6 +155,7 @@ impl V1ToSubunit {
     }
 
     // The end of a line, in front of its newline.
+    #[inline(never)]
     fn take_end(&mut self, end: &[u8], text: &mut Vec<u8>) -> Result<(), NoMemory>
         requires held { length self.old.held.items ≤ most_open self.old.long }
         requires end { length end.now ≤ most_at_once }
@@ -168,6 +169,27 @@ impl V1ToSubunit {
         self.add(end, text)?;
         self.held.push(b'\n')?;
         self.end_line(text)?;
+        Ok(())
+    }
+
+    // The same, with the newline behind the end too. A line of which nothing is held is taken from where it was read.
+    #[inline(always)]
+    fn take_ended(&mut self, end: &[u8], ended: &[u8], text: &mut Vec<u8>) -> Result<(), NoMemory>
+        requires held { length self.old.held.items ≤ most_open self.old.long }
+        requires end { length end.now ≤ most_at_once }
+        requires plain { IsPlain end.now }
+        requires ended { ended.now ≡ end.now ++ 10 ∷ [] }
+        requires little { HoldsLittle self.old.reader }
+        ensures held { OnOk result (self.new.held.items ≡ []) }
+        ensures long { OnOk result (self.new.long ≡ false) }
+        ensures fed { (fed shown : List ℕ) → HasFed self.old.reader self.old.held.items self.old.long fed shown → OnOk result (Adds text.old.items text.new.items (λ more. HasFed self.new.reader [] false (fed ++ (end.now ++ 10 ∷ [])) (shown ++ more))) }
+        ensures little { OnOk result (HoldsLittle self.new.reader) }
+    {
+        if !self.is_new() {
+            self.take_end(end, text)?;
+            return Ok(());
+        }
+        take_line(&mut self.reader, ended, &mut self.events, text)?;
         Ok(())
     }
 
@@ -239,7 +261,7 @@ impl Filter for V1ToSubunit {
         let mut from = 0;
         while let Some(count) = memchr(b'\n', &piece[from..]) {
             let end = from + count;
-            self.take_end(&piece[from..end], text)?;
+            self.take_ended(&piece[from..end], &piece[from..end + 1], text)?;
             from = end + 1;
         }
         self.add(&piece[from..], text)?;
