@@ -24,6 +24,7 @@ pub mod TapLemmas
 pub mod NewlineLemmas
 pub mod TapPrefix
 pub mod TapRowLemmas
+pub mod TraceLemmas
 pub mod TapTextLemmas
 pub mod TaggedLemmas
 pub mod V1Lemmas
