@@ -7,18 +7,11 @@
 set -eu
 
 root=$(CDPATH='' cd -- "$(dirname -- "$0")/.." && pwd -P)
-archive=${1-}
 python3=/usr/bin/python3
 "$python3" -c 'import subunit, testtools' 2>/dev/null || { echo 'ci: skipped, since python3-subunit and python3-testtools are not installed'; exit 0; }
 command -v curl >/dev/null || { echo 'ci: skipped, since there is no curl'; exit 0; }
 
-work=$(mktemp -d)
-trap 'rm -rf -- "$work"' EXIT
-trap 'exit 1' HUP INT TERM
-if [ -z "$archive" ]; then
-    "$root/bin/release" "$work"
-    archive=$(echo "$work"/*.tar.gz)
-fi
+. "$root/bench/archive.sh"
 archive=$(CDPATH='' cd -- "$(dirname -- "$archive")" && pwd -P)/$(basename -- "$archive")
 
 ROOT=$root ARCHIVE=$archive PYTHONDONTWRITEBYTECODE=1 "$python3" - "$work" <<'PYTHON'

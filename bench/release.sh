@@ -6,17 +6,10 @@
 set -eu
 
 root=$(CDPATH='' cd -- "$(dirname -- "$0")/.." && pwd -P)
-archive=${1-}
 [ "$(id -u)" -eq 0 ] || { echo 'release: skipped, since only root can enter another root'; exit 0; }
 busybox=$(command -v busybox) && ! ldd "$busybox" >/dev/null 2>&1 || { echo 'release: skipped, since there is no static busybox'; exit 0; }
 
-work=$(mktemp -d)
-trap 'rm -rf -- "$work"' EXIT
-trap 'exit 1' HUP INT TERM
-if [ -z "$archive" ]; then
-    "$root/bin/release" "$work"
-    archive=$(echo "$work"/*.tar.gz)
-fi
+. "$root/bench/archive.sh"
 (cd -- "$(dirname -- "$archive")" && sha256sum -c -- "$(basename -- "$archive").sha256")
 
 there=$work/root
