@@ -906,7 +906,9 @@ def help_is_told():
         check(status == 0 and out.endswith(b"\n") and err == b"", f"{words} answers {status}")
     for name in NAMES[1:]:
         status, out, err = run(folder, "--help", program=[PROGRAM, name])
-        check(status == 0 and out.startswith(b"usage: " + name.encode()) and err == b"", f"{name} --help answers {status}")
+        # The help of `stestr` is that of `testr`.
+        told = "testr" if name == "stestr" else name
+        check(status == 0 and out.startswith(f"usage: {told}".encode()) and err == b"", f"{name} --help answers {status}")
     check(run(folder) == (2, b"", USAGE), "no words are no wrong usage")
     check(run(folder, "unknown", "--help") == (2, b"", USAGE), "an unknown command has help")
     check(run(folder, "load", "--help", "--help") == (2, b"", USAGE), "two words are help")
@@ -1063,7 +1065,7 @@ def a_release_is_made():
         check(run(folder, "--version", program=[os.path.join(path, "testr")])[1].startswith(f"{version}, ".encode()), "a release tells another version")
 
 
-NAMES = ("testr", "subunit-filter", "subunit-tags", "subunit-ls", "subunit-stats", "subunit-trace", "tap2subunit", "subunit2tap", "subunit2csv", "subunit2junitxml", "subunit-output", "subunit-1to2", "subunit-2to1")
+NAMES = ("testr", "stestr", "subunit-filter", "subunit-tags", "subunit-ls", "subunit-stats", "subunit-trace", "tap2subunit", "subunit2tap", "subunit2csv", "subunit2junitxml", "subunit-output", "subunit-1to2", "subunit-2to1")
 
 
 def pretended():

@@ -2,8 +2,8 @@
 # Tries `testr` in a small project, whose tests are a shell script that prints recorded packets: it is listed, run by one
 # worker and by several, loaded from files, and its worker fails, is killed, prints much, or goes its own way. A suite of
 # Python's own is listed and run too, and what is stored of it is read by Python, where `python3-subunit` and
-# `python3-testtools` of Debian are installed; else that case, as one of a command that the program does not have yet, is
-# skipped with a word.
+# `python3-testtools` of Debian are installed, and as a project of stestr where `python3-stestr` is; else that case, as one
+# of a command that the program does not have yet, is skipped with a word.
 # usage: bench/projects.sh [CASE..]: by default all cases. The variable MEBIBYTES says how much the worker prints that
 # prints much: 1024, unless it is set, and so much room is needed on the disk.
 set -eu
@@ -14,6 +14,7 @@ root=$(CDPATH='' cd -- "$(dirname -- "$0")/.." && pwd -P)
 PYTHONDONTWRITEBYTECODE=1 PYTHONPATH=$root/bench MEBIBYTES=${MEBIBYTES:-1024} \
     python3 - "$program" "$work" "$@" <<'PYTHON'
 import os
+import random
 import shutil
 import signal
 import subprocess
@@ -21,8 +22,8 @@ import sys
 import time
 
 import streams
-from caches import Home, Said, found, remove
-from cases import LIMIT, PROGRAM, bytes_of, case, check, main, need, need_command, run, write
+from caches import NAMES, Home, Said, events_of, found, remove
+from cases import LIMIT, PROGRAM, at, bytes_of, case, check, main, need, need_command, new_folder, run, write
 from project import CONF, LISTS, WORKER, check_answer, check_clean, kept, packet, project, report
 from streams import FILE, RUNNABLE, SUCCESS, event, text
 
@@ -150,6 +151,34 @@ def some_are_run():
 
 
 @case
+def tests_are_left_out_by_lists_with_comments():
+    need_command("run")
+    folder = project()
+    write(folder, "out", b"# what fails today\n  c$ # not now\n\n\t\n")
+    write(folder, "wanted", b"#b\n[bc] # two of them\n")
+    check_answer(run(folder, "run", "--exclude-list=out"), 0, report([], 2, 0), "run --exclude-list")
+    check(bytes_of(folder, "0.part") == kept([b"a", b"b"]), "the run without what a list leaves out is wrong")
+    check_answer(run(folder, "run", "--include-list=wanted", "--exclude-regex=b"), 1, report([(b"c", b"")], 1, 1), "run --include-list")
+    check_answer(run(folder, "list-tests", "--include-list=wanted"), 0, b"b\nc\n", "list-tests --include-list")
+    check_answer(run(folder, "list-tests", "--exclude-list=out"), 0, b"a\nb\n", "list-tests --exclude-list")
+    write(folder, "bad", b"a\n#(\n(\n")
+    check_answer(run(folder, "run", "--exclude-list=bad"), 3, b"", "a bad list", b"testr: bad line 3: bad pattern: (\n")
+    check_clean(folder)
+
+
+@case
+def a_run_may_print_no_report():
+    need_command("run")
+    folder = project()
+    check_answer(run(folder, "run", "-q"), 1, b"", "run -q")
+    check_answer(run(folder, "last", "--quiet"), 1, b"", "last --quiet")
+    check_answer(run(folder, "last"), 1, report([(b"c", b"")], 3, 0), "last")
+    said = b"testr: --concurrency: 64 workers at most\n"
+    check_answer(run(folder, "run", "--concurrency=1000", "a"), 0, report([], 1, 1), "run --concurrency=1000", said)
+    check_clean(folder)
+
+
+@case
 def several_workers_run():
     need_command("run")
     folder = project()
@@ -167,7 +196,7 @@ def a_project_without_settings_is_refused():
     need_command("run")
     folder = project()
     os.remove(os.path.join(folder, ".testr.conf"))
-    check_answer(run(folder, "run"), 3, b"", "run", b"testr: no .testr.conf\n")
+    check_answer(run(folder, "run"), 3, b"", "run", b"testr: no .testr.conf or .stestr.conf\n")
 
 
 def run_of(script, total, failed, status, number=0):
@@ -190,6 +219,22 @@ def a_worker_is_killed():
     need_command("run")
     folder = project(worker="#!/bin/sh\ncat packets/a\nkill -9 $$\n", conf=CONF.replace("./worker", "exec ./worker"))
     check_answer(run(folder, "run"), 1, report([(b"process-returncode", b"returncode -9\n")], 2, 0), "run")
+    check_clean(folder)
+
+
+@case
+def a_worker_that_ends_early_loses_no_test():
+    need_command("run")
+    # It ends itself in b, without a word.
+    ends = "#!/bin/sh\n" + LISTS + "while read -r id; do [ $id != b ] || exit 7; cat \"packets/$id\"; done < \"$2\"\n"
+    folder = project(worker=ends)
+    write(folder, "packets/c", packet(b"c", SUCCESS))
+    status, out, err = run(folder, "run", ".")
+    check((status, err) == (1, b""), f"a run that is cut answers {status}, {err}")
+    check(b"Ran 4 tests\nFAILED (id=0, failures=3)\n" in out, f"the report of a run that is cut is {out}")
+    check_answer(run(folder, "failing", "--list"), 1, b"b\nc\nprocess-returncode\n", "failing --list")
+    status, out, err = run(folder, "run", "--find-causes", "[ac]|b")
+    check(b"b: fails alone\n" in out and b"c: caused by b\n" in out, f"the causes are {out}")
     check_clean(folder)
 
 
@@ -239,6 +284,24 @@ def a_planned_file_of_ids_is_not_written():
 
 
 @case
+def a_file_of_ids_is_found_from_elsewhere():
+    need_command("run")
+    folder = project(conf="[DEFAULT]\ntest_command=cd src && sed 's,^,../packets/,' $IDFILE | xargs cat\n")
+    os.mkdir(os.path.join(folder, "src"))
+    write(folder, "wanted", b"b\na\n")
+    check_answer(run(folder, "run", "--load-list=wanted"), 0, report([], 2, 0), "run behind cd")
+    check_clean(folder)
+    # A shell would read this path, so the file has its name alone.
+    other = folder + " and more"
+    os.rename(folder, other)
+    write(other, ".testr.conf", b"[DEFAULT]\n  test_command=sed 's,^,packets/,' $IDFILE |\n    xargs cat\n")
+    check_answer(run(other, "run", "--load-list=wanted"), 0, report([], 2, 1), "run in a folder with a blank")
+    check_clean(other)
+    write(other, ".testr.conf", b"[DEFAULT]\ntest_command=cat packets/a\ninstance_execute=ssh $INSTANCE_ID\n")
+    check_answer(run(other, "run"), 3, b"", "run on other machines", b"testr: .testr.conf: instance_execute is not known\n")
+
+
+@case
 def ends_are_not_told():
     """Where the caller ignores SIGCHLD, the system forgets how a child has ended, and the wait fails."""
     need_command("run")
@@ -259,6 +322,87 @@ def the_program_is_killed():
     check(child.wait(LIMIT) == -signal.SIGKILL, "the program has ended before")
     write(folder, "worker", WORKER.encode())
     check_answer(run(folder, "run", "a"), 0, report([], 1, 0), "the next run")
+    check_clean(folder)
+
+
+# A repository made on the way.
+
+def made_by_then(folder):
+    """Which files a repository has by then, or none; the draft, the lock and the caches are not counted."""
+    home = at(folder, "")
+    return {name for name in os.listdir(home) if name not in ("draft", "lock", *NAMES)} if os.path.isdir(home) else set()
+
+
+def kill_at_random(chance, folder, words, given, whole):
+    """The files that a kill at some moment leaves; none of them, `format`, or `format` and the run, and each whole."""
+    with open(given, "rb") as stream:
+        child = subprocess.Popen([PROGRAM, "testr", *words, "--force-init"], cwd=folder, stdin=stream,
+                                 stdout=subprocess.DEVNULL, stderr=subprocess.DEVNULL)
+    time.sleep(chance.uniform(0, whole))
+    child.kill()
+    child.wait(LIMIT)
+    made = made_by_then(folder)
+    check(made in (set(), {"format"}, {"format", "0"}), f"a kill of {words} leaves {made}")
+    check(not made or bytes_of(folder, "format") == b"subunit-store 1\n", f"a kill of {words} leaves another format")
+    return made
+
+
+def kill_often(words, folder_of, given, recorded):
+    chance, seen = random.Random(1), []
+    folder = folder_of()
+    start = time.monotonic()
+    check(run(folder, *words, "--force-init", stdin=open(given, "rb"))[0] <= 1, f"{words} fails")
+    whole = time.monotonic() - start
+    check(bytes_of(folder, "0") == recorded, f"the run of {words} is wrong")
+    for _ in range(60):
+        folder = folder_of()
+        made = kill_at_random(chance, folder, words, given, whole)
+        seen.append(len(made))
+        check(len(made) < 2 or bytes_of(folder, "0") == recorded, f"a kill of {words} leaves a part of its run")
+        number = 1 if "0" in made else 0
+        check_answer(run(folder, "load", "--force-init", given=packet(b"a", SUCCESS)), 0, report([], 1, number), f"load behind {words}")
+    check(len(set(seen)) > 1, f"all kills of {words} leave the same: {seen[0]} files")
+
+
+@case
+def a_repository_made_on_the_way_is_killed():
+    given = os.path.join(new_folder(), "stream")
+    with open(given, "wb") as stream:
+        stream.write(b"".join(streams.small(100_000)))
+    kill_often(["load"], new_folder, given, b"".join(streams.small(100_000, b"0")))
+
+
+def bare_project():
+    """A project without a repository."""
+    folder = project()
+    shutil.rmtree(at(folder, ""))
+    return folder
+
+
+@case
+def a_repository_made_on_the_way_of_a_run_is_killed():
+    need_command("run")
+    kill_often(["run"], bare_project, os.devnull, kept([b"a", b"b", b"c"]))
+
+
+# The face `stestr`.
+
+STESTR = [PROGRAM, "stestr"]
+
+
+@case
+def stestr_does_by_default_what_testr_is_asked_for():
+    folder = bare_project()
+    check_answer(run(folder, "list", "^[bc]", program=STESTR), 0, b"b\nc\n", "stestr list")
+    check(not os.path.exists(at(folder, "")), "stestr list makes a repository")
+    check_answer(run(folder, "run", "--serial", program=STESTR), 1, report([(b"c", b"")], 3, 0), "stestr run --serial")
+    check(bytes_of(folder, "0") == kept([b"a", b"b", b"c"]), "the run is wrong")
+    status, out, err = run(folder, "run", "--concurrency=3", program=STESTR)
+    check((status, err) == (1, b"") and out.endswith(b"Ran 3 tests\nFAILED (id=1, failures=1)\n"), f"stestr run answers {(status, out, err)}")
+    check(len({route for route, name, status, moment in events_of(bytes_of(folder, "1")) if name}) == 3, "stestr run has other workers")
+    check_answer(run(folder, "last", program=STESTR), 1, report([(b"c", b"")], 3, 1), "stestr last")
+    check_answer(run(folder, "run", "--serial"), 2, b"", "testr run --serial", b"testr: wrong usage\n")
+    check_answer(run(folder, "list"), 2, b"", "testr list", b"testr: wrong usage\n")
     check_clean(folder)
 
 
@@ -312,11 +456,11 @@ def need_python():
     need(there, "python3-subunit and python3-testtools are not installed")
 
 
-def check_suite(answer, tests, ended):
+def check_suite(answer, tests, ended, package=""):
     status, out, err = answer
     lines = out.decode().splitlines()
     check(status == 1 and err == b"" and lines[-1] == ended, f"the suite answers {answer}")
-    check(lines[1] == "FAIL: test_small.Small.test_fails" and "AssertionError: 1 != 2" in lines, f"the report is {lines}")
+    check(lines[1] == f"FAIL: {package}test_small.Small.test_fails" and "AssertionError: 1 != 2" in lines, f"the report is {lines}")
     check(lines[-2].startswith(f"Ran {tests} tests in "), f"the count is {lines[-2]}")
 
 
@@ -340,6 +484,65 @@ def a_suite_of_python_runs():
     check((status, out) == (3, b""), f"a broken import is listed: {status}, {out}")
     check(err.startswith(b"--- import errors ---\n") and err.endswith(b"testr: listing ended with 2\n"), f"the import says {err}")
     check(b"No module named 'nothere'" in err, f"the import says {err}")
+    check_clean(folder)
+
+
+# Projects of stestr, which runs their tests, and by itself lists the same.
+
+STESTR_LINES = b"[DEFAULT]\ntest_path=./unit tests\ntop_dir=./unit tests\nparallel_class=True\n"
+STESTR_TABLE = b"[project]\nname = 'small'\n\n[tool.stestr]\ntest_path = './unit'\nparallel_class = true\n"
+
+
+def need_stestr():
+    need_python()
+    there = subprocess.run([PYTHON, "-c", "import stestr.subunit_runner.run"], capture_output=True).returncode == 0
+    need(there, "python3-stestr is not installed")
+
+
+def stestr_project(name, bytes, tests):
+    folder = bare_project()
+    os.remove(os.path.join(folder, ".testr.conf"))
+    write(folder, name, bytes)
+    os.mkdir(os.path.join(folder, tests))
+    write(folder, f"{tests}/__init__.py", b"")
+    write(folder, f"{tests}/test_small.py", SUITE)
+    return folder
+
+
+def check_stestr(folder, where, package=""):
+    how = {"env": {**os.environ, "PYTHON": PYTHON}}
+    ids = [f"{package}test_small.Small.{name}" for name in SUITE_ENDS]
+    listed = "".join(f"{name}\n" for name in ids).encode()
+    check_answer(run(folder, "list", program=STESTR, **how), 0, listed, f"stestr list of {where}")
+    check_answer(run(folder, "list-tests", **how), 0, listed, f"list-tests of {where}")
+    check_suite(run(folder, "run", "--concurrency=2", program=STESTR, **how), 4, "FAILED (id=0, failures=1, skips=1)", package)
+    routes = {route for route, name, status, moment in events_of(bytes_of(folder, "0")) if name}
+    check(routes == {b"0"}, f"the class of {where} is on the workers {routes}")
+    check_clean(folder)
+    return ids, how
+
+
+@case
+def projects_of_stestr_run():
+    need_command("run")
+    need_stestr()
+    # Where no `top_dir` is set, modules are named from the project's folder on.
+    check_stestr(stestr_project("pyproject.toml", STESTR_TABLE, "unit"), "pyproject.toml", "unit.")
+    folder = stestr_project(".stestr.conf", STESTR_LINES, "unit tests")
+    ids, how = check_stestr(folder, ".stestr.conf")
+    for word in ("init", "list"):
+        own = subprocess.run([PYTHON, "-B", "-m", "stestr", word], cwd=folder, capture_output=True, timeout=LIMIT, **how)
+    check(sorted(own.stdout.decode().split()) == ids, f"stestr itself lists {own}")
+
+
+@case
+def words_behind_the_options_reach_the_worker():
+    need_command("run", "--")
+    folder = project(worker='#!/bin/sh\nprintf "%s|" "$@" > words\n')
+    words = ["-v", "a b", "it's", "$HOME", "", "--", "*"]
+    check_answer(run(folder, "run", "--", *words), 0, report([], 0, 0), "run --")
+    with open(os.path.join(folder, "words"), "rb") as file:
+        check(file.read().decode() == "".join(f"{word}|" for word in words), "the worker gets other words")
     check_clean(folder)
 
 

@@ -256,7 +256,7 @@ def drawn_tests_are_written_and_read_again():
     stream, tests = drawn(random.Random(SEED), 2_000)
     lines = filtered("subunit-2to1", stream)
     again = filtered("subunit-1to2", lines)
-    counts = run(os.curdir, given=again, program=[PROGRAM, "subunit-stats"])[1]
+    counts = run(os.curdir, "--no-passthrough", given=again, program=[PROGRAM, "subunit-stats"])[1]
     check(counts == run(os.curdir, given=stream, program=[PROGRAM, "subunit-stats"])[1], f"the counts are {counts!r}")
     ids = run(os.curdir, "--no-passthrough", given=again, program=[PROGRAM, "subunit-ls"])[1]
     check(ids.decode().split("\n")[:-1] == [test[0] for test in tests], "the ids differ")

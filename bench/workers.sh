@@ -183,7 +183,11 @@ def one_of_several_is_killed():
     write(folder, "workers/2", b"cat packets/t00000\nkill -9 $$\n")
     write(folder, ".testr.conf", EXEC)
     found = run(folder, "run", "--parallel", "--concurrency=4")
-    check_answer(found, 1, report([(b"process-returncode", b"returncode -9\n")], 32, 0), "run")
+    # Its own tests, of which it said nothing, did not come to their ends.
+    failed = [b"FAIL: process-returncode\n" + b"-" * 70 + b"\nreturncode -9\n"]
+    failed += [b"UNFINISHED: t%05d\n" % number + b"-" * 70 + b"\n" for number in range(2, 40, 4)]
+    told = b"".join(b"=" * 70 + b"\n" + block for block in failed)
+    check_answer(found, 1, told + b"Ran 42 tests\nFAILED (id=0, failures=11)\n", "run")
     check_clean(folder)
 
 

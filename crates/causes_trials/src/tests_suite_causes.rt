@@ -1,12 +1,13 @@
 //! Searches over children in memory, the lines that tell of them, and the tests that are searched.
 
+use crate::lines::joined;
 use edge_io::{Finish, Plan, PlanSpawner};
 use outcome_fold::{Ended, Row};
 use packet_codec::{Status, Tags};
 use std::alloc::Global;
 use sub_number::{Bytes, IdList, Text};
 use suite_causes::{
-    CauseLine, SearchFault, Suspect, can_hand_ids, cause_line, count_before, search, suspects_of,
+    SearchFault, Suspect, can_hand_ids, cause_line, count_before, search, suspects_of,
 };
 use testr_conf::{Conf, JobFault, Key};
 use trial_events::{says, spelled, text};
@@ -65,14 +66,6 @@ fn started(alloc: Global, spawner: &PlanSpawner) -> Option<Vec<u8>> {
     Some(files)
 }
 
-// The parts of the line, one after another.
-fn joined(alloc: Global, line: &CauseLine<'_>) -> Option<Vec<u8>> {
-    let mut text = Vec::from_slice(alloc, line.test).ok()?;
-    text.extend_from_slice(line.said).ok()?;
-    text.extend_from_slice(line.cause).ok()?;
-    Some(text)
-}
-
 // The line of the test, or why there is none.
 fn told(
     alloc: Global,
@@ -123,7 +116,9 @@ const PASSED: Said = (Status::Success, Finish::Exit(0));
 
 const FAILED: Said = (Status::Fail, Finish::Exit(0));
 
-const SEARCHES: [Searching; 10] = [
+const LOST: Said = (Status::Exists, Finish::Exit(7));
+
+const SEARCHES: [Searching; 13] = [
     // c fails exactly behind b.
     (
         &[PASSED, FAILED, PASSED, FAILED],
@@ -162,6 +157,24 @@ const SEARCHES: [Searching; 10] = [
         &[
             (Status::Success, Finish::Exit(7)),
             (Status::Success, Finish::Exit(-9)),
+        ],
+        &[],
+        Ok(b"c: not reproduced"),
+        b"c\n|a\nb\nc\n|",
+    ),
+    // A child that ends with 7 and says no more of the test than that it exists has lost it, so it failed.
+    (&[LOST], &[], Ok(b"c: fails alone"), b"c\n|"),
+    (
+        &[PASSED, LOST, PASSED, LOST],
+        &[],
+        Ok(b"c: caused by b"),
+        b"c\n|a\nb\nc\n|a\nc\n|b\nc\n|",
+    ),
+    // One that ends with 0 lost none.
+    (
+        &[
+            (Status::Exists, Finish::Exit(0)),
+            (Status::Exists, Finish::Exit(0)),
         ],
         &[],
         Ok(b"c: not reproduced"),

@@ -1,5 +1,5 @@
 -- A line that is written in three parts.
-use Rattle.std.proofs.Common.{◌≡◌, ◌++◌, ℕ, List, Option, OnOk, Result, Ok, Err, subst}
+use Rattle.std.proofs.Common.{◌≡◌, ◌++◌, ℕ, List, Option, OnOk, Result, Ok, Err, subst, ap, ◌∙◌, append_assoc}
 use Rattle.std.proofs.KnownBytes.{Appends-trans}
 use Rattle.std.specs.Io.KnownBytes.{Appends}
 use Rattle.edge_io.specs.Bytes.{AppendsPrefix}
@@ -44,3 +44,8 @@ module _ (said line given : List ℕ) (given_is : given ≡ said) (a b : Option 
     said_and_line (Ok x) second =
         subst (λ (l : List ℕ). Appends a c (l ++ line)) given_is
         (subst (λ (l : List ℕ). Appends a c (given ++ l)) behind_is (Appends-trans a b c given behind first second))
+
+-- ---- a name, a place in it, and what is told of that
+
+pub place_told : (front name word number rest : List ℕ) → front ++ (((name ++ word) ++ number) ++ rest) ≡ front ++ (name ++ (word ++ (number ++ rest)))
+place_told front name word number rest = ap (λ l. front ++ l) (append_assoc (name ++ word) number rest ∙ append_assoc name word (number ++ rest))

@@ -126,6 +126,7 @@ fails_keeps SyncFolder s t fails = stays_keeps s t fails
 open_fails_keeps : (fault : OpenFault) (s t : Folder) → OpenFails fault s t → KeepsFiles s t
 open_fails_keeps open_fault.NoStore s t fails = settled_keeps s t fails.1
 open_fails_keeps open_fault.UnknownFormat s t fails = settled_keeps s t fails.1
+open_fails_keeps open_fault.BadBase s t fails = settled_keeps s t fails.1
 open_fails_keeps (open_fault.Gap number) s t fails = settled_keeps s t fails.1
 open_fails_keeps (open_fault.Shelf call) s t fails = fails_keeps call s t fails
 open_fails_keeps open_fault.NoMemory s t fails = settled_keeps s t fails

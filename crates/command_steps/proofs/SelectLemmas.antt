@@ -5,8 +5,10 @@ use Rattle.std.specs.Option.{unwrap_or}
 use Rattle.std.proofs.lemmas.Result.{err_from_is_err_and}
 use Rattle.sub_number.specs.declared.memory.NoMemory.{NoMemory}
 use Rattle.testr_conf.specs.Settings.{Settings}
-use Rattle.suite_plan.specs.Choosing.{Ids, base_ids, chosen_ids}
+use Rattle.suite_plan.specs.Choosing.{Ids, base_ids, chosen_ids, with_further}
 use Rattle.suite_plan.specs.Processors.{CountsProcessors}
+use Rattle.suite_plan.specs.declared.picks.FurtherPicks.{FurtherPicks}
+use Rattle.suite_plan.specs.declared.picks.Picks.{Picks}
 use Rattle.suite_plan.specs.declared.sharing.TheConstants.{MOST_WORKERS}
 use Rattle.command_steps.specs.Outside.{Work, work_site}
 use Rattle.command_steps.specs.Perhaps.{when, Perhaps, refused}
@@ -58,5 +60,5 @@ uses_table (Some (suc less)) value a b result is none table = absurd (omega (ari
 
 -- ---- the ids
 
-pub chooses_as : (filters patterns : Ids) (failing listed listing : Option Ids) (result : Result (Option Ids) NoMemory) → filters ≡ patterns → IfOk result (λ ids. ids ≡ chosen_ids filters (base_ids failing listed listing)) → Chooses patterns failing listed listing result
-chooses_as filters patterns failing listed listing result is holds = record { chosen = subst (λ (p : Ids). IfOk result (λ ids. ids ≡ chosen_ids p (base_ids failing listed listing))) is holds }
+pub chooses_as : (given picks : Picks) (further : FurtherPicks) (failing listed listing : Option Ids) (result : Result (Option Ids) NoMemory) → given ≡ picks → IfOk result (λ ids. ids ≡ chosen_ids (with_further given further) (base_ids failing listed listing)) → Chooses (with_further picks further) failing listed listing result
+chooses_as given picks further failing listed listing result is holds = record { chosen = subst (λ (p : Picks). IfOk result (λ ids. ids ≡ chosen_ids (with_further p further) (base_ids failing listed listing))) is holds }

@@ -10,19 +10,20 @@ use Rattle.edge_io.proofs.Passing.{passes_then, passes_weaker}
 use Rattle.outcome_fold.specs.declared.row.Row.{Row}
 use Rattle.run_ledger.specs.Cached.{ReadsSound}
 use Rattle.run_ledger.specs.Caches.{IsSound}
-use Rattle.run_ledger.specs.Ledger.{HasRowsAt, RunRows, ShowRows}
+use Rattle.run_ledger.specs.Ledger.{HasRowsAt, HasNewRows, RunRows, ShowRows, failing_after}
 use Rattle.run_ledger.specs.Reading.{AreRowsOf}
 use Rattle.run_ledger.specs.Refreshing.{PutsCaches, KeepsSound}
 use Rattle.run_ledger.proofs.SoundLemmas.{sound_beside}
+use Rattle.run_shelf.specs.Bases.{Base}
 use Rattle.run_shelf.specs.Holds.{FitsFolder}
 use Rattle.run_shelf.specs.Images.{HasRunBeside, KeepsRun, PassesRun}
 use Rattle.run_shelf.specs.Outcomes.{Surveys}
-use Rattle.run_shelf.specs.Repository.{Run, run_at, most_runs, Shows, IsRepository, run_of}
+use Rattle.run_shelf.specs.Repository.{Run, run_at, most_runs, base_of, Shows, IsRepository, run_of}
 use Rattle.run_shelf.specs.Sides.{side_name, SameButSides, KeepsButSides, PassesButSides}
 use Rattle.run_shelf.specs.declared.side.Side.TheVariants.{Failing, Times}
 use Rattle.run_shelf.proofs.Joining.{at_rest_images}
-use Rattle.run_shelf.proofs.RunLemmas.{last_item, put_other}
-use Rattle.run_shelf.proofs.SameLemmas.{same_itself, shows_still, repository_still}
+use Rattle.run_shelf.proofs.RunLemmas.{last_item, put_other, base_behind, base_beside_run}
+use Rattle.run_shelf.proofs.SameLemmas.{base_same, same_itself, shows_still, repository_still}
 use Rattle.run_shelf.proofs.ShowsLemmas.{shown}
 use Rattle.command_steps.specs.Refreshing.{Refreshes, HoldsCaches, BringsCaches}
 use Rattle.command_steps.specs.Runs.{HasRunAndCaches, KeepsRepository, run_bytes, AddsRun}
@@ -83,6 +84,10 @@ names_differ same = omega (arith, ap (λ (l : List ℕ). get_or l 0 0) same)
 rows_still : (files image : Files) (entries : List RunRows) → SameButSides files image → ShowRows files entries → ShowRows image entries
 rows_still files image entries but has = record { runs = has.runs; shown = shows_still files image but has.runs has.shown; are = has.are }
 
+-- no cache is a part of the base
+failing_still : (files image : Files) (ids : List (List ℕ)) (entries : List RunRows) → SameButSides files image → ids ≡ failing_after (base_of files) entries → ids ≡ failing_after (base_of image) entries
+failing_still files image ids entries but are = are ∙ ap (λ (b : Base). failing_after b entries) (sym (base_same files image but))
+
 holds : (s t : Folder) → KeepsButSides s t → PutsCaches s t → HoldsCaches t
 holds s t but has =
     let first : Files = put s.disk.published (side_name Failing) has.failing_bytes in
@@ -105,7 +110,7 @@ holds s t but has =
         };
       };
       folds = record {
-        are_ids = (has.are_ids.0, rows_still s.disk.published t.disk.published has.are_ids.0 but has.are_ids.1, has.are_ids.2);
+        are_ids = (has.are_ids.0, rows_still s.disk.published t.disk.published has.are_ids.0 but has.are_ids.1, failing_still s.disk.published t.disk.published has.ids has.are_ids.0 but has.are_ids.2);
         are_times = (has.are_times.0, rows_still s.disk.published t.disk.published has.are_times.0 but has.are_times.1, has.are_times.2);
       };
     }
@@ -188,23 +193,37 @@ module _ (number : ℕ) (run : Run) where
       let there : run_at m.disk.published number ≡ Some run = after.each number few ∙ ap (λ (n : ℕ). slice_get (before.0 ++ run ∷ []) n) count ∙ last_item before.0 run in
       subst (λ (o : Option Run). IsSomeAnd o (λ r. AreRowsOf r.bytes rows)) (sym there) are
 
+  -- and the base does not count it
+  new_at : (rows : List Row) (s m : Folder) → AreRowsOf run.bytes rows → IsCalm s → KeepsRun number run s m → HasNewRows number rows m
+  new_at rows s m are calm kept =
+      let before = shown s.disk.published calm.repository in
+      let beside = kept_beside number run s m kept in
+      let after : Shows m.disk.published (before.0 ++ run ∷ []) = beside.shows before.0 before.1 in
+      let count : number ≡ length before.0 = beside.counts before.0 before.1 in
+      let few : number < most_runs = omega (arith, count, after.few, length-append before.0 (run ∷ [])) in
+      let base : base_of m.disk.published ≡ base_of s.disk.published = ap base_of beside.is ∙ base_beside_run s.disk.published number run few in
+      record {
+        are = rows_at rows s m are calm kept;
+        behind = omega (arith, count, base_behind s.disk.published before.0 calm.repository before.1, ap (λ (b : Base). b.count) base);
+      }
+
   -- the run, and what the step of the caches did
-  refreshed_all : (rows : List Row) (s m t : Folder) → AreRowsOf run.bytes rows → IsCalm s → KeepsRun number run s m → PassesRun number run s m → KeepsButSides m t → PassesButSides m t → (HasRowsAt number rows m → KeepsSound m t) → PassesAll number run s t
+  refreshed_all : (rows : List Row) (s m t : Folder) → AreRowsOf run.bytes rows → IsCalm s → KeepsRun number run s m → PassesRun number run s m → KeepsButSides m t → PassesButSides m t → (HasNewRows number rows m → KeepsSound m t) → PassesAll number run s t
   refreshed_all rows s m t are calm kept passes but sides sound =
       let beside = kept_beside number run s m kept in
       let run_stops = passes_weaker (λ image. IsImage s.disk image ⊎ HasRunBeside s.disk.published number run image) (Left s) (left_by s) s m passes in
       record {
         stops = passes_then (Left s) s m t run_stops (passes_weaker (λ image. IsImage m.disk image ⊎ SameButSides m.disk.published image) (Left s) (λ image left. inr (behind s m kept image left)) m t sides);
-        sound = sound_then s m t (sound_run s m calm passes) (sound (rows_at rows s m are calm kept));
+        sound = sound_then s m t (sound_run s m calm passes) (sound (new_at rows s m are calm kept));
         repository = repository_still m.disk.published t.disk.published but beside.repository;
       }
 
-  cached : (rows : List Row) (s m t : Folder) → AreRowsOf run.bytes rows → KeepsRun number run s m → KeepsButSides m t → PassesButSides m t → (HasRowsAt number rows m → ReadsSound m → PutsCaches m t) → KeepsRunAndCaches number run s t
+  cached : (rows : List Row) (s m t : Folder) → AreRowsOf run.bytes rows → KeepsRun number run s m → KeepsButSides m t → PassesButSides m t → (HasNewRows number rows m → ReadsSound m → PutsCaches m t) → KeepsRunAndCaches number run s t
   cached rows s m t are kept but sides has = record {
     reads = behind s m kept t.disk.published (inr but);
     lasts = λ image left. behind s m kept image (passes_leaves (λ i. IsImage m.disk i ⊎ SameButSides m.disk.published i) m t sides (λ i before. inl before) image left);
     fresh = λ calm sound.
-        holds m t but (has (rows_at rows s m are calm kept) (sound_beside s.disk.published m.disk.published number run (kept_beside number run s m kept) calm.repository sound));
+        holds m t but (has (new_at rows s m are calm kept) (sound_beside s.disk.published m.disk.published number run (kept_beside number run s m kept) calm.repository sound));
   }
 
   -- ---- where the folder is told
@@ -229,16 +248,16 @@ module _ (number : ℕ) (run : Run) where
         goes_from a b.told IsCalm (λ s m. KeepsRun number run s m × PassesRun number run s m) (λ s m. IsCalm s × KeepsRun number run s m × PassesRun number run s m) calm
         (goes_both a b.told (KeepsRun number run) (PassesRun number run) (λ s m. KeepsRun number run s m × PassesRun number run s m) kept passes (λ s m k p. (k, p))) (λ s m is both. (is, both.0, both.1)) in
         let others : Goes b.told c.told (λ m t. KeepsButSides m t × PassesButSides m t) = goes_both b.told c.told KeepsButSides PassesButSides (λ m t. KeepsButSides m t × PassesButSides m t) step.others step.any_moment (λ m t p q. (p, q)) in
-        let after : Goes b.told c.told (λ m t. (KeepsButSides m t × PassesButSides m t) × (HasRowsAt number rows m → KeepsSound m t)) =
-        goes_both b.told c.told (λ m t. KeepsButSides m t × PassesButSides m t) (λ m t. HasRowsAt number rows m → KeepsSound m t) (λ m t. (KeepsButSides m t × PassesButSides m t) × (HasRowsAt number rows m → KeepsSound m t)) others step.sound (λ m t p q. (p, q)) in
-        goes_then a b.told c.told (λ s m. IsCalm s × KeepsRun number run s m × PassesRun number run s m) (λ m t. (KeepsButSides m t × PassesButSides m t) × (HasRowsAt number rows m → KeepsSound m t)) (PassesAll number run) before after (λ s m t first second. refreshed_all rows s m t are first.0 first.1 first.2 second.0.0 second.0.1 second.1)
+        let after : Goes b.told c.told (λ m t. (KeepsButSides m t × PassesButSides m t) × (HasNewRows number rows m → KeepsSound m t)) =
+        goes_both b.told c.told (λ m t. KeepsButSides m t × PassesButSides m t) (λ m t. HasNewRows number rows m → KeepsSound m t) (λ m t. (KeepsButSides m t × PassesButSides m t) × (HasNewRows number rows m → KeepsSound m t)) others step.sound (λ m t p q. (p, q)) in
+        goes_then a b.told c.told (λ s m. IsCalm s × KeepsRun number run s m × PassesRun number run s m) (λ m t. (KeepsButSides m t × PassesButSides m t) × (HasNewRows number rows m → KeepsSound m t)) (PassesAll number run) before after (λ s m t first second. refreshed_all rows s m t are first.0 first.1 first.2 second.0.0 second.0.1 second.1)
 
   pub goes_cached : (rows : List Row) (a : Option Folder) (b c : Seen Folder) → Refreshes number rows b c (Ok tt) → AreRowsOf run.bytes rows → Goes a b.told (KeepsRun number run) → Goes a c.told (KeepsRunAndCaches number run)
   goes_cached rows a b c step are kept =
       let others : Goes b.told c.told (λ m t. KeepsButSides m t × PassesButSides m t) = goes_both b.told c.told KeepsButSides PassesButSides (λ m t. KeepsButSides m t × PassesButSides m t) step.others step.any_moment (λ m t p q. (p, q)) in
-      let after : Goes b.told c.told (λ m t. (KeepsButSides m t × PassesButSides m t) × (HasRowsAt number rows m → ReadsSound m → PutsCaches m t)) =
-      goes_both b.told c.told (λ m t. KeepsButSides m t × PassesButSides m t) (λ m t. HasRowsAt number rows m → ReadsSound m → PutsCaches m t) (λ m t. (KeepsButSides m t × PassesButSides m t) × (HasRowsAt number rows m → ReadsSound m → PutsCaches m t)) others step.refreshed (λ m t p q. (p, q)) in
-      goes_then a b.told c.told (KeepsRun number run) (λ m t. (KeepsButSides m t × PassesButSides m t) × (HasRowsAt number rows m → ReadsSound m → PutsCaches m t)) (KeepsRunAndCaches number run) kept after (λ s m t first second. cached rows s m t are first second.0.0 second.0.1 second.1)
+      let after : Goes b.told c.told (λ m t. (KeepsButSides m t × PassesButSides m t) × (HasNewRows number rows m → ReadsSound m → PutsCaches m t)) =
+      goes_both b.told c.told (λ m t. KeepsButSides m t × PassesButSides m t) (λ m t. HasNewRows number rows m → ReadsSound m → PutsCaches m t) (λ m t. (KeepsButSides m t × PassesButSides m t) × (HasNewRows number rows m → ReadsSound m → PutsCaches m t)) others step.refreshed (λ m t p q. (p, q)) in
+      goes_then a b.told c.told (KeepsRun number run) (λ m t. (KeepsButSides m t × PassesButSides m t) × (HasNewRows number rows m → ReadsSound m → PutsCaches m t)) (KeepsRunAndCaches number run) kept after (λ s m t first second. cached rows s m t are first second.0.0 second.0.1 second.1)
 
   -- a quiet part before it
   pub fresh_through : (a b c : Option Folder) → Goes a b Rests → IfSome b IsCalm → Goes b c (KeepsRunAndCaches number run) → Goes a c BringsCaches

@@ -1,5 +1,5 @@
 -- What is told of a store, and why nothing is.
-use Rattle.std.proofs.Common.{◌≡◌, ℕ, ◌<◌, ◌-◌, true, false, Bool, Option, None, Some, IfSome, IsSomeAnd, List, [], length, Result, Ok, Err, IfOk, refl, sym, ap, subst, ◌∙◌, arith}
+use Rattle.std.proofs.Common.{◌≡◌, ℕ, ◌<◌, ◌-◌, true, false, Bool, Option, None, Some, IfSome, IsSomeAnd, List, [], ◌++◌, length, Result, Ok, Err, IfOk, refl, sym, ap, subst, ◌∙◌, arith}
 use Rattle.edge_io.specs.Disk.{Folder}
 use Rattle.run_shelf.specs.declared.faults.ShelfCall.{ShelfCall}
 use Rattle.run_shelf.specs.declared.faults.StoreFault.TheVariants as store_fault
@@ -14,9 +14,10 @@ use Rattle.outcome_fold.specs.declared.row.Row.{Row}
 use Rattle.run_ledger.specs.Reading.{AreRowsOf}
 use Rattle.run_ledger.specs.Cached.{SaysItsFailing, SaysItsTimes}
 use Rattle.run_ledger.specs.Ledger.{HasRowsAt, IsFailingSet}
+use Rattle.skip_reasons.specs.Skips.{TellsSkips}
 use Rattle.sub_text.specs.Texts.{report_of, failing_text_of}
 use Rattle.command_steps.specs.Verdicts.{verdict_of}
-use Rattle.command_steps.specs.Says.{Says, SaysReport, SaysFailing, SoundFor, verdict_of_failing}
+use Rattle.command_steps.specs.Says.{Says, SaysReport, SaysSkips, SaysFailing, SoundFor, verdict_of_failing}
 use Rattle.testr_words.specs.Questions.{OfBytes}
 use Rattle.command_steps.specs.Runs.{HasRuns}
 use Rattle.command_steps.specs.Trusted.{SoundFailing, SoundTimes}
@@ -114,5 +115,24 @@ report_said kinds given rows told (Some s) some is fits has text verdict = at (r
       last = record { count = record { repository = fits.repository; kinds = kinds; kinds_are = fits.kinds_are; count = omega (arith, some) }; there = there };
       rows_are = has;
       text_is = text ∙ ap (λ n. report_of rows n []) is;
+      verdict_is = verdict;
+    }
+
+-- the report of the rows of the last run, and why tests were skipped
+pub skips_said : (kinds : List Bool) (given : ℕ) (rows : List Row) (skips : List ℕ) (told : Told) (state : Option Folder) → 0 < length kinds → given ≡ length kinds - 1 → IfSome state (FitsFolder kinds) → IfSome state (HasRowsAt (length kinds - 1) rows) → TellsSkips rows skips → told.text.items ≡ report_of rows given [] ++ skips → told.verdict ≡ verdict_of rows → IfSome state (TellsSo SaysSkips told)
+skips_said kinds given rows skips told None some is fits has tells text verdict = tt
+skips_said kinds given rows skips told (Some s) some is fits has tells text verdict = at (run_at s.disk.published (length kinds - 1)) refl has
+  where
+    at : (found : Option Run) → run_at s.disk.published (length kinds - 1) ≡ found → IsSomeAnd found (λ run. AreRowsOf run.bytes rows) → SaysSkips s told.text.items told.verdict
+    at None there has = absurd has
+    at (Some run) there has = record {
+      number = length kinds - 1;
+      run = run;
+      rows = rows;
+      last = record { count = record { repository = fits.repository; kinds = kinds; kinds_are = fits.kinds_are; count = omega (arith, some) }; there = there };
+      rows_are = has;
+      skips = skips;
+      tells = tells;
+      text_is = text ∙ ap (λ n. report_of rows n [] ++ skips) is;
       verdict_is = verdict;
     }

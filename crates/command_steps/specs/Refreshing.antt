@@ -6,7 +6,7 @@ use Rattle.edge_io.specs.Seen.{Seen}
 use Rattle.edge_io.specs.Steps.{Goes}
 use Rattle.outcome_fold.specs.declared.row.Row.{Row}
 use Rattle.run_ledger.specs.Cached.{ReadsSound}
-use Rattle.run_ledger.specs.Ledger.{HasRowsAt}
+use Rattle.run_ledger.specs.Ledger.{HasNewRows}
 use Rattle.run_ledger.specs.Refreshing.{PutsCaches, HoldBoth, AreFolds, KeepsSound}
 use Rattle.run_shelf.specs.Sides.{KeepsButSides, PassesButSides}
 use Rattle.run_shelf.specs.Repository.{Run, Shows}
@@ -17,10 +17,10 @@ use Rattle.command_steps.specs.declared.told.TellFault.{TellFault}
 -- say together. Whether it is done or not, no other file differs, and what a stop at each moment leaves is sound where it
 -- was.
 pub record Refreshes (number : ℕ) (rows : List Row) (before after : Seen Folder) (result : Result (Unit {0}) TellFault) : Type 0 where
-  pub refreshed : OnOk result (Goes before.told after.told (λ s t. HasRowsAt number rows s → ReadsSound s → PutsCaches s t))
+  pub refreshed : OnOk result (Goes before.told after.told (λ s t. HasNewRows number rows s → ReadsSound s → PutsCaches s t))
   pub others : Goes before.told after.told KeepsButSides
   pub any_moment : Goes before.told after.told PassesButSides
-  pub sound : Goes before.told after.told (λ s t. HasRowsAt number rows s → KeepsSound s t)
+  pub sound : Goes before.told after.told (λ s t. HasNewRows number rows s → KeepsSound s t)
   pub count : RisesExactlyIf before.faults after.faults (tell_failed result)
 
 -- both caches cover all runs that the folder shows, and hold what these say together

@@ -9,7 +9,7 @@ use Rattle.command_steps.specs.Store.{init_code, init_text, open_code, open_text
 use Rattle.command_steps.specs.Recording.{record_code, record_text}
 use Rattle.command_steps.specs.Reporting.{memory_text, print_text}
 use Rattle.command_steps.specs.Told.{tell_code, tell_text}
-use Rattle.command_steps.specs.SuiteTexts.{conf_code, conf_text, pattern_code, pattern_text, list_code, list_text, call_code, call_said, call_text, table_code, table_text, listing_code, listing_said, listing_text, job_code, job_text, start_code, start_text, lanes_code, lanes_text, search_code, search_text}
+use Rattle.command_steps.specs.SuiteTexts.{conf_code, conf_text, pattern_code, pattern_text, list_code, list_text, bad_line_text, call_code, call_said, call_text, table_code, table_text, listing_code, listing_said, listing_text, job_code, job_text, start_code, start_text, lanes_code, lanes_text, search_code, search_text, long_id_text}
 use Rattle.command_steps.specs.Verdicts.{verdict_code}
 use Rattle.suite_causes.specs.declared.searching.SearchFault.TheVariants as search_fault
 use Rattle.suite_plan.specs.declared.calling.CallRefusal.TheVariants as call
@@ -23,7 +23,7 @@ use Rattle.command_steps.specs.declared.recording.RecordFault.TheVariants as rec
 use Rattle.command_steps.specs.declared.told.TellFault.TheVariants as tell_fault
 use Rattle.command_steps.specs.declared.answer.Verdict.{Verdict}
 use Rattle.command_steps.specs.declared.answer.Refusal.{Refusal}
-use Rattle.command_steps.specs.declared.answer.Refusal.TheVariants.{Usage, Init, Open, Runs, Record, Memory, Keep, Refresh, Tell, Print, Conf, Pattern, LoadList, Call, Table, Listing, Job, Start, Lanes, Report, Suspects, Ran, Search}
+use Rattle.command_steps.specs.declared.answer.Refusal.TheVariants.{Usage, Init, Open, Runs, Record, Memory, Keep, Refresh, Tell, Print, Conf, Pattern, LoadList, PatternLine, Call, Table, Listing, Job, Start, Lanes, Report, Suspects, Ran, Search, LongId}
 
 -- the status of a refusal
 abbrev pub refusal_code : Refusal → ℕ
@@ -40,9 +40,11 @@ refusal_code (Print fault) = 4
 refusal_code (Conf fault) = conf_code fault
 refusal_code (Pattern fault) = pattern_code fault
 refusal_code (LoadList fault) = list_code fault
+refusal_code (PatternLine line) = 3
 refusal_code (Call fault) = call_code fault
 refusal_code (Table fault) = table_code fault
 refusal_code (Listing fault) = listing_code fault
+refusal_code (LongId fault) = 3
 refusal_code (Job fault) = job_code fault
 refusal_code (Start fault) = start_code fault
 refusal_code (Lanes fault) = lanes_code fault
@@ -70,9 +72,11 @@ refusal_line (Print fault) = print_text
 refusal_line (Conf fault) = conf_text fault
 refusal_line (Pattern fault) = pattern_text fault
 refusal_line (LoadList fault) = list_text fault
+refusal_line (PatternLine line) = bad_line_text line
 refusal_line (Call fault) = call_text fault
 refusal_line (Table fault) = table_text fault
 refusal_line (Listing fault) = listing_text fault
+refusal_line (LongId fault) = long_id_text
 refusal_line (Job fault) = job_text fault
 refusal_line (Start fault) = start_text fault
 refusal_line (Lanes fault) = lanes_text fault

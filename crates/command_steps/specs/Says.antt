@@ -6,12 +6,13 @@ use Rattle.outcome_fold.specs.declared.row.Row.{Row}
 use Rattle.run_shelf.specs.Repository.{Run, run_at, IsRepository}
 use Rattle.run_ledger.specs.Reading.{AreRowsOf}
 use Rattle.run_ledger.specs.Ledger.{IsFailingSet}
+use Rattle.skip_reasons.specs.Skips.{TellsSkips}
 use Rattle.sub_text.specs.Texts.{report_of, slowest_of, failing_text_of}
 use Rattle.command_steps.specs.Verdicts.{verdict_of}
 use Rattle.command_steps.specs.Runs.{HasRuns}
 use Rattle.command_steps.specs.Trusted.{SoundFailing}
 use Rattle.testr_words.specs.declared.command.Question.{Question}
-use Rattle.testr_words.specs.declared.command.Question.TheVariants.{Last, Failing, Slowest, Stats}
+use Rattle.testr_words.specs.declared.command.Question.TheVariants.{Last, Skips, Failing, Slowest, Stats}
 use Rattle.command_steps.specs.declared.answer.Verdict.{Verdict}
 use Rattle.command_steps.specs.declared.answer.Verdict.TheVariants as verdict
 
@@ -36,6 +37,18 @@ pub record SaysReport (s : Folder) (text : List ℕ) (v : Verdict) : Type 0 wher
   pub last : IsLast s number run
   pub rows_are : AreRowsOf run.bytes rows
   pub text_is : text ≡ report_of rows number []
+  pub verdict_is : v ≡ verdict_of rows
+
+-- the report of the last run, and behind it why tests were skipped
+pub record SaysSkips (s : Folder) (text : List ℕ) (v : Verdict) : Type 0 where
+  pub number : ℕ
+  pub run : Run
+  pub rows : List Row
+  pub last : IsLast s number run
+  pub rows_are : AreRowsOf run.bytes rows
+  pub skips : List ℕ
+  pub tells : TellsSkips rows skips
+  pub text_is : text ≡ report_of rows number [] ++ skips
   pub verdict_is : v ≡ verdict_of rows
 
 -- the slowest tests of the last run
@@ -75,6 +88,7 @@ pub record SaysStats (s : Folder) (text : List ℕ) (v : Verdict) : Type 0 where
 abbrev pub Says : Question → Folder → List ℕ → Verdict → Type 0
 Says (Last false) = SaysReport
 Says (Last true) = SaysBytes
+Says Skips = SaysSkips
 Says (Failing list) = SaysFailing list
 Says (Slowest all) = SaysSlowest all
 Says Stats = SaysStats

@@ -1,9 +1,14 @@
 -- The steps of `run` that say which tests run, in how many workers, and what each worker is started with.
+use Rattle.suite_run.specs.NoneLost.{AreAllShort}
+use Rattle.command_steps.specs.declared.planning.WorkPlan.{WorkPlan}
+use Rattle.command_steps.specs.declared.planning.LongId.{LongId}
 use Rattle.std.specs.Prelude.{◌≡◌, ◌⊎◌, ℕ, zero, suc, Bool, true, false, not, ◌&&◌, ◌||◌, nat_lt, min, is_some, Option, Some, None, List, [], length, Result, Ok, Err, IfOk, IfErr, OnOk}
 use Rattle.std.specs.FinMap as fin
 use Rattle.std.specs.FinMap.{FinMap}
 use Rattle.std.specs.Option.{option_map, unwrap_or}
 use Rattle.outcome_fold.specs.Order.{text_cmp}
+use Rattle.edge_io.specs.Disk.{Files}
+use Rattle.edge_io.specs.Seen.{Seen}
 use Rattle.edge_io.specs.declared.job.Job.{Job}
 use Rattle.sub_number.specs.declared.memory.NoMemory.{NoMemory}
 use Rattle.testr_conf.specs.Settings.{Settings}
@@ -12,21 +17,26 @@ use Rattle.testr_conf.specs.declared.fault.JobFault.TheVariants as job_fault
 use Rattle.suite_causes.specs.Searching.{CanHandIds, probe_job}
 use Rattle.suite_plan.specs.Calling.{CallsOut}
 pub use Rattle.suite_plan.specs.Choosing.{Ids}
-use Rattle.suite_plan.specs.Choosing.{base_ids, chosen_ids}
+use Rattle.suite_plan.specs.Choosing.{base_ids, chosen_ids, with_further}
 use Rattle.suite_plan.specs.LaneJobs.{lane_jobs}
 use Rattle.suite_plan.specs.Listing.{ListsTests}
 use Rattle.suite_plan.specs.LoadList.{ReadsLoadList}
+use Rattle.suite_plan.specs.PatternList.{ReadsPatternList}
 use Rattle.suite_plan.specs.Processors.{CountsProcessors}
 use Rattle.suite_plan.specs.Sharing.{shares_for}
+use Rattle.suite_plan.specs.declared.pattern_list.PatternListRefusal.{PatternListRefusal}
+use Rattle.suite_plan.specs.declared.pattern_list.PatternListRefusal.TheVariants as pattern_list
+use Rattle.suite_plan.specs.declared.picks.FurtherPicks.{FurtherPicks}
+use Rattle.suite_plan.specs.declared.picks.Picks.{Picks}
 use Rattle.suite_plan.specs.declared.sharing.TheConstants.{MOST_WORKERS}
 use Rattle.command_steps.specs.Asking.{FindsFailing, FindsTimes}
 use Rattle.command_steps.specs.Outside.{Work, work_folder, work_site, work_spawner}
 use Rattle.command_steps.specs.Perhaps.{when, Perhaps}
 use Rattle.command_steps.specs.Steps.{Step, Then, Still, Gives, At}
-use Rattle.testr_words.specs.Suites.{RunOptions}
+use Rattle.testr_words.specs.Suites.{Wanted, RunOptions, is_choosing}
 use Rattle.command_steps.specs.declared.answer.Refusal.{Refusal}
 use Rattle.command_steps.specs.declared.selecting.Selected.{Selected}
-use Rattle.command_steps.specs.declared.answer.Refusal.TheVariants.{LoadList, Tell, Call, Table, Listing, Memory, Job as JobRefused}
+use Rattle.command_steps.specs.declared.answer.Refusal.TheVariants.{LoadList, PatternLine, Tell, Call, Table, Listing, Memory, Job as JobRefused, LongId as TooLong}
 
 -- ---- the number of workers
 
@@ -48,23 +58,40 @@ CountsWorkers settings true asked = UsesAsked settings asked
 
 -- ---- which tests
 
--- ids are given neither by the failing set nor by a file, and are wanted by a pattern or by several workers
-abbrev pub needs_listing : RunOptions → (workers : ℕ) → Bool
-needs_listing options workers = not options.failing && not (is_some options.load_list) && (nat_lt 0 (length options.patterns) || nat_lt 1 workers)
+-- the patterns of the words
+abbrev pub picks_of : Wanted → Picks
+picks_of wanted = record { including = wanted.patterns; excluding = wanted.excluded }
 
--- of the ids that are given, those in which a pattern is found, each once
-pub record Chooses (patterns : Ids) (failing listed listing : Option Ids) (result : Result (Option Ids) NoMemory) : Type 0 where
-  pub chosen : IfOk result (λ ids. ids ≡ chosen_ids patterns (base_ids failing listed listing))
+-- why a list of patterns was not taken, as a refusal
+abbrev pub list_refusal : PatternListRefusal → Refusal
+list_refusal (pattern_list.List refusal) = LoadList refusal
+list_refusal (pattern_list.Bad line) = PatternLine line
+
+-- the steps that read the lists of further patterns, where they are named
+abbrev pub ReadsFurther : Wanted → Step (Seen Files) FurtherPicks PatternListRefusal
+ReadsFurther wanted =
+    Then (λ refusal. refusal) (Perhaps wanted.include_list ReadsPatternList) (λ including.
+    Then (λ refusal. refusal) (Perhaps wanted.exclude_list ReadsPatternList) (λ excluding.
+    Gives (record { including = including; excluding = excluding })))
+
+-- ids are given neither by the failing set nor by a file, and are wanted by a pattern, by a list of patterns or by several workers
+abbrev pub needs_listing : RunOptions → (workers : ℕ) → Bool
+needs_listing options workers = not options.failing && not (is_some options.load_list) && (is_choosing options.wanted || nat_lt 1 workers)
+
+-- of the ids that are given, those that are wanted by these patterns, each once
+pub record Chooses (picks : Picks) (failing listed listing : Option Ids) (result : Result (Option Ids) NoMemory) : Type 0 where
+  pub chosen : IfOk result (λ ids. ids ≡ chosen_ids picks (base_ids failing listed listing))
 
 -- the steps that find which tests a run has, and in how many workers they run
 abbrev pub Selects : Settings → RunOptions → Step Work Selected Refusal
 Selects settings options =
     Then LoadList (At work_site (Perhaps options.load_list ReadsLoadList)) (λ listed.
+    Then list_refusal (At work_site (ReadsFurther options.wanted)) (λ further.
     Then Tell (At work_folder (Perhaps (when options.failing) (λ _. FindsFailing))) (λ failing.
     Then (λ refusal. refusal) (CountsWorkers settings options.parallel options.concurrency) (λ workers.
     Then Listing (At work_spawner (Perhaps (when (needs_listing options workers)) (λ _. ListsTests settings))) (λ listing.
-    Then Memory (Still (Chooses options.patterns failing listed listing)) (λ ids.
-    Gives (record { workers = workers; ids = ids }))))))
+    Then Memory (Still (Chooses (with_further (picks_of options.wanted) further) failing listed listing)) (λ ids.
+    Gives (record { workers = workers; ids = ids })))))))
 
 -- ---- what each worker is started with
 
@@ -80,6 +107,21 @@ shares_of_ids groups times selected = option_map (λ ids. shares_for (fin.get (u
 pub record Divides (groups : Option (List ℕ)) (times : Option Times) (selected : Selected) (result : Result (Option (List Ids)) NoMemory) : Type 0 where
   pub shares : IfOk result (λ shares. shares ≡ shares_of_ids groups times selected)
 
+-- the ids of each share; none, where there are no shares
+abbrev pub asked_of : Option (List Ids) → List Ids
+asked_of None = []
+asked_of (Some shares) = shares
+
+-- what the workers are started with: a job for each, and the ids that each job names
+pub record Planned : Type 0 where
+  pub jobs : List Job
+  pub asked : List Ids
+
+-- Each id of the shares is one that can be told of, should its worker lose it; or one is too long for that.
+pub record NamesIds (shares : Option (List Ids)) (result : Result (Unit {0}) LongId) : Type 0 where
+  pub named : OnOk result (AreAllShort (asked_of shares))
+  pub refused : IfErr result (λ _. AreAllShort (asked_of shares) → ⊥)
+
 -- the jobs are those of the lanes, or the first that is refused decides
 pub record MakesJobs (settings : Settings) (shares : Option (List Ids)) (result : Result (List Job) JobFault) : Type 0 where
   pub jobs : IfOk result (λ jobs. lane_jobs settings shares ≡ Ok jobs)
@@ -92,11 +134,17 @@ pub record HandsIds (asked : Bool) (settings : Settings) (result : Result (Unit 
   pub refused : IfErr result (λ fault. (asked ≡ true) × ((probe_job settings [] ≡ Err fault) ⊎ (fault ≡ job_fault.NoMemory)))
   pub exactly : asked ≡ true → IfErr (probe_job settings []) (λ fault. (result ≡ Err fault) ⊎ (result ≡ Err job_fault.NoMemory))
 
+-- the answer, of what was planned the jobs and the ids that they name
+abbrev pub planned_in : {E : Type 0} → Result WorkPlan E → Result Planned E
+planned_in (Ok plan) = Ok (record { jobs = plan.jobs.items; asked = plan.asked.items })
+planned_in (Err fault) = Err fault
+
 -- the steps that make the job of each worker, and ask for that of a probe where causes are looked for
-abbrev pub Plans : Settings → (find_causes : Bool) → Selected → Step Work (List Job) Refusal
+abbrev pub Plans : Settings → (find_causes : Bool) → Selected → Step Work Planned Refusal
 Plans settings find_causes selected =
     Then Tell (At work_folder (Perhaps (when (nat_lt 1 selected.workers)) (λ _. FindsTimes))) (λ times.
     Then Memory (Still (Divides settings.group_regex times selected)) (λ shares.
+    Then TooLong (Still (NamesIds shares)) (λ _.
     Then JobRefused (Still (MakesJobs settings shares)) (λ jobs.
     Then JobRefused (Still (HandsIds find_causes settings)) (λ _.
-    Gives jobs))))
+    Gives (record { jobs = jobs; asked = asked_of shares }))))))

@@ -1,5 +1,5 @@
 -- The steps of the folder: what each does to it, why it refuses, and what it says then.
-use Rattle.std.specs.Prelude.{◌≡◌, ℕ, ◌<◌, Bool, List, ◌++◌, codes, IfSome, Result, IfOk, IfErr, OnOk, OnErr}
+use Rattle.std.specs.Prelude.{◌≡◌, ◌⊎◌, ℕ, ◌<◌, Bool, List, ◌++◌, codes, IfSome, Result, Ok, Err, IfOk, IfErr, OnOk, OnErr}
 use Rattle.std.specs.Fmt.{decimal}
 use Rattle.edge_io.specs.Causes.{HasCause, RisesExactlyIf}
 use Rattle.edge_io.specs.Disk.{Folder, IsImage}
@@ -34,6 +34,13 @@ pub record Makes (before after : Seen Folder) (result : Result (Unit {0}) InitFa
   pub any_moment : Goes before.told after.told PassesFormat
   pub count : RisesExactlyIf before.faults after.faults (init_failed result)
 
+-- The step that makes a repository where there is none. It was made; or `format` is there, whatever it holds, and stays. It is
+-- refused only where a call failed.
+abbrev pub MakesWhereNone : Seen Folder → Seen Folder → Result (Unit {0}) InitFault → Type 0
+MakesWhereNone before after (Ok done) = Makes before after (Ok done) ⊎ Makes before after (Err init_fault.Exists)
+MakesWhereNone before after (Err init_fault.Exists) = ⊥
+MakesWhereNone before after (Err (init_fault.Shelf call)) = Makes before after (Err (init_fault.Shelf call))
+
 -- the status where no repository is made
 abbrev pub init_code : InitFault → ℕ
 init_code init_fault.Exists = 3
@@ -58,6 +65,7 @@ pub record Opens (before after : Seen Folder) (result : Result Found OpenFault) 
 abbrev pub open_code : OpenFault → ℕ
 open_code open_fault.NoStore = 3
 open_code open_fault.UnknownFormat = 3
+open_code open_fault.BadBase = 3
 open_code (open_fault.Gap number) = 3
 open_code (open_fault.Shelf call) = 4
 open_code open_fault.NoMemory = 5
@@ -66,6 +74,7 @@ open_code open_fault.NoMemory = 5
 abbrev pub open_text : OpenFault → List ℕ
 open_text open_fault.NoStore = codes "testr: no repository here\n"
 open_text open_fault.UnknownFormat = codes "testr: unknown repository format\n"
+open_text open_fault.BadBase = codes "testr: the base set is damaged\n"
 open_text (open_fault.Gap number) = codes "testr: run " ++ decimal number ++ codes " is missing\n"
 open_text (open_fault.Shelf call) = codes "testr: fault of the repository folder\n"
 open_text open_fault.NoMemory = codes "testr: out of memory\n"

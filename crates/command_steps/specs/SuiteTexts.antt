@@ -1,16 +1,24 @@
 -- What the refusals of the steps of `run` and `list-tests` say, and their statuses (docs/COMMANDS.md, "Refusals").
-use Rattle.std.specs.Prelude.{ℕ, List, [], ◌++◌, codes}
+use Rattle.std.specs.Prelude.{ℕ, Bool, false, ◌||◌, nat_eq, List, [], ◌∷◌, ◌++◌, codes, if◌then◌else◌}
 use Rattle.std.specs.Fmt.{decimal, signed_decimal}
+use Rattle.std.specs.List.{starts_with}
 use Rattle.suite_causes.specs.declared.searching.SearchFault.{SearchFault}
 use Rattle.suite_causes.specs.declared.searching.SearchFault.TheVariants as search_fault
 use Rattle.suite_plan.specs.declared.calling.CallRefusal.{CallRefusal}
 use Rattle.suite_plan.specs.declared.calling.CallRefusal.TheVariants as call
+use Rattle.stestr_conf.specs.declared.table.TableKey.{TableKey}
+use Rattle.stestr_conf.specs.declared.table.TableKey.TheVariants as table_key
+use Rattle.suite_plan.specs.declared.conf_file.BadConf.{BadConf}
+use Rattle.suite_plan.specs.declared.conf_file.BadConf.TheVariants as bad
+use Rattle.suite_plan.specs.declared.conf_file.ConfFile.{ConfFile}
+use Rattle.suite_plan.specs.declared.conf_file.ConfFile.TheVariants as file
 use Rattle.suite_plan.specs.declared.conf_file.ConfRefusal.{ConfRefusal}
 use Rattle.suite_plan.specs.declared.conf_file.ConfRefusal.TheVariants as conf
 use Rattle.suite_plan.specs.declared.listing.ListingRefusal.{ListingRefusal}
 use Rattle.suite_plan.specs.declared.listing.ListingRefusal.TheVariants as listing
 use Rattle.suite_plan.specs.declared.load_list.ListRefusal.{ListRefusal}
 use Rattle.suite_plan.specs.declared.load_list.ListRefusal.TheVariants as load_list
+use Rattle.suite_plan.specs.declared.pattern_list.BadLine.{BadLine}
 use Rattle.suite_plan.specs.declared.patterns.PatternRefusal.{PatternRefusal}
 use Rattle.suite_plan.specs.declared.patterns.PatternRefusal.TheVariants as pattern
 use Rattle.suite_plan.specs.declared.processors.TableRefusal.{TableRefusal}
@@ -19,11 +27,13 @@ use Rattle.suite_run.specs.declared.recording.LanesRefusal.{LanesRefusal}
 use Rattle.suite_run.specs.declared.recording.LanesRefusal.TheVariants as lanes
 use Rattle.suite_run.specs.declared.starting.StartRefusal.{StartRefusal}
 use Rattle.suite_run.specs.declared.starting.StartRefusal.TheVariants as start
-use Rattle.command_steps.specs.Telling.{place_text}
+use Rattle.command_steps.specs.Telling.{place_text, pattern_place_text}
 use Rattle.testr_conf.specs.declared.fault.JobFault.{JobFault}
 use Rattle.testr_conf.specs.declared.fault.JobFault.TheVariants as job
 use Rattle.testr_conf.specs.declared.fault.Key.{Key}
 use Rattle.testr_conf.specs.declared.fault.Key.TheVariants as key
+use Rattle.testr_conf.specs.declared.fault.MachineKey.{MachineKey}
+use Rattle.testr_conf.specs.declared.fault.MachineKey.TheVariants as machine
 
 -- the line where memory is wanting
 abbrev pub short_text : List ℕ
@@ -45,31 +55,72 @@ child_text = codes "testr: fault reading a program\n"
 abbrev pub long_text : List ℕ → List ℕ
 long_text name = codes "testr: " ++ name ++ codes " is too long\n"
 
+-- the line where an id of a test is too long to be told of
+abbrev pub long_id_text : List ℕ
+long_id_text = codes "testr: an id has more than 65536 bytes\n"
+
 -- ---- the configuration
 
 -- the status where the configuration is refused
 abbrev pub conf_code : ConfRefusal → ℕ
 conf_code conf.Site = 4
-conf_code conf.TooLong = 3
 conf_code conf.Absent = 3
-conf_code (conf.BadLine number) = 3
-conf_code (conf.NoSection number) = 3
-conf_code (conf.Repeated number) = 3
-conf_code conf.NoCommand = 3
+conf_code (conf.Bad file why) = 3
 conf_code conf.NoMemory = 5
+
+-- the key of machines
+abbrev pub machine_text : MachineKey → List ℕ
+machine_text machine.Provision = codes "instance_provision"
+machine_text machine.Execute = codes "instance_execute"
+machine_text machine.Dispose = codes "instance_dispose"
+
+-- the key of the table of stestr
+abbrev pub table_key_text : TableKey → List ℕ
+table_key_text table_key.TestPath = codes "test_path"
+table_key_text table_key.TopDir = codes "top_dir"
+table_key_text table_key.GroupRegex = codes "group_regex"
+table_key_text table_key.ParallelClass = codes "parallel_class"
+
+-- the name of the configuration's file
+abbrev pub conf_file_text : ConfFile → List ℕ
+conf_file_text file.TestrConf = codes ".testr.conf"
+conf_file_text file.StestrConf = codes ".stestr.conf"
+conf_file_text file.PyProject = codes "pyproject.toml"
+
+-- what is told of it behind its name
+abbrev pub bad_conf_text : BadConf → List ℕ
+bad_conf_text bad.TooLong = codes " is too long\n"
+bad_conf_text (bad.BadLine number) = codes " line " ++ decimal number ++ codes ": not a setting\n"
+bad_conf_text (bad.NoSection number) = codes " line " ++ decimal number ++ codes ": outside a section\n"
+bad_conf_text (bad.Repeated number) = codes " line " ++ decimal number ++ codes ": repeated\n"
+bad_conf_text (bad.NotKnown key) = codes ": " ++ machine_text key ++ codes " is not known\n"
+bad_conf_text bad.NoCommand = codes ": no test_command\n"
+bad_conf_text bad.NoTestPath = codes ": no test_path\n"
+bad_conf_text bad.NotToml = codes ": no TOML\n"
+bad_conf_text bad.NotTable = codes ": tool.stestr is no table\n"
+bad_conf_text (bad.BadValue key) = codes ": bad value of " ++ table_key_text key ++ codes "\n"
 
 -- the line where the configuration is refused
 abbrev pub conf_text : ConfRefusal → List ℕ
 conf_text conf.Site = file_text
-conf_text conf.TooLong = codes "testr: .testr.conf is too long\n"
-conf_text conf.Absent = codes "testr: no .testr.conf\n"
-conf_text (conf.BadLine number) = codes "testr: .testr.conf line " ++ decimal number ++ codes ": not a setting\n"
-conf_text (conf.NoSection number) = codes "testr: .testr.conf line " ++ decimal number ++ codes ": outside a section\n"
-conf_text (conf.Repeated number) = codes "testr: .testr.conf line " ++ decimal number ++ codes ": repeated\n"
-conf_text conf.NoCommand = codes "testr: .testr.conf: no test_command\n"
+conf_text conf.Absent = codes "testr: no .testr.conf or .stestr.conf\n"
+conf_text (conf.Bad file why) = codes "testr: " ++ conf_file_text file ++ bad_conf_text why
 conf_text conf.NoMemory = short_text
 
 -- ---- patterns
+
+-- here a look-around begins
+abbrev pub is_look_around : List ℕ → Bool
+is_look_around bytes = starts_with nat_eq bytes (codes "(?!") || (starts_with nat_eq bytes (codes "(?=") || starts_with nat_eq bytes (codes "(?<"))
+
+-- one begins somewhere in the pattern
+abbrev pub has_look_around : List ℕ → Bool
+has_look_around [] = false
+has_look_around (byte ∷ bytes) = is_look_around (byte ∷ bytes) || has_look_around bytes
+
+-- what stands behind a pattern that is refused: the end of the line, and where it has a look-around a further line
+abbrev pub end_of_pattern : List ℕ → List ℕ
+end_of_pattern pattern = if has_look_around pattern then codes "\ntestr: look-around is not known; --exclude-regex leaves tests out\n" else codes "\n"
 
 -- the status where a pattern is refused
 abbrev pub pattern_code : PatternRefusal → ℕ
@@ -78,12 +129,16 @@ pattern_code pattern.NoMemory = 5
 
 -- the line where a pattern is refused
 abbrev pub pattern_text : PatternRefusal → List ℕ
-pattern_text (pattern.Bad given) = codes "testr: bad pattern: " ++ given.now ++ codes "\n"
+pattern_text (pattern.Bad given) = codes "testr: bad pattern: " ++ given.now ++ end_of_pattern given.now
 pattern_text pattern.NoMemory = short_text
 
--- ---- the list of ids
+-- the line where a line of a list is no pattern
+abbrev pub bad_line_text : BadLine → List ℕ
+bad_line_text line = codes "testr: " ++ pattern_place_text line.name.now line.number line.pattern ++ end_of_pattern line.pattern
 
--- the status where a load list is refused
+-- ---- a list of ids, or of patterns
+
+-- the status where a list is refused
 abbrev pub list_code : ListRefusal → ℕ
 list_code load_list.Site = 4
 list_code (load_list.TooLong given) = 3
@@ -91,7 +146,7 @@ list_code (load_list.Absent given) = 3
 list_code (load_list.NotId given number) = 3
 list_code load_list.NoMemory = 5
 
--- the line where a load list is refused
+-- the line where a list is refused
 abbrev pub list_text : ListRefusal → List ℕ
 list_text load_list.Site = file_text
 list_text (load_list.TooLong given) = long_text given.now

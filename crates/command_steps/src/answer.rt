@@ -4,11 +4,12 @@ ghost use Rattle.std.specs.Prelude.{◌≡◌};
 ghost use Rattle.command_steps.specs.Telling.{line_text};
 
 use crate::copying::CopyFault;
+use crate::planning::LongId;
 use crate::recording::RecordFault;
 use crate::reporting::PrintFault;
 use crate::store::{KeepFault, RunsFault};
 use crate::suite_refusals::{
-    call_code, call_line, call_said, listing_code, listing_line, listing_said,
+    call_code, call_line, call_said, listing_code, listing_line, listing_said, pattern_line,
 };
 use crate::telling::{Line, Refuses};
 use crate::told::TellFault;
@@ -17,7 +18,8 @@ use run_shelf::{InitFault, OpenFault};
 use sub_number::NoMemory;
 use suite_causes::SearchFault;
 use suite_plan::{
-    CallRefusal, ConfRefusal, ListRefusal, ListingRefusal, PatternRefusal, TableRefusal,
+    BadLine, CallRefusal, ConfRefusal, ListRefusal, ListingRefusal, PatternListRefusal,
+    PatternRefusal, TableRefusal,
 };
 use suite_run::{LanesRefusal, StartRefusal};
 use testr_conf::JobFault;
@@ -72,14 +74,18 @@ pub enum Refusal<'a> {
     Conf(ConfRefusal),
     /// A pattern was not taken.
     Pattern(PatternRefusal<'a>),
-    /// The list of ids was not read.
+    /// A list of ids or patterns was not read.
     LoadList(ListRefusal<'a>),
+    /// A line of a list of patterns is none.
+    PatternLine(BadLine<'a>),
     /// The number of workers was not called out.
     Call(CallRefusal),
     /// The table of processors was not read.
     Table(TableRefusal),
     /// The tests were not listed.
     Listing(ListingRefusal),
+    /// An id of a test is too long to be told of.
+    LongId(LongId),
     /// The workers' jobs were not made.
     Job(JobFault),
     /// The workers were not started.
@@ -219,6 +225,19 @@ impl<'a> From<ListRefusal<'a>> for Refusal<'a> {
     }
 }
 
+impl<'a> From<PatternListRefusal<'a>> for Refusal<'a> {
+    ghost use Rattle.command_steps.specs.Selecting.{list_refusal};
+
+    ghost from_gives = { λ fault refusal. refusal ≡ list_refusal fault };
+
+    fn from(fault: PatternListRefusal<'a>) -> Self {
+        match fault {
+            PatternListRefusal::List(refusal) => Refusal::LoadList(refusal),
+            PatternListRefusal::Bad(line) => Refusal::PatternLine(line),
+        }
+    }
+}
+
 impl<'a> From<CallRefusal> for Refusal<'a> {
     ghost use Rattle.command_steps.specs.declared.answer.Refusal.TheVariants.{Call};
 
@@ -246,6 +265,16 @@ impl<'a> From<ListingRefusal> for Refusal<'a> {
 
     fn from(fault: ListingRefusal) -> Self {
         Refusal::Listing(fault)
+    }
+}
+
+impl<'a> From<LongId> for Refusal<'a> {
+    ghost use Rattle.command_steps.specs.declared.answer.Refusal.TheVariants.{LongId as TooLong};
+
+    ghost from_gives = { λ fault refusal. refusal ≡ TooLong fault };
+
+    fn from(fault: LongId) -> Self {
+        Refusal::LongId(fault)
     }
 }
 
@@ -290,7 +319,7 @@ impl<'a> Refusal<'a> {
             Refusal::Usage(_) => 2,
             Refusal::Init(fault) => (*fault).code(),
             Refusal::Open(fault) => (*fault).code(),
-            Refusal::Runs(_) => 3,
+            Refusal::Runs(_) | Refusal::PatternLine(_) | Refusal::LongId(_) => 3,
             Refusal::Record(fault) => (*fault).code(),
             Refusal::Refresh(fault) | Refusal::Tell(fault) | Refusal::Ran(fault) => (*fault).code(),
             Refusal::Keep(_) | Refusal::Print(_) => 4,
@@ -320,7 +349,7 @@ impl<'a> Refusal<'a> {
     }
 
     /// The line that tells of it.
-    pub fn line(&self) -> Line<'a>
+    pub fn line(&self) -> Line<'_>
         ensures { line_text result ≡ refusal_line self.now }
     {
         // Each arm returns: some lines hold a part of the refusal and others none, and no proof is made where such arms join.
@@ -341,9 +370,11 @@ impl<'a> Refusal<'a> {
             Refusal::Conf(refusal) => return (*refusal).line(),
             Refusal::Pattern(refusal) => return (*refusal).line(),
             Refusal::LoadList(refusal) => return (*refusal).line(),
+            Refusal::PatternLine(line) => return pattern_line(line),
             Refusal::Call(refusal) => return call_line(refusal),
             Refusal::Table(refusal) => return (*refusal).line(),
             Refusal::Listing(refusal) => return listing_line(refusal),
+            Refusal::LongId(fault) => return (*fault).line(),
             Refusal::Job(fault) => return (*fault).line(),
             Refusal::Start(refusal) => return (*refusal).line(),
             Refusal::Lanes(refusal) => return (*refusal).line(),

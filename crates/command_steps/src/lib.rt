@@ -40,13 +40,15 @@ pub use answer::{Refusal, Verdict};
 pub use causes::find_causes;
 pub use copying::{CopyFault, copy_last};
 pub use files::record_sources;
-pub use planning::plan;
+pub use planning::{LongId, WorkPlan, plan};
 pub use printing::print_report;
 pub use recording::RecordFault;
 pub use refreshing::refresh;
 pub use reporting::{Ending, PrintFault, end_report, print, verdict_kept};
-pub use selecting::{Selected, select};
-pub use store::{KeepFault, RunsFault, begin, have_run, keep, make, open, take_run};
+pub use selecting::{Selected, further_picks, select};
+pub use store::{
+    KeepFault, RunsFault, begin, have_run, keep, make, make_where_none, open, take_run,
+};
 pub use telling::{Line, Part, tell};
 pub use told::{TellFault, Told, find};
 pub use usage::UsageFault;

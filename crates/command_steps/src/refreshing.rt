@@ -6,7 +6,7 @@ ghost use Rattle.edge_io.specs.Steps.{Goes};
 ghost use Rattle.outcome_fold.specs.Summed.{Sums};
 ghost use Rattle.outcome_fold.specs.declared.row.Row.{Row as ARow};
 ghost use Rattle.run_ledger.specs.Cached.{ReadsSound};
-ghost use Rattle.run_ledger.specs.Ledger.{HasRowsAt};
+ghost use Rattle.run_ledger.specs.Ledger.{HasNewRows};
 ghost use Rattle.run_ledger.specs.Refreshing.{PutsCaches, HoldBoth, KeepsSound};
 ghost use Rattle.run_shelf.specs.Outcomes.{TicksUpTo};
 ghost use Rattle.run_shelf.specs.Holds.{kinds_of, FitsWhereTold};

@@ -1,19 +1,20 @@
 //! Which tests a run is of, and in how many workers they run.
 
-ghost use Rattle.std.specs.Prelude.{◌≡◌, ℕ, List, length, IfOk, IfSome, OnOk};
+ghost use Rattle.std.specs.Prelude.{[], ◌≡◌, ℕ, List, length, IfOk, IfSome, OnOk};
 ghost use Rattle.std.specs.List.{IsDistinct};
 ghost use Rattle.std.specs.Str.{bytes_eq};
 ghost use Rattle.edge_io.specs.Seen.{Seen};
 ghost use Rattle.run_shelf.specs.Holds.{kinds_of, FitsWhereTold};
 ghost use Rattle.suite_plan.specs.Listing.{ListsTests};
 ghost use Rattle.suite_plan.specs.LoadList.{ReadsLoadList};
+ghost use Rattle.suite_plan.specs.PatternList.{ReadsPatternList};
 ghost use Rattle.suite_plan.specs.Processors.{IsInRange};
 ghost use Rattle.command_steps.specs.Asking.{FindsFailing};
 ghost use Rattle.command_steps.specs.Outside.{work};
 ghost use Rattle.command_steps.specs.Perhaps.{when, Perhaps};
-ghost use Rattle.command_steps.specs.Selecting.{CountsWorkers, Selects, needs_listing as is_listing_needed};
+ghost use Rattle.command_steps.specs.Selecting.{CountsWorkers, ReadsFurther, Selects, picks_of, needs_listing as is_listing_needed};
 ghost use Rattle.command_steps.specs.Calls.{AsksByFew};
-ghost use Rattle.testr_words.specs.Suites.{run_options};
+ghost use Rattle.testr_words.specs.Suites.{wanted_of, run_options};
 
 use crate::Refusal;
 use crate::asking::find_failing;
@@ -25,8 +26,8 @@ use run_shelf::Found;
 use std::alloc::Global;
 use sub_number::{IdList, Text};
 use suite_plan::{
-    ListRefusal, ListingRefusal, MOST_WORKERS, call_out, chosen, count_processors, list_tests,
-    read_load_list,
+    FurtherPicks, ListRefusal, ListingRefusal, MOST_WORKERS, PatternListRefusal, Picks, call_out,
+    chosen, count_processors, list_tests, read_load_list, read_pattern_list,
 };
 use testr_conf::Conf;
 use testr_words::Command;
@@ -44,20 +45,20 @@ pub struct Selected {
 }
 
 /// Selects the tests of a run and the number of its workers, in two calls of the folder at most where both caches cover the
-/// runs that were found. The patterns are those of the command.
+/// runs that were found. The patterns are those of the command, and those of the lists that it names stand behind them.
 pub fn select<'a, H: Shelf, S: Spawner, F: Site>(
     alloc: Global,
     conf: &Conf,
     command: &'a Command,
-    patterns: &Filters,
+    picks: &Picks,
     shelf: &mut H,
     found: &Found,
     spawner: &mut S,
     site: &mut F,
 ) -> Result<Selected, Refusal<'a>>
-    requires patterns { patterns.now ≡ command.now.names }
+    requires picks { picks.now ≡ picks_of (wanted_of command.now) }
     requires fits { FitsWhereTold (kinds_of found.now) (H.seen shelf.old).told }
-    ensures step { (input out : Seen (List ℕ)) → Selects conf.now (run_options command.now)
+    ensures step { (input out : Seen (List ℕ)) → Selects conf.now (run_options [] command.now)
         (work (H.seen shelf.old) (F.seen site.old) (S.seen spawner.old) input out)
         (work (H.seen shelf.new) (F.seen site.new) (S.seen spawner.new) input out)
         result }
@@ -66,6 +67,7 @@ pub fn select<'a, H: Shelf, S: Spawner, F: Site>(
     ensures calls { AsksByFew (length (kinds_of found.now)) 2 (H.seen shelf.old).told (H.seen shelf.new).told (H.clock shelf.old) (H.clock shelf.new) }
 {
     let listed = load_list(alloc, &command.load_list, site)?;
+    let further = further_picks(alloc, command, site)?;
     let failing = failing_ids(alloc, command.failing, shelf, found)?;
     let workers = count_workers(
         alloc,
@@ -76,7 +78,7 @@ pub fn select<'a, H: Shelf, S: Spawner, F: Site>(
         site,
     )?;
     let listing = listing(alloc, needs_listing(command, workers), conf, spawner)?;
-    let ids = chosen(alloc, failing, listed, listing, patterns)?;
+    let ids = chosen(alloc, failing, listed, listing, picks, &further)?;
     Ok(Selected { workers, ids })
 }
 
@@ -90,6 +92,36 @@ fn load_list<'a, F: Site>(
 {
     match name {
         Some(name) => Ok(Some(read_load_list(alloc, site, name_of(name))?)),
+        None => Ok(None),
+    }
+}
+
+/// The patterns of the lists that the command names.
+pub fn further_picks<'a, F: Site>(
+    alloc: Global,
+    command: &'a Command,
+    site: &mut F,
+) -> Result<FurtherPicks, PatternListRefusal<'a>>
+    ensures { ReadsFurther (wanted_of command.now) (F.seen site.old) (F.seen site.new) result }
+{
+    let including = pattern_list(alloc, &command.include_list, site)?;
+    let excluding = pattern_list(alloc, &command.exclude_list, site)?;
+    Ok(FurtherPicks {
+        including,
+        excluding,
+    })
+}
+
+// The patterns of the list of this name, where one is named.
+fn pattern_list<'a, F: Site>(
+    alloc: Global,
+    name: &'a Option<Text>,
+    site: &mut F,
+) -> Result<Option<Filters>, PatternListRefusal<'a>>
+    ensures { Perhaps name.now ReadsPatternList (F.seen site.old) (F.seen site.new) result }
+{
+    match name {
+        Some(name) => Ok(Some(read_pattern_list(alloc, site, name_of(name))?)),
         None => Ok(None),
     }
 }
@@ -141,13 +173,13 @@ fn count_workers<S: Spawner, F: Site>(
     Ok(counted)
 }
 
-// Whether a listing is needed: ids are given neither by the failing set nor by a file, and are wanted by a pattern or by
-// several workers.
+// Whether a listing is needed: ids are given neither by the failing set nor by a file, and are wanted by a pattern, by a
+// list of patterns or by several workers.
 fn needs_listing(command: &Command, workers: u32) -> bool
-    ensures { result ≡ is_listing_needed (run_options command.now) workers }
+    ensures { result ≡ is_listing_needed (run_options [] command.now) workers }
 {
     let given = command.failing || command.load_list.is_some();
-    !given && (!command.names.list().is_empty() || workers > 1)
+    !given && (command.is_choosing() || workers > 1)
 }
 
 // The ids of a listing, where they are wanted.

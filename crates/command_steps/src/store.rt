@@ -1,11 +1,12 @@
 //! The steps of the folder, and why each refuses.
 
-ghost use Rattle.std.specs.Prelude.{◌≡◌, ◌<◌, ◌++◌, ◌∷◌, [], length, OnOk};
+ghost use Rattle.std.specs.Prelude.{◌≡◌, ◌+◌, ◌<◌, ◌++◌, ◌∷◌, [], length, OnOk};
 ghost use Rattle.edge_io.specs.Steps.{HasDraft};
 ghost use Rattle.run_shelf.specs.Holds.{kinds_of, HasRoom, FitsWhereTold};
+ghost use Rattle.run_shelf.specs.Looking.{base_calls};
 ghost use Rattle.run_shelf.specs.Outcomes.{TicksUpTo};
 ghost use Rattle.run_shelf.specs.Repository.{most_runs};
-ghost use Rattle.command_steps.specs.Store.{Makes, Opens, TakesRun, HasRunFor, runs_text, Begins, Keeps, keep_text};
+ghost use Rattle.command_steps.specs.Store.{Makes, MakesWhereNone, Opens, TakesRun, HasRunFor, runs_text, Begins, Keeps, keep_text};
 ghost use Rattle.command_steps.specs.Telling.{line_text};
 
 use crate::telling::{Line, Part, Refuses};
@@ -22,6 +23,17 @@ pub fn make<H: Shelf>(shelf: &mut H) -> Result<(), InitFault>
     ensures { Makes (H.seen shelf.old) (H.seen shelf.new) result }
 {
     make_repository(shelf)
+}
+
+/// Makes a repository where there is none. Where `format` is there, whatever it holds, it stays. It takes no memory.
+pub fn make_where_none<H: Shelf>(shelf: &mut H) -> Result<(), InitFault>
+    ensures { MakesWhereNone (H.seen shelf.old) (H.seen shelf.new) result }
+{
+    match make(shelf) {
+        Ok(()) => Ok(()),
+        Err(InitFault::Exists) => Ok(()),
+        Err(InitFault::Shelf(call)) => Err(InitFault::Shelf(call)),
+    }
 }
 
 impl<'a> Refuses<'a> for InitFault {
@@ -46,10 +58,10 @@ impl<'a> Refuses<'a> for InitFault {
     }
 }
 
-/// Looks which runs the repository has, in at most four calls of the folder.
+/// Looks which runs the repository has, in at most four calls of the folder, and two more under the second format.
 pub fn open<H: Shelf>(alloc: Global, shelf: &mut H) -> Result<Found, OpenFault>
     ensures step { Opens (H.seen shelf.old) (H.seen shelf.new) result }
-    ensures time { TicksUpTo 4 (H.clock shelf.old) (H.clock shelf.new) }
+    ensures time { TicksUpTo (4 + base_calls (H.seen shelf.old).told) (H.clock shelf.old) (H.clock shelf.new) }
 {
     survey(alloc, shelf)
 }
@@ -63,7 +75,10 @@ impl<'a> Refuses<'a> for OpenFault {
 
     fn code(self) -> u8 {
         match self {
-            OpenFault::NoStore | OpenFault::UnknownFormat | OpenFault::Gap(_) => 3,
+            OpenFault::NoStore
+            | OpenFault::UnknownFormat
+            | OpenFault::BadBase
+            | OpenFault::Gap(_) => 3,
             OpenFault::Shelf(_) => 4,
             OpenFault::NoMemory => 5,
         }
@@ -73,6 +88,7 @@ impl<'a> Refuses<'a> for OpenFault {
         match self {
             OpenFault::NoStore => Line::of("testr: no repository here\n"),
             OpenFault::UnknownFormat => Line::of("testr: unknown repository format\n"),
+            OpenFault::BadBase => Line::of("testr: the base set is damaged\n"),
             OpenFault::Gap(number) => Line {
                 front: "testr: run ",
                 part: Part::Number(number),

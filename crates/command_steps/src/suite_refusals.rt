@@ -2,16 +2,19 @@
 
 ghost use Rattle.std.specs.Prelude.{◌≡◌, ◌++◌, codes};
 ghost use Rattle.std.specs.Fmt.{decimal, signed_decimal};
-ghost use Rattle.command_steps.specs.SuiteTexts.{call_code, call_said, call_text, listing_code, listing_said, listing_text, key_text};
+ghost use Rattle.command_steps.specs.SuiteTexts.{bad_line_text, end_of_pattern, has_look_around, is_look_around, call_code, call_said, call_text, listing_code, listing_said, listing_text, key_text, machine_text, table_key_text, conf_file_text, bad_conf_text};
 ghost use Rattle.command_steps.specs.Telling.{line_text};
 
+use crate::files::name_of;
 use crate::telling::{Line, Part, Refuses};
+use stestr_conf::TableKey;
 use suite_causes::SearchFault;
 use suite_plan::{
-    CallRefusal, ConfRefusal, ListRefusal, ListingRefusal, PatternRefusal, TableRefusal,
+    BadConf, BadLine, CallRefusal, ConfFile, ConfRefusal, ListRefusal, ListingRefusal,
+    PatternRefusal, TableRefusal,
 };
 use suite_run::{LanesRefusal, StartRefusal};
-use testr_conf::{JobFault, Key};
+use testr_conf::{JobFault, Key, MachineKey};
 
 const OUT_OF_MEMORY: &str = "testr: out of memory\n";
 
@@ -30,12 +33,7 @@ impl<'a> Refuses<'a> for ConfRefusal {
 
     fn code(self) -> u8 {
         match self {
-            ConfRefusal::TooLong
-            | ConfRefusal::Absent
-            | ConfRefusal::BadLine(_)
-            | ConfRefusal::NoSection(_)
-            | ConfRefusal::Repeated(_)
-            | ConfRefusal::NoCommand => 3,
+            ConfRefusal::Absent | ConfRefusal::Bad(_, _) => 3,
             ConfRefusal::Site => 4,
             ConfRefusal::NoMemory => 5,
         }
@@ -44,24 +42,83 @@ impl<'a> Refuses<'a> for ConfRefusal {
     fn line(self) -> Line<'a> {
         match self {
             ConfRefusal::Site => Line::of(FAULT_OF_A_FILE),
-            ConfRefusal::TooLong => Line::of("testr: .testr.conf is too long\n"),
-            ConfRefusal::Absent => Line::of("testr: no .testr.conf\n"),
-            ConfRefusal::BadLine(number) => conf_line_at(number, ": not a setting\n"),
-            ConfRefusal::NoSection(number) => conf_line_at(number, ": outside a section\n"),
-            ConfRefusal::Repeated(number) => conf_line_at(number, ": repeated\n"),
-            ConfRefusal::NoCommand => Line::of("testr: .testr.conf: no test_command\n"),
+            ConfRefusal::Absent => Line::of("testr: no .testr.conf or .stestr.conf\n"),
+            ConfRefusal::Bad(file, why) => conf_line(conf_file_name(file), why),
             ConfRefusal::NoMemory => Line::of(OUT_OF_MEMORY),
         }
     }
 }
 
-// What is told of a line of the configuration.
-fn conf_line_at(number: u32, rest: &'static str) -> Line<'static>
-    ensures { line_text result ≡ codes "testr: .testr.conf line " ++ decimal number ++ rest.now }
+// The name of the configuration's file.
+fn conf_file_name(file: ConfFile) -> &'static str
+    ensures { result.now ≡ conf_file_text file }
+{
+    match file {
+        ConfFile::TestrConf => ".testr.conf",
+        ConfFile::StestrConf => ".stestr.conf",
+        ConfFile::PyProject => "pyproject.toml",
+    }
+}
+
+// What is told of a configuration of this name.
+fn conf_line(name: &'static str, why: BadConf) -> Line<'static>
+    ensures { line_text result ≡ codes "testr: " ++ name.now ++ bad_conf_text why }
+{
+    match why {
+        BadConf::TooLong => conf_line_of(name, " is too long\n"),
+        BadConf::BadLine(number) => conf_line_at(name, number, ": not a setting\n"),
+        BadConf::NoSection(number) => conf_line_at(name, number, ": outside a section\n"),
+        BadConf::Repeated(number) => conf_line_at(name, number, ": repeated\n"),
+        BadConf::NotKnown(key) => conf_line_of(name, machine_rest(key)),
+        BadConf::NoCommand => conf_line_of(name, ": no test_command\n"),
+        BadConf::NoTestPath => conf_line_of(name, ": no test_path\n"),
+        BadConf::NotToml => conf_line_of(name, ": no TOML\n"),
+        BadConf::NotTable => conf_line_of(name, ": tool.stestr is no table\n"),
+        BadConf::BadValue(key) => conf_line_of(name, value_rest(key)),
+    }
+}
+
+// What is told behind the name where the configuration has this key of machines.
+fn machine_rest(key: MachineKey) -> &'static str
+    ensures { result.now ≡ codes ": " ++ machine_text key ++ codes " is not known\n" }
+{
+    match key {
+        MachineKey::Provision => ": instance_provision is not known\n",
+        MachineKey::Execute => ": instance_execute is not known\n",
+        MachineKey::Dispose => ": instance_dispose is not known\n",
+    }
+}
+
+// What is told behind the name where this key of the table has a value that it may not have.
+fn value_rest(key: TableKey) -> &'static str
+    ensures { result.now ≡ codes ": bad value of " ++ table_key_text key ++ codes "\n" }
+{
+    match key {
+        TableKey::TestPath => ": bad value of test_path\n",
+        TableKey::TopDir => ": bad value of top_dir\n",
+        TableKey::GroupRegex => ": bad value of group_regex\n",
+        TableKey::ParallelClass => ": bad value of parallel_class\n",
+    }
+}
+
+// What is told of the configuration of this name.
+fn conf_line_of(name: &'static str, rest: &'static str) -> Line<'static>
+    ensures { line_text result ≡ codes "testr: " ++ name.now ++ rest.now }
 {
     Line {
-        front: "testr: .testr.conf line ",
-        part: Part::Number(number),
+        front: "testr: ",
+        part: Part::Name(name),
+        rest,
+    }
+}
+
+// What is told of a line of the configuration of this name.
+fn conf_line_at(name: &'static str, number: u32, rest: &'static str) -> Line<'static>
+    ensures { line_text result ≡ codes "testr: " ++ name.now ++ codes " line " ++ decimal number ++ rest.now }
+{
+    Line {
+        front: "testr: ",
+        part: Part::Place(name, number),
         rest,
     }
 }
@@ -85,11 +142,53 @@ impl<'a> Refuses<'a> for PatternRefusal<'a> {
             PatternRefusal::Bad(pattern) => Line {
                 front: "testr: bad pattern: ",
                 part: Part::Name(pattern),
-                rest: "\n",
+                rest: end_of_pattern(pattern),
             },
             PatternRefusal::NoMemory => Line::of(OUT_OF_MEMORY),
         }
     }
+}
+
+// The line that tells of a line of a list that is no pattern.
+pub(crate) fn pattern_line<'a>(line: &'a BadLine<'_>) -> Line<'a>
+    ensures { line_text result ≡ bad_line_text line.now }
+{
+    let pattern = name_of(&line.pattern);
+    Line {
+        front: "testr: ",
+        part: Part::Pattern(line.name, line.number, pattern),
+        rest: end_of_pattern(pattern),
+    }
+}
+
+// What stands behind a pattern that is refused.
+fn end_of_pattern(pattern: &str) -> &'static str
+    ensures { result.now ≡ end_of_pattern pattern.now }
+{
+    if has_look_around(pattern.as_bytes()) {
+        "\ntestr: look-around is not known; --exclude-regex leaves tests out\n"
+    } else {
+        "\n"
+    }
+}
+
+fn has_look_around(pattern: &[u8]) -> bool
+    ensures { result ≡ has_look_around pattern.now }
+{
+    let mut rest = pattern;
+    while let [_, behind @ ..] = rest {
+        if is_look_around(rest) {
+            return true;
+        }
+        rest = behind;
+    }
+    false
+}
+
+fn is_look_around(bytes: &[u8]) -> bool
+    ensures { result ≡ is_look_around bytes.now }
+{
+    bytes.starts_with(b"(?!") || bytes.starts_with(b"(?=") || bytes.starts_with(b"(?<")
 }
 
 impl<'a> Refuses<'a> for ListRefusal<'a> {

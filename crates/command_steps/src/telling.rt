@@ -5,7 +5,7 @@ ghost use Rattle.std.specs.Fmt.{decimal, signed_decimal};
 ghost use Rattle.std.specs.Io.KnownBytes.{Appends};
 ghost use Rattle.edge_io.specs.Bytes.{AppendsPrefix};
 ghost use Rattle.edge_io.specs.Causes.{HasCause};
-ghost use Rattle.command_steps.specs.Telling.{line_text, part_text, place_text};
+ghost use Rattle.command_steps.specs.Telling.{line_text, part_text, place_text, pattern_place_text};
 
 use edge_io::{Failed, Sink, write_whole};
 use itoa::Buffer;
@@ -23,6 +23,8 @@ pub enum Part<'a> {
     Name(&'a str),
     /// A line of the file of this name, by its number.
     Place(&'a str, u32),
+    /// The same, with the pattern that it has.
+    Pattern(&'a str, u32, &'a str),
 }
 
 /// A line in parts, so that a number or a name in it takes no memory.
@@ -87,7 +89,18 @@ fn tell_part<E: Sink>(err: &mut E, part: Part<'_>) -> Result<(), Failed>
         Part::Status(status) => tell_status(err, status),
         Part::Name(name) => write_whole(err, name.as_bytes()),
         Part::Place(name, number) => tell_place(err, name, number),
+        Part::Pattern(name, number, pattern) => tell_pattern(err, name, number, pattern),
     }
+}
+
+fn tell_pattern<E: Sink>(err: &mut E, name: &str, number: u32, pattern: &str) -> Result<(), Failed>
+    ensures whole { OnOk result (Appends (E.seen err.old).told (E.seen err.new).told (pattern_place_text name.now number pattern.now)) }
+    ensures prefix { AppendsPrefix (E.seen err.old).told (E.seen err.new).told (pattern_place_text name.now number pattern.now) }
+    ensures cause { HasCause (E.seen err.old).faults (E.seen err.new).faults result }
+{
+    tell_place(err, name, number)?;
+    write_whole(err, b": bad pattern: ")?;
+    write_whole(err, pattern.as_bytes())
 }
 
 fn tell_place<E: Sink>(err: &mut E, name: &str, number: u32) -> Result<(), Failed>

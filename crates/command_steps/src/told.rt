@@ -6,7 +6,7 @@ ghost use Rattle.edge_io.specs.Causes.{RisesExactlyIf};
 ghost use Rattle.run_shelf.specs.Holds.{kinds_of, FitsWhereTold};
 ghost use Rattle.run_shelf.specs.Stores.{store_kinds, store_fault, FitsUnlessBroken};
 ghost use Rattle.run_ledger.specs.Ledger.{HasRowsAt};
-ghost use Rattle.command_steps.specs.Says.{SaysReport, SaysSlowest, SaysFailing, SaysStats, stats_of, verdict_of_failing};
+ghost use Rattle.command_steps.specs.Says.{SaysReport, SaysSkips, SaysSlowest, SaysFailing, SaysStats, stats_of, verdict_of_failing};
 ghost use Rattle.testr_words.specs.Questions.{OfBytes, OfLastRun};
 ghost use Rattle.command_steps.specs.Calls.{SparesFor, SparesRuns};
 ghost use Rattle.command_steps.specs.Telling.{line_text};
@@ -21,6 +21,7 @@ use itoa::Buffer;
 use outcome_fold::Rows;
 use run_ledger::{LedgerFault, failing, rows_of};
 use run_shelf::{Found, Store};
+use skip_reasons::skips_text;
 use std::alloc::Global;
 use sub_number::{IdList, NoMemory};
 use sub_text::{failing_text, slowest_text};
@@ -110,6 +111,7 @@ fn answer_of<H: Shelf>(
 {
     match question {
         Question::Last { .. } => tell_report(alloc, store),
+        Question::Skips => tell_skips(alloc, store),
         Question::Failing { list } => tell_failing(alloc, list, store),
         Question::Slowest { all } => tell_slowest(alloc, all, store),
         Question::Stats => tell_stats(alloc, store),
@@ -149,6 +151,33 @@ fn tell_report<H: Shelf>(alloc: Global, store: &mut Store<'_, H>) -> Result<Told
         Err(fault) => return Err(fault),
     };
     let Ok(text) = report(alloc, &rows, number) else {
+        return Err(TellFault::NoMemory);
+    };
+    Ok(Told {
+        text,
+        verdict: verdict(&rows),
+    })
+}
+
+// The report of the last run, and why tests were skipped.
+fn tell_skips<H: Shelf>(alloc: Global, store: &mut Store<'_, H>) -> Result<Told, TellFault>
+    requires some { 0 < length (store_kinds store.old) }
+    requires open { store_fault store.old ≡ None }
+    requires fits { FitsUnlessBroken (store_kinds store.old) (store_fault store.old) (H.seen store.old.shelf.now).told }
+    ensures same_reference { store.new.shelf.ghost_name ≡ store.old.shelf.ghost_name }
+    ensures told { IfOk result (λ told. IfSome (H.seen store.old.shelf.now).told (TellsSo SaysSkips told)) }
+    ensures count { RisesExactlyIf (H.seen store.old.shelf.now).faults (H.seen store.new.shelf.now).faults (tell_failed result) }
+    ensures same { Goes (H.seen store.old.shelf.now).told (H.seen store.new.shelf.now).told Stays }
+{
+    let number = store.runs() - 1;
+    let rows = match last_rows(alloc, store) {
+        Ok(rows) => rows,
+        Err(fault) => return Err(fault),
+    };
+    let Ok(mut text) = report(alloc, &rows, number) else {
+        return Err(TellFault::NoMemory);
+    };
+    let Ok(()) = skips_text(alloc, &rows, &mut text) else {
         return Err(TellFault::NoMemory);
     };
     Ok(Told {

@@ -25,6 +25,7 @@ use run_shelf::Found;
 use std::alloc::Global;
 use std::sync::Wait;
 use std::thread::Threads;
+use sub_number::IdList;
 use suite_run::{LanesRefusal, record_lanes, start_lanes};
 use worker_lane::Lane;
 
@@ -46,7 +47,7 @@ struct Ran {
     summary: Summary,
 }
 
-/// Starts a worker for each of the jobs, 64 at most, reads them to their ends, side by side, keeps what is recorded of them
+/// Starts a worker for each of the jobs, 64 at most, of which each names the ids at its place, reads them to their ends, side by side, keeps what is recorded of them
 /// as the next run, whose rows are summed up as it is recorded, where these tags filter, and brings the caches up to it. It
 /// gives what is kept of the rows, and the runs that there are then where these are wanted. It may wait for the workers. Where both caches cover the runs that were found, the folder
 /// is called 18 times at most, and once for each packet. No refusal of it has the status 3.
@@ -54,6 +55,7 @@ pub fn run_workers<R: Threads + Wait + Sync, H: Shelf, S: Spawner>(
     rt: &R,
     alloc: Global,
     jobs: &[Job],
+    asked: &[IdList],
     partial: bool,
     wanted: bool,
     shelf: &mut H,
@@ -65,7 +67,7 @@ pub fn run_workers<R: Threads + Wait + Sync, H: Shelf, S: Spawner>(
     requires free { length (kinds_of found) < most_runs }
     requires room { HasRoom found }
     requires fits { FitsWhereTold (kinds_of found) (H.seen shelf.old).told }
-    ensures step { GivesSums filter_tags (λ rows. (site : Seen Files) (input out : Seen (List ℕ)) → Works partial (length (kinds_of found)) jobs.now
+    ensures step { GivesSums filter_tags (λ rows. (site : Seen Files) (input out : Seen (List ℕ)) → Works partial (length (kinds_of found)) (record { jobs = jobs.now; asked = asked.now })
         (work (H.seen shelf.old) site (S.seen spawner.old) input out)
         (work (H.seen shelf.new) site (S.seen spawner.new) input out)
         rows) (kept_in result) }
@@ -75,7 +77,7 @@ pub fn run_workers<R: Threads + Wait + Sync, H: Shelf, S: Spawner>(
     ensures code { IfErr result (λ refusal. refusal_code refusal ≡ 3 → ⊥) }
 {
     begin(shelf)?;
-    let lanes = start_lanes(alloc, spawner, jobs)?;
+    let lanes = start_lanes(alloc, spawner, jobs, asked)?;
     let Ran { mut found, summary } = record_workers(
         rt,
         alloc,

@@ -1,5 +1,5 @@
 -- The texts of whole streams as packets.
-use Rattle.std.proofs.Common.{◌≡◌, ℕ, true, List, [], ◌∷◌, ◌++◌, map, refl, sym, ap, ◌∙◌, append-nil}
+use Rattle.std.proofs.Common.{◌≡◌, ℕ, Bool, true, false, List, [], ◌∷◌, ◌++◌, map, if◌then◌else◌, refl, sym, ap, ◌∙◌, append-nil}
 use Rattle.std.proofs.lemmas.Grind.{flat_map-append}
 use Rattle.packet_codec.specs.Canonical.{canonical}
 use Rattle.packet_codec.specs.declared.event.Event.{Event}
@@ -12,27 +12,40 @@ use Rattle.event_sift.specs.Keeping.{keeps}
 use Rattle.event_sift.specs.Released.{released, released_behind, released_by, released_at_end, filtered}
 use Rattle.event_sift.specs.Tagging.{tagged}
 use Rattle.filter_cli.specs.Script.{given_behind, given_by}
-use Rattle.filter_cli.specs.Events.{events_in, packets_of}
-use Rattle.filter_cli.specs.Filtering.{filter_plan}
+use Rattle.filter_cli.specs.Events.{is_hidden, events_heard, packets_of}
+use Rattle.filter_cli.specs.Filtering.{filter_plan, let_through}
 use Rattle.filter_cli.specs.Tagging.{tags_plan}
-use Rattle.filter_cli.proofs.EventLemmas.{event_more, foreign_more}
+use Rattle.filter_cli.proofs.LooseLemmas.{heard_more, hidden_more, foreign_unheard, let_go_by, let_through_at}
 
-let_through_behind : (rules : Rules) (before notes : List Note) → given_behind (filter_plan rules true) before notes ≡ packets_of (released_behind (keeps rules) (events_in before) (events_in notes))
+-- what is released behind some notes, where others follow
+abbrev rest_of : Rules → List Event → List Event → List ℕ
+rest_of rules seen more = packets_of (released_behind (keeps rules) seen more)
+
+-- what one event and the notes behind it give, whether it is hidden or not
+event_behind : (rules : Rules) (before notes : List Note) (e : Event) (given : List ℕ) → given ≡ rest_of rules (events_heard true (before ++ note.Event e ∷ [])) (events_heard true notes) → (b : Bool) → is_hidden true e ≡ b → let_through rules true (events_heard true before) (note.Event e) ++ given ≡ rest_of rules (events_heard true before) ((if b then [] else e ∷ []) ++ events_heard true notes)
+event_behind rules before notes e given is true hides =
+    ap (λ (l : List ℕ). l ++ given) (let_go_by rules true (events_heard true before) e hides)
+    ∙ is
+    ∙ ap (λ (seen : List Event). rest_of rules seen (events_heard true notes)) (hidden_more true before e hides)
+event_behind rules before notes e given is false shows =
+    let now = released (keeps rules) (events_heard true before) e in
+    ap (λ (l : List ℕ). l ++ given) (let_through_at rules true (events_heard true before) e shows)
+    ∙ ap (λ (l : List ℕ). packets_of now ++ l) (is ∙ ap (λ (seen : List Event). rest_of rules seen (events_heard true notes)) (heard_more true before e shows))
+    ∙ sym (flat_map-append canonical now (released_behind (keeps rules) (events_heard true before ++ e ∷ []) (events_heard true notes)))
+
+let_through_behind : (rules : Rules) (before notes : List Note) → given_behind (filter_plan rules true) before notes ≡ rest_of rules (events_heard true before) (events_heard true notes)
 let_through_behind rules before [] = refl
 let_through_behind rules before (note.Foreign bytes ∷ notes) =
     let_through_behind rules (before ++ note.Foreign bytes ∷ []) notes
-    ∙ ap (λ (seen : List Event). packets_of (released_behind (keeps rules) seen (events_in notes))) (foreign_more before bytes)
+    ∙ ap (λ (seen : List Event). rest_of rules seen (events_heard true notes)) (foreign_unheard true before bytes)
 let_through_behind rules before (note.Event e ∷ notes) =
-    let now = released (keeps rules) (events_in before) e in
-    ap (λ (l : List ℕ). packets_of now ++ l) (let_through_behind rules (before ++ note.Event e ∷ []) notes
-    ∙ ap (λ (seen : List Event). packets_of (released_behind (keeps rules) seen (events_in notes))) (event_more before e))
-    ∙ sym (flat_map-append canonical now (released_behind (keeps rules) (events_in before ++ e ∷ []) (events_in notes)))
+    event_behind rules before notes e _ (let_through_behind rules (before ++ note.Event e ∷ []) notes) (is_hidden true e) refl
 
-pub let_through_whole : (rules : Rules) (notes : List Note) → given_by (filter_plan rules true) notes ++ (filter_plan rules true).at_end notes ≡ packets_of (filtered (keeps rules) (events_in notes))
+pub let_through_whole : (rules : Rules) (notes : List Note) → given_by (filter_plan rules true) notes ++ (filter_plan rules true).at_end notes ≡ packets_of (filtered (keeps rules) (events_heard true notes))
 let_through_whole rules notes =
-    let last = released_at_end (keeps rules) (events_in notes) in
+    let last = released_at_end (keeps rules) (events_heard true notes) in
     ap (λ (l : List ℕ). l ++ packets_of last) (let_through_behind rules [] notes)
-    ∙ sym (flat_map-append canonical (released_by (keeps rules) (events_in notes)) last)
+    ∙ sym (flat_map-append canonical (released_by (keeps rules) (events_heard true notes)) last)
 
 tagged_behind : (tagger : Tagger) (before notes : List Note) → given_behind (tags_plan tagger) before notes ≡ packets_of (map (tagged tagger) (events_of notes))
 tagged_behind tagger before [] = refl

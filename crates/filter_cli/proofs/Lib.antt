@@ -2,6 +2,8 @@ pub mod PipeLemmas
 pub mod PumpLemmas
 pub mod NotedLemmas
 pub mod EventLemmas
+pub mod LooseLemmas
+pub mod StoredLemmas
 pub mod AttachLemmas
 pub mod BelowLemmas
 pub mod ExportLemmas

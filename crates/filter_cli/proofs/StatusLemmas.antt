@@ -20,7 +20,7 @@ status_at_most (Tags retagging) bytes text status w = omega (arith, w.status)
 status_at_most (Ls listing) bytes text status w =
     let few = one_at_most (list_any row_fails (completed_rows (events_in w.notes) ++ open_rows (events_in w.notes))) in
     omega (arith, few, w.status)
-status_at_most Stats bytes text status w =
+status_at_most (Stats counting) bytes text status w =
     let few = one_at_most (list_any row_fails (rows_of (events_in w.notes))) in
     omega (arith, few, w.status)
 status_at_most FromTap bytes text status w = omega (arith, w.status)

@@ -46,7 +46,7 @@ pub unread_whole : (asked : Asked) (text bytes all : List ℕ) (status : ℕ) �
 unread_whole (Filter selection) text bytes all status is w = absurd (cc)
 unread_whole (Tags retagging) text bytes all status is w = absurd (cc)
 unread_whole (Ls listing) text bytes all status is w = absurd (cc)
-unread_whole Stats text bytes all status is w = absurd (cc)
+unread_whole (Stats counting) text bytes all status is w = absurd (cc)
 unread_whole FromTap text bytes all status is w = absurd (cc)
 unread_whole ToTap text bytes all status is w = absurd (cc)
 unread_whole ToJunit text bytes all status is w = absurd (cc)

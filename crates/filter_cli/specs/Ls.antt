@@ -11,16 +11,16 @@ use Rattle.outcome_fold.specs.Answers.{is_run, status_of}
 use Rattle.sub_text.specs.Listed.{ls_line_of}
 use Rattle.filter_cli.specs.declared.ls.Listing.{Listing}
 use Rattle.filter_cli.specs.Plan.{Plan}
-use Rattle.filter_cli.specs.Events.{events_in, passed_on}
+use Rattle.filter_cli.specs.Events.{events_in, passed_on, loose_bytes}
 
 -- a test that is only known to exist is listed where that is asked for
 abbrev pub shown_line : Listing → Row → List ℕ
 shown_line listing row = if is_run row || listing.exists then ls_line_of row listing.times else []
 
--- foreign bytes, or the line of the test that the event completes
+-- foreign bytes, or the loose file of the event, or the line of the test that it completes
 abbrev pub listed : Listing → List Event → Note → List ℕ
 listed listing seen (note.Foreign bytes) = passed_on listing.hidden bytes
-listed listing seen (note.Event event) = flat_map (shown_line listing) (option_to_list (completed_row seen event))
+listed listing seen (note.Event event) = passed_on listing.hidden (loose_bytes event) ++ flat_map (shown_line listing) (option_to_list (completed_row seen event))
 
 -- at the end the tests that are left open, by route and id; 1 where a test failed
 abbrev pub ls_plan : Listing → Plan

@@ -70,7 +70,7 @@ patterns_in items = values_added added.Pattern items
 
 -- ---- all of it
 
--- what the items ask for, where at first tests that passed are kept or not, and foreign bytes are hidden or not
+-- what the items ask for, where at first tests that passed are kept or not, and output of no test is hidden or not
 abbrev pub selection_from : (success hidden : Bool) → List Item → Selection
 selection_from success hidden items = record {
   success = stands switch.Success success items;
@@ -85,7 +85,7 @@ selection_from success hidden items = record {
   patterns = patterns_in items;
 }
 
--- of `subunit-filter`: at first all but tests that passed are kept, and foreign bytes are passed on
+-- of `subunit-filter`: at first all but tests that passed are kept, and output of no test is passed on
 abbrev pub selection_of : List Item → Selection
 selection_of items = selection_from false false items
 

@@ -40,7 +40,7 @@ abbrev pub writing_of : Asked → Writing
 writing_of (Filter selection) = of_notes (filter_plan (rules_of selection) selection.hidden)
 writing_of (Tags retagging) = of_notes (tags_plan_of retagging.add retagging.remove)
 writing_of (Ls listing) = of_notes (ls_plan listing)
-writing_of Stats = of_notes stats_plan
+writing_of (Stats counting) = of_notes (stats_plan counting)
 writing_of FromTap = of_tap_lines
 writing_of ToTap = of_notes tap_plan
 writing_of (ToCsv selection) = below_head csv_head_text (csv_plan (keeps (rules_of selection)))
@@ -71,7 +71,7 @@ abbrev pub patterns_of : Asked → List (List ℕ)
 patterns_of (Filter selection) = selection.patterns
 patterns_of (Tags retagging) = []
 patterns_of (Ls listing) = []
-patterns_of Stats = []
+patterns_of (Stats counting) = []
 patterns_of FromTap = []
 patterns_of ToTap = []
 patterns_of (ToCsv selection) = selection.patterns
@@ -92,7 +92,7 @@ abbrev pub unread_text : Asked → Option (List ℕ)
 unread_text (Filter selection) = None
 unread_text (Tags retagging) = None
 unread_text (Ls listing) = None
-unread_text Stats = None
+unread_text (Stats counting) = None
 unread_text FromTap = None
 unread_text ToTap = None
 unread_text (ToCsv selection) = None

@@ -76,9 +76,9 @@ is_csv_switch name =
 abbrev pub csv_kind : List ℕ → Option Kind
 csv_kind name = if is_csv_switch name then Some Flag else (if is_addition name then Some Valued else None)
 
--- the one flag of `subunit2junitxml`, which changes nothing
-abbrev pub junit_kind : List ℕ → Option Kind
-junit_kind name = if bytes_eq name (codes "--no-passthrough") then Some Flag else None
+-- the one flag of `subunit-stats` and `subunit2junitxml`, which changes nothing of the second
+abbrev pub hiding_kind : List ℕ → Option Kind
+hiding_kind name = if bytes_eq name (codes "--no-passthrough") then Some Flag else None
 
 -- the options of `subunit-trace`
 abbrev pub trace_kind : List ℕ → Option Kind
@@ -90,11 +90,11 @@ abbrev pub kind_in : Tool → List ℕ → Option Kind
 kind_in tool.Filter name = filter_kind name
 kind_in tool.Tags name = None
 kind_in tool.Ls name = ls_kind name
-kind_in tool.Stats name = None
+kind_in tool.Stats name = hiding_kind name
 kind_in tool.FromTap name = None
 kind_in tool.ToTap name = None
 kind_in tool.ToCsv name = csv_kind name
-kind_in tool.ToJunit name = junit_kind name
+kind_in tool.ToJunit name = hiding_kind name
 kind_in tool.Output name = None
 kind_in tool.FromV1 name = None
 kind_in tool.ToV1 name = None

@@ -8,6 +8,7 @@ use Rattle.command_words.specs.Items.{Item, flag, valued, name, is_text, items_o
 use Rattle.sub_export.specs.declared.job.Job.{Job}
 use Rattle.sub_export.specs.Output.{job_of, path_of}
 use Rattle.filter_cli.specs.declared.ls.Listing.{Listing}
+use Rattle.filter_cli.specs.declared.stats.Counting.{Counting}
 use Rattle.filter_cli.specs.declared.tool.Tool.{Tool}
 use Rattle.filter_cli.specs.declared.tool.Tool.TheVariants as tool
 use Rattle.filter_cli.specs.declared.asked.Asked.{Asked}
@@ -59,12 +60,16 @@ listing_of items = record {
   hidden = has_flag (codes "--no-passthrough") items;
 }
 
+-- how the options of `subunit-stats` have tests counted
+abbrev pub counting_of : List Item → Counting
+counting_of items = record { hidden = has_flag (codes "--no-passthrough") items }
+
 -- what a filter is asked by options alone; the words of `subunit-tags` are none, and those of `subunit-output` stand for events
 abbrev pub asked_for : Tool → List Item → Option Asked
 asked_for tool.Filter items = Some (Filter (selection_of items))
 asked_for tool.Tags items = None
 asked_for tool.Ls items = Some (Ls (listing_of items))
-asked_for tool.Stats items = Some Stats
+asked_for tool.Stats items = Some (Stats (counting_of items))
 asked_for tool.FromTap items = Some FromTap
 asked_for tool.ToTap items = Some ToTap
 asked_for tool.ToCsv items = Some (ToCsv (csv_selection_of items))

@@ -13,6 +13,7 @@ use crate::letters::long_words;
 use crate::ls::Listing;
 use crate::retagging::{Retagging, read_retagging};
 use crate::selection::{Selection, csv_selection_of, selection_of};
+use crate::stats::Counting;
 use crate::tool::{Tool, tool_of};
 use crate::tracing::{Trace, trace_of};
 use command_words::{Item, has_flag, read_items, text_of};
@@ -30,7 +31,7 @@ pub enum Asked {
     /// `subunit-ls`: list the tests.
     Ls(Listing),
     /// `subunit-stats`: count the tests.
-    Stats,
+    Stats(Counting),
     /// `tap2subunit`: lines of the Test Anything Protocol as packets.
     FromTap,
     /// `subunit2tap`: tests as lines of the Test Anything Protocol.
@@ -241,7 +242,7 @@ fn asked_for(alloc: Global, tool: Tool, items: &[Item<'_>]) -> Result<Option<Ask
     match tool {
         Tool::Filter => Ok(Some(Asked::Filter(selection_of(alloc, items)?))),
         Tool::Ls => Ok(Some(Asked::Ls(listing_of(items)))),
-        Tool::Stats => Ok(Some(Asked::Stats)),
+        Tool::Stats => Ok(Some(Asked::Stats(counting_of(items)))),
         Tool::FromTap => Ok(Some(Asked::FromTap)),
         Tool::ToTap => Ok(Some(Asked::ToTap)),
         Tool::ToCsv => Ok(Some(Asked::ToCsv(csv_selection_of(alloc, items)?))),
@@ -270,6 +271,14 @@ fn listing_of(items: &[Item<'_>]) -> Listing
     Listing {
         times: has_flag(items, "--times"),
         exists: has_flag(items, "--exists"),
+        hidden: has_flag(items, "--no-passthrough"),
+    }
+}
+
+fn counting_of(items: &[Item<'_>]) -> Counting
+    ensures { result ≡ asking.counting_of (map shown items.now) }
+{
+    Counting {
         hidden: has_flag(items, "--no-passthrough"),
     }
 }

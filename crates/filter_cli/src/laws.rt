@@ -6,7 +6,11 @@ ghost use Rattle.stream_reader.specs.declared.note.Note.{Note};
 ghost use Rattle.tap_bridge.specs.Texts.{tap_text};
 ghost use Rattle.filter_cli.specs.declared.asked.Asked.{Asked as AnAsked};
 ghost use Rattle.filter_cli.specs.Script.{given_by};
-ghost use Rattle.filter_cli.specs.Events.{events_in};
+ghost use Rattle.filter_cli.specs.declared.ls.Listing.{Listing};
+ghost use Rattle.filter_cli.specs.declared.stats.Counting.{Counting};
+ghost use Rattle.filter_cli.specs.Events.{as_events, events_in};
+ghost use Rattle.filter_cli.specs.Ls.{ls_plan};
+ghost use Rattle.filter_cli.specs.Stats.{stats_plan};
 ghost use Rattle.v1_bridge.specs.Writing.{v1_text};
 ghost use Rattle.filter_cli.specs.TapRows.{tap_rows, tap_plan};
 ghost use Rattle.filter_cli.specs.V1Parts.{v1_plan};
@@ -33,4 +37,15 @@ pub fn lines_of_streams()
     ensures lines { (notes : List Note) → given_by tap_plan notes ++ tap_plan.at_end notes ≡ tap_text (tap_rows (events_in notes)) }
     // The second is that of the stream's notes.
     ensures version_one { (notes : List Note) → given_by v1_plan notes ++ v1_plan.at_end notes ≡ v1_text notes }
+{}
+
+/// What `subunit-ls` and `subunit-stats` make of a stream is what they make of the same stream as events alone, foreign bytes
+/// among them as pieces of the file `stdout`.
+pub fn streams_as_events()
+    // The text of the one, and its status.
+    ensures listed { (listing : Listing) (notes : List Note) → given_by (ls_plan listing) (as_events notes) ++ (ls_plan listing).at_end (as_events notes) ≡ given_by (ls_plan listing) notes ++ (ls_plan listing).at_end notes }
+    ensures listed_status { (listing : Listing) (notes : List Note) → (ls_plan listing).status (as_events notes) ≡ (ls_plan listing).status notes }
+    // The text of the other, and its status.
+    ensures counted { (counting : Counting) (notes : List Note) → given_by (stats_plan counting) (as_events notes) ++ (stats_plan counting).at_end (as_events notes) ≡ given_by (stats_plan counting) notes ++ (stats_plan counting).at_end notes }
+    ensures counted_status { (counting : Counting) (notes : List Note) → (stats_plan counting).status (as_events notes) ≡ (stats_plan counting).status notes }
 {}

@@ -8,7 +8,8 @@
 //! - `refusal`, `telling`: why a filter was not done, and the lines that tell of it
 //! - `filter`, `pass`: what a filter is, and the one loop that serves them all
 //! - `notes`, `of_notes`, `taking`, `through`: filters that go by the notes of a stream
-//! - `ls`, `sifting`, `stats`, `subunit_to_junit`, `subunit_to_tap`, `tagging`, `tracing`: those filters; `tally`: what is counted
+//! - `ls`, `sifting`, `stats`, `subunit_to_junit`, `subunit_to_tap`, `tagging`, `tracing`: those filters; `tally`: what is
+//!   counted; `loose`: output of no test
 //! - `of_tap`, `open_line`, `packets`, `pass_tap`: lines of the Test Anything Protocol as packets
 //! - `headed`, `exporting`: a text in front of what a filter writes, and the records of tests below the names of their fields
 //! - `of_v1`, `pass_v1`, `subunit_to_v1`: lines of version 1 as packets, and tests as such lines
@@ -28,6 +29,7 @@ mod filter;
 mod headed;
 mod laws;
 mod letters;
+mod loose;
 mod ls;
 mod named;
 mod notes;
@@ -64,7 +66,7 @@ pub use exporting::{export_stream, records_of_streams};
 pub use file_loop::{FileFault, pump_file};
 pub use filter::Filter;
 pub use headed::Headed;
-pub use laws::{filtered_streams, lines_of_streams};
+pub use laws::{filtered_streams, lines_of_streams, streams_as_events};
 pub use ls::Listing;
 pub use notes::NoteFilter;
 pub use of_notes::OfNotes;
@@ -76,6 +78,7 @@ pub use refusal::{Refusal, UsageFault};
 pub use retagging::Retagging;
 pub use selection::Selection;
 pub use sifting::filter_stream;
+pub use stats::Counting;
 pub use tagging::tag_stream;
 pub use through::pass_notes;
 pub use tool::{Tool, tool_of};

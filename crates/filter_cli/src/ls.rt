@@ -4,9 +4,9 @@ ghost use Rattle.std.specs.Prelude.{◌≡◌, ◌++◌, ◌||◌, OnOk};
 ghost use Rattle.std.specs.List.{flat_map, list_any};
 ghost use Rattle.std.specs.Option.{option_to_list};
 ghost use Rattle.outcome_fold.specs.Answers.{row_fails};
-ghost use Rattle.filter_cli.specs.Events.{passed_on};
 ghost use Rattle.filter_cli.specs.Ls.{shown_line};
 
+use crate::loose::{put_foreign, put_loose};
 use crate::notes::NoteFilter;
 use outcome_fold::{Ended, Fold, Row};
 use packet_codec::Packet;
@@ -21,7 +21,7 @@ pub struct Listing {
     pub times: bool,
     /// Also tests that are only known to exist.
     pub exists: bool,
-    /// Without the foreign bytes of the stream.
+    /// Without output of no test.
     pub hidden: bool,
 }
 
@@ -64,6 +64,7 @@ impl NoteFilter for Ls {
 
     #[inline(always)]
     fn take(&mut self, packet: &Packet<'_>, text: &mut Vec<u8>) -> Result<(), NoMemory> {
+        put_loose(self.listing.hidden, packet, text)?;
         let row = self.fold.hear(packet)?;
         put_row(self.listing, &row, text)?;
         self.failed = failed_after(self.failed, &row);
@@ -83,16 +84,6 @@ impl NoteFilter for Ls {
     }
 
     fn let_go(self) {}
-}
-
-// Foreign bytes, unless they are hidden.
-pub(crate) fn put_foreign(hidden: bool, bytes: &[u8], text: &mut Vec<u8>) -> Result<(), NoMemory>
-    ensures { OnOk result (text.new.items ≡ text.old.items ++ passed_on hidden bytes.now) }
-{
-    if !hidden {
-        text.extend_from_slice(bytes)?;
-    }
-    Ok(())
 }
 
 fn put_line(listing: Listing, row: &Row, text: &mut Vec<u8>) -> Result<(), NoMemory>

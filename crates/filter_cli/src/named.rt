@@ -27,7 +27,7 @@ use crate::refusal::Refusal;
 use crate::retagging::Retagging;
 use crate::selection::Selection;
 use crate::sifting::Sifting;
-use crate::stats::Stats;
+use crate::stats::{Counting, Stats};
 use crate::subunit_to_junit::SubunitToJunit;
 use crate::subunit_to_tap::SubunitToTap;
 use crate::subunit_to_v1::SubunitToV1;
@@ -54,7 +54,7 @@ pub(crate) fn pass_named<S: Site, O: Sink>(
         Asked::Filter(selection) => filter_named(alloc, selection, name, site, out),
         Asked::Tags(retagging) => retag_named(alloc, retagging, name, site, out),
         Asked::Ls(listing) => list_named(alloc, listing, name, site, out),
-        Asked::Stats => notes_named(alloc, Stats::new(alloc), name, site, out),
+        Asked::Stats(counting) => count_named(alloc, counting, name, site, out),
         Asked::FromTap => tap_named(alloc, name, site, out),
         Asked::ToTap => notes_named(alloc, SubunitToTap::new(alloc), name, site, out),
         Asked::ToCsv(selection) => export_named(alloc, selection, name, site, out),
@@ -187,6 +187,19 @@ fn list_named<S: Site, O: Sink>(
     ensures { (input : Seen (List ℕ)) → Takes (Some name) (wanted.Ls listing) (reach (S.seen site.old) input (O.seen out.old)) (reach (S.seen site.new) input (O.seen out.new)) result }
 {
     notes_named(alloc, Ls::new(alloc, listing), name, site, out)
+}
+
+// `subunit-stats`
+fn count_named<S: Site, O: Sink>(
+    alloc: Global,
+    counting: Counting,
+    name: Text,
+    site: &mut S,
+    out: &mut O,
+) -> Result<u8, Refusal>
+    ensures { (input : Seen (List ℕ)) → Takes (Some name) (wanted.Stats counting) (reach (S.seen site.old) input (O.seen out.old)) (reach (S.seen site.new) input (O.seen out.new)) result }
+{
+    notes_named(alloc, Stats::new(alloc, counting), name, site, out)
 }
 
 // `tap2subunit`

@@ -10,7 +10,7 @@ use packet_codec::Tags;
 use std::alloc::Global;
 use sub_number::{IdList, NoMemory, Text};
 
-/// Which tests are let through, and whether foreign bytes are.
+/// Which tests are let through, and whether output of no test is.
 #[derive(Drop)]
 pub struct Selection {
     /// Whether tests that passed are kept.
@@ -21,7 +21,7 @@ pub struct Selection {
     pub skip: bool,
     /// Whether failures that were expected are kept.
     pub xfail: bool,
-    /// Whether foreign bytes are hidden.
+    /// Whether output of no test is hidden.
     pub hidden: bool,
     /// The tags that a test must have.
     pub with_tags: Tags,
@@ -70,7 +70,7 @@ pub fn csv_selection_of(alloc: Global, items: &[Item<'_>]) -> Result<Selection, 
     selection_from(alloc, true, true, items)
 }
 
-// What they ask for, where at first tests that passed are kept or not, and foreign bytes are hidden or not.
+// What they ask for, where at first tests that passed are kept or not, and output of no test is hidden or not.
 fn selection_from(
     alloc: Global,
     success: bool,

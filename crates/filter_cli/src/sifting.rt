@@ -6,7 +6,7 @@ ghost use Rattle.filter_cli.specs.Plan.{IsSeen, IsFiltered};
 ghost use Rattle.filter_cli.specs.Pumping.{Pumps, WritesFirst};
 ghost use Rattle.filter_cli.specs.Filtering.{filter_plan};
 
-use crate::ls::put_foreign;
+use crate::loose::{is_hidden, put_foreign};
 use crate::notes::NoteFilter;
 use crate::pass::PumpFault;
 use crate::through::pass_notes;
@@ -21,7 +21,7 @@ use sub_number::NoMemory;
 ///
 /// It is not dropped, as the sift in it is not. It ends by `close` or by `let_go`.
 pub(crate) struct Sifting<'a, P: Predicate + Drop> {
-    // Without the foreign bytes of the stream.
+    // Without output of no test.
     hidden: bool,
     sift: PacketSift<'a, P>,
 }
@@ -30,8 +30,8 @@ impl<'a, P: Predicate + Drop> Sifting<'a, P> {
     ghost use Rattle.std.specs.Prelude.{[]};
     ghost use Rattle.event_sift.specs.PacketSifted.{HasSifted, predicate_of, rules_of};
 
-    /// Nothing was taken yet. The predicate goes by the same rules, which it may borrow. Foreign bytes are passed on
-    /// unless they are hidden. It takes no memory yet.
+    /// Nothing was taken yet. The predicate goes by the same rules, which it may borrow. Output of no test is passed on
+    /// unless it is hidden. It takes no memory yet.
     pub(crate) fn new(alloc: Global, rules: &'a Rules, hidden: bool, predicate: P) -> Self
         requires faithful { P.rules predicate ≡ rules.now }
         ensures hidden { result.hidden ≡ hidden }
@@ -48,15 +48,20 @@ impl<'a, P: Predicate + Drop> Sifting<'a, P> {
 
 impl<'a, P: Predicate + Drop> NoteFilter for Sifting<'a, P> {
     ghost use Rattle.event_sift.specs.PacketSifted.{HasSifted, predicate_of, rules_of};
-    ghost use Rattle.filter_cli.specs.Events.{events_in};
+    ghost use Rattle.filter_cli.specs.Events.{events_heard};
 
     ghost plan = { λ f. filter_plan (rules_of f.sift) f.hidden };
 
-    ghost has = { λ f notes. HasSifted f.sift (events_in notes) };
+    ghost has = { λ f notes. HasSifted f.sift (events_heard f.hidden notes) };
 
     ghost ready = { λ f. P.rules (predicate_of f.sift) ≡ rules_of f.sift };
 
     fn take(&mut self, packet: &Packet<'_>, text: &mut Vec<u8>) -> Result<(), NoMemory> {
+        let alloc = *text.allocator();
+        let hides = is_hidden(alloc, self.hidden, packet)?;
+        if hides {
+            return Ok(());
+        }
         self.sift.hear(packet, text)
     }
 
@@ -85,7 +90,8 @@ impl<'a, P: Predicate + Drop> NoteFilter for Sifting<'a, P> {
 
 /// Lets the tests of the input through that the rules keep, to its end: the events of each test where it completes, in
 /// their order, at the end those of the tests that are left open, and each event without an id where it comes. Events
-/// are written as their shortest packets. Foreign bytes stand where they come, unless they are hidden. The status is 0.
+/// are written as their shortest packets. Foreign bytes stand where they come. Where output of no test is hidden, neither
+/// these are written nor the events that have a file and no id. The status is 0.
 ///
 /// Each `PumpFault` comes as `pass_notes` says, and at each a first part of the text was written, and nothing else.
 pub fn filter_stream<I: Source, O: Sink>(

@@ -5,7 +5,7 @@ ghost use Rattle.std.specs.Option.{option_to_list};
 ghost use Rattle.outcome_fold.specs.declared.row.Row.{Row as ARow};
 ghost use Rattle.filter_cli.specs.Tally.{HasTallied};
 
-use crate::ls::put_foreign;
+use crate::loose::{put_foreign, put_loose};
 use crate::notes::NoteFilter;
 use crate::tally::Tally;
 use outcome_fold::{Fold, Row};
@@ -14,11 +14,19 @@ use std::alloc::Global;
 use sub_number::NoMemory;
 use sub_text::counts_text;
 
+/// How tests are counted.
+#[derive(Clone, Copy, Debug, PartialEq, Eq)]
+pub struct Counting {
+    /// Without output of no test.
+    pub hidden: bool,
+}
+
 /// Counts the tests of a stream, and names the tags that were seen, at its end. Of a test that is complete one byte is
 /// kept.
 #[derive(Drop)]
 pub(crate) struct Stats {
     alloc: Global,
+    counting: Counting,
     fold: Fold,
     tally: Tally,
 }
@@ -28,12 +36,14 @@ impl Stats {
     ghost use Rattle.outcome_fold.specs.Folded.{HasSeen};
 
     /// The counts of nothing yet.
-    pub(crate) fn new(alloc: Global) -> Self
+    pub(crate) fn new(alloc: Global, counting: Counting) -> Self
+        ensures counting { result.counting ≡ counting }
         ensures fold { HasSeen result.fold [] }
         ensures tally { HasTallied result.tally [] }
     {
         Stats {
             alloc,
+            counting,
             fold: Fold::new(alloc),
             tally: Tally::new(alloc),
         }
@@ -46,25 +56,27 @@ impl NoteFilter for Stats {
     ghost use Rattle.filter_cli.specs.Events.{events_in};
     ghost use Rattle.filter_cli.specs.Stats.{stats_plan};
 
-    ghost plan = { λ f. stats_plan };
+    ghost plan = { λ f. stats_plan f.counting };
 
     ghost has = { λ f notes. HasSeen f.fold (events_in notes) × HasTallied f.tally (completed_rows (events_in notes)) };
 
     #[inline(always)]
-    fn take(&mut self, packet: &Packet<'_>, _text: &mut Vec<u8>) -> Result<(), NoMemory> {
+    fn take(&mut self, packet: &Packet<'_>, text: &mut Vec<u8>) -> Result<(), NoMemory> {
+        put_loose(self.counting.hidden, packet, text)?;
         let row = self.fold.hear(packet)?;
         count_row(&mut self.tally, &row)?;
         Ok(())
     }
 
     fn take_foreign(&mut self, bytes: &[u8], text: &mut Vec<u8>) -> Result<(), NoMemory> {
-        put_foreign(false, bytes, text)?;
+        put_foreign(self.counting.hidden, bytes, text)?;
         Ok(())
     }
 
     fn close(self, text: &mut Vec<u8>) -> Result<u8, NoMemory> {
         let Stats {
             alloc,
+            counting: _counting,
             fold,
             mut tally,
         } = self;

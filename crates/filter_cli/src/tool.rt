@@ -110,9 +110,9 @@ impl OptionTable for Tool {
             Tool::Filter => filter_kind(name),
             Tool::Ls => ls_kind(name),
             Tool::ToCsv => csv_kind(name),
-            Tool::ToJunit => junit_kind(name),
+            Tool::Stats | Tool::ToJunit => hiding_kind(name),
             Tool::Trace => trace_kind(name),
-            Tool::Tags | Tool::Stats | Tool::FromTap | Tool::ToTap | Tool::Output => None,
+            Tool::Tags | Tool::FromTap | Tool::ToTap | Tool::Output => None,
             Tool::FromV1 | Tool::ToV1 => None,
         }
     }
@@ -174,9 +174,10 @@ fn csv_kind(name: &str) -> Option<Kind>
     None
 }
 
-// Its one flag changes nothing, since foreign bytes are dropped without it, too.
-fn junit_kind(name: &str) -> Option<Kind>
-    ensures { result ≡ tools.junit_kind name.now }
+// The one flag of `subunit-stats` and of `subunit2junitxml`. Of the second it changes nothing, since output of no test is
+// dropped without it, too.
+fn hiding_kind(name: &str) -> Option<Kind>
+    ensures { result ≡ tools.hiding_kind name.now }
 {
     if name == "--no-passthrough" {
         return Some(Kind::Flag);

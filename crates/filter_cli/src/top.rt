@@ -22,7 +22,7 @@ use crate::refusal::{Refusal, UsageFault};
 use crate::retagging::Retagging;
 use crate::selection::Selection;
 use crate::sifting::filter_stream;
-use crate::stats::Stats;
+use crate::stats::{Counting, Stats};
 use crate::subunit_to_junit::SubunitToJunit;
 use crate::subunit_to_tap::SubunitToTap;
 use crate::subunit_to_v1::SubunitToV1;
@@ -121,7 +121,7 @@ fn pass_input<I: Source, O: Sink>(
         Asked::Filter(selection) => filter_tests(alloc, selection, input, out),
         Asked::Tags(retagging) => retag(alloc, retagging, input, out),
         Asked::Ls(listing) => list(alloc, listing, input, out),
-        Asked::Stats => count(alloc, input, out),
+        Asked::Stats(counting) => count(alloc, counting, input, out),
         Asked::FromTap => read_tap(alloc, input, out),
         Asked::ToTap => write_tap(alloc, input, out),
         Asked::ToCsv(selection) => export(alloc, selection, input, out),
@@ -176,10 +176,15 @@ fn list<I: Source, O: Sink>(
 }
 
 // `subunit-stats`
-fn count<I: Source, O: Sink>(alloc: Global, input: &mut I, out: &mut O) -> Result<u8, Refusal>
-    ensures { Checked wanted.Stats (pipe (I.seen input.old) (O.seen out.old)) (pipe (I.seen input.new) (O.seen out.new)) result }
+fn count<I: Source, O: Sink>(
+    alloc: Global,
+    counting: Counting,
+    input: &mut I,
+    out: &mut O,
+) -> Result<u8, Refusal>
+    ensures { Checked (wanted.Stats counting) (pipe (I.seen input.old) (O.seen out.old)) (pipe (I.seen input.new) (O.seen out.new)) result }
 {
-    let status = pass_notes(alloc, Stats::new(alloc), input, out)?;
+    let status = pass_notes(alloc, Stats::new(alloc, counting), input, out)?;
     Ok(status)
 }
 

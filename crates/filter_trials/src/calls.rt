@@ -1,5 +1,6 @@
 // Calls of a filter by its words, over streams in memory.
 
+use crate::sources::source;
 use edge_io::{ListSink, ListSource, MapSite, Site};
 use filter_cli::filters;
 use std::alloc::Global;
@@ -12,13 +13,6 @@ fn owned(alloc: Global, words: &[&str]) -> Option<Vec<String>> {
         owned.push(word.to_string(alloc).ok()?).ok()?;
     }
     Some(owned)
-}
-
-// The stream, of which a read gives 13 bytes, and these reads fail.
-pub fn source(alloc: Global, stream: &[u8], fails: &[u64]) -> Option<ListSource> {
-    let fails = fails.to_vec(alloc).ok()?;
-    let stream = Bytes::new(alloc, stream).ok()?;
-    Some(ListSource::new(stream, 13, fails))
 }
 
 pub fn are_texts(out: &ListSink, err: &ListSink, text: &[u8], line: &[u8]) -> bool {

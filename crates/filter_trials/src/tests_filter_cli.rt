@@ -1,6 +1,7 @@
 //! Filters as command lines, over streams in memory.
 
-use crate::calls::{Done, Faults, Left, NO_FAULT, are_texts, does, gives, ran, source, status_of};
+use crate::calls::{Done, Faults, Left, NO_FAULT, are_texts, does, gives, ran, status_of};
+use crate::sources::source;
 use edge_io::{ListSink, ListSource};
 use std::alloc::Global;
 use sub_number::Bytes;
@@ -150,13 +151,18 @@ fn tests_are_listed_and_counted(rt: HostRuntime) {
 }
 
 // Words, the line that refuses them, and the status.
-const REFUSED: [(&[&str], &[u8], u8); 6] = [
+const REFUSED: [(&[&str], &[u8], u8); 7] = [
     (
         &["subunit-filter", "--success", "x", "y"],
         b"subunit-filter: wrong usage\n",
         2,
     ),
     (&["subunit-tags", "-"], b"subunit-tags: wrong usage\n", 2),
+    (
+        &["subunit-stats", "--times"],
+        b"subunit-stats: wrong usage\n",
+        2,
+    ),
     (
         &["subunit-tags", "a", ""],
         b"subunit-tags: wrong usage\n",

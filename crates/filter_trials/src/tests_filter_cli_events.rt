@@ -1,6 +1,6 @@
 //! Filters that write events, over streams in memory.
 
-use crate::calls::source;
+use crate::sources::source;
 use edge_io::{ListSink, ListSource};
 use event_sift::{Rules, Tagger};
 use filter_cli::{PumpFault, filter_stream, tag_stream};

@@ -1,6 +1,7 @@
 //! Lines of the tests of a stream as they complete, and totals, as a command line.
 
-use crate::calls::{Faults, NO_FAULT, ran, source, status_of};
+use crate::calls::{Faults, NO_FAULT, ran, status_of};
+use crate::sources::source;
 use edge_io::ListSink;
 use std::alloc::Global;
 

@@ -2,9 +2,10 @@
 //! words. No program uses it.
 //!
 //! They use the public names of the rooms alone, and stand above them, so that the proofs of a room are not made once more for
-//! its tests. Each file has the room in its name.
+//! its tests. Each file has the room in its name. `rows` has what some of them are made with.
 #![tactic(auto)]
 
+pub mod rows;
 #[cfg(test)]
 mod tests_event_sift;
 #[cfg(test)]

@@ -1,26 +1,15 @@
 //! Texts of small runs, as they are printed.
 
+use crate::rows::row;
 use outcome_fold::{Ended, Row, Rows};
 use packet_codec::Tags;
 use std::alloc::Global;
 use std::test::Fail;
-use sub_number::{Bytes, IdList, Text};
+use sub_number::{IdList, Text};
 use sub_text::{
     failing_text, failure_parts, ls_line, report_text, seconds_text, slowest_text, stats_text,
     summary_text,
 };
-
-fn row(alloc: Global, id: &[u8], ended: Ended, nanos: Option<u64>, text: &[u8]) -> Option<Row> {
-    Some(Row {
-        id: Text::new(alloc, id).ok()?,
-        route: None,
-        ended,
-        tags: Tags::new(alloc),
-        nanos,
-        text: Bytes::new(alloc, text).ok()?,
-        reason: Bytes::from_vec(Vec::new(alloc)),
-    })
-}
 
 // The row under the route.
 fn under(alloc: Global, route: &[u8], mut row: Row) -> Option<Row> {

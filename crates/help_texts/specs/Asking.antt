@@ -8,9 +8,9 @@ use Rattle.std.specs.declared.alloc.Global.{Global}
 abbrev pub texts : List (String Global) → List (List ℕ)
 texts words = map string_bytes words
 
--- the face that has commands
-abbrev pub testr_face : List ℕ
-testr_face = codes "testr"
+-- the face has commands
+abbrev pub has_commands : List ℕ → Bool
+has_commands face = bytes_eq face (codes "testr") || bytes_eq face (codes "stestr")
 
 -- the word behind a face or a command that asks for its text
 abbrev pub help_word : List ℕ
@@ -41,7 +41,7 @@ filters =
 abbrev pub is_one_of : List (List ℕ) → List ℕ → Bool
 is_one_of names word = list_any (bytes_eq word) names
 
--- what stands alone behind `testr` and asks for a text
+-- what stands alone behind such a face and asks for a text
 abbrev pub asks_of_program : List ℕ → Bool
 asks_of_program word = bytes_eq word help_word || bytes_eq word version_word
 
@@ -51,11 +51,15 @@ asks_of_filter face word = bytes_eq word help_word || (bytes_eq word short_help_
 
 -- a face and one word ask for a text
 abbrev pub asks_by_two : List ℕ → List ℕ → Bool
-asks_by_two face word = if bytes_eq face testr_face then asks_of_program word else is_one_of filters face && asks_of_filter face word
+asks_by_two face word = if has_commands face then asks_of_program word else is_one_of filters face && asks_of_filter face word
+
+-- the word is a command of the face that has a text; to `stestr`, `list` is one more name of `list-tests`
+abbrev pub is_command : List ℕ → List ℕ → Bool
+is_command face word = (bytes_eq face (codes "stestr") && bytes_eq word (codes "list")) || is_one_of commands word
 
 -- a face, a command and one word ask for a text
 abbrev pub asks_by_three : List ℕ → List ℕ → List ℕ → Bool
-asks_by_three face command word = bytes_eq face testr_face && (is_one_of commands command && bytes_eq word help_word)
+asks_by_three face command word = has_commands face && (is_command face command && bytes_eq word help_word)
 
 -- The words ask for a text, which is printed in place of all else that they might mean. There are two words or three.
 abbrev pub asks : List (List ℕ) → Bool

@@ -1,7 +1,7 @@
 -- Which words name the folder to work in, and which are handed on (docs/COMMANDS.md, "The folder to work in").
 use Rattle.std.specs.Prelude.{ℕ, Option, Some, None, List, [], ◌∷◌, codes, if◌then◌else◌}
 use Rattle.std.specs.Str.{bytes_eq}
-use Rattle.help_texts.specs.Asking.{testr_face}
+use Rattle.help_texts.specs.Asking.{has_commands}
 
 -- the option whose value is the folder
 abbrev pub folder_word : List ℕ
@@ -30,12 +30,12 @@ folder_behind found (word ∷ value ∷ words) =
     else (if bytes_eq word folder_word then folder_behind (Some value) words
     else folder_behind found (value ∷ words))
 
--- The words that are handed on. `testr` alone has the option.
+-- The words that are handed on. The faces that have commands have the option.
 abbrev pub kept_words : List (List ℕ) → List (List ℕ)
 kept_words [] = []
-kept_words (face ∷ words) = if bytes_eq face testr_face then face ∷ handed_on words else face ∷ words
+kept_words (face ∷ words) = if has_commands face then face ∷ handed_on words else face ∷ words
 
 -- the folder that the words name, where they name one
 abbrev pub named_folder : List (List ℕ) → Option (List ℕ)
 named_folder [] = None
-named_folder (face ∷ words) = if bytes_eq face testr_face then folder_behind None words else None
+named_folder (face ∷ words) = if has_commands face then folder_behind None words else None

@@ -4,12 +4,12 @@ use Rattle.std.specs.Str.{bytes_eq}
 use Rattle.help_texts.specs.declared.folder_words.Turn.{Turn}
 use Rattle.help_texts.specs.declared.folder_words.Turn.TheVariants.{Face, Any, Value, Plain}
 use Rattle.help_texts.specs.declared.folder_words.Parting.{Parting}
-use Rattle.help_texts.specs.Asking.{texts, testr_face}
+use Rattle.help_texts.specs.Asking.{texts, has_commands}
 use Rattle.help_texts.specs.Folder.{folder_word, end_word, handed_on, folder_behind, kept_words}
 
 -- what may come behind a word that is handed on
 abbrev pub turn_behind : Turn → List ℕ → Turn
-turn_behind Face word = if bytes_eq word testr_face then Any else Plain
+turn_behind Face word = if has_commands word then Any else Plain
 turn_behind Any word = if bytes_eq word end_word then Plain else Any
 turn_behind Value word = Plain
 turn_behind Plain word = Plain
@@ -24,7 +24,7 @@ kept_from Plain words = words
 -- the folder that words name from the face on, or the one that was found before them
 abbrev pub folder_in : Option (List ℕ) → List (List ℕ) → Option (List ℕ)
 folder_in found [] = found
-folder_in found (face ∷ words) = if bytes_eq face testr_face then folder_behind found words else found
+folder_in found (face ∷ words) = if has_commands face then folder_behind found words else found
 
 -- the folder that the words name which are left, or the one that was found before them
 abbrev pub folder_from : Turn → Option (List ℕ) → List (List ℕ) → Option (List ℕ)

@@ -33,7 +33,7 @@ Which tests are kept by how they ended:
   --no-skip                  leaves out those that were skipped
   --xfail, --no-xfail        those that failed as expected; at first they are kept
   -F, --only-genuine-failures
-                             leaves out those that passed, were skipped or failed as expected, and other bytes
+                             leaves out those that passed, were skipped or failed as expected, and output of no test
   -e, --no-error             changes nothing: a stream tells of no errors beside failures
 Of these tests only those:
   --with-tag=TAG             that have this tag; where it is repeated, each of the tags
@@ -42,7 +42,7 @@ Of these tests only those:
                              in whose id the pattern is found; where it is repeated, one of the patterns
   --without-id=PATTERN       in whose id the pattern is not found; where it is repeated, none of the patterns
 And:
-  --no-passthrough           leaves out bytes that are no events
+  --no-passthrough           leaves out output of no test: other bytes, and events with a file and no id
 Options are taken from left to right, and the last one stands. A value may also be the next word. A pattern is a regular
 expression, which may match anywhere in the id.
 Statuses: 2 wrong usage, 3 a bad pattern or a missing file, 4 a fault of the outside, 5 out of memory.
@@ -64,19 +64,21 @@ Example: subunit-tags worker-0 -slow -- stream
 const LS: &str = "\
 usage: subunit-ls [OPTION..] [FILE]
 Reads a Subunit v2 stream from standard input, or this file, and prints the id of each test as it ends, and at the end of
-those that did not. Other bytes pass on as they are. Status 0 where no test failed, 1 where one did.
+those that did not. Other bytes, and files without an id, pass on as they are. Status 0 where no test failed, 1 where one
+did.
   --times             prints behind the id how many seconds the test took, where that is known
   --exists            prints also the tests that are only said to exist
-  --no-passthrough    leaves out bytes that are no events
+  --no-passthrough    leaves out other bytes, and files without an id
 Statuses: 2 wrong usage, 3 a missing file, 4 a fault of the outside, 5 out of memory.
 Example: subunit-ls --times stream
 ";
 
 const STATS: &str = "\
-usage: subunit-stats [FILE]
+usage: subunit-stats [--no-passthrough] [FILE]
 Reads a Subunit v2 stream from standard input, or this file, and prints at its end how many tests there were, how many of
-them passed, failed and were skipped, and their tags. Other bytes pass on as they are. Status 0 where no test failed, 1
-where one did.
+them passed, failed and were skipped, and their tags. Other bytes, and files without an id, pass on as they are.
+Status 0 where no test failed, 1 where one did.
+  --no-passthrough    leaves out other bytes, and files without an id
 Statuses: 2 wrong usage, 3 a missing file, 4 a fault of the outside, 5 out of memory.
 Example: subunit-stats stream
 ";

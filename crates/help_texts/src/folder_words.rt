@@ -5,6 +5,7 @@ ghost use Rattle.help_texts.specs.Asking.{texts};
 ghost use Rattle.help_texts.specs.Folder.{kept_words, named_folder};
 ghost use Rattle.help_texts.specs.Parting.{turn_behind, kept_with, folder_with};
 
+use crate::testr_help::has_commands;
 use std::alloc::{AllocError, Global};
 
 /// Words, and the folder that was named beside them.
@@ -16,7 +17,7 @@ pub struct Parted {
     pub folder: Option<String>,
 }
 
-/// Takes each `-d` and its value out of the words of `testr`, up to a word `--`. The value of the last one is the folder.
+/// Takes each `-d` and its value out of the words of `testr` or `stestr`, up to a word `--`. The value of the last one is the folder.
 /// The words of another face stay as they are.
 pub fn part_words(alloc: Global, words: &[String]) -> Result<Parted, AllocError>
     ensures words { IfOk result (λ parted. texts parted.words.items ≡ kept_words (texts words.now)) }
@@ -117,7 +118,7 @@ fn behind(turn: Turn, word: &str) -> Turn
     ensures { result ≡ turn_behind turn word.now }
 {
     match turn {
-        Turn::Face if word == "testr" => Turn::Any,
+        Turn::Face if has_commands(word) => Turn::Any,
         Turn::Any if word != "--" => Turn::Any,
         _ => Turn::Plain,
     }

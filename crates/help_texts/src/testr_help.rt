@@ -1,11 +1,11 @@
 // What the program tells of itself.
 ghost use Rattle.std.specs.Prelude.{◌≡◌, is_some};
-ghost use Rattle.help_texts.specs.Asking.{asks_of_filter, texts, asks, asks_by_two, asks_by_three, asks_of_program, is_one_of, commands};
+ghost use Rattle.help_texts.specs.Asking.{asks_of_filter, texts, asks, asks_by_two, asks_by_three, asks_of_program, is_one_of, is_command, commands, has_commands as has_these_commands};
 
 use crate::filter_help::of_filter;
 
 /// The text that these words ask for, where they are `testr --help`, `testr --version`, a command of `testr` and `--help`,
-/// or a filter and `--help` or `-h`. Of `subunit-tags`, `-h` removes a tag.
+/// the same of `stestr`, or a filter and `--help` or `-h`. Of `subunit-tags`, `-h` removes a tag.
 pub fn help(words: &[String]) -> Option<&'static str>
     ensures asked { is_some result ≡ asks (texts words.now) }
 {
@@ -18,11 +18,18 @@ pub fn help(words: &[String]) -> Option<&'static str>
     }
 }
 
+// Whether it is the name of a face that has commands.
+pub(crate) fn has_commands(face: &str) -> bool
+    ensures { result ≡ has_these_commands face.now }
+{
+    face == "testr" || face == "stestr"
+}
+
 // The same of a face and one word.
 fn by_two(face: &str, word: &str) -> Option<&'static str>
     ensures { is_some result ≡ asks_by_two face.now word.now }
 {
-    if face == "testr" {
+    if has_commands(face) {
         of_program(word)
     } else if asks_filter(face, word) {
         of_filter(face)
@@ -42,10 +49,21 @@ fn asks_filter(face: &str, word: &str) -> bool
 fn by_three(face: &str, command: &str, word: &str) -> Option<&'static str>
     ensures { is_some result ≡ asks_by_three face.now command.now word.now }
 {
-    if face == "testr" && word == "--help" {
-        of_command(command)
+    if has_commands(face) && word == "--help" {
+        of_command_by(face, command)
     } else {
         None
+    }
+}
+
+// The text of a command by the name that this face has for it.
+fn of_command_by(face: &str, command: &str) -> Option<&'static str>
+    ensures { is_some result ≡ is_command face.now command.now }
+{
+    if face == "stestr" && command == "list" {
+        Some(LIST_TESTS)
+    } else {
+        of_command(command)
     }
 }
 
@@ -83,13 +101,14 @@ usage: testr [-d DIR] COMMAND [OPTION]
 Keeps test results as numbered runs in the folder .testrepository of the current folder, or of the folder DIR.
 
   testr init                makes a repository
-  testr load [--partial] [FILE ..]
+  testr load [OPTION..] [FILE ..]
                             reads a Subunit v2 stream from standard input, or these files, and keeps it as the next run
   testr run [OPTION..] [PATTERN..]
-                            runs the tests of the project, as .testr.conf says, and keeps what they print as the next run
-  testr list-tests [PATTERN..]
+                            runs the tests of the project, as its configuration says, and keeps what they print as the next run
+  testr list-tests [OPTION..] [PATTERN..]
                             prints the ids of the tests of the project
-  testr last [--subunit]    prints the report of the last run, or the run itself
+  testr last [--skips | --subunit]
+                            prints the report of the last run, or the run itself
   testr failing [--list]    prints the tests that fail by all runs, or their ids alone
   testr slowest [--all]     prints the slowest ten tests of the last run, or all
   testr stats               prints how many runs there are
@@ -108,41 +127,59 @@ Example: testr init
 ";
 
 const LOAD: &str = "\
-usage: testr load [--partial] [FILE ..]
+usage: testr load [--partial] [--force-init] [-q] [FILE ..]
 Reads a Subunit v2 stream from standard input, keeps it as the next run, and prints its report. Status 0 where no test
 failed, 1 where one did.
   --partial    the run is marked as one of a part of the tests
+  --force-init makes a repository first where there is none
+  -q, --quiet  prints no report; the status says whether a test failed
   FILE ..      reads these files in place of standard input, at most 64, one after another, as one run; what is kept of
                the first is under the route 0, of the next one under 1, and so on
 Example: testr load < stream
 ";
 
 const RUN: &str = "\
-usage: testr run [--partial] [--failing] [--parallel] [--concurrency=N] [--load-list=FILE] [--find-causes] [PATTERN..]
-Runs the tests of the project, as the file .testr.conf of the current folder says, keeps what they print as the next run,
-and prints its report. Status 0 where no test failed, 1 where one did.
-  --partial         the run is marked as one of a part of the tests; so it is with --failing, --load-list and a PATTERN
+usage: testr run [OPTION..] [PATTERN..] [-- WORD..]
+Runs the tests of the project, as the file .testr.conf, .stestr.conf or pyproject.toml of the current folder says, keeps
+what they print as the next run, and prints its report. Status 0 where no test failed, 1 where one did.
+  --partial         the run is marked as one of a part of the tests; so it is with each option or PATTERN that chooses tests
   --failing         only tests that fail by all runs
   --load-list=FILE  only tests whose ids the file lists, one a line
   PATTERN..         only tests in whose ids one of these regular expressions is found
-  --parallel        in several workers at once
-  --concurrency=N   in N workers, at most 64; without it, or with 0, as test_run_concurrency says, or as many as processors
+  --include-list=FILE
+                    the file has more of these, one a line; what stands behind a # is a comment
+  --exclude-regex=PATTERN
+                    without the tests in whose ids this one is found; it may be repeated
+  --exclude-list=FILE
+                    the file has more of these
+  --parallel        in several workers at once; behind stestr it stands, and --serial takes it away
+  --concurrency=N   in N workers, at most 64; without it, or with 0, as test_run_concurrency says, or as many as processors;
+                    a line on standard error tells where N is more
+  --force-init      makes a repository first where there is none
+  --test-path=P, --top-dir=D, --group-regex=PATTERN
+                    stand before these settings of stestr, the last one before that of any project
+  -- WORD..         puts these words behind the command of each worker
   --find-causes     behind the report, looks for the test that makes each failing one fail, by runs of some of the tests
+  -q, --quiet       prints no report, and nothing behind it; the status says whether a test failed
 Example: testr run --parallel
 ";
 
 const LIST_TESTS: &str = "\
-usage: testr list-tests [PATTERN..]
-Prints the ids of the tests of the project, as the file .testr.conf of the current folder has them listed. Status 0.
+usage: testr list-tests [--exclude-regex=PATTERN ..] [--exclude-list=FILE] [--include-list=FILE] [--test-path=P]
+                        [--top-dir=D] [PATTERN..]
+Prints the ids of the tests of the project, as the configuration in the current folder has them listed. Status 0.
 It needs no repository.
   PATTERN..    only ids in which one of these regular expressions is found
+  The options choose ids and leave ids out, as those of testr run do with tests.
 Example: testr list-tests '^core'
 ";
 
 const LAST: &str = "\
-usage: testr last [--subunit]
+usage: testr last [--skips | --subunit] [-q]
 Prints the report of the last run. Status 0 where no test of it failed, 1 where one did.
+  --skips      prints behind it why tests were skipped, and how many for each reason
   --subunit    prints the last run itself, a stream of packets; status 0
+  -q, --quiet  prints no report; the status says whether a test of it failed
 Example: testr last
 ";
 

@@ -1,6 +1,7 @@
 //! Cases of each end, and whole documents.
 
-use crate::written::{Told, is_case, put_case, row};
+use crate::rows::{Told, row};
+use crate::written::{is_case, put_case};
 use junit_xml::{junit_head, junit_tail, junit_text};
 use outcome_fold::{Counts, Ended, Row, Rows};
 use std::alloc::Global;

@@ -1,6 +1,7 @@
 //! Ids that look like markup, and characters that XML cannot say. An id is a text, so it has no NUL and is UTF-8.
 
-use crate::written::{Told, is_case};
+use crate::rows::Told;
+use crate::written::is_case;
 use outcome_fold::Ended;
 
 // A row, and its case.

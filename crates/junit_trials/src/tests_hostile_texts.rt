@@ -1,6 +1,7 @@
 //! Texts of tests that look like markup, and bytes that are no UTF-8.
 
-use crate::written::{Told, put_case};
+use crate::rows::Told;
+use crate::written::put_case;
 use outcome_fold::Ended;
 use std::alloc::Global;
 

@@ -1,3 +1,4 @@
+use crate::patterns::nested;
 use partition_times::{Filters, Groups, PatternFault, partition, pick};
 use std::alloc::Global;
 use std::process::Abort;
@@ -180,26 +181,6 @@ fn picks(alloc: Global, filters: &Filters, ids: &[&str], wanted: &str) -> Result
 fn are_picked(alloc: Global, patterns: &[&str], ids: &[&str], wanted: &str) -> Result<bool, Fail> {
     let filters = filters_of(alloc, patterns)?;
     Ok(picks(alloc, &filters, ids, wanted)? && filters.is_empty() == patterns.is_empty())
-}
-
-fn push_bytes(bytes: &mut Vec<u8>, byte: u8, count: usize) -> Result<(), Fail> {
-    for _ in 0..count {
-        bytes.push(byte).ok().ok_or("no memory")?;
-    }
-    Ok(())
-}
-
-fn push_nested(bytes: &mut Vec<u8>, depth: usize) -> Result<(), Fail> {
-    push_bytes(bytes, b'(', depth)?;
-    push_bytes(bytes, b'a', 1)?;
-    push_bytes(bytes, b')', depth)
-}
-
-// An `a` in so many brackets.
-fn nested(alloc: Global, depth: usize) -> Result<Text, Fail> {
-    let mut bytes = Vec::new(alloc);
-    push_nested(&mut bytes, depth)?;
-    Ok(Text::new(alloc, &bytes)?)
 }
 
 fn is_found(alloc: Global, filters: &Filters, text: &[u8]) -> Result<Option<bool>, Fail> {

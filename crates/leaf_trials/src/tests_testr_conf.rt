@@ -5,7 +5,7 @@ ghost use Rattle.std.specs.Prelude.{◌<◌};
 use edge_io::Job;
 use std::alloc::Global;
 use sub_number::{IdList, Text};
-use testr_conf::{Conf, ConfFault, IdsFault, JobFault, Key, read_ids};
+use testr_conf::{Conf, ConfFault, IdsFault, JobFault, Key, MachineKey, read_ids};
 
 const LISTED: &[u8] = b"[DEFAULT]\ntest_command=run $LISTOPT\ntest_list_option=--list\n";
 
@@ -13,6 +13,9 @@ const NOT_LISTED: &[u8] = b"[DEFAULT]\ntest_command=run $LISTOPT\n";
 
 const WHOLE: &[u8] =
     b"[DEFAULT]\ntest_command=OS_STDOUT_CAPTURE=${OS_STDOUT_CAPTURE:-1} \\\n             ${PYTHON:-python} -m subunit.run discover -t ./ . $LISTOPT $IDOPTION\ntest_id_option=--load-list $IDFILE\ntest_list_option=--list\n";
+
+const IN_FOLDER: &[u8] =
+    b"[DEFAULT]\ntest_command=cd src && run $IDOPTION $IDFILE\ntest_id_option=--load-list $IDFILE\n";
 
 const KEYS: &[u8] = b"# what runs\n\nOther: x\n";
 
@@ -133,6 +136,56 @@ fn the_two_jobs_of_a_small_configuration(rt: HostRuntime) {
     assert_eq!(rt; runs_all(alloc, LISTED, b"run "), Some(true));
 }
 
+#[test]
+fn a_listing_has_the_list_of_ids_that_is_set(rt: HostRuntime) {
+    let text =
+        b"[DEFAULT]\ntest_command=run $LISTOPT $IDLIST\ntest_list_option=-l\ntest_id_list_default=all\n";
+    assert_eq!(rt; lists(rt.alloc(), text, b"run -l all"), Some(true));
+}
+
+// Whether this is the command of the one id `a` on lane 3, where the project stands in this folder.
+fn runs_in(alloc: Global, folder: &str, command: &[u8]) -> Option<bool> {
+    let conf = read(alloc, IN_FOLDER)?;
+    let conf = conf.stand_in(String::from_str(alloc, folder).ok()?);
+    let ids = ids_of(alloc, b"a", b"")?;
+    run_is(
+        alloc,
+        &conf,
+        Some(&ids),
+        3,
+        command,
+        b".testr-ids.3",
+        b"a\n",
+    )
+}
+
+const FOLDERS: [(&str, &[u8]); 5] = [
+    (
+        "/srv/A-z_0.9+@%,:=",
+        b"cd src && run --load-list /srv/A-z_0.9+@%,:=/.testr-ids.3 /srv/A-z_0.9+@%,:=/.testr-ids.3",
+    ),
+    (
+        "/srv/a b",
+        b"cd src && run --load-list .testr-ids.3 .testr-ids.3",
+    ),
+    (
+        "/srv/a$b",
+        b"cd src && run --load-list .testr-ids.3 .testr-ids.3",
+    ),
+    (
+        "/srv/\u{e4}",
+        b"cd src && run --load-list .testr-ids.3 .testr-ids.3",
+    ),
+    ("", b"cd src && run --load-list .testr-ids.3 .testr-ids.3"),
+];
+
+#[test]
+fn a_file_of_ids_has_the_path_of_a_plain_folder(rt: HostRuntime) {
+    for &(folder, command) in &FOLDERS {
+        assert_eq!(rt; runs_in(rt.alloc(), folder, command), Some(true));
+    }
+}
+
 fn refusal(alloc: Global, text: &[u8]) -> Option<JobFault> {
     let conf = read(alloc, text)?;
     conf.list_job(alloc).err()
@@ -144,9 +197,11 @@ fn a_listing_needs_its_option(rt: HostRuntime) {
     assert_eq!(rt; refusal(rt.alloc(), NOT_LISTED), refused);
 }
 
-const REFUSED: [(&[u8], ConfFault); 10] = [
+const REFUSED: [(&[u8], ConfFault); 15] = [
     (b"x=1", ConfFault::NoSection(1)),
     (b"[DEFAULT]\n  y", ConfFault::BadLine(2)),
+    (b"  x=1\n", ConfFault::NoSection(1)),
+    (b"[DEFAULT]\nx=1\n[a]\n  y", ConfFault::BadLine(4)),
     (
         b"[DEFAULT]\ntest_command=a\nTest_Command=b\nx",
         ConfFault::Repeated(3),
@@ -158,6 +213,18 @@ const REFUSED: [(&[u8], ConfFault); 10] = [
     (b"[a] b\n", ConfFault::BadLine(1)),
     (b"[a]\n: b\n", ConfFault::BadLine(2)),
     (KEYS, ConfFault::NoSection(3)),
+    (
+        b"[DEFAULT]\ninstance_provision=make $INSTANCE_COUNT\nx",
+        ConfFault::NotKnown(MachineKey::Provision),
+    ),
+    (
+        b"[DEFAULT]\ntest_command=a\nInstance_Execute :\n",
+        ConfFault::NotKnown(MachineKey::Execute),
+    ),
+    (
+        b"[other]\ninstance_execute=x\n[DEFAULT]\ninstance_dispose=x",
+        ConfFault::NotKnown(MachineKey::Dispose),
+    ),
 ];
 
 #[test]
@@ -238,6 +305,17 @@ fn settings_go_on_and_comments_do_not_end_them(rt: HostRuntime) {
     assert_eq!(rt; tag_is(alloc, MANY, 3, b""), None);
     assert_eq!(rt; counts(alloc, LISTED, b""), None);
     assert_eq!(rt; groups_by(alloc, LISTED, b""), None);
+}
+
+// All is indented, and what is deeper goes on.
+const INDENTED: &[u8] =
+    b"[DEFAULT]\n  test_command=a $IDLIST\n    b\n   = c\n\n  test_id_list_default: d\n\ttest_run_concurrency = echo 2\n";
+
+#[test]
+fn settings_may_be_indented(rt: HostRuntime) {
+    let alloc = rt.alloc();
+    assert_eq!(rt; runs_all(alloc, INDENTED, b"a d\nb\n= c"), Some(true));
+    assert_eq!(rt; counts(alloc, INDENTED, b"echo 2"), Some(true));
 }
 
 #[test]

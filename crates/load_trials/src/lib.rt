@@ -2,9 +2,10 @@
 //! program uses it.
 //!
 //! They use the public names of the program alone, and stand above it, so that the proofs of its crate are not made once
-//! more for them.
+//! more for them. `runs` has what some of them are made with.
 #![tactic(auto)]
 
+pub mod runs;
 #[cfg(test)]
 mod tests_ask;
 #[cfg(test)]
@@ -12,7 +13,11 @@ mod tests_copying;
 #[cfg(test)]
 mod tests_files;
 #[cfg(test)]
+mod tests_force;
+#[cfg(test)]
 mod tests_load;
+#[cfg(test)]
+mod tests_options;
 #[cfg(test)]
 mod tests_program;
 #[cfg(test)]

@@ -24,6 +24,16 @@ const A_PASSED_C_FAILED: &[u8] =
 const TIMED: &[u8] =
     b"\xb3\x2b\x02\x0f\x00\x00\x00\x64\x00\x01\x62\xe3\x66\x3a\x02\xb3\x2b\x03\x12\x00\x00\x00\x64\xe1\x9d\xf5\x00\x01\x62\xd0\xa4\x38\x36\xb3\x2b\x02\x0f\x00\x00\x00\x64\x00\x01\x61\x7a\x6f\x6b\xb8\xb3\x2b\x03\x11\x00\x00\x00\x65\x87\xa1\x20\x01\x61\x98\x4b\xbb\x31";
 
+// `a` and `c` were skipped, and `b` without a word: the file `reason` of `a` has two lines.
+const SKIPPED: &[u8] =
+    b"\xb3\x29\x45\x1e\x01\x61\x06\x72\x65\x61\x73\x6f\x6e\x0c\x6e\x6f\x20\x6e\x65\x74\x0a\x74\x6f\x64\x61\x79\x15\x4f\x45\xb3\xb3\x29\x05\x0a\x01\x62\x61\xa3\xc9\xdc\xb3\x29\x45\x18\x01\x63\x06\x72\x65\x61\x73\x6f\x6e\x06\x6e\x6f\x20\x6e\x65\x74\x24\xbc\x35\x42";
+
+// They are kept under lane 0.
+const SKIPPED_KEPT: &[u8] =
+    b"\xb3\x2d\x45\x20\x01\x61\x06\x72\x65\x61\x73\x6f\x6e\x0c\x6e\x6f\x20\x6e\x65\x74\x0a\x74\x6f\x64\x61\x79\x01\x30\x79\xed\xb3\xdf\xb3\x2d\x05\x0c\x01\x62\x01\x30\xca\x21\x53\x05\xb3\x2d\x45\x1a\x01\x63\x06\x72\x65\x61\x73\x6f\x6e\x06\x6e\x6f\x20\x6e\x65\x74\x01\x30\x8c\xaa\xdc\x40";
+
+const SKIPS: &[u8] = b"Ran 3 tests\nPASSED (id=0, skips=3)\nSKIP 2: no net\nSKIP 1: \n";
+
 const NO_RUNS: &[u8] = b"testr: no runs\n";
 
 const SLOWEST: &[u8] = b"     1.001  a\n     0.564  b\n";
@@ -49,8 +59,9 @@ fn asked<R: Threads + Wait + Sync + AllocGlobal>(
 }
 
 // What is told of a repository of one run, in which `foo` failed.
-const TOLD_OF_FAIL: [(&[&str], u8, &[u8]); 6] = [
+const TOLD_OF_FAIL: [(&[&str], u8, &[u8]); 7] = [
     (&["testr", "last"], 1, FAIL_REPORT),
+    (&["testr", "last", "--skips"], 1, FAIL_REPORT),
     (&["testr", "last", "--subunit"], 0, FAIL_KEPT),
     (&["testr", "failing"], 1, b"FAIL: foo\nfailures=1\n"),
     (&["testr", "failing", "--list"], 1, b"foo\n"),
@@ -84,6 +95,16 @@ fn a_repository_is_told_of(rt: HostRuntime) -> Result<(), Fail> {
     let mut shelf = repository(rt.alloc(), &[])?;
     load(&rt, &mut shelf, FAIL)?;
     tells_of_fail(&rt, &mut shelf)
+}
+
+#[test]
+fn each_reason_of_a_skip_is_told_and_the_most_frequent_first(rt: HostRuntime) -> Result<(), Fail> {
+    let mut shelf = repository(rt.alloc(), &[])?;
+    load(&rt, &mut shelf, SKIPPED)?;
+    assert!(rt; tells_alone(&rt, &mut shelf, &["testr", "last", "--skips"], 0, SKIPS)?);
+    let words = ["testr", "last", "--skips", "--subunit"];
+    assert!(rt; tells_alone(&rt, &mut shelf, &words, 0, SKIPPED_KEPT)?);
+    Ok(())
 }
 
 const TOLD_OF_NONE: [(&str, u8, &[u8], &[u8]); 4] = [

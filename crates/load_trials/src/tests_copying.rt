@@ -1,5 +1,6 @@
 //! `testr last --subunit` of a run of several pieces.
 
+use crate::runs::front;
 use edge_io::MemShelf;
 use std::alloc::Global;
 use std::process::Abort;
@@ -22,11 +23,6 @@ fn fill(run: &mut Vec<u8>) -> Result<(), Fail> {
         run.extend_from_slice(b"0123456789")?;
     }
     Ok(())
-}
-
-// Its first bytes, so many as there are.
-fn front(run: &[u8], size: usize) -> &[u8] {
-    &run[..size.min(run.len())]
 }
 
 // A repository of this run, whose folder fails at these calls.

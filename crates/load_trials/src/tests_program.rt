@@ -21,7 +21,7 @@ const NO_COMMANDS: [(&[&str], &[u8]); 14] = [
     (&["testr", "init", "--partial"], WRONG_USAGE),
     (&["testr", "testr"], WRONG_USAGE),
     (&["testr", "runn"], WRONG_USAGE),
-    (&["testr", "run", "--concurrency=65"], WRONG_USAGE),
+    (&["testr", "run", "--concurrency=064"], WRONG_USAGE),
     (&["testr", "run", "--concurrency=x"], WRONG_USAGE),
     (&["testr", ""], WRONG_USAGE),
     (&["testr"], WRONG_USAGE),

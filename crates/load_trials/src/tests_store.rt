@@ -10,7 +10,7 @@ use std::thread::Threads;
 use trial_calls::{
     FAIL, FAIL_KEPT, FOO, FOO_KEPT, NOTHING, PASSED_AS_0, PASSED_AS_1, SHELF_FAULT, Told, call,
     has_file, has_started, load, loads, project_of, put, repository, shows, source,
-    tells_and_leaves,
+    tells_and_leaves, tells_of,
 };
 
 const CONF: &[u8] = b"[DEFAULT]\ntest_command=run $LISTOPT\ntest_list_option=--list\n";
@@ -104,6 +104,48 @@ fn another_format_is_refused(rt: HostRuntime) -> Result<(), Fail> {
         let line = b"testr: unknown repository format\n";
         assert!(rt; refuses_load(&rt, &mut shelf, line, 1)?, "row {row}");
     }
+    Ok(())
+}
+
+const BASED: &[u8] = b"subunit-store 2\n";
+
+// A folder of three runs from before, the second of them empty, after which `foo` failed by a base of these bytes.
+fn begun_before(alloc: Global, base: &[u8]) -> Result<MemShelf, Fail> {
+    let mut shelf = of_format(alloc, BASED)?;
+    put(alloc, &mut shelf, b"base.set", base)?;
+    put(alloc, &mut shelf, b"0.part", FAIL_KEPT)?;
+    put(alloc, &mut shelf, b"1.part", NOTHING)?;
+    put(alloc, &mut shelf, b"2.part", FOO_KEPT)?;
+    Ok(shelf)
+}
+
+// Each command in turn, and what it tells.
+const BEHIND_A_BASE: [(&[&str], (u8, &[u8], &[u8])); 5] = [
+    (&["testr", "failing", "--list"], (1, b"foo\n", NOTHING)),
+    (
+        &["testr", "last"],
+        (0, b"Ran 1 tests\nPASSED (id=2)\n", NOTHING),
+    ),
+    (
+        &["testr", "load", "--partial"],
+        (0, b"Ran 1 tests\nPASSED (id=3)\n", NOTHING),
+    ),
+    (&["testr", "failing", "--list"], (0, NOTHING, NOTHING)),
+    (
+        &["testr", "load"],
+        (0, b"Ran 1 tests\nPASSED (id=4)\n", NOTHING),
+    ),
+];
+
+#[test]
+fn a_folder_with_a_base_goes_on(rt: HostRuntime) -> Result<(), Fail> {
+    let mut shelf = begun_before(rt.alloc(), b"subunit-base 1\n3\nfoo\0")?;
+    for &(words, wanted) in &BEHIND_A_BASE {
+        assert!(rt; tells_of(&rt, words, &mut shelf, FOO, 12, wanted)?);
+    }
+    let mut damaged = begun_before(rt.alloc(), b"subunit-base 1\n3\nfoo")?;
+    let line = b"testr: the base set is damaged\n";
+    assert!(rt; refuses_load(&rt, &mut damaged, line, 5)?);
     Ok(())
 }
 

@@ -78,11 +78,3 @@ pub fn check_cause(
     assert_eq!(rt; text.as_str(), line);
     Ok(())
 }
-
-// Whether these bytes stand in `whole` from this place on.
-pub fn begins(whole: &[u8], place: usize, bytes: &[u8]) -> bool {
-    match whole.get(place..place.saturating_add(bytes.len())) {
-        Some(part) => part == bytes,
-        None => false,
-    }
-}

@@ -2,11 +2,12 @@
 //! program uses it.
 //!
 //! They use the public names of the rooms alone, and stand above them, so that the proofs of a room are not made once more for
-//! its tests. Each file has the room in its name. `homes` and `shelves` have what they share.
+//! its tests. Each file has the room in its name. `homes`, `parts` and `shelves` have what they share.
 #![tactic(auto)]
 
 #[cfg(test)]
 mod homes;
+pub mod parts;
 #[cfg(test)]
 mod shelves;
 #[cfg(test)]

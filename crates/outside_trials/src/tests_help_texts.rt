@@ -43,6 +43,10 @@ fn check_testr(rt: &impl Abort, host: &HostRuntime) -> io::Result<()> {
     assert!(rt; has_help(host, &["testr", "--version"])?);
     assert!(rt; !has_help(host, &["testr"])?);
     assert!(rt; !has_help(host, &["testr", "other", "--help"])?);
+    assert!(rt; has_help(host, &["stestr", "--help"])?);
+    assert!(rt; has_help(host, &["stestr", "run", "--help"])?);
+    assert!(rt; has_help(host, &["stestr", "list", "--help"])?);
+    assert!(rt; !has_help(host, &["testr", "list", "--help"])?);
     Ok(())
 }
 
@@ -89,7 +93,7 @@ fn each_filter_has_help(rt: HostRuntime) -> Result<(), Fail> {
 }
 
 // Words, those of them that are handed on, and the folder that they name.
-const PARTED: [(&[&str], &[&str], Option<&str>); 10] = [
+const PARTED: [(&[&str], &[&str], Option<&str>); 11] = [
     (&[], &[], None),
     (&["testr", "last"], &["testr", "last"], None),
     (&["testr", "-d", "x", "last"], &["testr", "last"], Some("x")),
@@ -113,6 +117,11 @@ const PARTED: [(&[&str], &[&str], Option<&str>); 10] = [
         &["testr", "run", "--", "-d", "x"],
         &["testr", "run", "--", "-d", "x"],
         None,
+    ),
+    (
+        &["stestr", "-d", "x", "list"],
+        &["stestr", "list"],
+        Some("x"),
     ),
     (&["testr", "-d=x", "-dx"], &["testr", "-d=x", "-dx"], None),
     (

@@ -1,6 +1,7 @@
 // What no clause says of the programs that are started: which calls of the system are made.
 
-use crate::homes::{begins, check_cause, enter_home, holds, is_there, leave_home, shell};
+use crate::homes::{check_cause, enter_home, holds, is_there, leave_home, shell};
+use crate::parts::begins;
 use edge_io::{Child, Failed, IdFile, Job, Spawner};
 use real_outside::{Errors, RealChild, RealSpawner};
 use std::alloc::Global;

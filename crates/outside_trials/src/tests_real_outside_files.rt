@@ -1,6 +1,7 @@
 // What no clause says of the files by name, and of the folder that names begin at: which calls of the system are made.
 
-use crate::homes::{begins, check_cause, enter_home, is_there, leave_home, shell};
+use crate::homes::{check_cause, enter_home, is_there, leave_home, shell};
+use crate::parts::begins;
 use edge_io::{Failed, Found, Site};
 use real_outside::{RealSite, enter};
 use std::fs;

@@ -2,9 +2,10 @@
 //! program uses it.
 //!
 //! They use the public names of the rooms alone, and stand above them, so that the proofs of a room are not made once more for
-//! its tests. Each file has the room in its name.
+//! its tests. Each file has the room in its name. `streams` has what some of them are made with.
 #![tactic(auto)]
 
+pub mod streams;
 #[cfg(test)]
 mod tests_crc_parts;
 #[cfg(test)]
@@ -21,3 +22,5 @@ mod tests_packet_codec_writing;
 mod tests_stream_reader;
 #[cfg(test)]
 mod tests_worker_lane;
+#[cfg(test)]
+mod tests_worker_lane_lost;

@@ -1,11 +1,11 @@
 ghost use Rattle.std.specs.Prelude.{◌≡◌, false, IfOk};
 
+use crate::streams::pieces;
 use packet_codec::{Event, Front, Status, look};
 use std::alloc::Global;
 use std::process::Abort;
 use std::test::Fail;
 use stream_reader::{MOST_HELD, Note, ROOM, Reader, notes_of_pieces};
-use sub_number::Bytes;
 use trial_events::{file_event, repeated, spelled};
 
 // The test `foo` passed.
@@ -57,27 +57,9 @@ fn fed(reader: &mut Reader, piece: &[u8]) -> Option<()>
     Some(())
 }
 
-fn push_piece(alloc: Global, pieces: &mut Vec<Bytes>, piece: &[u8]) -> Result<(), Fail> {
-    let piece = Bytes::new(alloc, piece).ok().ok_or("no memory")?;
-    Ok(pieces.push(piece).ok().ok_or("no memory")?)
-}
-
-fn push_pieces(
-    alloc: Global,
-    pieces: &mut Vec<Bytes>,
-    stream: &[u8],
-    size: usize,
-) -> Result<(), Fail> {
-    for piece in stream.chunks(size.max(1)) {
-        push_piece(alloc, pieces, piece)?;
-    }
-    Ok(())
-}
-
 // The notes of a stream that is fed in pieces of this size.
 fn notes_of(alloc: Global, stream: &[u8], size: usize) -> Result<Vec<Note>, Fail> {
-    let mut pieces = Vec::new(alloc);
-    push_pieces(alloc, &mut pieces, stream, size)?;
+    let pieces = pieces(alloc, stream, size).ok_or("no memory")?;
     Ok(notes_of_pieces(alloc, &pieces).ok().ok_or("no memory")?)
 }
 

@@ -1,5 +1,6 @@
 ghost use Rattle.std.specs.Prelude.{◌≡◌, false};
 
+use crate::streams::pieces;
 use edge_io::{Child, Failed, Finish, PlanChild};
 use packet_codec::{Event, FilePart, Status};
 use std::alloc::Global;
@@ -19,21 +20,6 @@ const FOO_UNDER_0: &[u8] = b"\xb3\x2d\x03\x0e\x03foo\x01\x30\xa4\xaf\xdb\xe0";
 
 // The bytes `ab` as a piece of the file `stdout`, under lane 0.
 const AB_UNDER_0: &[u8] = b"\xb3\x25\x40\x14\x06stdout\x02ab\x01\x30\x3a\xe0\x57\xa9";
-
-// A loop that owns nothing, so that an early end drops nothing.
-fn push_pieces(alloc: Global, pieces: &mut Vec<Bytes>, stream: &[u8], size: usize) -> Option<()> {
-    for piece in stream.chunks(size.max(1)) {
-        let piece = Bytes::new(alloc, piece).ok()?;
-        pieces.push(piece).ok()?;
-    }
-    Some(())
-}
-
-fn pieces(alloc: Global, stream: &[u8], size: usize) -> Option<Vec<Bytes>> {
-    let mut pieces = Vec::new(alloc);
-    push_pieces(alloc, &mut pieces, stream, size)?;
-    Some(pieces)
-}
 
 // What is recorded of a stream that is fed in pieces of this size.
 fn recorded(alloc: Global, lane: u32, stream: &[u8], size: usize) -> Option<Vec<u8>> {
@@ -453,7 +439,7 @@ fn lane_over(
         return None;
     }
     let output = Bytes::new(alloc, output).ok()?;
-    Lane::new(alloc, number, PlanChild::new(output, piece, finish)).ok()
+    Lane::new(alloc, number, PlanChild::new(output, piece, finish), &[]).ok()
 }
 
 // Appends the packets that the lane gives, and answers its end.
@@ -532,7 +518,7 @@ fn a_lane_gives_its_packets_and_its_end(rt: HostRuntime) {
 fn lane_of_two(alloc: Global) -> Option<Lane<PlanChild>> {
     let stream = repeated(alloc, FOO, 2)?;
     let child = PlanChild::new(Bytes::from_vec(stream), 100, Finish::Exit(0));
-    Lane::new(alloc, 0, child).ok()
+    Lane::new(alloc, 0, child, &[]).ok()
 }
 
 // Its first packet.
@@ -628,7 +614,7 @@ fn a_child_whose_reads_fail_is_stopped_and_waited_for(rt: HostRuntime) -> Result
         stopped: false,
         waited_then: Arc::try_clone(&waited_then)?,
     };
-    let Ok(mut lane) = Lane::new(rt.alloc(), 0, child) else {
+    let Ok(mut lane) = Lane::new(rt.alloc(), 0, child, &[]) else {
         return Ok(());
     };
     ends_with_a_fault(&rt, &mut lane);

@@ -1,5 +1,5 @@
 -- What is told with the help of a cache.
-use Rattle.std.proofs.Common.{◌≡◌, inl, inr, ℕ, zero, suc, ◌+◌, ◌<◌, ◌≤◌, Bool, true, false, true≢false, IsTrue, nat_lt, List, [], ◌∷◌, ◌++◌, take, length, Option, Some, None, IfSome, IsSome, IsErrAnd, Result, Ok, Err, refl, sym, ap, ◌∙◌, subst, arith, ltb-true, lt-ltb}
+use Rattle.std.proofs.Common.{◌≡◌, ◌⊎◌, inl, inr, ℕ, zero, suc, ◌+◌, ◌<◌, ◌≤◌, min, Bool, true, false, true≢false, List, [], ◌∷◌, ◌++◌, take, length, Option, Some, None, IfSome, IsSome, IsErrAnd, Result, Ok, Err, refl, sym, ap, ◌∙◌, subst, arith}
 use Rattle.std.specs.Prelude.{slice_get, IfNone}
 use Rattle.std.specs.Option.{option_map}
 use Rattle.std.specs.FinMap.{FinMap}
@@ -15,10 +15,14 @@ use Rattle.run_shelf.specs.declared.faults.StoreFault.TheVariants.{Shelf, Closed
 use Rattle.run_shelf.specs.declared.faults.SideFault.{SideFault}
 use Rattle.run_shelf.specs.declared.faults.SideFault.TheVariants as side_fault
 use Rattle.run_shelf.specs.declared.side.Side.TheVariants.{Failing, Times}
+use Rattle.run_shelf.specs.declared.base_set.Base.{Base as ABase}
+use Rattle.run_shelf.specs.Bases.{Base}
+use Rattle.run_shelf.specs.Looking.{ReadsBase}
 use Rattle.run_shelf.specs.Holds.{FitsFolder}
-use Rattle.run_shelf.specs.Repository.{Run, run_at, most_runs, Shows}
+use Rattle.run_shelf.specs.Repository.{Run, run_at, most_runs, Shows, base_of}
 use Rattle.run_shelf.specs.Sides.{HoldsSide, SideCloses, SideReads, fault_after_side}
 use Rattle.run_shelf.specs.Stores.{StoreSeen, Reads}
+use Rattle.run_shelf.proofs.BaseLemmas.{base_sorted}
 use Rattle.run_shelf.proofs.ReadingLemmas.{StaysOpen, reads_as}
 use Rattle.run_shelf.proofs.RunLemmas.{past_items, within_items, none_is_not_some}
 use Rattle.run_shelf.proofs.ShowsLemmas.{shown}
@@ -26,14 +30,14 @@ use Rattle.run_ledger.specs.declared.fault.LedgerFault.{LedgerFault}
 use Rattle.run_ledger.specs.declared.fault.LedgerFault.TheVariants.{Store, NoMemory}
 use Rattle.run_ledger.specs.Outcomes.{LedgerCloses, LedgerReads, closed_by}
 use Rattle.run_ledger.specs.Cached.{ledger_fault, ReadsSound, HoldsFailing, HoldsNoFailing, HoldsTimes, HoldsNoTimes, Spares, SaysItsFailing, SaysItsTimes}
-use Rattle.run_ledger.specs.Caches.{IsFailingCache, IsTimesCache, SaidOfFirst}
+use Rattle.run_ledger.specs.Caches.{IsFailingCache, IsTimesCache, SaidOfFirst, FailingOfFirst}
 use Rattle.run_ledger.specs.Costs.{ReadsTo, ReadsBehindCache, ReadsBehindCacheTo}
 use Rattle.run_ledger.specs.Ledger.{RunRows, AreRunRows, failing_after, times_after}
-use Rattle.run_ledger.specs.Starts.{IsStart}
+use Rattle.run_ledger.specs.Starts.{IsStart, IsLastFull, AreAllPartial}
 use Rattle.run_ledger.proofs.CacheLemmas.{one_failing}
-use Rattle.run_ledger.proofs.CostLemmas.{one_start, asked_less}
+use Rattle.run_ledger.proofs.CostLemmas.{asked_less}
 use Rattle.run_ledger.proofs.TimedLemmas.{one_times}
-use Rattle.run_ledger.specs.SoFar.{SaysTo}
+use Rattle.run_ledger.specs.SoFar.{SaysTo, CountsUpTo, FailsTo}
 
 -- ---- the faults of a file of a cache are handed on
 
@@ -162,11 +166,28 @@ said_to says (Some s) kinds covers x fits said = says_first says s kinds fits co
 pub set_of : (ids list now old : List (List ℕ)) → list ≡ ids → old ≡ [] → IsStrictlySortedBy text_cmp ids → now ≡ in_byte_order (old ++ list) → now ≡ ids
 set_of ids list now old same none ordered is = is ∙ (λ i. in_byte_order (none i ++ same i)) ∙ ordered_already ids ordered
 
+-- what was read of a base
+pub begins_at : (state : Option Folder) (base : ABase) (start end : ℕ) → start ≡ min base.count end → IfSome state (ReadsBase base) → IfSome state (CountsUpTo end) → IfSome state (λ s. start ≡ (base_of s.disk.published).count)
+begins_at None base start end is reads counted = tt
+begins_at (Some s) base start end is reads counted = omega (arith, is, ap (λ (b : Base). b.count) reads.is, counted)
+
+pub begins_with : (state : Option Folder) (base : ABase) (old now : List (List ℕ)) → old ≡ [] → now ≡ in_byte_order (old ++ base.ids) → IfSome state (ReadsBase base) → IfSome state (λ s. now ≡ (base_of s.disk.published).ids)
+begins_with None base old now none is reads = tt
+begins_with (Some s) base old now none is reads =
+    set_of (base_of s.disk.published).ids base.ids now old (ap (λ (b : Base). b.ids) reads.is) none (base_sorted s.disk.published reads.form) is
+
 -- a cache that says its runs
 pub held_is_said : (state : Option Folder) (covers number : ℕ) (ids : List (List ℕ)) → covers ≤ number → IfSome state (SaysItsFailing number) → IfSome state (HoldsFailing covers ids)
-    → IfSome state (λ s. SaidOfFirst failing_after s.disk.published covers ids)
+    → IfSome state (λ s. FailingOfFirst s.disk.published covers ids)
 held_is_said None covers number ids few says holds = tt
 held_is_said (Some s) covers number ids few says holds = says covers ids holds few
+
+-- what it says is the failing set of these
+pub fails_said : (state : Option Folder) (kinds : List Bool) (covers : ℕ) (ids : List (List ℕ)) → IfSome state (FitsFolder kinds) → IfSome state (λ s. FailingOfFirst s.disk.published covers ids) → IfSome state (FailsTo kinds covers ids)
+fails_said None kinds covers ids fits said = tt
+fails_said (Some s) kinds covers ids fits said =
+    let to = says_first (failing_after (base_of s.disk.published)) s kinds fits covers ids said.said in
+    (to.0, to.1, inl (record { behind = said.behind; are = to.2 }))
 
 -- in a sound folder it does
 pub sound_failing_says : (state : Option Folder) (number : ℕ) → IfSome state ReadsSound → IfSome state (SaysItsFailing number)
@@ -180,35 +201,55 @@ pub cache_and_runs : (state : Option Folder) (start less end before middle now :
 cache_and_runs None start less end before middle now most ticks reads = tt
 cache_and_runs (Some s) start less end before middle now most ticks reads = λ runs shows. omega (arith, ticks, reads runs shows, asked_less runs less start most)
 
+-- no full run is behind the last one
+full_within : (kinds : List Bool) (last full : ℕ) → IsLastFull kinds last → slice_get kinds full ≡ Some false → full ≤ last
+full_within kinds last full is at = elim (cases_lt last full) [
+  | inl less ↦ absurd (is.last full less at)
+  | inr within ↦ within
+]
+
 -- whether a cache saves reads
-pub spares_by : (kinds : List Bool) (end covers first start : ℕ) → covers ≤ end → IsStart kinds first → start ≡ first → (IsTrue (nat_lt start covers) → Spares kinds end covers) × (Spares kinds end covers → IsTrue (nat_lt start covers))
-spares_by kinds end covers first start few begins is = (
-  λ less. record {
-    few = few;
-    behind = λ other also. (let same : other ≡ first = one_start kinds other first also begins in omega (arith, same, is, ltb-true start covers less));
-  },
-  λ spares. lt-ltb start covers (omega (arith, is, spares.behind first begins)),
+pub spares_by : (kinds : List Bool) (end covers : ℕ) (o : Option ℕ) → IfSome o (IsLastFull kinds) → IfNone o (AreAllPartial kinds) → covers ≤ end
+    → (IfSome o (λ n. n < covers) → Spares kinds end covers) × (Spares kinds end covers → IfSome o (λ n. n < covers))
+spares_by kinds end covers None last none few = (λ behind. record { few = few; behind = λ full at. absurd (none full at) }, λ spares. tt)
+spares_by kinds end covers (Some n) last none few = (
+  λ less. record { few = few; behind = λ full at. omega (arith, less, full_within kinds n full last at) },
+  λ spares. spares.behind n last.full,
 )
 
 -- a cache that saves none
-pub spares_none : (kinds : List Bool) (end covers start : ℕ) → (Spares kinds end covers → ⊥) → covers ≤ end → IsStart kinds start → covers ≤ start
-spares_none kinds end covers start none few begins = elim (cases_lt start covers) [
-  | inl less ↦ absurd (none (record { few = few; behind = λ other also. (let same : other ≡ start = one_start kinds other start also begins in omega (arith, same, less)) }))
+pub spares_none : (kinds : List Bool) (end covers start : ℕ) → (Spares kinds end covers → ⊥) → covers ≤ end → IsLastFull kinds start → covers ≤ start
+spares_none kinds end covers start none few last = elim (cases_lt start covers) [
+  | inl less ↦ absurd (none (record { few = few; behind = λ full at. omega (arith, less, full_within kinds start full last at) }))
   | inr most ↦ most
+]
+
+-- the first run that is to be read is none behind it
+start_within : (kinds : List Bool) (end covers start : ℕ) → Spares kinds end covers → IsStart kinds start → start ≤ covers
+start_within kinds end covers start spares begins = elim begins.full [
+  | inl first ↦ omega (arith, first)
+  | inr full ↦ omega (arith, spares.behind start full)
 ]
 
 -- the reads that a cache saves, where it covers no run from `end` on
 abbrev pub SparesFailing : Type 0 → ℕ → ℕ → ℕ → Folder → Type 0
 SparesFailing Open end before now s = (covers : ℕ) (ids : List (List ℕ)) → HoldsFailing covers ids s → (Open → covers ≤ end) → ReadsBehindCacheTo covers end before now s
 
+abbrev pub FromFull : List Bool → (ℕ → Folder → Type 0) → Folder → Type 0
+FromFull kinds Costs s = (start : ℕ) → IsLastFull kinds start → Costs start s
+
 abbrev pub FromStart : List Bool → (ℕ → Folder → Type 0) → Folder → Type 0
 FromStart kinds Costs s = (start : ℕ) → IsStart kinds start → Costs start s
 
 -- the reads where the cache is not used, or lacks
 module _ (kinds : List Bool) (end before middle now : ℕ) (ticks : middle ≤ before + 2) where
-  pub reads_without : (state : Option Folder) → IfSome state (FromStart kinds (λ start. ReadsTo start end middle now)) → IfSome state (FromStart kinds (λ start. ReadsBehindCacheTo start end before now))
+  pub reads_without : (state : Option Folder) → IfSome state (FromStart kinds (λ start. ReadsTo start end (middle + 3) now)) → IfSome state (FromStart kinds (λ start. ReadsBehindCacheTo start end (before + 3) now))
   reads_without None reads = tt
-  reads_without (Some s) reads = λ start begins. cache_and_runs (Some s) start start end before middle now (omega arith) ticks (reads start begins)
+  reads_without (Some s) reads = λ start begins. cache_and_runs (Some s) start start end (before + 3) (middle + 3) now (omega arith) (omega (arith, ticks)) (reads start begins)
+
+  pub reads_without_full : (state : Option Folder) → IfSome state (FromFull kinds (λ start. ReadsTo start end middle now)) → IfSome state (FromFull kinds (λ start. ReadsBehindCacheTo start end before now))
+  reads_without_full None reads = tt
+  reads_without_full (Some s) reads = λ start last. cache_and_runs (Some s) start start end before middle now (omega arith) ticks (reads start last)
 
   pub lacks_cache : (Open : Type 0) (state : Option Folder) → IfSome state HoldsNoFailing → IfSome state (SparesFailing Open end before now)
   lacks_cache Open None none = tt
@@ -232,60 +273,78 @@ module _ (state : Option Folder) (covers : ℕ) (ids : List (List ℕ)) (end bef
           let same : also ≡ covers = one_cache covers ids s h also others other in
           cache_and_runs (Some s) covers also end before middle now (omega (arith, same)) ticks r
 
-  pub with_cache_start : (kinds : List Bool) → Spares kinds end covers → IfSome state (ReadsTo covers end middle now) → IfSome state (FromStart kinds (λ start. ReadsBehindCacheTo start end before now))
+  pub with_cache_start : (kinds : List Bool) → Spares kinds end covers → IfSome state (ReadsTo covers end middle now) → IfSome state (FromStart kinds (λ start. ReadsBehindCacheTo start end (before + 3) now))
   with_cache_start kinds spares reads = there state reads
     where
-      there : (state : Option Folder) → IfSome state (ReadsTo covers end middle now) → IfSome state (FromStart kinds (λ start. ReadsBehindCacheTo start end before now))
+      there : (state : Option Folder) → IfSome state (ReadsTo covers end middle now) → IfSome state (FromStart kinds (λ start. ReadsBehindCacheTo start end (before + 3) now))
       there None r = tt
-      there (Some s) r = λ start begins. cache_and_runs (Some s) covers start end before middle now (omega (arith, spares.behind start begins)) ticks r
+      there (Some s) r = λ start begins. cache_and_runs (Some s) covers start end (before + 3) middle now (start_within kinds end covers start spares begins) (omega (arith, ticks)) r
+
+  pub with_cache_full : (kinds : List Bool) → Spares kinds end covers → IfSome state (ReadsTo covers end middle now) → IfSome state (FromFull kinds (λ start. ReadsBehindCacheTo start end before now))
+  with_cache_full kinds spares reads = there state reads
+    where
+      there : (state : Option Folder) → IfSome state (ReadsTo covers end middle now) → IfSome state (FromFull kinds (λ start. ReadsBehindCacheTo start end before now))
+      there None r = tt
+      there (Some s) r = λ start last. cache_and_runs (Some s) covers start end before middle now (omega (arith, spares.behind start last.full)) ticks r
 
   -- or is not used, since a later run is full
-  pub unused_cache : (Open : Type 0) → Open → (kinds : List Bool) (first : ℕ) → IsStart kinds first → (Spares kinds end covers → ⊥)
-      → IfSome state (FromStart kinds (λ start. ReadsTo start end middle now)) → IfSome state (SparesFailing Open end before now)
-  unused_cache Open open_still kinds first begins none reads = there state holds reads
+  pub unused_cache : (Open : Type 0) → Open → (kinds : List Bool) → ((start : ℕ) × IsLastFull kinds start) ⊎ AreAllPartial kinds → (Spares kinds end covers → ⊥)
+      → IfSome state (FromFull kinds (λ start. ReadsTo start end middle now)) → IfSome state (SparesFailing Open end before now)
+  unused_cache Open open_still kinds (inr partial) none reads = there state holds
     where
-      there : (state : Option Folder) → IfSome state (HoldsFailing covers ids) → IfSome state (FromStart kinds (λ start. ReadsTo start end middle now)) → IfSome state (SparesFailing Open end before now)
+      there : (state : Option Folder) → IfSome state (HoldsFailing covers ids) → IfSome state (SparesFailing Open end before now)
+      there None h = tt
+      there (Some s) h = λ also others other few.
+          let same : also ≡ covers = one_cache covers ids s h also others other in
+          absurd (none (record { few = omega (arith, same, few open_still); behind = λ full at. absurd (partial full at) }))
+  unused_cache Open open_still kinds (inl (first, last)) none reads = there state holds reads
+    where
+      there : (state : Option Folder) → IfSome state (HoldsFailing covers ids) → IfSome state (FromFull kinds (λ start. ReadsTo start end middle now)) → IfSome state (SparesFailing Open end before now)
       there None h r = tt
       there (Some s) h r = λ also others other few.
           let same : also ≡ covers = one_cache covers ids s h also others other in
-          cache_and_runs (Some s) first also end before middle now (omega (arith, same, spares_none kinds end covers first none (omega (arith, same, few open_still)) begins)) ticks (r first begins)
+          cache_and_runs (Some s) first also end before middle now (omega (arith, same, spares_none kinds end covers first none (omega (arith, same, few open_still)) last)) ticks (r first last)
 
 -- a sound folder has no cache of more runs than there are
 pub all_spared : (state : Option Folder) (kinds : List Bool) (Open : Type 0) (before now : ℕ) → (Open → IfSome state (FitsFolder kinds)) → IfSome state ReadsSound → IfSome state (SparesFailing Open (length kinds) before now)
     → IfSome state (λ s. (covers : ℕ) (ids : List (List ℕ)) → HoldsFailing covers ids s → ReadsBehindCache covers before now s)
 all_spared None kinds Open before now fits sound spares = tt
 all_spared (Some s) kinds Open before now fits sound spares = λ covers ids holds runs shows.
-    let few : Open → covers ≤ length kinds = λ open_still. first_few failing_after s kinds (fits open_still) covers ids (sound.failing holds.bytes covers ids holds.file holds.form) in
+    let few : Open → covers ≤ length kinds = λ open_still. first_few (failing_after (base_of s.disk.published)) s kinds (fits open_still) covers ids (sound.failing holds.bytes covers ids holds.file holds.form).said in
     omega (arith, spares covers ids holds few runs shows)
 
 pub all_behind : (state : Option Folder) (kinds : List Bool) (end before now : ℕ) → IfSome state (FromStart kinds (λ start. ReadsBehindCacheTo start end before now)) → IfSome state (FromStart kinds (λ start. ReadsBehindCache start before now))
 all_behind None kinds end before now reads = tt
 all_behind (Some s) kinds end before now reads = λ start begins runs shows. omega (arith, reads start begins runs shows)
 
--- each list of kinds has a run from which on is read
-StartUpTo : List Bool → ℕ → Type 0
-StartUpTo kinds n = ((other : ℕ) → n ≤ other → slice_get kinds other ≡ Some false → ⊥) → (start : ℕ) × IsStart kinds start
+pub all_behind_full : (state : Option Folder) (kinds : List Bool) (end before now : ℕ) → IfSome state (FromFull kinds (λ start. ReadsBehindCacheTo start end before now)) → IfSome state (FromFull kinds (λ start. ReadsBehindCache start before now))
+all_behind_full None kinds end before now reads = tt
+all_behind_full (Some s) kinds end before now reads = λ start last runs shows. omega (arith, reads start last runs shows)
 
-start_before : (kinds : List Bool) (n : ℕ) (o : Option Bool) → slice_get kinds n ≡ o → StartUpTo kinds n → StartUpTo kinds (suc n)
-unfolding StartUpTo
-start_before kinds n (Some false) is before none = (n, record { full = inr is; last = λ other less full. none other (omega (arith, less)) full })
-start_before kinds n (Some true) is before none = before (λ other most full. elim (cases_lt n other) [
+-- each list of kinds has a last full run, or none
+LastUpTo : List Bool → ℕ → Type 0
+LastUpTo kinds n = ((other : ℕ) → n ≤ other → slice_get kinds other ≡ Some false → ⊥) → ((start : ℕ) × IsLastFull kinds start) ⊎ AreAllPartial kinds
+
+last_before : (kinds : List Bool) (n : ℕ) (o : Option Bool) → slice_get kinds n ≡ o → LastUpTo kinds n → LastUpTo kinds (suc n)
+unfolding LastUpTo
+last_before kinds n (Some false) is before none = inl (n, record { full = is; last = λ other less full. none other (omega (arith, less)) full })
+last_before kinds n (Some true) is before none = before (λ other most full. elim (cases_lt n other) [
   | inl less ↦ none other (omega (arith, less)) full
   | inr least ↦ absurd (let there : slice_get kinds n ≡ Some false = subst (λ (m : ℕ). slice_get kinds m ≡ Some false) (omega (arith, most, least)) full in cc)
 ])
-start_before kinds n None is before none = before (λ other most full. elim (cases_lt n other) [
+last_before kinds n None is before none = before (λ other most full. elim (cases_lt n other) [
   | inl less ↦ none other (omega (arith, less)) full
   | inr least ↦ absurd (let there : slice_get kinds n ≡ Some false = subst (λ (m : ℕ). slice_get kinds m ≡ Some false) (omega (arith, most, least)) full in cc)
 ])
 
-start_up_to : (kinds : List Bool) (n : ℕ) → StartUpTo kinds n
-unfolding StartUpTo
-start_up_to kinds zero none = (0, record { full = inl refl; last = λ other less full. none other (omega arith) full })
-start_up_to kinds (suc n) none = start_before kinds n (slice_get kinds n) refl (start_up_to kinds n) none
+last_up_to : (kinds : List Bool) (n : ℕ) → LastUpTo kinds n
+unfolding LastUpTo
+last_up_to kinds zero none = inr (λ number full. none number (omega arith) full)
+last_up_to kinds (suc n) none = last_before kinds n (slice_get kinds n) refl (last_up_to kinds n) none
 
-pub some_start : (kinds : List Bool) → (start : ℕ) × IsStart kinds start
-unfolding StartUpTo
-some_start kinds = start_up_to kinds (length kinds) (λ other past full. none_is_not_some (slice_get kinds other) (past_items kinds other past) (subst IsSome (sym full) refl))
+pub some_last : (kinds : List Bool) → ((start : ℕ) × IsLastFull kinds start) ⊎ AreAllPartial kinds
+unfolding LastUpTo
+some_last kinds = last_up_to kinds (length kinds) (λ other past full. none_is_not_some (slice_get kinds other) (past_items kinds other past) (subst IsSome (sym full) refl))
 
 -- ---- the same of the times
 

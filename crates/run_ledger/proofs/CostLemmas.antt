@@ -11,7 +11,7 @@ use Rattle.run_shelf.proofs.ReadingLemmas.{same_state}
 use Rattle.run_shelf.proofs.RunLemmas.{past_items, within_items, none_is_not_some}
 use Rattle.run_shelf.proofs.ShowsLemmas.{kinds_of_runs}
 use Rattle.run_ledger.specs.Costs.{bytes_asked, asked_for_each, ReadsOnce, ReadsFrom, ReadsTo}
-use Rattle.run_ledger.specs.Starts.{IsStart}
+use Rattle.run_ledger.specs.Starts.{IsStart, IsLastFull, AreAllPartial}
 
 drop_here : (runs : List Run) (n : ℕ) (run : Run) → slice_get runs n ≡ Some run → drop n runs ≡ run ∷ drop (suc n) runs
 drop_here [] n run is = cc
@@ -89,6 +89,43 @@ one_start kinds a b first second = elim (cases_lt a b) [
       | inl begin ↦ omega (arith, begin, less)
       | inr full ↦ first.last b less full
     ]
+
+-- the last full run is the first that is to be read
+pub last_starts : (kinds : List Bool) (number : ℕ) → IsLastFull kinds number → IsStart kinds number
+last_starts kinds number last = record { full = inr last.full; last = last.last }
+
+pub from_last_full : (state : Option Folder) (kinds : List Bool) (number end before now : ℕ) → IsLastFull kinds number → IfSome state (ReadsTo number end before now)
+    → IfSome state (λ s. (start : ℕ) → IsLastFull kinds start → ReadsTo start end before now s)
+from_last_full None kinds number end before now last reads = tt
+from_last_full (Some s) kinds number end before now last reads = λ start also runs shown.
+    omega (arith, reads runs shown, ap (λ (n : ℕ). asked_for_each (drop n runs)) (one_start kinds number start (last_starts kinds number last) (last_starts kinds start also)))
+
+pub from_last_start : (state : Option Folder) (kinds : List Bool) (number end before now : ℕ) → IsLastFull kinds number → IfSome state (ReadsTo number end before now)
+    → IfSome state (λ s. (start : ℕ) → IsStart kinds start → ReadsTo start end (before + 3) now s)
+from_last_start None kinds number end before now last reads = tt
+from_last_start (Some s) kinds number end before now last reads = λ start also runs shown.
+    omega (arith, reads runs shown, ap (λ (n : ℕ). asked_for_each (drop n runs)) (one_start kinds number start (last_starts kinds number last) also))
+
+-- no run is full
+pub from_no_full : (state : Option Folder) (kinds : List Bool) (end before now : ℕ) → AreAllPartial kinds → IfSome state (λ s. (start : ℕ) → IsLastFull kinds start → ReadsTo start end before now s)
+from_no_full None kinds end before now partial = tt
+from_no_full (Some s) kinds end before now partial = λ start last. absurd (partial start last.full)
+
+pub from_first : (state : Option Folder) (kinds : List Bool) (end before now : ℕ) → AreAllPartial kinds → IfSome state (ReadsTo 0 end before now) → IfSome state (λ s. (start : ℕ) → IsStart kinds start → ReadsTo start end before now s)
+from_first None kinds end before now partial reads = tt
+from_first (Some s) kinds end before now partial reads = λ start begin. elim begin.full [
+  | inl first ↦ (λ runs shown. omega (arith, reads runs shown, ap (λ (n : ℕ). asked_for_each (drop n runs)) first))
+  | inr full ↦ absurd (partial start full)
+]
+
+-- some calls before, and runs from a later one on
+pub from_later : (state : Option Folder) (start end before middle now : ℕ) → middle ≤ before + 3 → IfSome state (ReadsTo start end middle now) → IfSome state (ReadsTo 0 end (before + 3) now)
+from_later None start end before middle now ticks reads = tt
+from_later (Some s) start end before middle now ticks reads = λ runs shown. omega (arith, ticks, reads runs shown, asked_less runs 0 start (omega arith))
+
+pub from_none : (state : Option Folder) (end before now : ℕ) → now ≤ before + 3 → IfSome state (ReadsTo 0 end (before + 3) now)
+from_none None end before now ticks = tt
+from_none (Some s) end before now ticks = λ runs shown. omega (arith, ticks, asked_less runs 0 end (omega arith))
 
 -- the same from the first run that is to be read
 pub from_start : (state : Option Folder) (kinds : List Bool) (number end before now : ℕ) → IsStart kinds number → IfSome state (ReadsTo number end before now) → IfSome state (λ s. (start : ℕ) → IsStart kinds start → ReadsTo start end before now s)

@@ -1,5 +1,5 @@
 -- What a refresh of the caches leaves.
-use Rattle.std.proofs.Common.{◌≡◌, ◌⊎◌, inl, inr, ℕ, ◌+◌, ◌≤◌, Bool, true, false, true≢false, List, [], length, Option, Some, None, IfSome, IsSome, refl, sym, ap, ◌∙◌, subst, arith}
+use Rattle.std.proofs.Common.{◌≡◌, ◌⊎◌, inl, inr, ℕ, ◌+◌, ◌≤◌, Bool, true, false, true≢false, List, [], length, Option, Some, None, IfSome, IsSome, Result, Ok, Err, OnOk, refl, sym, ap, ◌∙◌, subst, arith}
 use Rattle.std.specs.Prelude.{slice_get}
 use Rattle.std.specs.FinMap.{FinMap}
 use Rattle.std.specs.List.Sorted.{IsStrictlySortedBy}
@@ -23,21 +23,22 @@ use Rattle.run_shelf.specs.declared.side.Side.TheVariants.{Failing, Times}
 use Rattle.run_shelf.specs.Holds.{FitsFolder}
 use Rattle.run_shelf.specs.Images.{ReadsFile}
 use Rattle.run_shelf.specs.Outcomes.{KeepFails}
-use Rattle.run_shelf.specs.Repository.{Run, Shows}
+use Rattle.run_shelf.specs.Repository.{Run, Shows, base_of}
 use Rattle.run_shelf.specs.Sides.{side_name, SameButSides, KeepsButSides, PassesButSides, HasSideBeside, PassesSide, KeepsSide, PutFails}
 use Rattle.run_shelf.proofs.Joining.{rest_images}
-use Rattle.run_shelf.proofs.RunLemmas.{past_items, none_is_not_some}
+use Rattle.run_shelf.proofs.BaseLemmas.{base_sorted}
+use Rattle.run_shelf.proofs.RunLemmas.{past_items, none_is_not_some, within_base}
 use Rattle.run_shelf.proofs.SameLemmas.{same_put, same_itself, same_then}
 use Rattle.run_shelf.proofs.ShowsLemmas.{shown, kinds_of_runs}
 use Rattle.run_ledger.specs.Cached.{ReadsSound}
-use Rattle.run_ledger.specs.Caches.{IsFailingCache, IsTimesCache, SaidOfFirst, IsSound}
-use Rattle.run_ledger.specs.Ledger.{RunRows, ShowRows, HasRowsAt, failing_behind, failing_after, IsFailingSet, times_after, replaced, AreTimes}
+use Rattle.run_ledger.specs.Caches.{IsFailingCache, IsTimesCache, SaidOfFirst, FailingOfFirst, IsSound}
+use Rattle.run_ledger.specs.Ledger.{RunRows, ShowRows, HasRowsAt, HasNewRows, failing_behind, failing_after, IsFailingSet, times_after, replaced, AreTimes}
 use Rattle.run_ledger.specs.Refreshing.{AreFolds, PutsCaches, HoldBoth, KeepsSound}
-use Rattle.run_ledger.specs.SoFar.{SaysTo, FailsTo}
+use Rattle.run_ledger.specs.SoFar.{SaysTo, CountsUpTo, FailsTo}
 use Rattle.run_ledger.specs.Starts.{IsStart}
 use Rattle.run_ledger.proofs.CacheLemmas.{one_failing}
 use Rattle.run_ledger.proofs.CachedLemmas.{SparesFailing, SparesTimes}
-use Rattle.run_ledger.proofs.LedgerLemmas.{kind_below, fails_none, fails_more, fails_all, says_more, says_all, times_folds}
+use Rattle.run_ledger.proofs.LedgerLemmas.{kind_below, fails_full, fails_more, fails_all, says_more, says_all, times_folds}
 use Rattle.run_ledger.proofs.SoundLemmas.{sound_failing, sound_times, said_beside}
 use Rattle.run_ledger.proofs.TimedLemmas.{one_times, in_order}
 
@@ -140,13 +141,14 @@ module _ (kinds : List Bool) (covers : ℕ) (all : covers ≡ length kinds) (ids
 
   module _ (s : Folder) (fits : FitsFolder kinds s) (folds : AreFolds ids times s) where
     form : IsFailingCache failing_bytes covers ids
-    form = failing (subst (IsStrictlySortedBy text_cmp) (sym folds.are_ids.2) (in_order folds.are_ids.0))
+    form = failing (subst (IsStrictlySortedBy text_cmp) (sym folds.are_ids.2) (in_order (base_of s.disk.published) folds.are_ids.0 (base_sorted s.disk.published fits.repository.base.form)))
 
-    failing_said : (also : ℕ) (others : List (List ℕ)) → IsFailingCache failing_bytes also others → SaidOfFirst failing_after s.disk.published also others
+    failing_said : (also : ℕ) (others : List (List ℕ)) → IsFailingCache failing_bytes also others → FailingOfFirst s.disk.published also others
     failing_said also others other =
         let same = one_failing failing_bytes covers also ids others form other in
-        subst (λ (n : ℕ). SaidOfFirst failing_after s.disk.published n others) (sym same.0)
-        (subst (λ (l : List (List ℕ)). SaidOfFirst failing_after s.disk.published covers l) (sym same.1) (said_of_all failing_after s kinds fits covers all ids folds.are_ids))
+        subst (λ (n : ℕ). FailingOfFirst s.disk.published n others) (sym same.0)
+        (subst (λ (l : List (List ℕ)). FailingOfFirst s.disk.published covers l) (sym same.1)
+        (record { behind = omega (arith, all, within_base kinds s fits); said = said_of_all (failing_after (base_of s.disk.published)) s kinds fits covers all ids folds.are_ids }))
 
     times_said : (also : ℕ) (others : FinMap text_cmp ℕ) → IsTimesCache times_bytes also others → SaidOfFirst times_after (with_failing s.disk.published) also others
     times_said also others other =
@@ -197,7 +199,7 @@ module _ (kinds : List Bool) (covers : ℕ) (all : covers ≡ length kinds) (ids
 
       has_caches : KeepsSide Times times_bytes m t → PutsCaches s t
       has_caches second =
-          let count : length folds.are_ids.1.runs ≡ covers = runs_are failing_after s kinds fits covers all folds.are_ids.1.runs folds.are_ids.1.shown in
+          let count : length folds.are_ids.1.runs ≡ covers = runs_are (failing_after (base_of s.disk.published)) s kinds fits covers all folds.are_ids.1.runs folds.are_ids.1.shown in
           record {
             runs = folds.are_ids.1.runs;
             shown = folds.are_ids.1.shown;
@@ -301,6 +303,16 @@ module _ (a b c : Option Folder) (same : b ≡ a) (P Q : Folder → Type 0) wher
       there (Some s) None f k g = absurd g
       there (Some s) (Some t) f k g = λ p leaves. g (k p (leaves s.disk.published (subst (λ (d : Disk). IsImage d s.disk.published) (sym f.rest) (inl refl)))) leaves
 
+pub puts_where : {T E : Type 0} (r : Result T E) (a b c : Option Folder) → b ≡ a → (P Q : Folder → Type 0) → (IfSome a P → IfSome a ReadsSound → IfSome a Q) → OnOk r (Goes b c (λ s t. Q s → PutsCaches s t)) → OnOk r (Goes a c (λ s t. P s → ReadsSound s → PutsCaches s t))
+puts_where (Err e) a b c same P Q known puts = tt
+puts_where (Ok x) a b c same P Q known puts = there a c known (subst (λ (o : Option Folder). Goes o c (λ s t. Q s → PutsCaches s t)) same puts)
+  where
+    there : (a c : Option Folder) → (IfSome a P → IfSome a ReadsSound → IfSome a Q) → Goes a c (λ s t. Q s → PutsCaches s t) → Goes a c (λ s t. P s → ReadsSound s → PutsCaches s t)
+    there None None k g = tt
+    there None (Some t) k g = absurd g
+    there (Some s) None k g = absurd g
+    there (Some s) (Some t) k g = λ p sound. g (k p sound)
+
 pub sound_always : (a b c : Option Folder) → b ≡ a → (Q : Folder → Type 0) (kinds : List Bool) → IfSome a (FitsFolder kinds) → (IfSome a ReadsSound → IfSome a Q) → Goes b c (λ s t. Q s → KeepsSound s t) → Goes a c KeepsSound
 sound_always a b c same Q kinds fits known second =
     goes_weaker a c (λ s t. s ≡ s → KeepsSound s t) KeepsSound (sound_where a b c same (λ s. s ≡ s) Q kinds fits (λ itself sound. known sound) second) (λ s t keeps. keeps refl)
@@ -317,17 +329,27 @@ begun_before kinds last start count partial begin = elim begin.full [
   ]
 ]
 
+rows_of_new : (state : Option Folder) (number : ℕ) (rows : List Row) → IfSome state (HasNewRows number rows) → IfSome state (HasRowsAt number rows)
+rows_of_new None number rows new = tt
+rows_of_new (Some s) number rows new = new.are
+
+pub counts_before : (state : Option Folder) (number : ℕ) (rows : List Row) → IfSome state (HasNewRows number rows) → IfSome state (CountsUpTo number)
+counts_before None number rows new = tt
+counts_before (Some s) number rows new = new.behind
+
 stays_itself : (state : Option Folder) → Goes state state Stays
 stays_itself None = tt
 stays_itself (Some s) = refl
 
-module _ (state : Option Folder) (kinds : List Bool) (last : ℕ) (count : last + 1 ≡ length kinds) (rows : List Row) (fits : IfSome state (FitsFolder kinds)) (at : IfSome state (HasRowsAt last rows)) where
+module _ (state : Option Folder) (kinds : List Bool) (last : ℕ) (count : last + 1 ≡ length kinds) (rows : List Row) (fits : IfSome state (FitsFolder kinds)) (new : IfSome state (HasNewRows last rows)) where
+  at : IfSome state (HasRowsAt last rows)
+  at = rows_of_new state last rows new
+
   -- it is full: then it says all
   pub full_alone : slice_get kinds last ≡ Some false → (ids : List (List ℕ)) → ids ≡ failing_of rows → IfSome state (IsFailingSet ids)
   full_alone full ids is =
-      let begins : IsStart kinds last = record { full = inr full; last = λ other less found. none_is_not_some (slice_get kinds other) (past_items kinds other (omega (arith, less, count))) (subst (λ (o : Option Bool). IsSome o) (sym found) refl) } in
       fails_all state kinds (length kinds) ids (omega arith) fits
-      (fails_more state state kinds kinds last (length kinds) false rows [] ids (sym count) (omega (arith, count)) refl full fits (stays_itself state) at is (fails_none state kinds last [] begins refl fits))
+      (fails_more state state kinds kinds last (length kinds) false rows [] ids (sym count) (omega (arith, count)) refl full fits (stays_itself state) at is (fails_full state kinds last [] full fits))
 
   -- it is partial: it changes what those before it say
   pub partial_behind : slice_get kinds last ≡ Some true → (old ids : List (List ℕ)) → IfSome state (FailsTo kinds last old) → (IsStrictlySortedBy text_cmp old → ids ≡ failing_behind old (record { partial = true; rows = rows }))
@@ -338,9 +360,9 @@ module _ (state : Option Folder) (kinds : List Bool) (last : ℕ) (count : last 
       item : (a b : Bool) → Some a ≡ Some b → a ≡ b
       item a b e = cc
 
-      ordered : (s : Folder) → FailsTo kinds last old s → IsStrictlySortedBy text_cmp old
-      ordered s so_far = elim so_far.2 [
-        | inl known ↦ subst (IsStrictlySortedBy text_cmp) (sym known) (in_order so_far.0)
+      ordered : (s : Folder) → FitsFolder kinds s → FailsTo kinds last old s → IsStrictlySortedBy text_cmp old
+      ordered s f so_far = elim so_far.2 [
+        | inl known ↦ subst (IsStrictlySortedBy text_cmp) (sym known.are) (in_order (base_of s.disk.published) so_far.0 (base_sorted s.disk.published f.repository.base.form))
         | inr full ↦ absurd (true≢false (item true false (sym partial ∙ full)))
       ]
 
@@ -348,7 +370,7 @@ module _ (state : Option Folder) (kinds : List Bool) (last : ℕ) (count : last 
       there None f h b = tt
       there (Some s) f h b =
           fails_all (Some s) kinds (length kinds) ids (omega arith) f
-          (fails_more (Some s) (Some s) kinds kinds last (length kinds) true rows old ids (sym count) (omega (arith, count)) refl partial f refl h (step (ordered s b)) b)
+          (fails_more (Some s) (Some s) kinds kinds last (length kinds) true rows old ids (sym count) (omega (arith, count)) refl partial f refl h (step (ordered s f b)) b)
 
   pub times_behind_all : (old new : FinMap text_cmp ℕ) → IfSome state (SaysTo times_after last old) → new ≡ replaced old (times_of rows) → IfSome state (AreTimes new)
   times_behind_all old new before is =

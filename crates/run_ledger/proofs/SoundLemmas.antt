@@ -4,16 +4,18 @@ use Rattle.std.specs.FinMap.{FinMap}
 use Rattle.std.proofs.lemmas.Bool.{cases_lt}
 use Rattle.edge_io.specs.Disk.{Files, put}
 use Rattle.outcome_fold.specs.Order.{text_cmp}
+use Rattle.run_shelf.specs.Bases.{Base, base_name}
 use Rattle.run_shelf.specs.Images.{HasRunBeside, HasFormatBeside}
-use Rattle.run_shelf.specs.Repository.{Run, run_of_files, run_at, run_name, full_name, partial_name, most_runs, format_name, format_bytes, Shows, IsRepository}
+use Rattle.run_shelf.specs.Repository.{Run, base_of, run_at, run_name, full_name, partial_name, most_runs, format_name, format_bytes, Shows, IsRepository}
 use Rattle.run_shelf.specs.Sides.{side_name}
 use Rattle.run_shelf.specs.declared.side.Side.{Side}
 use Rattle.run_shelf.specs.declared.side.Side.TheVariants.{Failing, Times}
-use Rattle.run_shelf.proofs.NameLemmas.{side_differs, side_no_format, format_differs}
+use Rattle.run_shelf.proofs.BaseLemmas.{base_first, base_nothing, base_still, same_run}
+use Rattle.run_shelf.proofs.NameLemmas.{side_differs, side_no_format, format_differs, base_differs}
 use Rattle.run_shelf.proofs.RunLemmas.{put_here, put_other, other_item, past_items, within_items, none_is_not_some}
-use Rattle.run_shelf.proofs.SameLemmas.{run_stays, same_put}
+use Rattle.run_shelf.proofs.SameLemmas.{run_stays, base_same, same_put}
 use Rattle.run_shelf.proofs.ShowsLemmas.{shown}
-use Rattle.run_ledger.specs.Caches.{IsFailingCache, IsTimesCache, SaidOfFirst, IsSound}
+use Rattle.run_ledger.specs.Caches.{IsFailingCache, IsTimesCache, SaidOfFirst, FailingOfFirst, IsSound}
 use Rattle.run_ledger.specs.Ledger.{RunRows, failing_after, times_after}
 
 -- each run that the files have is the same in the image
@@ -33,9 +35,15 @@ said_still says files image covers x keeps said = record {
   said = said.said;
 }
 
-sound_still : (files image : Files) → KeepsRuns files image → image (side_name Failing) ≡ files (side_name Failing) → image (side_name Times) ≡ files (side_name Times) → IsSound files → IsSound image
-sound_still files image keeps failing times sound = record {
-  failing = λ bytes covers ids file form. said_still failing_after files image covers ids keeps (sound.failing bytes covers ids (sym failing ∙ file) form);
+failing_still : (files image : Files) (covers : ℕ) (ids : List (List ℕ)) → KeepsRuns files image → base_of image ≡ base_of files → FailingOfFirst files covers ids → FailingOfFirst image covers ids
+failing_still files image covers ids keeps base said = record {
+  behind = subst (λ (b : Base). b.count ≤ covers) (sym base) said.behind;
+  said = subst (λ (b : Base). SaidOfFirst (failing_after b) image covers ids) (sym base) (said_still (failing_after (base_of files)) files image covers ids keeps said.said);
+}
+
+sound_still : (files image : Files) → KeepsRuns files image → base_of image ≡ base_of files → image (side_name Failing) ≡ files (side_name Failing) → image (side_name Times) ≡ files (side_name Times) → IsSound files → IsSound image
+sound_still files image keeps base failing times sound = record {
+  failing = λ bytes covers ids file form. failing_still files image covers ids keeps base (sound.failing bytes covers ids (sym failing ∙ file) form);
   times = λ bytes covers latest file form. said_still times_after files image covers latest keeps (sound.times bytes covers latest (sym times ∙ file) form);
 }
 
@@ -68,12 +76,18 @@ module _ (files image : Files) (number : ℕ) (run : Run) (beside : HasRunBeside
     | inr past ↦ absurd (none_is_not_some (run_at files k) (runs_before.1.each k few ∙ past_items runs_before.0 k past) some)
   ]
 
+  other_still : (name : List ℕ) → (name ≡ run_name number run.partial → ⊥) → image name ≡ files name
+  other_still name differs = ap (λ (f : Files). f name) beside.is ∙ put_other files (run_name number run.partial) run.bytes name differs
+
+  base_beside : base_of image ≡ base_of files
+  base_beside = base_still files image (other_still format_name (format_differs number run.partial (omega (arith, small)))) (other_still base_name (base_differs number run.partial (omega (arith, small))))
+
   pub sound_beside : IsSound files → IsSound image
-  sound_beside sound = sound_still files image keeps_before (side_still Failing) (side_still Times) sound
+  sound_beside sound = sound_still files image keeps_before base_beside (side_still Failing) (side_still Times) sound
 
 -- `format`
 pub sound_format : (files image : Files) → HasFormatBeside files image → IsSound files → IsSound image
-sound_format files image beside sound = sound_still files image keeps (side Failing) (side Times) sound
+sound_format files image beside sound = sound_still files image keeps base (side Failing) (side Times) sound
   where
     at : (name : List ℕ) → (name ≡ format_name → ⊥) → image name ≡ files name
     at name differs = ap (λ (f : Files). f name) beside.is ∙ put_other files format_name format_bytes name differs
@@ -81,10 +95,15 @@ sound_format files image beside sound = sound_still files image keeps (side Fail
     side : (s : Side) → image (side_name s) ≡ files (side_name s)
     side s = at (side_name s) (λ e. side_no_format s (sym e))
 
+    first : image format_name ≡ Some format_bytes
+    first = ap (λ (f : Files). f format_name) beside.is ∙ put_here files format_name format_bytes format_name refl
+
+    base : base_of image ≡ base_of files
+    base = base_first image first ∙ sym (base_nothing files beside.absent)
+
     keeps : KeepsRuns files image
     keeps k few some =
-        ap (λ found. run_of_files found (image (partial_name k))) (at (full_name k) (λ e. format_differs k false (omega (arith, few)) (sym e)))
-        ∙ ap (run_of_files (files (full_name k))) (at (partial_name k) (λ e. format_differs k true (omega (arith, few)) (sym e)))
+        same_run files image base k (at (full_name k) (λ e. format_differs k false (omega (arith, few)) (sym e))) (at (partial_name k) (λ e. format_differs k true (omega (arith, few)) (sym e)))
 
 -- the file of a cache
 sides_differ : side_name Times ≡ side_name Failing → ⊥
@@ -99,16 +118,19 @@ put_is files name bytes other is = some_file other bytes (sym is ∙ put_here fi
 side_keeps : (files : Files) (side : Side) (bytes : List ℕ) → KeepsRuns files (put files (side_name side) bytes)
 side_keeps files side bytes k few some = run_stays files (put files (side_name side) bytes) (same_put files side bytes) k few
 
+side_base : (files : Files) (side : Side) (bytes : List ℕ) → base_of (put files (side_name side) bytes) ≡ base_of files
+side_base files side bytes = base_same files (put files (side_name side) bytes) (same_put files side bytes)
+
 pub said_beside : {X : Type 0} (says : List RunRows → X) (files : Files) (side : Side) (bytes : List ℕ) (covers : ℕ) (x : X) → SaidOfFirst says files covers x → SaidOfFirst says (put files (side_name side) bytes) covers x
 said_beside says files side bytes covers x said = said_still says files (put files (side_name side) bytes) covers x (side_keeps files side bytes) said
 
-pub sound_failing : (files : Files) (bytes : List ℕ) → ((covers : ℕ) (ids : List (List ℕ)) → IsFailingCache bytes covers ids → SaidOfFirst failing_after files covers ids) → IsSound files → IsSound (put files (side_name Failing) bytes)
+pub sound_failing : (files : Files) (bytes : List ℕ) → ((covers : ℕ) (ids : List (List ℕ)) → IsFailingCache bytes covers ids → FailingOfFirst files covers ids) → IsSound files → IsSound (put files (side_name Failing) bytes)
 sound_failing files bytes said sound =
     let image : Files = put files (side_name Failing) bytes in
     let keeps : KeepsRuns files image = side_keeps files Failing bytes in
     record {
       failing = λ found covers ids file form.
-          said_still failing_after files image covers ids keeps (said covers ids (subst (λ (l : List ℕ). IsFailingCache l covers ids) (put_is files (side_name Failing) bytes found file) form));
+          failing_still files image covers ids keeps (side_base files Failing bytes) (said covers ids (subst (λ (l : List ℕ). IsFailingCache l covers ids) (put_is files (side_name Failing) bytes found file) form));
       times = λ found covers latest file form.
           said_still times_after files image covers latest keeps (sound.times found covers latest (sym (put_other files (side_name Failing) bytes (side_name Times) sides_differ) ∙ file) form);
     }
@@ -119,7 +141,7 @@ sound_times files bytes said sound =
     let keeps : KeepsRuns files image = side_keeps files Times bytes in
     record {
       failing = λ found covers ids file form.
-          said_still failing_after files image covers ids keeps (sound.failing found covers ids (sym (put_other files (side_name Times) bytes (side_name Failing) (λ e. sides_differ (sym e))) ∙ file) form);
+          failing_still files image covers ids keeps (side_base files Times bytes) (sound.failing found covers ids (sym (put_other files (side_name Times) bytes (side_name Failing) (λ e. sides_differ (sym e))) ∙ file) form);
       times = λ found covers latest file form.
           said_still times_after files image covers latest keeps (said covers latest (subst (λ (l : List ℕ). IsTimesCache l covers latest) (put_is files (side_name Times) bytes found file) form));
     }

@@ -1,5 +1,5 @@
 -- The cache of the times, both ways.
-use Rattle.std.proofs.Common.{◌≡◌, ℕ, Bool, true, false, T, ◌&&◌, List, [], ◌∷◌, ◌++◌, Option, Some, None, IfSome, map, length, refl, sym, ap, ◌∙◌, subst, append_assoc, arith}
+use Rattle.std.proofs.Common.{◌≡◌, ℕ, Bool, true, false, T, ◌&&◌, List, [], ◌∷◌, ◌++◌, Option, Some, None, IfSome, map, length, drop, refl, sym, ap, ◌∙◌, subst, append_assoc, arith}
 use Rattle.std.specs.Fmt.{decimal}
 use Rattle.std.specs.List.{All, AllByRecursion, filter, flat_map}
 use Rattle.std.specs.List.Sorted.{IsStrictlySortedBy}
@@ -19,6 +19,7 @@ use Rattle.outcome_fold.specs.Order.{text_cmp, text_table, in_byte_order, withou
 use Rattle.outcome_fold.specs.Answers.{ids_of, row_fails, failing_of, passed_of}
 use Rattle.outcome_fold.proofs.OrderLemmas.{texts_total, exact_texts}
 use Rattle.outcome_fold.proofs.TableLemmas.{entries_in_order}
+use Rattle.run_shelf.specs.Bases.{Base}
 use Rattle.run_ledger.specs.Caches.{line, entry, heading, time_entry, times_title, IsTimed, IsTimesCache}
 use Rattle.run_ledger.specs.Cuts.{Lacks, IsCutAtMark, SpellsDecimal, BeginsWithHeading, BeginsWithTime, AreTimeEntries, HasTimed, last_id, IsTimedAt, entry_if_timed, entry_at}
 use Rattle.run_ledger.specs.Ledger.{RunRows, failing_behind, failing_from, failing_after}
@@ -321,6 +322,5 @@ from_in_order : (earlier : List (List ℕ)) (entries : List RunRows) → IsStric
 from_in_order earlier [] ordered = ordered
 from_in_order earlier (e ∷ entries) ordered = from_in_order (failing_behind earlier e) entries (behind_in_order earlier e.partial e.rows)
 
-pub in_order : (entries : List RunRows) → IsStrictlySortedBy text_cmp (failing_after entries)
-unfolding IsStrictlySortedBy
-in_order entries = from_in_order [] entries tt
+pub in_order : (base : Base) (entries : List RunRows) → IsStrictlySortedBy text_cmp base.ids → IsStrictlySortedBy text_cmp (failing_after base entries)
+in_order base entries ordered = from_in_order base.ids (drop base.count entries) ordered

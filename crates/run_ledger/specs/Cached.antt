@@ -1,5 +1,5 @@
 -- What is told with the help of a cache.
-use Rattle.std.specs.Prelude.{◌≡◌, ℕ, ◌<◌, ◌≤◌, Bool, Some, List}
+use Rattle.std.specs.Prelude.{◌≡◌, ℕ, ◌<◌, ◌≤◌, Bool, false, Some, List, slice_get}
 use Rattle.std.specs.FinMap.{FinMap}
 use Rattle.edge_io.specs.Disk.{Folder}
 use Rattle.outcome_fold.specs.Order.{text_cmp}
@@ -9,9 +9,8 @@ use Rattle.run_shelf.specs.declared.side.Side.TheVariants.{Failing, Times}
 use Rattle.run_shelf.specs.Sides.{side_name}
 use Rattle.run_ledger.specs.declared.fault.LedgerFault.{LedgerFault}
 use Rattle.run_ledger.specs.declared.fault.LedgerFault.TheVariants.{Store, NoMemory}
-use Rattle.run_ledger.specs.Caches.{IsFailingCache, IsTimesCache, SaidOfFirst, IsSound}
-use Rattle.run_ledger.specs.Ledger.{failing_after, times_after}
-use Rattle.run_ledger.specs.Starts.{IsStart}
+use Rattle.run_ledger.specs.Caches.{IsFailingCache, IsTimesCache, SaidOfFirst, FailingOfFirst, IsSound}
+use Rattle.run_ledger.specs.Ledger.{times_after}
 
 -- the fault of a cache as a fault of the ledger
 abbrev pub ledger_fault : SideFault → LedgerFault
@@ -31,17 +30,17 @@ pub record HoldsFailing (covers : ℕ) (ids : List (List ℕ)) (s : Folder) : Ty
 -- Where the file of the cache holds one that covers no more than the first `number` runs, these say what it holds. Of one that
 -- covers more nothing is said, since it is not used.
 abbrev pub SaysItsFailing : (number : ℕ) → Folder → Type 0
-SaysItsFailing number s = (covers : ℕ) (ids : List (List ℕ)) → HoldsFailing covers ids s → covers ≤ number → SaidOfFirst failing_after s.disk.published covers ids
+SaysItsFailing number s = (covers : ℕ) (ids : List (List ℕ)) → HoldsFailing covers ids s → covers ≤ number → FailingOfFirst s.disk.published covers ids
 
 -- the file of the cache holds none, or is not there
 abbrev pub HoldsNoFailing : Folder → Type 0
 HoldsNoFailing s = (covers : ℕ) (ids : List (List ℕ)) → HoldsFailing covers ids s → ⊥
 
 -- A cache of so many runs covers no more than the first `number` ones, and among them the one from which on they are read
--- without it.
+-- without it, or no run is full.
 pub record Spares (kinds : List Bool) (number covers : ℕ) : Type 0 where
   pub few : covers ≤ number
-  pub behind : (start : ℕ) → IsStart kinds start → start < covers
+  pub behind : (full : ℕ) → slice_get kinds full ≡ Some false → full < covers
 
 -- the file of the cache holds these times
 pub record HoldsTimes (covers : ℕ) (times : FinMap text_cmp ℕ) (s : Folder) : Type 0 where

@@ -8,7 +8,7 @@ use Rattle.std.specs.FinMap.{FinMap}
 use Rattle.edge_io.specs.Disk.{Files}
 use Rattle.sub_number.specs.Texts.{IsShortText}
 use Rattle.outcome_fold.specs.Order.{text_cmp}
-use Rattle.run_shelf.specs.Repository.{Run, run_at, most_runs}
+use Rattle.run_shelf.specs.Repository.{Run, run_at, most_runs, base_of}
 use Rattle.run_shelf.specs.Sides.{side_name}
 use Rattle.run_shelf.specs.declared.side.Side.TheVariants.{Failing, Times}
 use Rattle.run_ledger.specs.Ledger.{RunRows, AreRunRows, failing_after, times_after}
@@ -78,7 +78,13 @@ pub record SaidOfFirst {X : Type 0} (says : List RunRows → X) (files : Files) 
   pub rows : AreRunRows runs entries
   pub said : x ≡ says entries
 
+-- The ids are the failing set of as many first runs of the files, among which are all that the base counts.
+pub record FailingOfFirst (files : Files) (covers : ℕ) (ids : List (List ℕ)) : Type 0 where
+  pub behind : (base_of files).count ≤ covers
+  pub said : SaidOfFirst (failing_after (base_of files)) files covers ids
+
 -- The files are sound: each cache of its form covers at most the runs that there are, and holds the fold over that many.
+-- That of the failing set covers at least those that the base counts.
 pub record IsSound (files : Files) : Type 0 where
-  pub failing : (bytes : List ℕ) (covers : ℕ) (ids : List (List ℕ)) → files (side_name Failing) ≡ Some bytes → IsFailingCache bytes covers ids → SaidOfFirst failing_after files covers ids
+  pub failing : (bytes : List ℕ) (covers : ℕ) (ids : List (List ℕ)) → files (side_name Failing) ≡ Some bytes → IsFailingCache bytes covers ids → FailingOfFirst files covers ids
   pub times : (bytes : List ℕ) (covers : ℕ) (times : FinMap text_cmp ℕ) → files (side_name Times) ≡ Some bytes → IsTimesCache bytes covers times → SaidOfFirst times_after files covers times

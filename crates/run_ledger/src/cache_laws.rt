@@ -8,8 +8,8 @@ ghost use Rattle.run_shelf.specs.Images.{HasRunBeside, HasFormatBeside};
 ghost use Rattle.run_shelf.specs.Repository.{Run, IsRepository};
 ghost use Rattle.run_shelf.specs.Sides.{side_name};
 ghost use Rattle.run_shelf.specs.declared.side.Side.TheVariants.{Failing, Times};
-ghost use Rattle.run_ledger.specs.Caches.{IsFailingCache, IsTimesCache, SaidOfFirst, IsSound};
-ghost use Rattle.run_ledger.specs.Ledger.{failing_after, times_after};
+ghost use Rattle.run_ledger.specs.Caches.{IsFailingCache, IsTimesCache, SaidOfFirst, FailingOfFirst, IsSound};
+ghost use Rattle.run_ledger.specs.Ledger.{times_after};
 
 /// The bytes of a cache tell how many runs it covers, and its ids or times.
 pub fn caches_hold_one_thing()
@@ -23,6 +23,6 @@ pub fn what_keeps_files_sound()
     ensures none { (files : Files) → files (side_name Failing) ≡ None → files (side_name Times) ≡ None → IsSound files }
     ensures run { (files image : Files) (number : ℕ) (run : Run) → HasRunBeside files number run image → IsRepository files → IsSound files → IsSound image }
     ensures format { (files image : Files) → HasFormatBeside files image → IsSound files → IsSound image }
-    ensures failing { (files : Files) (bytes : List ℕ) → ((covers : ℕ) (ids : List (List ℕ)) → IsFailingCache bytes covers ids → SaidOfFirst failing_after files covers ids) → IsSound files → IsSound (put files (side_name Failing) bytes) }
+    ensures failing { (files : Files) (bytes : List ℕ) → ((covers : ℕ) (ids : List (List ℕ)) → IsFailingCache bytes covers ids → FailingOfFirst files covers ids) → IsSound files → IsSound (put files (side_name Failing) bytes) }
     ensures times { (files : Files) (bytes : List ℕ) → ((covers : ℕ) (times : FinMap text_cmp ℕ) → IsTimesCache bytes covers times → SaidOfFirst times_after files covers times) → IsSound files → IsSound (put files (side_name Times) bytes) }
 {}

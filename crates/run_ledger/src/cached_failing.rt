@@ -1,20 +1,20 @@
 //! The failing set of the runs of a store, told with the help of its cache.
 
-ghost use Rattle.std.specs.Prelude.{◌≡◌, ◌≤◌, ◌↔◌, None, ℕ, List, length, IsTrue, IfSome, IfNone, IfOk};
+ghost use Rattle.std.specs.Prelude.{◌≡◌, ◌<◌, ◌≤◌, ◌+◌, ◌↔◌, None, ℕ, List, length, IsTrue, IfSome, IfNone, IfOk};
 ghost use Rattle.std.specs.List.Sorted.{IsStrictlySortedBy};
 ghost use Rattle.outcome_fold.specs.Order.{text_cmp};
 ghost use Rattle.run_shelf.specs.Outcomes.{TicksUpTo};
 ghost use Rattle.run_shelf.specs.Stores.{store_kinds, store_fault, FitsUnlessBroken, seen_store};
 ghost use Rattle.run_ledger.specs.Cached.{ReadsSound, SaysItsFailing, HoldsFailing, HoldsNoFailing, Spares};
-ghost use Rattle.run_ledger.specs.Caches.{SaidOfFirst};
+ghost use Rattle.run_ledger.specs.Caches.{FailingOfFirst};
 ghost use Rattle.run_ledger.specs.Costs.{ReadsTo, ReadsBehindCache, ReadsBehindCacheTo};
-ghost use Rattle.run_ledger.specs.Ledger.{failing_after, IsFailingSet};
+ghost use Rattle.run_ledger.specs.Ledger.{IsFailingSet};
 ghost use Rattle.run_ledger.specs.Outcomes.{LedgerReads};
-ghost use Rattle.run_ledger.specs.Starts.{IsStart};
-ghost use Rattle.run_ledger.specs.SoFar.{FailsTo};
+ghost use Rattle.run_ledger.specs.Starts.{IsStart, IsLastFull};
+ghost use Rattle.run_ledger.specs.SoFar.{FailsTo, CountsUpTo};
 
 use crate::failing_cache::{FailingCache, read_failing_cache};
-use crate::failing_set::{failing_afresh, first_to_read, take_runs};
+use crate::failing_set::{failing_afresh, last_full, take_runs};
 use crate::fault::LedgerFault;
 use edge_io::Shelf;
 use outcome_fold::TextSet;
@@ -26,7 +26,7 @@ use sub_number::IdList;
 /// folder each cache of its form covers at most the runs that there are and holds what these say. A cache is taken for
 /// what the runs say that it covers, and the later ones are read and folded on, each once. Without a cache, where it
 /// covers more runs than there are, and where the last full run is one that it does not cover, that run and those
-/// behind it are read, each once. Nothing changes in the folder. What is asked of the folder is asked of that cache
+/// behind it are read, each once. Where no run is full then, the base is read, and the runs that it does not count. Nothing changes in the folder. What is asked of the folder is asked of that cache
 /// alone, and only where it covers at most the runs that there are (`ids_where_few`).
 ///
 /// `Store` comes only where a call of the folder failed, and where one had failed before, which comes first. `NoMemory`
@@ -38,7 +38,8 @@ pub fn failing<H: Shelf>(alloc: Global, store: &mut Store<'_, H>) -> Result<IdLi
     ensures ids_where_few { IfSome (H.seen store.old.shelf.now).told (SaysItsFailing (length (store_kinds store.old))) → IfOk result (λ ids. IfSome (H.seen store.old.shelf.now).told (IsFailingSet ids)) }
     ensures reads { LedgerReads (seen_store store.old (H.seen store.old.shelf.now)) (seen_store store.new (H.seen store.new.shelf.now)) result }
     ensures spares { IfSome (H.seen store.old.shelf.now).told ReadsSound → IfSome (H.seen store.old.shelf.now).told (λ s. (covers : ℕ) (ids : List (List ℕ)) → HoldsFailing covers ids s → ReadsBehindCache covers (H.clock store.old.shelf.now) (H.clock store.new.shelf.now) s) }
-    ensures time { IfSome (H.seen store.old.shelf.now).told (λ s. (start : ℕ) → IsStart (store_kinds store.old) start → ReadsBehindCache start (H.clock store.old.shelf.now) (H.clock store.new.shelf.now) s) }
+    ensures full { IfSome (H.seen store.old.shelf.now).told (λ s. (start : ℕ) → IsLastFull (store_kinds store.old) start → ReadsBehindCache start (H.clock store.old.shelf.now) (H.clock store.new.shelf.now) s) }
+    ensures time { IfSome (H.seen store.old.shelf.now).told (λ s. (start : ℕ) → IsStart (store_kinds store.old) start → ReadsBehindCache start (H.clock store.old.shelf.now + 3) (H.clock store.new.shelf.now) s) }
 {
     let end = store.runs();
     failing_to(alloc, store, end)
@@ -55,10 +56,11 @@ pub(crate) fn failing_to<H: Shelf>(
     requires few { end ≤ length (store_kinds store.old) }
     requires begun { (start : ℕ) → IsStart (store_kinds store.old) start → start ≤ end }
     ensures same_reference { store.new.shelf.ghost_name ≡ store.old.shelf.ghost_name }
-    ensures ids { IfSome (H.seen store.old.shelf.now).told (SaysItsFailing end) → IfOk result (λ ids. IfSome (H.seen store.old.shelf.now).told (FailsTo (store_kinds store.old) end ids)) }
+    ensures ids { IfSome (H.seen store.old.shelf.now).told (SaysItsFailing end) → IfSome (H.seen store.old.shelf.now).told (CountsUpTo end) → IfOk result (λ ids. IfSome (H.seen store.old.shelf.now).told (FailsTo (store_kinds store.old) end ids)) }
     ensures reads { LedgerReads (seen_store store.old (H.seen store.old.shelf.now)) (seen_store store.new (H.seen store.new.shelf.now)) result }
     ensures spares { IfSome (H.seen store.old.shelf.now).told (λ s. (covers : ℕ) (ids : List (List ℕ)) → HoldsFailing covers ids s → (store_fault store.old ≡ None → covers ≤ end) → ReadsBehindCacheTo covers end (H.clock store.old.shelf.now) (H.clock store.new.shelf.now) s) }
-    ensures time { IfSome (H.seen store.old.shelf.now).told (λ s. (start : ℕ) → IsStart (store_kinds store.old) start → ReadsBehindCacheTo start end (H.clock store.old.shelf.now) (H.clock store.new.shelf.now) s) }
+    ensures full { IfSome (H.seen store.old.shelf.now).told (λ s. (start : ℕ) → IsLastFull (store_kinds store.old) start → ReadsBehindCacheTo start end (H.clock store.old.shelf.now) (H.clock store.new.shelf.now) s) }
+    ensures time { IfSome (H.seen store.old.shelf.now).told (λ s. (start : ℕ) → IsStart (store_kinds store.old) start → ReadsBehindCacheTo start end (H.clock store.old.shelf.now + 3) (H.clock store.new.shelf.now) s) }
 {
     if let Some(cache) = read_cache(alloc, store)? {
         if spares(store, cache.covers, end) {
@@ -87,11 +89,21 @@ fn read_cache<H: Shelf>(
     Ok(read_failing_cache(alloc, bytes.bytes())?)
 }
 
-// Whether a cache that covers so many runs covers none from `end` on, and saves reads.
+// Whether a cache that covers so many runs covers none from `end` on, and saves reads: of runs, or of the base.
 fn spares<H: Shelf>(store: &Store<'_, H>, covers: u64, end: u32) -> bool
     ensures { IsTrue result ↔ Spares (store_kinds store.now) end covers }
 {
-    covers <= u64::from(end) && u64::from(first_to_read(store)) < covers
+    covers <= u64::from(end) && is_behind(last_full(store), covers)
+}
+
+// Whether this number, if there is one, is below the other.
+fn is_behind(number: Option<u32>, covers: u64) -> bool
+    ensures { IsTrue result ↔ IfSome number (λ n. n < covers) }
+{
+    match number {
+        Some(number) => u64::from(number) < covers,
+        None => true,
+    }
 }
 
 // Takes the runs that the cache does not cover, up to the one before `end`.
@@ -107,7 +119,7 @@ fn go_on<H: Shelf>(
     requires few { end ≤ length (store_kinds store.old) }
     requires ordered { IsStrictlySortedBy text_cmp cache.ids }
     ensures same_reference { store.new.shelf.ghost_name ≡ store.old.shelf.ghost_name }
-    ensures ids { IfSome (H.seen store.old.shelf.now).told (λ s. SaidOfFirst failing_after s.disk.published cache.covers cache.ids) → IfOk result (λ ids. IfSome (H.seen store.old.shelf.now).told (FailsTo (store_kinds store.old) end ids)) }
+    ensures ids { IfSome (H.seen store.old.shelf.now).told (λ s. FailingOfFirst s.disk.published cache.covers cache.ids) → IfOk result (λ ids. IfSome (H.seen store.old.shelf.now).told (FailsTo (store_kinds store.old) end ids)) }
     ensures reads { LedgerReads (seen_store store.old (H.seen store.old.shelf.now)) (seen_store store.new (H.seen store.new.shelf.now)) result }
     ensures time { IfSome (H.seen store.old.shelf.now).told (ReadsTo cache.covers end (H.clock store.old.shelf.now) (H.clock store.new.shelf.now)) }
 {

@@ -11,7 +11,7 @@ ghost use Rattle.run_shelf.specs.Outcomes.{TicksUpTo};
 ghost use Rattle.run_shelf.specs.Sides.{KeepsSide, PassesSide, KeepsButSides, PassesButSides};
 ghost use Rattle.run_shelf.specs.Stores.{store_kinds, store_fault, FitsUnlessBroken, seen_store};
 ghost use Rattle.run_ledger.specs.Cached.{ReadsSound};
-ghost use Rattle.run_ledger.specs.Ledger.{HasRowsAt, IsFailingSet, AreTimes, failing_behind as after_run};
+ghost use Rattle.run_ledger.specs.Ledger.{HasNewRows, IsFailingSet, AreTimes, failing_behind as after_run};
 ghost use Rattle.run_ledger.specs.Outcomes.{LedgerReads, LedgerCloses, ledger_failed};
 ghost use Rattle.run_ledger.specs.Refreshing.{AreFolds, PutsCaches, HoldBoth, KeepsSound};
 
@@ -54,8 +54,8 @@ pub fn refresh<H: Shelf>(alloc: Global, store: &mut Store<'_, H>) -> Result<(), 
 /// The same, where what is kept of the rows of the last run, which there must be, is at hand. That run is not read. Where
 /// the last run is full, the failing set is told by its rows alone. A cache that covers the last run, or more, is not used.
 ///
-/// Where it is kept of the rows of the last run, the caches hold what all runs say, and a folder that is sound is so at each
-/// moment. Of other rows nothing is said of what the caches hold.
+/// Where it is kept of the rows of the last run, which the base does not count, the caches hold what all runs say, and a
+/// folder that is sound is so at each moment. Of other rows nothing is said of what the caches hold.
 pub fn refresh_behind<H: Shelf>(
     alloc: Global,
     store: &mut Store<'_, H>,
@@ -64,10 +64,10 @@ pub fn refresh_behind<H: Shelf>(
     requires some { 0 < length (store_kinds store.old) }
     requires fits { FitsUnlessBroken (store_kinds store.old) (store_fault store.old) (H.seen store.old.shelf.now).told }
     ensures same_reference { store.new.shelf.ghost_name ≡ store.old.shelf.ghost_name }
-    ensures refreshed { (filter_tags : List (List ℕ)) (rows : List Row) → Sums filter_tags rows summary.now → OnOk result (Goes (H.seen store.old.shelf.now).told (H.seen store.new.shelf.now).told (λ s t. HasRowsAt (length (store_kinds store.old) - 1) rows s → ReadsSound s → PutsCaches s t)) }
+    ensures refreshed { (filter_tags : List (List ℕ)) (rows : List Row) → Sums filter_tags rows summary.now → OnOk result (Goes (H.seen store.old.shelf.now).told (H.seen store.new.shelf.now).told (λ s t. HasNewRows (length (store_kinds store.old) - 1) rows s → ReadsSound s → PutsCaches s t)) }
     ensures others { Goes (H.seen store.old.shelf.now).told (H.seen store.new.shelf.now).told KeepsButSides }
     ensures any_moment { Goes (H.seen store.old.shelf.now).told (H.seen store.new.shelf.now).told PassesButSides }
-    ensures sound { (filter_tags : List (List ℕ)) (rows : List Row) → Sums filter_tags rows summary.now → Goes (H.seen store.old.shelf.now).told (H.seen store.new.shelf.now).told (λ s t. HasRowsAt (length (store_kinds store.old) - 1) rows s → KeepsSound s t) }
+    ensures sound { (filter_tags : List (List ℕ)) (rows : List Row) → Sums filter_tags rows summary.now → Goes (H.seen store.old.shelf.now).told (H.seen store.new.shelf.now).told (λ s t. HasNewRows (length (store_kinds store.old) - 1) rows s → KeepsSound s t) }
     ensures closes { LedgerCloses (store_fault store.old) (store_fault store.new) result }
     ensures kinds { store_kinds store.new ≡ store_kinds store.old }
     ensures fits { FitsUnlessBroken (store_kinds store.new) (store_fault store.new) (H.seen store.new.shelf.now).told }
@@ -106,7 +106,7 @@ fn fold_behind<H: Shelf>(
     requires some { 0 < length (store_kinds store.old) }
     requires fits { FitsUnlessBroken (store_kinds store.old) (store_fault store.old) (H.seen store.old.shelf.now).told }
     ensures same_reference { store.new.shelf.ghost_name ≡ store.old.shelf.ghost_name }
-    ensures folds { (filter_tags : List (List ℕ)) (rows : List Row) → Sums filter_tags rows summary.now → IfSome (H.seen store.old.shelf.now).told (HasRowsAt (length (store_kinds store.old) - 1) rows) → IfSome (H.seen store.old.shelf.now).told ReadsSound → IfOk result (λ folds. IfSome (H.seen store.old.shelf.now).told (AreFolds folds.ids folds.times)) }
+    ensures folds { (filter_tags : List (List ℕ)) (rows : List Row) → Sums filter_tags rows summary.now → IfSome (H.seen store.old.shelf.now).told (HasNewRows (length (store_kinds store.old) - 1) rows) → IfSome (H.seen store.old.shelf.now).told ReadsSound → IfOk result (λ folds. IfSome (H.seen store.old.shelf.now).told (AreFolds folds.ids folds.times)) }
     ensures reads { LedgerReads (seen_store store.old (H.seen store.old.shelf.now)) (seen_store store.new (H.seen store.new.shelf.now)) result }
     ensures spares { IfSome (H.seen store.old.shelf.now).told (λ s. HoldBoth (length (store_kinds store.old) - 1) s → TicksUpTo 4 (H.clock store.old.shelf.now) (H.clock store.new.shelf.now)) }
 {
@@ -126,7 +126,7 @@ fn failing_behind<H: Shelf>(
     requires fits { FitsUnlessBroken (store_kinds store.old) (store_fault store.old) (H.seen store.old.shelf.now).told }
     requires open { store_fault store.old ≡ None }
     ensures same_reference { store.new.shelf.ghost_name ≡ store.old.shelf.ghost_name }
-    ensures ids { (filter_tags : List (List ℕ)) (rows : List Row) → Sums filter_tags rows summary.now → IfSome (H.seen store.old.shelf.now).told (HasRowsAt (length (store_kinds store.old) - 1) rows) → IfSome (H.seen store.old.shelf.now).told ReadsSound → IfOk result (λ ids. IfSome (H.seen store.old.shelf.now).told (IsFailingSet ids)) }
+    ensures ids { (filter_tags : List (List ℕ)) (rows : List Row) → Sums filter_tags rows summary.now → IfSome (H.seen store.old.shelf.now).told (HasNewRows (length (store_kinds store.old) - 1) rows) → IfSome (H.seen store.old.shelf.now).told ReadsSound → IfOk result (λ ids. IfSome (H.seen store.old.shelf.now).told (IsFailingSet ids)) }
     ensures reads { LedgerReads (seen_store store.old (H.seen store.old.shelf.now)) (seen_store store.new (H.seen store.new.shelf.now)) result }
     ensures spares { IfSome (H.seen store.old.shelf.now).told (λ s. HoldBoth (length (store_kinds store.old) - 1) s → TicksUpTo 2 (H.clock store.old.shelf.now) (H.clock store.new.shelf.now)) }
 {
@@ -159,7 +159,7 @@ fn times_behind<H: Shelf>(
     requires fits { FitsUnlessBroken (store_kinds store.old) (store_fault store.old) (H.seen store.old.shelf.now).told }
     requires open { store_fault store.old ≡ None }
     ensures same_reference { store.new.shelf.ghost_name ≡ store.old.shelf.ghost_name }
-    ensures times { (filter_tags : List (List ℕ)) (rows : List Row) → Sums filter_tags rows summary.now → IfSome (H.seen store.old.shelf.now).told (HasRowsAt (length (store_kinds store.old) - 1) rows) → IfSome (H.seen store.old.shelf.now).told ReadsSound → IfOk result (λ times. IfSome (H.seen store.old.shelf.now).told (AreTimes times)) }
+    ensures times { (filter_tags : List (List ℕ)) (rows : List Row) → Sums filter_tags rows summary.now → IfSome (H.seen store.old.shelf.now).told (HasNewRows (length (store_kinds store.old) - 1) rows) → IfSome (H.seen store.old.shelf.now).told ReadsSound → IfOk result (λ times. IfSome (H.seen store.old.shelf.now).told (AreTimes times)) }
     ensures reads { LedgerReads (seen_store store.old (H.seen store.old.shelf.now)) (seen_store store.new (H.seen store.new.shelf.now)) result }
     ensures spares { IfSome (H.seen store.old.shelf.now).told (λ s. HoldBoth (length (store_kinds store.old) - 1) s → TicksUpTo 2 (H.clock store.old.shelf.now) (H.clock store.new.shelf.now)) }
 {

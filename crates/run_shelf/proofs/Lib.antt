@@ -1,5 +1,10 @@
 pub mod Resting
+pub mod IdFormLemmas
+pub mod IdHeadLemmas
+pub mod IdOrderLemmas
+pub mod IdFileLemmas
 pub mod NameLemmas
+pub mod BaseLemmas
 pub mod RunLemmas
 pub mod SameLemmas
 pub mod SideLemmas
@@ -11,3 +16,6 @@ pub mod Joining
 pub mod ReadingLemmas
 pub mod KeepSteps
 pub mod MakeSteps
+pub mod AdoptLemmas
+pub mod OldLemmas
+pub mod BadBases

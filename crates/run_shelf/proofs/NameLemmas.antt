@@ -1,14 +1,15 @@
 -- The names of runs differ from one another, and from `format`.
-use Rattle.std.proofs.Common.{◌≡◌, Result, Ok, ◌-◌, take, drop, inl, inr, ℕ, ◌+◌, ◌/◌, ◌%◌, ◌<◌, ◌≤◌, ◌^◌, List, [], ◌∷◌, ◌++◌, length, Bool, true, false, refl, sym, ap, ◌∙◌, append_assoc, arith, get_or}
+use Rattle.std.proofs.Common.{◌≡◌, Result, Ok, ◌-◌, take, drop, inl, inr, ℕ, ◌+◌, ◌/◌, ◌%◌, ◌<◌, ◌≤◌, ◌^◌, List, [], ◌∷◌, ◌++◌, length, Bool, true, false, true≢false, refl, sym, ap, ◌∙◌, append_assoc, arith, get_or}
 use Rattle.std.specs.Prelude.{codes}
 use Rattle.std.specs.Fmt.{decimal}
 use Rattle.std.specs.Str.{bytes_eq}
 use Rattle.std.proofs.lemmas.Slice.Eq.{bytes_eq-Decides}
-use Rattle.run_shelf.specs.Names.{SpellsRun, SpellsNoRun, SpellsRunNumber, SpellsNoRunNumber}
+use Rattle.run_shelf.specs.Names.{SpellsRun, SpellsNoRun, SpellsRunNumber, SpellsNoRunNumber, CountsNoRun}
 use Rattle.std.proofs.lemmas.Bool.{cases_lt}
 use Rattle.std.proofs.lemmas.List.{append_cancel_right, take-append-drop}
 use Rattle.std.proofs.lemmas.Fmt.{decimal_injective, decimal_digit, decimal_step, decimal_by_steps}
 use Rattle.run_shelf.specs.Repository.{full_name, partial_name, run_name, format_name}
+use Rattle.run_shelf.specs.Bases.{base_name}
 use Rattle.run_shelf.specs.Sides.{side_name}
 use Rattle.run_shelf.specs.declared.side.Side.{Side}
 use Rattle.run_shelf.specs.declared.side.Side.TheVariants.{Failing, Times}
@@ -87,6 +88,24 @@ pub side_differs : (side : Side) (number : ℕ) (partial : Bool) → number < 2 
 side_differs side number partial fits same =
     omega (arith, first_of_run number partial fits, first_of_side side, ap (λ (l : List ℕ). get_or l 0 0) same)
 
+-- nor has the file of the base
+pub base_differs : (number : ℕ) (partial : Bool) → number < 2 ^ 64 → base_name ≡ run_name number partial → ⊥
+base_differs number partial fits same = omega (arith, first_of_run number partial fits, ap (λ (l : List ℕ). get_or l 0 0) same, first_of_base)
+  where
+    first_of_base : get_or base_name 0 0 ≡ 98
+    first_of_base = refl
+
+-- and it is not that of a cache
+pub base_no_side : (side : Side) → base_name ≡ side_name side → ⊥
+base_no_side side same = omega (arith, ap (λ (l : List ℕ). get_or l 0 0) same, first_of_base, first_is side)
+  where
+    first_of_base : get_or base_name 0 0 ≡ 98
+    first_of_base = refl
+
+    first_is : (side : Side) → 98 < get_or (side_name side) 0 0
+    first_is Failing = omega arith
+    first_is Times = omega arith
+
 second_of_format : get_or format_name 1 0 ≡ 111
 second_of_format = refl
 
@@ -120,3 +139,14 @@ module _ (name digits : List ℕ) (ends : bytes_eq (drop (length name - length (
   pub spells_none : SpellsNoRunNumber digits → SpellsNoRun name
   spells_none none number true spells = none number (record { few = spells.few; is = append_cancel_right digits (decimal number) (codes ".part") (sym joined ∙ spells.is) })
   spells_none none number false spells = part_differs digits number (omega (arith, spells.few)) (sym joined ∙ spells.is)
+
+-- the name of a full run, of which the partial one alone counts
+pub only_partial : (name : List ℕ) (old number : ℕ) (partial : Bool) → SpellsRun name number partial → partial ≡ false → number < old → CountsNoRun old name
+only_partial name old number true spells full less = absurd (true≢false full)
+only_partial name old number false spells full less = none
+  where
+    none : CountsNoRun old name
+    none other true counts = partial_differs other number (omega (arith, spells.few)) (sym counts.spells.is ∙ spells.is)
+    none other false counts =
+        let same : other ≡ number = full_same other number (omega (arith, counts.spells.few)) (omega (arith, spells.few)) (sym counts.spells.is ∙ spells.is) in
+        true≢false (sym (counts.counts (omega (arith, same, less))))

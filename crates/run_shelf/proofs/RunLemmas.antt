@@ -1,23 +1,32 @@
 -- One run more.
-use Rattle.std.proofs.Common.{◌≡◌, ◌⊎◌, inl, inr, ℕ, zero, suc, ◌<◌, ◌≤◌, Some, None, IsSome, Option, List, [], ◌∷◌, ◌++◌, length, Bool, true, false, refl, sym, ap, ◌∙◌, subst, arith, length-append}
+use Rattle.std.proofs.Common.{◌≡◌, ◌⊎◌, inl, inr, ℕ, zero, suc, ◌<◌, ◌≤◌, Some, None, IsSome, Option, List, [], ◌∷◌, ◌++◌, length, Bool, true, false, true≢false, refl, sym, ap, ◌∙◌, subst, ltb, if◌then◌else◌, arith, length-append}
 use Rattle.std.specs.Prelude.{slice_get}
 use Rattle.std.specs.Str.{bytes_eq}
 use Rattle.std.specs.Option.{option_map}
-use Rattle.std.proofs.lemmas.Bool.{cond-true, cond-false, cases_eq, cases_lt, false_from_ne_true}
+use Rattle.std.proofs.lemmas.Bool.{cond-true, cond-false, cases_eq, cases_lt, false_from_ne_true, lt-ltb, le-ltb}
 use Rattle.std.proofs.lemmas.Slice.Eq.{bytes_eq-Decides}
 use Rattle.edge_io.specs.Disk.{Files, put, Disk, Folder, IsImage, at_rest}
 use Rattle.edge_io.specs.Steps.{Goes}
 use Rattle.edge_io.proofs.Going.{goes_from}
 use Rattle.edge_io.proofs.Passing.{passes_weaker}
+use Rattle.run_shelf.specs.Bases.{base_name}
 use Rattle.run_shelf.specs.Drafts.{OfDraft}
 use Rattle.run_shelf.specs.Holds.{FitsFolder, FitsWhereTold}
 use Rattle.run_shelf.specs.Images.{KeepsFile, PassesFile, KeepsRun, PassesRun, HasRunBeside}
-use Rattle.run_shelf.specs.Repository.{Run, run_of, run_of_files, run_at, full_name, partial_name, run_name, most_runs, Shows, HasKinds, IsFirstFree, IsRepository, format_name}
-use Rattle.run_shelf.proofs.NameLemmas.{partial_differs, full_same, partial_same, format_differs}
+use Rattle.run_shelf.specs.Repository.{Run, run_of, run_of_files, is_old, run_at, full_name, partial_name, run_name, most_runs, Shows, HasKinds, HasGoodBase, IsFirstFree, IsRepository, base_of, format_name}
+use Rattle.run_shelf.proofs.BaseLemmas.{base_few, base_still, good_still, run_still, format_still}
+use Rattle.run_shelf.proofs.NameLemmas.{partial_differs, full_same, partial_same, format_differs, base_differs}
 use Rattle.run_shelf.proofs.Joining.{rest_images, goes_with, some_after}
 
 pub put_other : (files : Files) (name bytes q : List ℕ) → (q ≡ name → ⊥) → put files name bytes q ≡ files q
 put_other files name bytes q differs = cond-false (bytes_eq q name) (Some bytes) (files q) (false_from_ne_true _ (λ t. differs ((bytes_eq-Decides q name).0 t)))
+
+put_some : (files : Files) (name bytes q : List ℕ) → IsSome (files q) → IsSome (put files name bytes q)
+put_some files name bytes q some = by (bytes_eq q name)
+  where
+    by : (b : Bool) → IsSome (if b then Some bytes else files q)
+    by true = refl
+    by false = some
 
 pub put_here : (files : Files) (name bytes q : List ℕ) → q ≡ name → put files name bytes q ≡ Some bytes
 put_here files name bytes q same = cond-true (bytes_eq q name) (Some bytes) (files q) ((bytes_eq-Decides q name).1 same)
@@ -56,9 +65,22 @@ kind_some : (run : Option Run) → IsSome (option_map (λ r. r.partial) run) →
 kind_some None some = some
 kind_some (Some run) some = some
 
-full_none : (full partial : Option (List ℕ)) → run_of_files full partial ≡ None → full ≡ None
+full_none : (full partial : Option (List ℕ)) → run_of_files false full partial ≡ None → full ≡ None
 full_none None partial none = refl
 full_none (Some bytes) partial none = cc
+
+-- a number that the base counts has a run, and so one without a run is a new one
+old_run : (full partial : Option (List ℕ)) → IsSome partial → IsSome (run_of_files true full partial)
+old_run full None some = cc
+old_run full (Some bytes) some = refl
+
+pub new_number : (files : Files) (number : ℕ) → HasGoodBase files → run_at files number ≡ None → is_old files number ≡ false
+new_number files number good none = elim (cases_lt number (base_of files).count) [
+  | inl counted ↦
+      absurd (none_is_not_some (run_at files number) none
+      (subst (λ b. IsSome (run_of_files b (files (full_name number)) (files (partial_name number)))) (sym (lt-ltb number (base_of files).count counted)) (old_run (files (full_name number)) (files (partial_name number)) (good.old number counted))))
+  | inr behind ↦ le-ltb number (base_of files).count behind
+]
 
 module _ (files : Files) (kinds : List Bool) (has : HasKinds files kinds) where
   pub free_here : length kinds < most_runs → run_at files (length kinds) ≡ None
@@ -84,30 +106,47 @@ module _ (files : Files) (runs : List Run) (number : ℕ) (shows : Shows files r
     | inr most ↦ omega (arith, least)
   ]
 
-module _ (files : Files) (number : ℕ) (small : number < most_runs) (free : run_at files number ≡ None) (bytes : List ℕ) where
+module _ (files : Files) (number : ℕ) (small : number < most_runs) (good : HasGoodBase files) (free : run_at files number ≡ None) (bytes : List ℕ) where
   -- the files with a run beside them
   abbrev with_run : Bool → Files
   with_run partial = put files (run_name number partial) bytes
 
+  pub format_stays : (partial : Bool) → with_run partial format_name ≡ files format_name
+  format_stays partial = put_other files (run_name number partial) bytes format_name (format_differs number partial (omega arith))
+
+  pub base_stays : (partial : Bool) → with_run partial base_name ≡ files base_name
+  base_stays partial = put_other files (run_name number partial) bytes base_name (base_differs number partial (omega arith))
+
+  new_here : is_old files number ≡ false
+  new_here = new_number files number good free
+
+  still_new : (partial : Bool) (k : ℕ) → k ≡ number → is_old (with_run partial) k ≡ false
+  still_new partial k same = (λ i. ltb (same i) (base_still files (with_run partial) (format_stays partial) (base_stays partial) i).count) ∙ new_here
+
+  no_full : files (full_name number) ≡ None
+  no_full = full_none (files (full_name number)) (files (partial_name number)) (subst (λ b. run_of_files b (files (full_name number)) (files (partial_name number)) ≡ None) new_here free)
+
   pub here : (partial : Bool) (k : ℕ) → k ≡ number → run_at (with_run partial) k ≡ Some (run_of partial bytes)
-  here false k same = ap (λ found. run_of_files found (with_run false (partial_name k))) (put_here files (full_name number) bytes (full_name k) (ap full_name same))
+  here false k same =
+      ap (λ b. run_of_files b (with_run false (full_name k)) (with_run false (partial_name k))) (still_new false k same)
+      ∙ ap (λ found. run_of_files false found (with_run false (partial_name k))) (put_here files (full_name number) bytes (full_name k) (ap full_name same))
   here true k same =
-      let no_full : with_run true (full_name k) ≡ None =
+      let none : with_run true (full_name k) ≡ None =
       put_other files (partial_name number) bytes (full_name k) (λ e. partial_differs number k (omega (arith, same)) (sym e))
-      ∙ ap (λ (n : ℕ). files (full_name n)) same ∙ full_none (files (full_name number)) (files (partial_name number)) free in
-      ap (λ found. run_of_files found (with_run true (partial_name k))) no_full
-      ∙ ap (run_of_files None) (put_here files (partial_name number) bytes (partial_name k) (ap partial_name same))
+      ∙ ap (λ (n : ℕ). files (full_name n)) same ∙ no_full in
+      ap (λ b. run_of_files b (with_run true (full_name k)) (with_run true (partial_name k))) (still_new true k same)
+      ∙ ap (λ found. run_of_files false found (with_run true (partial_name k))) none
+      ∙ ap (run_of_files false None) (put_here files (partial_name number) bytes (partial_name k) (ap partial_name same))
 
   pub elsewhere : (partial : Bool) (k : ℕ) → k < most_runs → (k ≡ number → ⊥) → run_at (with_run partial) k ≡ run_at files k
   elsewhere false k few differs =
-      ap (λ found. run_of_files found (with_run false (partial_name k))) (put_other files (full_name number) bytes (full_name k) (λ e. differs (full_same k number (omega arith) (omega arith) e)))
-      ∙ ap (run_of_files (files (full_name k))) (put_other files (full_name number) bytes (partial_name k) (partial_differs k number (omega arith)))
+      run_still files (with_run false) (format_stays false) (base_stays false) k
+      (put_other files (full_name number) bytes (full_name k) (λ e. differs (full_same k number (omega arith) (omega arith) e)))
+      (put_other files (full_name number) bytes (partial_name k) (partial_differs k number (omega arith)))
   elsewhere true k few differs =
-      ap (λ found. run_of_files found (with_run true (partial_name k))) (put_other files (partial_name number) bytes (full_name k) (λ e. partial_differs number k (omega arith) (sym e)))
-      ∙ ap (run_of_files (files (full_name k))) (put_other files (partial_name number) bytes (partial_name k) (λ e. differs (partial_same k number (omega arith) (omega arith) e)))
-
-  pub format_stays : (partial : Bool) → with_run partial format_name ≡ files format_name
-  format_stays partial = put_other files (run_name number partial) bytes format_name (format_differs number partial (omega arith))
+      run_still files (with_run true) (format_stays true) (base_stays true) k
+      (put_other files (partial_name number) bytes (full_name k) (λ e. partial_differs number k (omega arith) (sym e)))
+      (put_other files (partial_name number) bytes (partial_name k) (λ e. differs (partial_same k number (omega arith) (omega arith) e)))
 
 module _ (files : Files) (kinds : List Bool) (repository : IsRepository files) (has : HasKinds files kinds) (room : length kinds < most_runs) (partial : Bool) (bytes : List ℕ) where
   abbrev number : ℕ
@@ -123,10 +162,10 @@ module _ (files : Files) (kinds : List Bool) (repository : IsRepository files) (
   free = free_here files kinds has room
 
   at_number : (k : ℕ) → k ≡ number → run_at image k ≡ Some run
-  at_number k same = here files number room free bytes partial k same
+  at_number k same = here files number room repository.base free bytes partial k same
 
   at_other : (k : ℕ) → k < most_runs → (k ≡ number → ⊥) → run_at image k ≡ run_at files k
-  at_other k few differs = elsewhere files number room free bytes partial k few differs
+  at_other k few differs = elsewhere files number room repository.base free bytes partial k few differs
 
   no_gap_before : (k : ℕ) → k < most_runs → IsSome (run_at files k) ⊎ (k ≡ number) → IsSome (run_at image k)
   no_gap_before k few (inr same) = subst IsSome (sym (at_number k same)) refl
@@ -142,7 +181,13 @@ module _ (files : Files) (kinds : List Bool) (repository : IsRepository files) (
   ]
 
   pub beside_repository : IsRepository image
-  beside_repository = record { format = format_stays files number room free bytes partial ∙ repository.format; no_gap = no_gap }
+  beside_repository =
+      let format : image format_name ≡ files format_name = format_stays files number room repository.base free bytes partial in
+      record {
+        format = format_still files image format repository.format;
+        base = good_still files image format (base_stays files number room repository.base free bytes partial) (λ k few some. put_some files (run_name number partial) bytes (partial_name k) some) repository.base;
+        no_gap = no_gap;
+      }
 
   counts : (runs : List Run) → Shows files runs → number ≡ length runs
   counts runs shows = free_is_length files runs number shows (first_free files kinds has room)
@@ -174,6 +219,35 @@ module _ (files : Files) (kinds : List Bool) (repository : IsRepository files) (
       | inr differs ↦ ap (option_map (λ (r : Run). r.partial)) (at_other k few differs) ∙ has.each k few ∙ sym (other_item kinds partial k differs)
     ];
   }
+
+-- the base counts no more runs than there are
+base_within : (files : Files) (kinds : List Bool) → IsRepository files → HasKinds files kinds → (base_of files).count ≤ length kinds
+base_within files kinds repository has = elim (cases_lt (length kinds) (base_of files).count) [
+  | inl more ↦
+      let few : length kinds < most_runs = omega (arith, more, base_few files repository.base.form) in
+      let free : run_at files (length kinds) ≡ None = free_here files kinds has few in
+      absurd (true≢false (sym (lt-ltb (length kinds) (base_of files).count more) ∙ new_number files (length kinds) repository.base free))
+  | inr most ↦ most
+]
+
+pub within_base : (kinds : List Bool) (s : Folder) → FitsFolder kinds s → (base_of s.disk.published).count ≤ length kinds
+within_base kinds s fits = base_within s.disk.published kinds fits.repository fits.kinds_are
+
+pub base_behind : (files : Files) (runs : List Run) → IsRepository files → Shows files runs → (base_of files).count ≤ length runs
+base_behind files runs repository shows = elim (cases_lt (length runs) (base_of files).count) [
+  | inl more ↦
+      let few : length runs < most_runs = omega (arith, more, base_few files repository.base.form) in
+      let free : run_at files (length runs) ≡ None = shows.each (length runs) few ∙ past_items runs (length runs) (omega arith) in
+      absurd (true≢false (sym (lt-ltb (length runs) (base_of files).count more) ∙ new_number files (length runs) repository.base free))
+  | inr most ↦ most
+]
+
+-- a run beside the files leaves the base
+pub base_beside_run : (files : Files) (number : ℕ) (run : Run) → number < most_runs → base_of (put files (run_name number run.partial) run.bytes) ≡ base_of files
+base_beside_run files number run few =
+    base_still files (put files (run_name number run.partial) run.bytes)
+    (put_other files (run_name number run.partial) run.bytes format_name (format_differs number run.partial (omega (arith, few))))
+    (put_other files (run_name number run.partial) run.bytes base_name (base_differs number run.partial (omega (arith, few))))
 
 -- where the folder is told or not
 module _ (kinds : List Bool) (room : length kinds < most_runs) (partial : Bool) (bytes name : List ℕ) (is : name ≡ run_name (length kinds) partial) (a b : Option Folder) (fits : FitsWhereTold kinds a) where

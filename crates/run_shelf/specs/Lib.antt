@@ -1,3 +1,5 @@
+pub mod IdFiles
+pub mod Bases
 pub mod Repository
 pub mod Names
 pub mod Drafts
@@ -10,3 +12,4 @@ pub mod Outcomes
 pub mod Stores
 pub mod Sides
 pub mod Openings
+pub mod Adoption

@@ -11,7 +11,7 @@ use Rattle.run_shelf.specs.declared.faults.OpenFault.{OpenFault}
 use Rattle.run_shelf.specs.declared.faults.OpenFault.TheVariants as open_fault
 use Rattle.run_shelf.specs.Holds.{FitsFolder}
 use Rattle.run_shelf.specs.Images.{SameDisk, ReadsFile}
-use Rattle.run_shelf.specs.Repository.{run_at, format_name, format_bytes, HasFormat, HasOtherFormat, IsGap}
+use Rattle.run_shelf.specs.Repository.{run_at, format_name, format_bytes, HasFormat, HasOtherFormat, HasBadBase, IsGap}
 
 -- A file was to be kept in a folder at rest, and this call failed. Before the publish the files are as they were; at it
 -- the file is there or not; after it the file is there.
@@ -72,6 +72,7 @@ FailsAt Publish s t = ⊥
 abbrev pub OpenFails : OpenFault → Folder → Folder → Type 0
 OpenFails open_fault.NoStore s t = (s.disk.published format_name ≡ None) × Settled s t
 OpenFails open_fault.UnknownFormat s t = HasOtherFormat s.disk.published × Settled s t
+OpenFails open_fault.BadBase s t = (HasFormat s.disk.published × HasBadBase s.disk.published) × Settled s t
 OpenFails (open_fault.Gap number) s t = (HasFormat s.disk.published × IsGap s.disk.published number) × Settled s t
 OpenFails (open_fault.Shelf call) s t = FailsAt call s t
 OpenFails open_fault.NoMemory s t = Settled s t

@@ -7,6 +7,8 @@ use Rattle.run_shelf.specs.declared.faults.ShelfCall.{ShelfCall}
 use Rattle.run_shelf.specs.declared.faults.ShelfCall.TheVariants.{Length, ReadAt}
 use Rattle.run_shelf.specs.declared.faults.StoreFault.{StoreFault}
 use Rattle.run_shelf.specs.declared.faults.StoreFault.TheVariants.{Shelf, Closed}
+use Rattle.run_shelf.specs.declared.faults.FileFault.{FileFault}
+use Rattle.run_shelf.specs.declared.faults.FileFault.TheVariants as file_fault
 use Rattle.run_shelf.specs.declared.faults.SideFault.{SideFault}
 use Rattle.run_shelf.specs.declared.faults.SideFault.TheVariants.{Store, NoMemory}
 use Rattle.run_shelf.specs.declared.side.Side.{Side}
@@ -63,7 +65,18 @@ PutFails side bytes (Closed call) s t = Stays s t
 abbrev pub IsReading : ShelfCall → Type 0
 IsReading call = (call ≡ Length) ⊎ (call ≡ ReadAt)
 
--- why a file was not read: one of these calls failed, or memory was wanting
+-- a call of a folder that is lent failed, or memory was wanting: no store was closed
+abbrev pub OfLentFolder : SideFault → Type 0
+OfLentFolder (Store (Shelf call)) = ⊤
+OfLentFolder (Store (Closed call)) = ⊥
+OfLentFolder NoMemory = ⊤
+
+-- why a whole file was not read: one of these calls failed, or memory was wanting
+abbrev pub FileFails : FileFault → Type 0
+FileFails (file_fault.Shelf call) = IsReading call
+FileFails file_fault.NoMemory = ⊤
+
+-- the same of the file of a cache
 abbrev pub SideFails : SideFault → Type 0
 SideFails (Store (Shelf call)) = IsReading call
 SideFails (Store (Closed call)) = ⊥

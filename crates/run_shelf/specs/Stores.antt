@@ -17,7 +17,7 @@ use Rattle.run_shelf.specs.declared.run.Recorder.{Recorder}
 use Rattle.run_shelf.specs.Drafts.{OfDraft, PlaceFails}
 use Rattle.run_shelf.specs.Holds.{FitsFolder, kinds_of}
 use Rattle.run_shelf.specs.Images.{PassesOld, PassesRun}
-use Rattle.run_shelf.specs.Repository.{run_of, HasFormat, HasOtherFormat, IsGap, format_name, most_runs}
+use Rattle.run_shelf.specs.Repository.{run_of, HasFormat, HasOtherFormat, HasBadBase, IsGap, format_name, most_runs}
 
 -- whether each run is partial, in the order of their numbers
 abbrev pub store_kinds : {H : Type 0} → Store H → List Bool
@@ -96,6 +96,7 @@ StoreReads before after result = Reads before after (λ old new. Closes old new 
 abbrev pub HasOpenCause : OpenFault → Folder → Type 0
 HasOpenCause open_fault.NoStore s = s.disk.published format_name ≡ None
 HasOpenCause open_fault.UnknownFormat s = HasOtherFormat s.disk.published
+HasOpenCause open_fault.BadBase s = HasFormat s.disk.published × HasBadBase s.disk.published
 HasOpenCause (open_fault.Gap number) s = HasFormat s.disk.published × IsGap s.disk.published number
 HasOpenCause (open_fault.Shelf call) s = ⊤
 HasOpenCause open_fault.NoMemory s = ⊤

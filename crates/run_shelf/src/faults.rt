@@ -41,9 +41,12 @@ pub enum OpenFault {
     /// The file `format` is not there.
     #[error("there is no repository")]
     NoStore,
-    /// The file `format` has other bytes than `subunit-store 1` and a newline.
+    /// The file `format` has other bytes than `subunit-store 1` or `subunit-store 2` and a newline.
     #[error("the repository has an unknown format")]
     UnknownFormat,
+    /// The format is the second one, and `base.set` is not there, or holds no base, or a run that it counts is not there.
+    #[error("the base set is damaged")]
+    BadBase,
     /// This is the least number without a run, and a greater number has one.
     #[error("the repository lacks run {0}")]
     Gap(u32),
@@ -80,6 +83,26 @@ pub enum StartFault {
     NoMemory,
 }
 
+/// Why a whole file was not read.
+#[derive(Clone, Copy, Debug, PartialEq, Eq)]
+pub enum FileFault {
+    /// This call of the folder failed.
+    Shelf(ShelfCall),
+    /// There is not enough memory.
+    NoMemory,
+}
+
+impl From<AllocError> for FileFault {
+    ghost use Rattle.std.specs.Prelude.{◌≡◌};
+    ghost use Rattle.run_shelf.specs.declared.faults.FileFault.TheVariants.{NoMemory};
+
+    ghost from_gives = { λ _ fault. fault ≡ NoMemory };
+
+    fn from(_: AllocError) -> Self {
+        FileFault::NoMemory
+    }
+}
+
 /// Why a file of a cache was not read.
 #[derive(Clone, Copy, Debug, PartialEq, Eq, Error)]
 pub enum SideFault {
@@ -89,17 +112,6 @@ pub enum SideFault {
     /// There is not enough memory.
     #[error("out of memory")]
     NoMemory,
-}
-
-impl From<AllocError> for SideFault {
-    ghost use Rattle.std.specs.Prelude.{◌≡◌};
-    ghost use Rattle.run_shelf.specs.declared.faults.SideFault.TheVariants.{NoMemory};
-
-    ghost from_gives = { λ _ fault. fault ≡ NoMemory };
-
-    fn from(_: AllocError) -> Self {
-        SideFault::NoMemory
-    }
 }
 
 impl From<AllocError> for OpenFault {

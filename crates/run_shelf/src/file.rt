@@ -1,15 +1,18 @@
 //! One file more, wholly or not at all, and the file that makes a folder a repository.
 
-ghost use Rattle.std.specs.Prelude.{IfSome, IfErr, OnOk};
+ghost use Rattle.std.specs.Prelude.{◌≡◌, IfSome, IfOk, IfErr, OnOk, vec_len};
 ghost use Rattle.edge_io.specs.Causes.{HasCause, RisesExactlyIf};
-ghost use Rattle.edge_io.specs.Steps.{Goes, HasDraft};
+ghost use Rattle.edge_io.specs.Steps.{Goes, Stays, HasDraft};
 ghost use Rattle.run_shelf.specs.Drafts.{OfDraft, Writes, DraftFails, PlaceFails};
-ghost use Rattle.run_shelf.specs.Faults.{init_failed};
+ghost use Rattle.run_shelf.specs.Faults.{init_failed, file_failed};
 ghost use Rattle.run_shelf.specs.Images.{AtRest, KeepsFile, PassesFile, MakesRepository, PassesFormat};
 ghost use Rattle.run_shelf.specs.Outcomes.{InitFails, KeepFails, TicksUpTo};
+ghost use Rattle.run_shelf.specs.Sides.{FileFails};
 
-use crate::{InitFault, ShelfCall};
+use crate::{FileFault, InitFault, ShelfCall};
 use edge_io::Shelf;
+use std::alloc::Global;
+use sub_number::Bytes;
 
 /// The bytes become the file of this name, in a folder in which nothing is pending. At `Ok` each later stop leaves it.
 #[tactic(auto, using(crate::proofs::KeepSteps::file_passes))]
@@ -23,6 +26,36 @@ pub fn keep_file<H: Shelf>(shelf: &mut H, name: &str, bytes: &[u8]) -> Result<()
 {
     write_draft(shelf, bytes)?;
     place_draft(shelf, name)
+}
+
+/// The bytes of this file, and `None` exactly where it is not there. It makes at most two calls of the folder, in which
+/// nothing changes.
+pub fn read_file<H: Shelf>(
+    alloc: Global,
+    shelf: &mut H,
+    name: &str,
+) -> Result<Option<Bytes>, FileFault>
+    ensures found { IfOk result (λ found. IfSome (H.seen shelf.old).told (λ s. found ≡ s.disk.published name.now)) }
+    ensures failed { IfErr result FileFails }
+    ensures same { Goes (H.seen shelf.old).told (H.seen shelf.new).told Stays }
+    ensures time { TicksUpTo 2 (H.clock shelf.old) (H.clock shelf.new) }
+    ensures cause { RisesExactlyIf (H.seen shelf.old).faults (H.seen shelf.new).faults (file_failed result) }
+{
+    let Ok(length) = shelf.length(name) else {
+        return Err(FileFault::Shelf(ShelfCall::Length));
+    };
+    let Some(size) = length else {
+        return Ok(None);
+    };
+    let mut bytes = vec![in alloc; 0u8; size as usize]?;
+    if size == 0 {
+        return Ok(Some(Bytes::from_vec(bytes)));
+    }
+    let Ok(count) = shelf.read_at(name, 0, &mut bytes) else {
+        return Err(FileFault::Shelf(ShelfCall::ReadAt));
+    };
+    bytes.truncate(count);
+    Ok(Some(Bytes::from_vec(bytes)))
 }
 
 // A draft of these bytes.
@@ -69,6 +102,9 @@ pub const FORMAT_NAME: &str = "format";
 
 /// The bytes of that file.
 pub const FORMAT_BYTES: &[u8] = b"subunit-store 1\n";
+
+/// Those where the repository has a base.
+pub const BASED_FORMAT_BYTES: &[u8] = b"subunit-store 2\n";
 
 /// Makes the folder a repository: brings what is pending to the disk, and keeps the file `format` there. It takes no
 /// memory.

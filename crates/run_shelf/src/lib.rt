@@ -10,25 +10,33 @@
 //! - `run`: one run, begun, added to and finished, and read; and the recording of it over a folder that is held
 //! - `side`: the files of the caches, put beside the runs, and read
 //! - `store`: a repository that holds its folder, and the opening of it
+//! - `id_file`, `base_set`: files of ids, and the base of a folder that another program began
+//! - `adopting`: the last steps of taking such a folder over
 //! - `laws`: the runs that a repository shows, and what keeps them
 //!
 //! The calls over a folder that is lent for the call alone say what it is at each exit. `Store` and `Recorder` hold the
 //! folder in between.
 #![tactic(auto)]
 
+mod adopting;
+mod base_set;
 mod faults;
 mod file;
 mod found;
+mod id_file;
 mod laws;
 mod names;
 mod run;
 mod side;
 mod store;
 
-pub use faults::{InitFault, OpenFault, ShelfCall, SideFault, StartFault, StoreFault};
+pub use adopting::{adopt, place_converted};
+pub use base_set::{Base, read_base};
+pub use faults::{FileFault, InitFault, OpenFault, ShelfCall, SideFault, StartFault, StoreFault};
 pub use file::make_repository;
 pub use found::{Found, MOST_RUNS};
-pub use laws::{repositories_show_runs, sides_keep_the_runs};
+pub use id_file::{IdFile, read_id_file};
+pub use laws::{old_folders_stay_old, repositories_show_runs, sides_keep_the_runs};
 pub use names::survey;
 pub use run::{Recorder, Recording, add_packet, begin_run, finish_run, read_run, run_length};
 pub use side::{Side, read_side, write_side};

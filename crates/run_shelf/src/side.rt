@@ -1,14 +1,14 @@
 //! The files of the caches, which stand beside the runs.
 
-ghost use Rattle.std.specs.Prelude.{◌≡◌, IfSome, IfOk, IfErr, OnOk, vec_len};
+ghost use Rattle.std.specs.Prelude.{◌≡◌, IfSome, IfOk, IfErr, OnOk};
 ghost use Rattle.edge_io.specs.Causes.{HasCause, RisesExactlyIf};
 ghost use Rattle.edge_io.specs.Steps.{Goes, Stays};
 ghost use Rattle.run_shelf.specs.Images.{AtRest};
 ghost use Rattle.run_shelf.specs.Outcomes.{KeepFails, TicksUpTo};
 ghost use Rattle.run_shelf.specs.Sides.{side_name, HoldsSide, KeepsSide, PassesSide, SideFails, side_failed};
 
-use crate::file::keep_file;
-use crate::{ShelfCall, SideFault, StoreFault};
+use crate::file::{keep_file, read_file};
+use crate::{FileFault, ShelfCall, SideFault, StoreFault};
 use edge_io::Shelf;
 use std::alloc::Global;
 use sub_number::Bytes;
@@ -49,22 +49,11 @@ pub fn read_side<H: Shelf>(
     ensures time { TicksUpTo 2 (H.clock shelf.old) (H.clock shelf.new) }
     ensures cause { RisesExactlyIf (H.seen shelf.old).faults (H.seen shelf.new).faults (side_failed result) }
 {
-    let name = side.name();
-    let Ok(length) = shelf.length(name) else {
-        return Err(SideFault::Store(StoreFault::Shelf(ShelfCall::Length)));
-    };
-    let Some(size) = length else {
-        return Ok(None);
-    };
-    let mut bytes = vec![in alloc; 0u8; size as usize]?;
-    if size == 0 {
-        return Ok(Some(Bytes::from_vec(bytes)));
+    match read_file(alloc, shelf, side.name()) {
+        Ok(found) => Ok(found),
+        Err(FileFault::Shelf(call)) => Err(SideFault::Store(StoreFault::Shelf(call))),
+        Err(FileFault::NoMemory) => Err(SideFault::NoMemory),
     }
-    let Ok(count) = shelf.read_at(name, 0, &mut bytes) else {
-        return Err(SideFault::Store(StoreFault::Shelf(ShelfCall::ReadAt)));
-    };
-    bytes.truncate(count);
-    Ok(Some(Bytes::from_vec(bytes)))
 }
 
 /// Puts this file beside the runs, with these bytes and in place of any other, in a folder in which nothing is pending. It

@@ -8,6 +8,7 @@ ghost use Rattle.edge_io.specs.Steps.{Goes, Opened};
 ghost use Rattle.run_shelf.specs.Faults.{init_failed};
 ghost use Rattle.run_shelf.specs.Holds.{kinds_of};
 ghost use Rattle.run_shelf.specs.Images.{MakesRepository, PassesFormat, PassesOld};
+ghost use Rattle.run_shelf.specs.Looking.{ReadsBase};
 ghost use Rattle.run_shelf.specs.Openings.{HandsBack, IsNotOpened};
 ghost use Rattle.run_shelf.specs.Outcomes.{InitFails, Surveys, IsRunLength, IsRunPart, TicksAtMost, TicksUpTo};
 ghost use Rattle.run_shelf.specs.Sides.{HoldsSide, KeepsSide, PassesSide, PutFails, TellsOfReading, SideReads};
@@ -16,9 +17,9 @@ ghost use Rattle.run_shelf.specs.declared.faults.StoreFault.TheVariants.{Shelf a
 ghost use Rattle.run_shelf.specs.Stores.{store_kinds, store_fault, FitsUnlessBroken, seen_store, store_failed, StoreReads, Closes, TellsOf, HasOpenCause, HasStartCause, StartsFrom, StartFails, has_start_failed, fault_after_start, recorder_kinds, recorder_fault, RecordsUnlessBroken};
 
 use crate::{
-    Found, InitFault, MOST_RUNS, OpenFault, Recorder, Recording, ShelfCall, Side, SideFault,
-    StartFault, StoreFault, begin_run, make_repository, read_run, read_side, run_length, survey,
-    write_side,
+    Base, Found, InitFault, MOST_RUNS, OpenFault, Recorder, Recording, ShelfCall, Side, SideFault,
+    StartFault, StoreFault, begin_run, make_repository, read_base, read_run, read_side, run_length,
+    survey, write_side,
 };
 use edge_io::Shelf;
 use std::alloc::Global;
@@ -153,6 +154,29 @@ impl<'h, H: Shelf> Store<'h, H> {
         }
         match read_side(alloc, self.shelf, side) {
             Ok(found) => Ok(found),
+            Err(SideFault::Store(StoreFault::Shelf(call))) => {
+                Err(SideFault::Store(self.close(call)))
+            }
+            Err(fault) => Err(fault),
+        }
+    }
+
+    /// The base, as `read_base`.
+    ///
+    /// `Store` comes only with the call of the folder that failed, and with `Closed` exactly where one had failed before,
+    /// which comes first.
+    pub fn base(&mut self, alloc: Global) -> Result<Base, SideFault>
+        requires fits { FitsUnlessBroken (store_kinds self.old) (store_fault self.old) (H.seen self.old.shelf.now).told }
+        ensures same_reference { self.new.shelf.ghost_name ≡ self.old.shelf.ghost_name }
+        ensures found { IfOk result (λ base. IfSome (H.seen self.old.shelf.now).told (ReadsBase base)) }
+        ensures reads { SideReads (seen_store self.old (H.seen self.old.shelf.now)) (seen_store self.new (H.seen self.new.shelf.now)) result }
+        ensures time { TicksUpTo 3 (H.clock self.old.shelf.now) (H.clock self.new.shelf.now) }
+    {
+        if let Some(call) = self.fault {
+            return Err(SideFault::Store(StoreFault::Closed(call)));
+        }
+        match read_base(alloc, self.shelf) {
+            Ok(base) => Ok(base),
             Err(SideFault::Store(StoreFault::Shelf(call))) => {
                 Err(SideFault::Store(self.close(call)))
             }

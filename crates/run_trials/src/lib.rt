@@ -5,11 +5,13 @@
 //! more for them.
 //!
 //! - `configured`: the project that most of them are made with
+//! - `contents`: what long files and outputs have
 //! - `tests_*`: the tests
 #![tactic(auto)]
 
 #[cfg(test)]
 mod configured;
+pub mod contents;
 #[cfg(test)]
 mod tests_caches;
 #[cfg(test)]
@@ -20,6 +22,8 @@ mod tests_children;
 mod tests_limits;
 #[cfg(test)]
 mod tests_listing;
+#[cfg(test)]
+mod tests_projects;
 #[cfg(test)]
 mod tests_recording;
 #[cfg(test)]

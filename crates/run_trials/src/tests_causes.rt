@@ -75,6 +75,8 @@ const C_KEPT: &[u8] = b"\xb3\x2d\x06\x0c\x01\x63\x01\x30\x4d\x77\x4b\x9c";
 
 const FIND: &[&str] = &["testr", "run", "--find-causes"];
 
+const FIND_HIDDEN: &[&str] = &["testr", "run", "--find-causes", "-q"];
+
 const FIND_FAILING: &[&str] = &["testr", "run", "--failing", "--find-causes"];
 
 const FIND_ON_TWO: &[&str] = &[
@@ -144,6 +146,22 @@ const CAUSED: Row<'static> = (
         1,
         b"======================================================================\nFAIL: c\n----------------------------------------------------------------------\nRan 3 tests\nFAILED (id=0, failures=1)\nc: caused by b\n",
     ),
+    &[ALL, C, ALL_THREE, A_AND_C, B_AND_C],
+);
+
+// The causes are searched where nothing is printed, too.
+const HIDDEN: Row<'static> = (
+    FIND_HIDDEN,
+    WITH_IDS,
+    NO_RUN,
+    &[
+        (A_B_AND_C_FAILED, ENDED),
+        (C_PASSED, ENDED),
+        (A_B_AND_C_FAILED, ENDED),
+        (A_AND_C_PASSED, ENDED),
+        (B_AND_C_FAILED, ENDED),
+    ],
+    (1, NOTHING),
     &[ALL, C, ALL_THREE, A_AND_C, B_AND_C],
 );
 
@@ -278,7 +296,7 @@ const TWO_FAIL: Row<'static> = (
 
 #[test]
 fn the_cause_of_a_test_is_named(rt: HostRuntime) -> Result<(), Fail> {
-    for (number, row) in [CAUSED, SEVERAL, ALONE, NOT_SEEN, NO_CANDIDATE]
+    for (number, row) in [CAUSED, HIDDEN, SEVERAL, ALONE, NOT_SEEN, NO_CANDIDATE]
         .iter()
         .enumerate()
     {

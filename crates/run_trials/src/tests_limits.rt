@@ -1,5 +1,6 @@
 //! Files of `testr run` and `testr list-tests` that are too long, or are not there.
 
+use crate::contents::filled;
 use std::alloc::Global;
 use std::test::Fail;
 use trial_calls::{NamedFiles, Scene, play};
@@ -24,16 +25,9 @@ const BARE: Scene<'static> = Scene {
 
 const LIST_TESTS: &[&str] = &["testr", "list-tests"];
 
-// So many newlines.
-fn newlines(alloc: Global, size: usize) -> Result<Vec<u8>, Fail> {
-    let mut bytes = Vec::new(alloc);
-    bytes.resize(size, b'\n')?;
-    Ok(bytes)
-}
-
 #[test]
 fn a_configuration_that_is_not_there_is_told(rt: HostRuntime) -> Result<(), Fail> {
-    let line = b"testr: no .testr.conf\n";
+    let line = b"testr: no .testr.conf or .stestr.conf\n";
     assert!(rt; play(&rt, &BARE)?.refuses(0, 3, line));
     assert!(rt;
         play(
@@ -50,7 +44,7 @@ fn a_configuration_that_is_not_there_is_told(rt: HostRuntime) -> Result<(), Fail
 
 #[test]
 fn a_configuration_has_so_many_bytes_at_most(rt: HostRuntime) -> Result<(), Fail> {
-    let bytes = newlines(rt.alloc(), MOST + 1)?;
+    let bytes = filled(rt.alloc(), b'\n', MOST + 1)?;
     let long: NamedFiles<'_> = &[(b".testr.conf", &bytes)];
     let line = b"testr: .testr.conf is too long\n";
     assert!(rt;
@@ -74,7 +68,7 @@ fn a_configuration_has_so_many_bytes_at_most(rt: HostRuntime) -> Result<(), Fail
 
 #[test]
 fn a_list_and_a_table_have_so_many_bytes_at_most(rt: HostRuntime) -> Result<(), Fail> {
-    let bytes = newlines(rt.alloc(), MOST + 1)?;
+    let bytes = filled(rt.alloc(), b'\n', MOST + 1)?;
     let list: NamedFiles<'_> = &[(b".testr.conf", CONF), (b"l", &bytes)];
     let words = ["testr", "run", "--load-list=l"];
     let scene = Scene {
@@ -91,5 +85,26 @@ fn a_list_and_a_table_have_so_many_bytes_at_most(rt: HostRuntime) -> Result<(), 
         ..BARE
     };
     assert!(rt; play(&rt, &scene)?.refuses(0, 3, b"testr: /proc/cpuinfo is too long\n"));
+    Ok(())
+}
+
+// An id of so many bytes.
+fn id_of(alloc: Global, size: usize) -> Result<Vec<u8>, Fail> {
+    let mut bytes = Vec::new(alloc);
+    bytes.resize(size, b'a')?;
+    Ok(bytes)
+}
+
+#[test]
+fn an_id_has_so_many_bytes_at_most(rt: HostRuntime) -> Result<(), Fail> {
+    let id = id_of(rt.alloc(), 65_537)?;
+    let words = ["testr", "run", "--load-list=l"];
+    let scene = Scene {
+        words: &words,
+        files: &[(b".testr.conf", CONF), (b"l", &id)],
+        ..BARE
+    };
+    let line = b"testr: an id has more than 65536 bytes\n";
+    assert!(rt; play(&rt, &scene)?.refuses(0, 3, line));
     Ok(())
 }

@@ -1,6 +1,6 @@
 //! `testr list-tests` over programs in memory, and what is said of a configuration.
 
-use crate::configured::{CONF, ENDED, LISTED};
+use crate::configured::{CONF, ENDED, LISTED, project_beside};
 use edge_io::{Finish, MemShelf, Shelf};
 use std::sync::Wait;
 use std::test::Fail;
@@ -32,11 +32,24 @@ fn lists<R: Threads + Wait + Sync + AllocGlobal>(
     Ok(shows(rt, words, shelf, &mut project, wanted)? && has_started(&project, jobs))
 }
 
-const PRINTED: [(&[u8], &[&str], &[u8]); 4] = [
+const PRINTED: [(&[u8], &[&str], &[u8]); 6] = [
     (CONF, LIST, b"a\nb\n"),
     (BAD_GROUPS, LIST, b"a\nb\n"),
     (CONF, &["testr", "list-tests", "^b", "c"], b"b\n"),
     (CONF, &["testr", "list-tests", "ab"], NOTHING),
+    (CONF, &["testr", "list-tests", "--exclude-regex=^b"], b"a\n"),
+    (
+        CONF,
+        &[
+            "testr",
+            "list-tests",
+            "--exclude-regex",
+            "b",
+            "a",
+            "--exclude-regex=^a",
+        ],
+        NOTHING,
+    ),
 ];
 
 // Whether the listing prints this, where there is no repository, and makes none.
@@ -55,6 +68,78 @@ fn prints<R: Threads + Wait + Sync + AllocGlobal>(
 fn the_listed_tests_are_printed_once(rt: HostRuntime) -> Result<(), Fail> {
     for (row, (conf, words, text)) in PRINTED.iter().enumerate() {
         assert!(rt; prints(&rt, conf, words, text)?, "row {row}");
+    }
+    Ok(())
+}
+
+const LOOK_AROUND: &[u8] =
+    b"testr: l line 3: bad pattern: (?!b)\ntestr: look-around is not known; --exclude-regex leaves tests out\n";
+
+// A list of patterns, the words, and the status, what is printed and what is told.
+const BY_LISTS: [(&[u8], &[&str], (u8, &[u8], &[u8])); 7] = [
+    (
+        b"# b\n ^b # last\n",
+        &["testr", "list-tests", "--include-list=l"],
+        (0, b"b\n", NOTHING),
+    ),
+    (
+        b"^b#\n",
+        &["testr", "list-tests", "--exclude-list", "l"],
+        (0, b"a\n", NOTHING),
+    ),
+    (
+        b"^b",
+        &["testr", "list-tests", "--include-list=l", "a"],
+        (0, b"a\nb\n", NOTHING),
+    ),
+    (
+        b"#\n",
+        &["testr", "list-tests", "--include-list=l"],
+        (0, b"a\nb\n", NOTHING),
+    ),
+    (
+        b"^b",
+        &[
+            "testr",
+            "list-tests",
+            "--include-list=l",
+            "--exclude-list=n",
+            "--exclude-list=l",
+        ],
+        (0, NOTHING, NOTHING),
+    ),
+    (
+        b"# b\n\n(?!b)",
+        &["testr", "list-tests", "--exclude-list=l"],
+        (3, NOTHING, LOOK_AROUND),
+    ),
+    (
+        b"a\n\xff\n(\n",
+        &[
+            "testr",
+            "list-tests",
+            "--exclude-list=n",
+            "--include-list=l",
+        ],
+        (3, NOTHING, b"testr: l line 2: not an id\n"),
+    ),
+];
+
+fn lists_by<R: Threads + Wait + Sync + AllocGlobal>(
+    rt: &R,
+    list: &[u8],
+    words: &[&str],
+    wanted: (u8, &[u8], &[u8]),
+) -> Result<bool, Fail> {
+    let mut project = project_beside(rt.alloc(), CONF, &[(A_B_A, ENDED)], b"l", list)?;
+    let mut shelf = MemShelf::new(rt.alloc(), Vec::new(rt.alloc()));
+    shows(rt, words, &mut shelf, &mut project, wanted)
+}
+
+#[test]
+fn lists_of_patterns_choose_from_the_listing(rt: HostRuntime) -> Result<(), Fail> {
+    for (row, (list, words, wanted)) in BY_LISTS.iter().enumerate() {
+        assert!(rt; lists_by(&rt, list, words, *wanted)?, "row {row}");
     }
     Ok(())
 }
@@ -116,7 +201,7 @@ const NO_COMMAND: &[u8] = b"testr: .testr.conf: no test_command\n";
 
 const NO_LIST_OPTION: &[u8] = b"testr: .testr.conf: test_list_option is needed\n";
 
-const REFUSED: [(&[u8], &[u8]); 7] = [
+const REFUSED: [(&[u8], &[u8]); 8] = [
     (b"x=1\n", b"testr: .testr.conf line 1: outside a section\n"),
     (
         b"[DEFAULT]\n  y\n",
@@ -125,6 +210,10 @@ const REFUSED: [(&[u8], &[u8]); 7] = [
     (
         b"[DEFAULT]\ntest_command=a\ntest_command=b\n",
         b"testr: .testr.conf line 3: repeated\n",
+    ),
+    (
+        b"[DEFAULT]\ntest_command=a\ninstance_execute=x\n",
+        b"testr: .testr.conf: instance_execute is not known\n",
     ),
     (b"", NO_COMMAND),
     (b"[DEFAULT]\ntest_command=\n", NO_COMMAND),
@@ -146,13 +235,20 @@ fn each_refusal_of_a_configuration_has_its_line(rt: HostRuntime) -> Result<(), F
 }
 
 // Configurations whose listing does not start, patterns, and the status and the line.
-const NOT_STARTED: [(&[u8], &str, u8, &[u8]); 2] = [
+const NOT_STARTED: [(&[u8], &str, u8, &[u8]); 4] = [
     (
         b"[DEFAULT]\ntest_command=run\n",
         "(",
         3,
         b"testr: bad pattern: (\n",
     ),
+    (
+        CONF,
+        "--exclude-regex=a(?<=b)",
+        3,
+        b"testr: bad pattern: a(?<=b)\ntestr: look-around is not known; --exclude-regex leaves tests out\n",
+    ),
+    (CONF, "--exclude-list=n", 3, b"testr: no file n\n"),
     (CONF, "a", 4, b"testr: fault starting a program\n"),
 ];
 

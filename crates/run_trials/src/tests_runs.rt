@@ -1,15 +1,17 @@
 //! `testr run` over workers in memory: the jobs, the run that is kept, the report and the status.
 
 use crate::configured::{CONF, ENDED, LISTED, project_beside};
+use crate::contents::filled;
 use edge_io::{Finish, MemShelf, Shelf, Spawner};
 use std::alloc::Global;
 use std::process::Abort;
 use std::sync::Wait;
 use std::test::Fail;
 use std::thread::Threads;
+use sub_number::Text;
 use trial_calls::{
-    FOO, FOO_KEPT, NOTHING, PASSED_AS_0, PASSED_AS_1, Project, SHELF_FAULT, call_in, has_file,
-    has_started, load, project_of, put, repository, shows,
+    FAIL, FAIL_KEPT, FOO, FOO_KEPT, NOTHING, PASSED_AS_0, PASSED_AS_1, Project, SHELF_FAULT,
+    call_in, has_file, has_started, load, project_of, put, repository, shows,
 };
 
 const COUNTED: &[u8] =
@@ -125,6 +127,46 @@ fn a_worker_that_does_not_end_well_fails(rt: HostRuntime) -> Result<(), Fail> {
     Ok(())
 }
 
+// `a` passed, and what is kept of a worker that was to run `a`, `b` and `c`, gave that and ended with 7.
+const A_PASSED: &[u8] = b"\xb3\x29\x03\n\x01a\xdd\xc1\xc7\xba";
+
+const LOST_B_AND_C: &[u8] =
+    b"\xb3-\x03\x0c\x01a\x010\x1e>\x0eA\xb3-\x02\x0c\x01b\x010\xd7$c\xbd\xb3-\x02\x0c\x01c\x010\xd6\xe6\x09\x8a\xb3-f\x40M\x12process-returncode\x17text/plain;charset=utf8\x09traceback\x0creturncode 7\x010\xf2\x1b\x14\xd3";
+
+const LOST_REPORT: &[u8] =
+    b"======================================================================\nFAIL: process-returncode\n----------------------------------------------------------------------\nreturncode 7\n======================================================================\nUNFINISHED: b\n----------------------------------------------------------------------\n======================================================================\nUNFINISHED: c\n----------------------------------------------------------------------\nRan 4 tests\nFAILED (id=0, failures=3)\n";
+
+const OF_THREE: [[&[u8]; 3]; 1] = [[b"run ", b".testr-ids.0", b"a\nb\nc\n"]];
+
+// Whether the run of these three is so, and the failing set has those that were lost.
+fn tells_of_lost_tests<R: Threads + Wait + Sync + AllocGlobal>(
+    rt: &R,
+    project: &mut Project,
+) -> Result<bool, Fail> {
+    let mut shelf = repository(rt.alloc(), &[])?;
+    let words = ["testr", "run", "--load-list=l"];
+    let run = (words.as_slice(), 1, LOST_REPORT, "0.part", LOST_B_AND_C);
+    let failing = (1, b"b\nc\nprocess-returncode\n".as_slice(), NOTHING);
+    Ok(
+        is_run(rt, &mut shelf, project, run, &OF_THREE)?
+            && shows(
+                rt,
+                &["testr", "failing", "--list"],
+                &mut shelf,
+                project,
+                failing,
+            )?,
+    )
+}
+
+#[test]
+fn no_test_vanishes_with_its_worker(rt: HostRuntime) -> Result<(), Fail> {
+    let outputs = [(A_PASSED, Finish::Exit(7))];
+    let mut project = project_beside(rt.alloc(), CONF, &outputs, b"l", b"a\nb\nc\n")?;
+    assert!(rt; tells_of_lost_tests(&rt, &mut project)?);
+    Ok(())
+}
+
 const FULL_RUNS: [(&[&str], &str); 5] = [
     (&["testr", "run"], "0"),
     (&["testr", "run", "--concurrency=2"], "0"),
@@ -199,6 +241,45 @@ const DISCOVERED_JOBS: [[&[u8]; 3]; 3] = [
 fn the_jobs_of_a_listing_and_of_two_workers(rt: HostRuntime) -> Result<(), Fail> {
     let run = (ON_TWO.as_slice(), 0, NO_TESTS, "0", NOTHING);
     assert!(rt; is_first_run(&rt, DISCOVERED, &TWO_EMPTY, run, &DISCOVERED_JOBS)?);
+    Ok(())
+}
+
+const IN_FOLDER_JOBS: [[&[u8]; 3]; 3] = [
+    [
+        b"OS_STDOUT_CAPTURE=${OS_STDOUT_CAPTURE:-1} \\\n${PYTHON:-python} -m subunit.run discover -t ./ . --list ",
+        NOTHING,
+        NOTHING,
+    ],
+    [
+        b"OS_STDOUT_CAPTURE=${OS_STDOUT_CAPTURE:-1} \\\n${PYTHON:-python} -m subunit.run discover -t ./ .  --load-list /srv/suite/.testr-ids.0",
+        b".testr-ids.0",
+        b"a\n",
+    ],
+    [
+        b"OS_STDOUT_CAPTURE=${OS_STDOUT_CAPTURE:-1} \\\n${PYTHON:-python} -m subunit.run discover -t ./ .  --load-list /srv/suite/.testr-ids.1",
+        b".testr-ids.1",
+        b"b\n",
+    ],
+];
+
+// Whether the run is so where the project stands in this folder.
+fn is_run_in<R: Threads + Wait + Sync + AllocGlobal>(
+    rt: &R,
+    folder: &[u8],
+    run: Run,
+    jobs: &[[&[u8]; 3]],
+) -> Result<bool, Fail> {
+    let mut project = project_of(rt.alloc(), DISCOVERED, &TWO_EMPTY, &[], &[])?;
+    project.site.stand_in(Text::new(rt.alloc(), folder)?);
+    let mut shelf = repository(rt.alloc(), &[])?;
+    is_run(rt, &mut shelf, &mut project, run, jobs)
+}
+
+#[test]
+fn files_of_ids_have_the_path_of_the_folder(rt: HostRuntime) -> Result<(), Fail> {
+    let run = (ON_TWO.as_slice(), 0, NO_TESTS, "0", NOTHING);
+    assert!(rt; is_run_in(&rt, b"/srv/suite", run, &IN_FOLDER_JOBS)?);
+    assert!(rt; is_run_in(&rt, b"/srv/my suite", run, &DISCOVERED_JOBS)?);
     Ok(())
 }
 
@@ -302,12 +383,15 @@ fn the_tests_are_shared_by_their_times_and_groups(rt: HostRuntime) -> Result<(),
 }
 
 // Words, and the ids of the tests that they choose where `a` and `b` failed.
-const CHOSEN: [(&[&str], &[u8]); 5] = [
+const CHOSEN: [(&[&str], &[u8]); 8] = [
     (&["testr", "run", "--failing"], b"a\nb\n"),
     (&["testr", "run", "--failing", "--load-list=l"], b"b\n"),
     (&["testr", "run", "--load-list=l"], b"c\nb\n"),
     (&["testr", "run", "--load-list", "l", "c", "x"], b"c\n"),
     (&["testr", "run", "--failing", "^[ac]"], b"a\n"),
+    (&["testr", "run", "--failing", "--exclude-regex=a"], b"b\n"),
+    (&["testr", "run", "--failing", "--include-list=l"], b"b\n"),
+    (&["testr", "run", "--failing", "--exclude-list=l"], b"a\n"),
 ];
 
 fn are_chosen<R: Threads + Wait + Sync + AllocGlobal>(
@@ -332,11 +416,12 @@ fn chosen_tests_are_a_partial_run_of_theirs(rt: HostRuntime) -> Result<(), Fail>
 }
 
 // Words that choose no test, and how many programs they start.
-const NONE_LEFT: [(&[&str], usize); 4] = [
+const NONE_LEFT: [(&[&str], usize); 5] = [
     (&["testr", "run", "--load-list=l"], 0),
     (&["testr", "run", "--failing"], 0),
     (&["testr", "run", "--failing", "--parallel"], 0),
     (&["testr", "run", "c", "^$"], 1),
+    (&["testr", "run", "--exclude-regex="], 1),
 ];
 
 fn none_is_left<R: Threads + Wait + Sync + AllocGlobal>(
@@ -414,16 +499,9 @@ fn a_start_that_fails_leaves_the_runs(rt: HostRuntime) -> Result<(), Fail> {
     the_second_worker_fails(&rt, &mut shelf, &mut project)
 }
 
-// So many bytes that are no packet.
-fn foreign(alloc: Global, size: usize) -> Result<Vec<u8>, Fail> {
-    let mut bytes = Vec::new(alloc);
-    bytes.resize(size, b'x')?;
-    Ok(bytes)
-}
-
-// A project whose first program gives so many bytes that an append fails.
+// A project whose first program gives so many bytes that are no packet that an append fails.
 fn long_and_short(alloc: Global) -> Result<Project, Fail> {
-    let bytes = foreign(alloc, 300_000)?;
+    let bytes = filled(alloc, b'x', 300_000)?;
     project_of(
         alloc,
         CONF,
@@ -479,6 +557,30 @@ fn a_report_that_is_not_written_leaves_the_new_run(rt: HostRuntime) -> Result<()
     let mut project = project_of(rt.alloc(), CONF, &[(FOO, ENDED)], &[], &[])?;
     let mut shelf = repository(rt.alloc(), &[])?;
     assert!(rt; keeps_unreported(&rt, &mut shelf, &mut project)?);
+    Ok(())
+}
+
+// Whether a run without a report is kept, and its status says whether a test failed. The output fails at each write.
+fn is_hidden<R: Threads + Wait + Sync + AllocGlobal>(
+    rt: &R,
+    words: &[&str],
+    output: &[u8],
+    kept: &[u8],
+    status: u8,
+) -> Result<bool, Fail> {
+    let mut project = project_of(rt.alloc(), CONF, &[(output, ENDED)], &[], &[])?;
+    let mut shelf = repository(rt.alloc(), &[])?;
+    Ok(
+        call_in(rt, words, &mut shelf, &mut project, &[0, 1, 2, 3])?.is(status, NOTHING, NOTHING)
+            && has_file(&mut shelf, "0", kept)?,
+    )
+}
+
+#[test]
+fn a_run_without_a_report_writes_nothing(rt: HostRuntime) -> Result<(), Fail> {
+    let words = ["testr", "run", "-q"];
+    assert!(rt; is_hidden(&rt, &words, FOO, FOO_KEPT, 0)?);
+    assert!(rt; is_hidden(&rt, &words, FAIL, FAIL_KEPT, 1)?);
     Ok(())
 }
 

@@ -4,7 +4,9 @@ use edge_io::Finish;
 use std::sync::Wait;
 use std::test::Fail;
 use std::thread::Threads;
-use trial_calls::{FOO, FOO_KEPT, NamedFiles, SHELF_FAULT, Scene, play};
+use trial_calls::{
+    FOO, FOO_KEPT, NOTHING, NamedFiles, PASSED_AS_0, SHELF_FAULT, Scene, has_file, play,
+};
 
 const READ_FAULT: &[u8] = b"testr: fault reading a file\n";
 
@@ -138,7 +140,7 @@ fn words_and_configuration_come_first(rt: HostRuntime) -> Result<(), Fail> {
             },
             0,
             3,
-            b"testr: no .testr.conf\n",
+            b"testr: no .testr.conf or .stestr.conf\n",
         ),
         (
             Scene {
@@ -152,6 +154,63 @@ fn words_and_configuration_come_first(rt: HostRuntime) -> Result<(), Fail> {
         ),
     ];
     assert_eq!(rt; first_other(&rt, &rows)?, None);
+    Ok(())
+}
+
+const FORCED: &[&str] = &["testr", "run", "--force-init"];
+
+#[test]
+fn a_repository_is_made_before_the_configuration_is_read(rt: HostRuntime) -> Result<(), Fail> {
+    let scene = Scene {
+        words: FORCED,
+        ..WORST
+    };
+    let rows = [
+        (scene, 0, 4, SHELF_FAULT),
+        (
+            Scene {
+                calls: &[],
+                ..scene
+            },
+            0,
+            4,
+            READ_FAULT,
+        ),
+        (
+            Scene {
+                files: &[(b".testr.conf", GOOD)],
+                runs: OTHER_FORMAT,
+                reads: &[],
+                calls: &[],
+                ..scene
+            },
+            0,
+            3,
+            b"testr: unknown repository format\n",
+        ),
+    ];
+    assert_eq!(rt; first_other(&rt, &rows)?, None);
+    Ok(())
+}
+
+#[test]
+fn a_run_makes_a_repository_on_the_way(rt: HostRuntime) -> Result<(), Fail> {
+    let mut played = play(
+        &rt,
+        &Scene {
+            words: FORCED,
+            files: &[(b".testr.conf", GOOD)],
+            outputs: &[(FOO, ENDED)],
+            reads: &[],
+            calls: &[],
+            starts: &[],
+            writes: &[],
+            ..WORST
+        },
+    )?;
+    assert!(rt; played.told.is(0, PASSED_AS_0, NOTHING));
+    assert!(rt; has_file(&mut played.shelf, "format", b"subunit-store 1\n")?);
+    assert!(rt; has_file(&mut played.shelf, "0", FOO_KEPT)?);
     Ok(())
 }
 
@@ -268,6 +327,74 @@ fn the_list_of_ids_comes_before_the_failing_set(rt: HostRuntime) -> Result<(), F
             Scene {
                 files: &[(b".testr.conf", COUNTED), (b"l", b"a\n")],
                 reads: &[],
+                ..scene
+            },
+            0,
+            4,
+            SHELF_FAULT,
+        ),
+    ];
+    assert_eq!(rt; first_other(&rt, &rows)?, None);
+    Ok(())
+}
+
+const BOTH_LISTS: &[&str] = &[
+    "testr",
+    "run",
+    "--failing",
+    "--parallel",
+    "--load-list=l",
+    "--exclude-list=e",
+    "--include-list=i",
+];
+
+#[test]
+fn lists_of_patterns_come_between_the_two(rt: HostRuntime) -> Result<(), Fail> {
+    let scene = Scene {
+        words: BOTH_LISTS,
+        files: &[
+            (b".testr.conf", COUNTED),
+            (b"l", b"a\n"),
+            (b"i", b"a\n[q # [r\n(\n"),
+        ],
+        runs: ONE_RUN,
+        reads: &[],
+        calls: BEHIND_THE_RUNS,
+        ..WORST
+    };
+    let rows = [
+        (
+            Scene {
+                reads: &[4],
+                ..scene
+            },
+            0,
+            4,
+            READ_FAULT,
+        ),
+        (
+            scene,
+            0,
+            3,
+            b"testr: i line 2: bad pattern: [q\n".as_slice(),
+        ),
+        (
+            Scene {
+                files: &[(b".testr.conf", COUNTED), (b"l", b"a\n"), (b"i", b"#")],
+                ..scene
+            },
+            0,
+            3,
+            b"testr: no file e\n",
+        ),
+        (
+            Scene {
+                files: &[
+                    (b".testr.conf", COUNTED),
+                    (b"l", b"a\n"),
+                    (b"i", b"#"),
+                    (b"e", b"a"),
+                ],
                 ..scene
             },
             0,

@@ -133,6 +133,14 @@ const ASKING: [&str; 5] = [
     "--concurrency=64",
 ];
 
+const ASKING_MORE: [&str; 5] = [
+    "testr",
+    "run",
+    "--parallel",
+    "--load-list=l",
+    "--concurrency=65",
+];
+
 #[test]
 fn there_are_64_workers_at_most(rt: HostRuntime) -> Result<(), Fail> {
     let alloc = rt.alloc();
@@ -140,6 +148,10 @@ fn there_are_64_workers_at_most(rt: HostRuntime) -> Result<(), Fail> {
     let table = repeated(alloc, b"processor\t: 7\n", 66)?;
     assert_eq!(rt; count_for(&rt, &COUNTING, GOOD, &ids, &table)?, Some(64));
     assert_eq!(rt; count_for(&rt, &ASKING, GOOD, &ids, NOTHING)?, Some(64));
+    assert_eq!(rt;
+        count_for(&rt, &ASKING_MORE, GOOD, &ids, NOTHING)?,
+        Some(64)
+    );
     // The program that tells the number is one more.
     assert_eq!(rt;
         count_for(&rt, &COUNTING, COUNTED, &ids, NOTHING)?,

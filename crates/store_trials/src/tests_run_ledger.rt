@@ -1,20 +1,21 @@
 //! Runs of a few events in folders in memory: which rows they give, and what the runs say together.
 
-ghost use Rattle.std.specs.Prelude.{IfSome};
-ghost use Rattle.packet_codec.specs.Canonical.{IsEvent, Fits};
 ghost use Rattle.packet_codec.specs.Packets.{ArePackets};
 
+use crate::packets::{ended, says};
 use edge_io::{Failed, MemShelf, Shelf};
 use outcome_fold::Summary;
-use packet_codec::{Event, Status, Tags, encode, fits};
+use packet_codec::{Status, Tags};
 use run_ledger::{LedgerFault, WrittenRun, failing, rows_of, times};
 use run_shelf::{ShelfCall, Store, StoreFault};
 use std::alloc::Global;
 use std::test::Fail;
 use sub_number::{IdList, Text, TimeMap};
-use trial_events::{are, at};
+use trial_events::are;
 
 const FORMAT: &[u8] = b"subunit-store 1\n";
+
+const BASED: &[u8] = b"subunit-store 2\n";
 
 // Keeps a file over any stop, in six calls.
 pub(crate) fn keep<H: Shelf>(shelf: &mut H, name: &str, bytes: &[u8]) -> Result<(), Failed> {
@@ -31,38 +32,6 @@ pub(crate) fn repository(alloc: Global, fails: &[u64]) -> Result<MemShelf, Fail>
     let mut shelf = MemShelf::new(alloc, fails.to_vec(alloc)?);
     keep(&mut shelf, "format", FORMAT)?;
     Ok(shelf)
-}
-
-fn write(event: &Event, run: &mut Vec<u8>) -> Option<()>
-    requires { IsEvent event.now × Fits event.now }
-    ensures { ArePackets run.old.items → IfSome result (λ _. ArePackets run.new.items) }
-{
-    let Ok(()) = encode(event, run) else {
-        return None;
-    };
-    Some(())
-}
-
-// Appends the packet of an event of the test, at this second.
-fn says(alloc: Global, run: &mut Vec<u8>, id: u8, status: Status, second: u32) -> Option<()>
-    ensures { ArePackets run.old.items → IfSome result (λ _. ArePackets run.new.items) }
-{
-    let event = at(trial_events::says(alloc, b"", &[id], status), second, 0);
-    if !fits(&event) {
-        return None;
-    }
-    write(&event, run)
-}
-
-// A run in which two tests end so.
-#[tactic(auto, using(crate::proofs::PacketLemmas::no_packets))]
-pub(crate) fn ended(alloc: Global, a: u8, first: Status, b: u8, second: Status) -> Option<Vec<u8>>
-    ensures { IfSome result (λ run. ArePackets run.items) }
-{
-    let mut run = Vec::new(alloc);
-    says(alloc, &mut run, a, first, 0)?;
-    says(alloc, &mut run, b, second, 0)?;
-    Some(run)
 }
 
 // A run in which one test takes so many seconds.
@@ -122,6 +91,48 @@ fn behind_two<H: Shelf>(
 fn a_partial_run_changes_the_failing_set(rt: HostRuntime) -> Result<(), Fail> {
     let mut shelf = repository(rt.alloc(), &[])?;
     assert!(rt; behind_two(rt.alloc(), &mut shelf, "1.part", b"bc")?);
+    Ok(())
+}
+
+// Two runs from before, after which b and d failed, beside this `format`.
+fn begun_before<H: Shelf>(alloc: Global, shelf: &mut H, format: &[u8]) -> Result<bool, Fail> {
+    keep(shelf, "format", format)?;
+    keep(shelf, "base.set", b"subunit-base 1\n2\nb\0d\0")?;
+    keep(shelf, "1.part", b"")?;
+    keep_ended(
+        alloc,
+        shelf,
+        "0.part",
+        (b'a', Status::Fail),
+        (b'c', Status::Fail),
+    )
+}
+
+// Whether these ids fail behind the base alone, behind a partial run more, and behind a full one.
+fn behind_a_base<H: Shelf>(alloc: Global, shelf: &mut H) -> Result<bool, Fail> {
+    let (fail, pass) = (Status::Fail, Status::Success);
+    Ok(
+        begun_before(alloc, shelf, BASED)?
+            && fails(alloc, shelf, b"bd")?
+            && keep_ended(alloc, shelf, "2.part", (b'b', pass), (b'c', fail))?
+            && fails(alloc, shelf, b"cd")?
+            && keep_ended(alloc, shelf, "3", (b'a', fail), (b'b', pass))?
+            && fails(alloc, shelf, b"a")?,
+    )
+}
+
+#[test]
+fn the_base_begins_the_failing_set(rt: HostRuntime) -> Result<(), Fail> {
+    let mut shelf = MemShelf::new(rt.alloc(), Vec::new(rt.alloc()));
+    assert!(rt; behind_a_base(rt.alloc(), &mut shelf)?);
+    Ok(())
+}
+
+#[test]
+fn under_the_first_format_there_is_no_base(rt: HostRuntime) -> Result<(), Fail> {
+    let mut shelf = MemShelf::new(rt.alloc(), Vec::new(rt.alloc()));
+    assert!(rt; begun_before(rt.alloc(), &mut shelf, FORMAT)?);
+    assert!(rt; fails(rt.alloc(), &mut shelf, b"ac")?);
     Ok(())
 }
 

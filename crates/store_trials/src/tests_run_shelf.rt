@@ -16,6 +16,8 @@ use std::test::Fail;
 
 const FORMAT: &[u8] = b"subunit-store 1\n";
 
+const BASED: &[u8] = b"subunit-store 2\n";
+
 const OLDER: &[u8] = b"1\n";
 
 const LONGER: &[u8] = b"subunit-store 1\n\n";
@@ -274,7 +276,7 @@ fn runs_have_their_bytes(rt: HostRuntime) -> Result<(), Fail> {
 }
 
 // What stands in `format`, two names of files, and the answer of a look.
-const LOOKS: [(&[u8], &str, &str, Option<OpenFault>); 7] = [
+const LOOKS: [(&[u8], &str, &str, Option<OpenFault>); 10] = [
     (FORMAT, "0", "2", Some(OpenFault::Gap(1))),
     (FORMAT, "999999", "0.part", Some(OpenFault::Gap(1))),
     (FORMAT, "1.part", "2", Some(OpenFault::Gap(0))),
@@ -282,12 +284,93 @@ const LOOKS: [(&[u8], &str, &str, Option<OpenFault>); 7] = [
     (FORMAT, "draft", "0.parts", None),
     (OLDER, "0", "1", Some(OpenFault::UnknownFormat)),
     (LONGER, "0", "2", Some(OpenFault::UnknownFormat)),
+    (FORMAT, "base.set", "0", None),
+    (BASED, "base.set", "0", Some(OpenFault::BadBase)),
+    (BASED, "0", "2", Some(OpenFault::BadBase)),
 ];
 
 #[test]
 fn names_tell_the_runs(rt: HostRuntime) -> Result<(), Fail> {
     for &(format, first, second, answer) in &LOOKS {
         assert_eq!(rt; looked(rt.alloc(), format, first, second)?, answer);
+    }
+    Ok(())
+}
+
+// What stands in `base.set`, two names of other files, and the answer of a look.
+const BASES: [(&[u8], &str, &str, Option<OpenFault>); 13] = [
+    (b"subunit-base 1\n1\nfoo\0", "0.part", "1", None),
+    (b"subunit-base 1\n2\n", "0.part", "1.part", None),
+    (b"subunit-base 1\n0\nfoo\0", "0", "1", None),
+    (
+        b"subunit-base 1\n1\na\0b\0",
+        "0.part",
+        "2",
+        Some(OpenFault::Gap(1)),
+    ),
+    (b"subunit-base 1\n1\n", "0", "1", Some(OpenFault::BadBase)),
+    (
+        b"subunit-base 1\n2\n",
+        "0.part",
+        "1",
+        Some(OpenFault::BadBase),
+    ),
+    (
+        b"subunit-base 1\n2\n",
+        "1.part",
+        "2",
+        Some(OpenFault::BadBase),
+    ),
+    (
+        b"subunit-base 1\n1\nfoo",
+        "0.part",
+        "1",
+        Some(OpenFault::BadBase),
+    ),
+    (
+        b"subunit-base 1\n1\nb\0a\0",
+        "0.part",
+        "1",
+        Some(OpenFault::BadBase),
+    ),
+    (
+        b"subunit-base 1\n01\n",
+        "0.part",
+        "1",
+        Some(OpenFault::BadBase),
+    ),
+    (
+        b"subunit-base 1\n1000001\n",
+        "0.part",
+        "1",
+        Some(OpenFault::BadBase),
+    ),
+    (
+        b"subunit-base 2\n1\n",
+        "0.part",
+        "1",
+        Some(OpenFault::BadBase),
+    ),
+    (b"", "0.part", "1", Some(OpenFault::BadBase)),
+];
+
+// The answer of a look at a folder of the second format with this base and a file under each of the names.
+fn looked_behind(
+    alloc: Global,
+    base: &[u8],
+    first: &str,
+    second: &str,
+) -> Result<Option<OpenFault>, Fail> {
+    let mut shelf = MemShelf::new(alloc, Vec::new(alloc));
+    keep(&mut shelf, "base.set", base)?;
+    keep_three(&mut shelf, BASED, first, second)?;
+    Ok(refusal(alloc, &mut shelf))
+}
+
+#[test]
+fn a_base_has_its_form_and_its_runs(rt: HostRuntime) -> Result<(), Fail> {
+    for &(base, first, second, answer) in &BASES {
+        assert_eq!(rt; looked_behind(rt.alloc(), base, first, second)?, answer);
     }
     Ok(())
 }
@@ -316,6 +399,33 @@ fn a_full_run_counts<R: AllocGlobal + Abort>(rt: &R, shelf: &mut MemShelf) -> Re
 fn a_full_run_counts_before_a_partial_one(rt: HostRuntime) -> Result<(), Fail> {
     let mut shelf = empty(rt.alloc(), NOTHING)?;
     a_full_run_counts(&rt, &mut shelf)
+}
+
+// A base of one run. Of both runs there is a full one and a partial one.
+fn keep_both_kinds<H: Shelf>(shelf: &mut H) -> Result<(), Failed> {
+    keep(shelf, "base.set", b"subunit-base 1\n1\n")?;
+    keep(shelf, "0", b"old")?;
+    keep(shelf, "0.part", b"new")?;
+    keep(shelf, "1", b"full")?;
+    keep(shelf, "1.part", b"partial")
+}
+
+fn a_partial_run_counts_below_the_base<R: AllocGlobal + Abort>(
+    rt: &R,
+    shelf: &mut MemShelf,
+) -> Result<(), Fail> {
+    keep_both_kinds(shelf)?;
+    assert_eq!(rt; count(rt.alloc(), shelf)?, 2);
+    assert!(rt; is_run(rt.alloc(), shelf, 0, b"new")?);
+    assert!(rt; is_run(rt.alloc(), shelf, 1, b"full")?);
+    Ok(())
+}
+
+#[test]
+fn a_converted_run_counts_before_the_old_one(rt: HostRuntime) -> Result<(), Fail> {
+    let mut shelf = MemShelf::new(rt.alloc(), Vec::new(rt.alloc()));
+    keep(&mut shelf, "format", BASED)?;
+    a_partial_run_counts_below_the_base(&rt, &mut shelf)
 }
 
 fn is_made_once<R: AllocGlobal + Abort>(rt: &R, shelf: &mut MemShelf) {

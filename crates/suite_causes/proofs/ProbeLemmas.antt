@@ -12,6 +12,7 @@ use Rattle.std.proofs.lemmas.List.Elements.{All-nil, All-cons, All-append, All-t
 use Rattle.edge_io.specs.Children.{IsFinish, Output}
 use Rattle.edge_io.specs.declared.child.Finish.{Finish}
 use Rattle.edge_io.specs.declared.child.Finish.TheVariants as finish
+use Rattle.sub_number.specs.Texts.{IsShortText}
 use Rattle.outcome_fold.specs.Rows.{rows_of}
 use Rattle.outcome_fold.specs.Summed.{HasSummed}
 use Rattle.outcome_fold.specs.declared.summing.Summing.{Summing}
@@ -23,17 +24,19 @@ use Rattle.packet_codec.specs.Routing.{under}
 use Rattle.packet_codec.proofs.SpellingLemmas.{canonical_spells}
 use Rattle.suite_plan.specs.Children.{IsBroken}
 use Rattle.worker_lane.specs.Endings.{ending_of, ending_events, returncode_text, returncode_under, IsPacketOf}
+use Rattle.worker_lane.specs.Lost.{named_ids, lost_ids, lost_events}
 use Rattle.worker_lane.specs.Recorded.{recorded_events}
-use Rattle.worker_lane.specs.Rest.{Gives, lots_for, notes_of_stream, notes_are}
+use Rattle.worker_lane.specs.Rest.{Gives, lots_asked, notes_of_stream, notes_are}
 use Rattle.worker_lane.specs.declared.lot.Ending.{Ending}
 use Rattle.worker_lane.specs.declared.lot.Ending.TheVariants.{Exit, Fault, NoMemory}
 use Rattle.worker_lane.specs.declared.lot.Lot.{Lot}
 use Rattle.worker_lane.specs.declared.lot.Lot.TheVariants.{Packet, End}
 use Rattle.worker_lane.proofs.EndingLemmas.{ending_is_event, ending_fits}
+use Rattle.worker_lane.proofs.LostEventLemmas.{lost_have_packets}
 use Rattle.worker_lane.proofs.NoteLemmas.{HavePackets}
 use Rattle.worker_lane.proofs.RecordedLaneLemmas.{have_packets}
 use Rattle.worker_lane.proofs.TurnLemmas.{fault_exactly}
-use Rattle.worker_mux.specs.Outputs.{events_for}
+use Rattle.worker_mux.specs.Outputs.{events_asked}
 use Rattle.suite_causes.specs.Probing.{one_fails, TellsProbe}
 use Rattle.suite_causes.specs.declared.probing.ProbeFault.{ProbeFault}
 use Rattle.suite_causes.specs.declared.probing.ProbeFault.TheVariants as fault
@@ -47,16 +50,16 @@ packet_stands packet is = (under 0 is.event, [], record { front = packet; parts 
 
 -- The first events that are recorded of the output were summed up, where each of them has a packet. The others are left, and
 -- the end.
-pub record IsHeard (output : Output) (left : Option (List Lot)) (summing : Summing) : Type 0 where
+pub record IsHeard (ids : List (List ℕ)) (output : Output) (left : Option (List Lot)) (summing : Summing) : Type 0 where
   pub seen : List Event
   pub more : List Event
-  pub parts : events_for 0 output ≡ seen ++ more
+  pub parts : events_asked 0 ids output ≡ seen ++ more
   pub left_is : left ≡ Some (map Packet (map canonical more) ++ End (ending_of output.finish) ∷ [])
   pub summed : HavePackets seen → HasSummed [] summing seen
 
 -- before the first lot nothing was heard
-pub heard_nothing : (output : Output) (left : Option (List Lot)) (summing : Summing) → left ≡ Some (lots_for 0 output) → HasSummed [] summing [] → IsHeard output left summing
-heard_nothing output left summing is summed = record { seen = []; more = events_for 0 output; parts = refl; left_is = is; summed = λ have. summed }
+pub heard_nothing : (ids : List (List ℕ)) (output : Output) (left : Option (List Lot)) (summing : Summing) → left ≡ Some (lots_asked 0 ids output) → HasSummed [] summing [] → IsHeard ids output left summing
+heard_nothing ids output left summing is summed = record { seen = []; more = events_asked 0 ids output; parts = refl; left_is = is; summed = λ have. summed }
 
 all_left : (P : Event → Type 0) (first more : List Event) → All P (first ++ more) → All P first
 all_left P first more all = subst (All P) (take-append_seam first more) (All-take P (length first) (first ++ more) all)
@@ -75,12 +78,12 @@ last_spells events event packet is have =
     (All-head Fits event [] (all_right Fits events (event ∷ []) have.fit)))
 
 -- one packet more was heard
-pub heard_more : (output : Output) (before after : Option (List Lot)) (old new : Summing) (packet : List ℕ) → IsHeard output before old → Gives before (Packet packet ∷ []) after
-    → ((seen : List Event) (event : Event) → SpellsEvent packet event → HasSummed [] old seen → HasSummed [] new (seen ++ event ∷ [])) → IsHeard output after new
-heard_more output before after old new packet h gives hears = by_more h.more h.parts after (sym h.left_is ∙ gives)
+pub heard_more : (ids : List (List ℕ)) (output : Output) (before after : Option (List Lot)) (old new : Summing) (packet : List ℕ) → IsHeard ids output before old → Gives before (Packet packet ∷ []) after
+    → ((seen : List Event) (event : Event) → SpellsEvent packet event → HasSummed [] old seen → HasSummed [] new (seen ++ event ∷ [])) → IsHeard ids output after new
+heard_more ids output before after old new packet h gives hears = by_more h.more h.parts after (sym h.left_is ∙ gives)
   where
-    by_more : (more : List Event) → events_for 0 output ≡ h.seen ++ more → (after : Option (List Lot))
-        → Some (map Packet (map canonical more) ++ End (ending_of output.finish) ∷ []) ≡ option_map (λ l. (Packet packet ∷ []) ++ l) after → IsHeard output after new
+    by_more : (more : List Event) → events_asked 0 ids output ≡ h.seen ++ more → (after : Option (List Lot))
+        → Some (map Packet (map canonical more) ++ End (ending_of output.finish) ∷ []) ≡ option_map (λ l. (Packet packet ∷ []) ++ l) after → IsHeard ids output after new
     by_more more parts None is = absurd (cc)
     by_more [] parts (Some left) is = absurd (cc)
     by_more (event ∷ more) parts (Some left) is =
@@ -95,18 +98,18 @@ heard_more output before after old new packet h gives hears = by_more h.more h.p
         }
 
 -- the end is that of the output, all of whose events were heard
-pub heard_all : (output : Output) (before after : Option (List Lot)) (summing : Summing) (how : Ending) → IsHeard output before summing → Gives before (End how ∷ []) after
-    → (ending_of output.finish ≡ how) × (HavePackets (events_for 0 output) → HasSummed [] summing (events_for 0 output))
-heard_all output before after summing how h gives = by_more h.more h.parts after (sym h.left_is ∙ gives)
+pub heard_all : (ids : List (List ℕ)) (output : Output) (before after : Option (List Lot)) (summing : Summing) (how : Ending) → IsHeard ids output before summing → Gives before (End how ∷ []) after
+    → (ending_of output.finish ≡ how) × (HavePackets (events_asked 0 ids output) → HasSummed [] summing (events_asked 0 ids output))
+heard_all ids output before after summing how h gives = by_more h.more h.parts after (sym h.left_is ∙ gives)
   where
-    by_more : (more : List Event) → events_for 0 output ≡ h.seen ++ more → (after : Option (List Lot))
+    by_more : (more : List Event) → events_asked 0 ids output ≡ h.seen ++ more → (after : Option (List Lot))
         → Some (map Packet (map canonical more) ++ End (ending_of output.finish) ∷ []) ≡ option_map (λ l. (End how ∷ []) ++ l) after
-        → (ending_of output.finish ≡ how) × (HavePackets (events_for 0 output) → HasSummed [] summing (events_for 0 output))
+        → (ending_of output.finish ≡ how) × (HavePackets (events_asked 0 ids output) → HasSummed [] summing (events_asked 0 ids output))
     by_more more parts None is = absurd (cc)
     by_more (event ∷ more) parts (Some left) is = absurd (cc)
     by_more [] parts (Some left) is =
         let ending : ending_of output.finish ≡ how = cc in
-        let all : h.seen ≡ events_for 0 output = sym (append-nil h.seen) ∙ sym parts in
+        let all : h.seen ≡ events_asked 0 ids output = sym (append-nil h.seen) ∙ sym parts in
         (ending, λ have. subst (λ (l : List Event). HasSummed [] summing l) all (h.summed (subst HavePackets (sym all) have)))
 
 -- what a step gave, where it was not want of memory
@@ -175,15 +178,18 @@ status_fits (finish.Exit given) status can is =
 status_fits finish.ReadFault status can is = cc
 status_fits finish.WaitFault status can is = cc
 
-pub all_have_packets : (output : Output) (status : ℤ) → AreBytes output.bytes → IsFinish output.finish → ending_of output.finish ≡ Exit status → HavePackets (events_for 0 output)
-all_have_packets output status bytes can is =
+pub all_have_packets : (test : List ℕ) → IsShortText test → (output : Output) (status : ℤ) → AreBytes output.bytes → IsFinish output.finish → ending_of output.finish ≡ Exit status → HavePackets (events_asked 0 (test ∷ []) output)
+all_have_packets test text output status bytes can is =
     let notes : List Event = recorded_events 0 (notes_of_stream output.bytes) in
-    let ending : List Event = ending_events 0 (ending_of output.finish) in
+    let how : Ending = ending_of output.finish in
+    let lost : List Event = lost_events 0 how (lost_ids (named_ids (test ∷ [])) notes) in
+    let ending : List Event = ending_events 0 how in
     let first : HavePackets notes = have_packets 0 output.bytes notes (omega arith) bytes (record { notes = notes_of_stream output.bytes; are_notes = notes_are output.bytes; made = refl }) in
+    let middle : HavePackets lost = lost_have_packets 0 how (test ∷ []) notes (omega arith) (All-cons IsShortText test [] text (All-nil IsShortText)) in
     let last : HavePackets ending = subst (λ how. HavePackets (ending_events 0 how)) (sym is) (exit_has_packet status (status_fits output.finish status can is)) in
     record {
-      are_events = All-append IsEvent notes ending first.are_events last.are_events;
-      fit = All-append Fits notes ending first.fit last.fit;
+      are_events = All-append IsEvent notes (lost ++ ending) first.are_events (All-append IsEvent lost ending middle.are_events last.are_events);
+      fit = All-append Fits notes (lost ++ ending) first.fit (All-append Fits lost ending middle.fit last.fit);
     }
 
 -- ---- ends
@@ -196,7 +202,7 @@ not_broken how status is broken = let fault : ending_of how ≡ Fault = (fault_e
 
 -- ---- what is answered
 
-pub tells_exit : (test : List ℕ) (result : Result Bool ProbeFault) (output : Output) (summing : Summing) (status : ℤ) → ending_of output.finish ≡ Exit status → HasSummed [] summing (events_for 0 output)
+pub tells_exit : (test : List ℕ) (result : Result Bool ProbeFault) (output : Output) (summing : Summing) (status : ℤ) → ending_of output.finish ≡ Exit status → HasSummed [] summing (events_asked 0 (test ∷ []) output)
     → ((seen : List Event) → HasSummed [] summing seen → IfOk result (λ failed. failed ≡ one_fails test (rows_of seen))) → IfErr result (λ given. given ≡ fault.NoMemory) → TellsProbe test result output
-tells_exit test (Ok failed) output summing status ending summed fails lack = record { ended = not_broken output.finish status ending; answer = fails (events_for 0 output) summed }
+tells_exit test (Ok failed) output summing status ending summed fails lack = record { ended = not_broken output.finish status ending; answer = fails (events_asked 0 (test ∷ []) output) summed }
 tells_exit test (Err given) output summing status ending summed fails lack = subst (λ why. TellsProbe test (Err why) output) (sym lack) tt

@@ -1,5 +1,5 @@
 -- What the output of a probe's child says (docs/FORMATS.md, "Causes").
-use Rattle.std.specs.Prelude.{◌≡◌, ⊤, ℕ, Bool, nat_eq, Result, Ok, Err, List}
+use Rattle.std.specs.Prelude.{◌≡◌, ⊤, ℕ, Bool, nat_eq, Result, Ok, Err, List, [], ◌∷◌}
 use Rattle.std.specs.List.{filter, list_any}
 use Rattle.std.specs.Cmp.Lexicographic.{pointwise}
 use Rattle.edge_io.specs.Children.{Output}
@@ -7,7 +7,7 @@ use Rattle.outcome_fold.specs.Answers.{row_fails}
 use Rattle.outcome_fold.specs.Rows.{rows_of}
 use Rattle.outcome_fold.specs.declared.row.Row.{Row}
 use Rattle.suite_plan.specs.Children.{IsBroken}
-use Rattle.worker_mux.specs.Outputs.{events_for}
+use Rattle.worker_mux.specs.Outputs.{events_asked}
 use Rattle.suite_causes.specs.declared.probing.ProbeFault.{ProbeFault}
 use Rattle.suite_causes.specs.declared.probing.ProbeFault.TheVariants.{Child, NoMemory}
 
@@ -15,9 +15,10 @@ use Rattle.suite_causes.specs.declared.probing.ProbeFault.TheVariants.{Child, No
 abbrev pub one_fails : (test : List ℕ) → List Row → Bool
 one_fails test rows = list_any (λ row. pointwise nat_eq row.id test) (filter row_fails rows)
 
--- the test fails in what is recorded of the output, as that of lane 0, its end included
+-- The test fails in what is recorded of the output, as that of lane 0, its end included. Each probe's job names the test, so it
+-- fails, too, where the child lost it; which others were lost says nothing of it.
 abbrev pub fails_in : (test : List ℕ) → Output → Bool
-fails_in test output = one_fails test (rows_of (events_for 0 output))
+fails_in test output = one_fails test (rows_of (events_asked 0 (test ∷ []) output))
 
 -- the child came to its end, and the answer is that of its output
 pub record HasAnswer (test : List ℕ) (failed : Bool) (output : Output) : Type 0 where

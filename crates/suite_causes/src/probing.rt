@@ -9,15 +9,17 @@ ghost use Rattle.outcome_fold.specs.Summed.{HasSummed};
 ghost use Rattle.packet_codec.specs.Grammar.{AreBytes};
 ghost use Rattle.packet_codec.specs.Packet.{SpellsEvent};
 ghost use Rattle.packet_codec.specs.declared.event.Event.{Event};
+ghost use Rattle.sub_number.specs.Texts.{IsShortText};
 ghost use Rattle.suite_causes.specs.Probing.{one_fails, TellsProbe};
 ghost use Rattle.worker_lane.specs.Endings.{IsPacketOf};
 ghost use Rattle.worker_lane.specs.Lanes.{rest, lane_number};
-ghost use Rattle.worker_lane.specs.Rest.{lots_for};
+ghost use Rattle.worker_lane.specs.Rest.{lots_asked};
 
 use edge_io::Child;
 use outcome_fold::{Row, Summing};
 use packet_codec::{Tags, front_packet};
 use std::alloc::Global;
+use std::slice;
 use sub_number::{Bytes, NoMemory, Text};
 use worker_lane::{Ending, Lane, Lot};
 
@@ -41,21 +43,30 @@ impl From<NoMemory> for ProbeFault {
     }
 }
 
-/// Whether the test fails in what is recorded of the child's output as that of lane 0, its end included. The child is read to
-/// its end on this thread, and waited for. Nothing is kept of it.
+/// Whether the test, which the child was asked to run, fails in what is recorded of the child's output as that of lane 0, its
+/// end included. It fails, too, where the child did not end with 0 and said nothing more of it. The child is read to its end on
+/// this thread, and waited for. Nothing is kept of it.
 ///
 /// `Child` comes exactly where the reads of the child or the wait for it fail, where that is told, but for want of memory. With
 /// `NoMemory` the child was stopped and waited for (no clause says so).
 pub fn read_probe<C: Child + Drop>(alloc: Global, child: C, test: &Text) -> Result<bool, ProbeFault>
     ensures told { IfSome (C.seen child).told (TellsProbe test.now result) }
 {
-    match Lane::new(alloc, 0, child) {
+    holds_text(test);
+    match Lane::new(alloc, 0, child, slice::from_ref(test)) {
         Ok(lane) => read_lane(alloc, lane, test),
         Err(child) => {
             give_up(child);
             Err(ProbeFault::NoMemory)
         }
     }
+}
+
+// What holds of each text.
+fn holds_text(test: &Text)
+    ensures { IsShortText test.now }
+{
+    let _bytes = test.bytes();
 }
 
 // Stops the child, and waits for it.
@@ -68,7 +79,8 @@ fn give_up<C: Child + Drop>(child: C) {
 // Reads the lane to its end.
 fn read_lane<C: Child + Drop>(alloc: Global, lane: Lane<C>, test: &Text) -> Result<bool, ProbeFault>
     requires number { lane_number lane ≡ 0 }
-    ensures told { (output : Output) → AreBytes output.bytes → IsFinish output.finish → rest C.seen lane ≡ Some (lots_for 0 output) → TellsProbe test.now result output }
+    requires text { IsShortText test.now }
+    ensures told { (output : Output) → AreBytes output.bytes → IsFinish output.finish → rest C.seen lane ≡ Some (lots_asked 0 (test.now ∷ []) output) → TellsProbe test.now result output }
 {
     let mut lane = lane;
     let mut summing = Summing::new(alloc, Tags::new(alloc));

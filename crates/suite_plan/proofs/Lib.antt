@@ -4,6 +4,8 @@ pub mod TableLemmas
 pub mod FirstLemmas
 pub mod TailLemmas
 pub mod SaidLemmas
+pub mod PatternLemmas
+pub mod PatternLists
 pub mod ToldLemmas
 pub mod GatherLemmas
 pub mod CountLemmas

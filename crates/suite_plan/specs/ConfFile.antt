@@ -1,73 +1,181 @@
 -- The configuration of a project, in its file (docs/FORMATS.md, "The configuration").
-use Rattle.std.specs.Prelude.{◌≡◌, ⊤, ℕ, Bool, true, false, None, IfSome, IfOk, IfErr, List, Result, Ok, Err, codes}
+use Rattle.std.specs.Prelude.{◌≡◌, ⊤, ℕ, Bool, true, false, Option, None, Some, IfSome, IfOk, IfErr, List, length, Result, Ok, Err, codes, nat_lt, if◌then◌else◌}
 use Rattle.edge_io.specs.Causes.{RisesExactlyIf}
 use Rattle.edge_io.specs.Disk.{Files}
 use Rattle.edge_io.specs.Seen.{Seen}
 use Rattle.edge_io.specs.declared.whole_file.ReadFault.{ReadFault}
 use Rattle.edge_io.specs.declared.whole_file.ReadFault.TheVariants as read
-use Rattle.suite_plan.specs.Texts.{HasText, HasTooMuch}
+use Rattle.stestr_conf.specs.Command.{settled}
+use Rattle.stestr_conf.specs.Table.{table_of}
+use Rattle.stestr_conf.specs.declared.command.SettleFault.{SettleFault}
+use Rattle.stestr_conf.specs.declared.command.SettleFault.TheVariants as settle
+use Rattle.stestr_conf.specs.declared.table.TableFault.{TableFault}
+use Rattle.stestr_conf.specs.declared.table.TableFault.TheVariants as table
+use Rattle.suite_plan.specs.Texts.{most_text}
+use Rattle.suite_plan.specs.declared.conf_file.BadConf.{BadConf}
+use Rattle.suite_plan.specs.declared.conf_file.BadConf.TheVariants.{TooLong, BadLine, NoSection, Repeated, NotKnown, NoCommand, NoTestPath, NotToml, NotTable, BadValue}
+use Rattle.suite_plan.specs.declared.conf_file.ConfFile.{ConfFile}
+use Rattle.suite_plan.specs.declared.conf_file.ConfFile.TheVariants.{TestrConf, StestrConf, PyProject}
 use Rattle.suite_plan.specs.declared.conf_file.ConfRefusal.{ConfRefusal}
-use Rattle.suite_plan.specs.declared.conf_file.ConfRefusal.TheVariants.{Site, TooLong, Absent, BadLine, NoSection, Repeated, NoCommand, NoMemory}
-use Rattle.testr_conf.specs.Settings.{Settings, conf_of}
+use Rattle.suite_plan.specs.declared.conf_file.ConfRefusal.TheVariants.{Site, Absent, Bad, NoMemory}
+use Rattle.testr_conf.specs.Settings.{Settings, conf_of, settings_in, grouped_by, with_arguments}
+use Rattle.testr_conf.specs.Stestr.{stestr_of}
 use Rattle.testr_conf.specs.declared.fault.ConfFault.{ConfFault}
 use Rattle.testr_conf.specs.declared.fault.ConfFault.TheVariants as fault
+use Rattle.testr_conf.specs.declared.stestr.StestrValues.{StestrValues}
+use Rattle.testr_words.specs.Suites.{Project}
+use Rattle.testr_words.specs.declared.command.Face.{Face}
+use Rattle.testr_words.specs.declared.command.Face.TheVariants.{Testr, Stestr}
+use Rattle.testr_words.specs.declared.command.ProjectWords.{ProjectWords}
 
--- the name of the configuration's file
-abbrev pub conf_name : List ℕ
-conf_name = codes ".testr.conf"
+-- the name of each file
+abbrev pub file_name : ConfFile → List ℕ
+file_name TestrConf = codes ".testr.conf"
+file_name StestrConf = codes ".stestr.conf"
+file_name PyProject = codes "pyproject.toml"
 
--- the file is there, not too long, and its text gives these settings
-pub record GivesSettings (settings : Settings) (files : Files) : Type 0 where
-  pub text : List ℕ
-  pub has : HasText files conf_name text
-  pub says : conf_of text ≡ Ok settings
+-- the file that is looked for first
+abbrev pub first_file : Face → ConfFile
+first_file Testr = TestrConf
+first_file Stestr = StestrConf
 
--- it is there and not too long, and its text is refused so
-pub record GivesFault (fault : ConfFault) (files : Files) : Type 0 where
-  pub text : List ℕ
-  pub has : HasText files conf_name text
-  pub says : conf_of text ≡ Err fault
+-- the file that is looked for where that is not there
+abbrev pub second_file : Face → ConfFile
+second_file Testr = StestrConf
+second_file Stestr = TestrConf
 
--- what is so of the files where the configuration is refused so
-abbrev pub HasConfCause : ConfRefusal → Files → Type 0
-HasConfCause Site files = ⊤
-HasConfCause TooLong files = HasTooMuch files conf_name
-HasConfCause Absent files = files conf_name ≡ None
-HasConfCause (BadLine number) files = GivesFault (fault.BadLine number) files
-HasConfCause (NoSection number) files = GivesFault (fault.NoSection number) files
-HasConfCause (Repeated number) files = GivesFault (fault.Repeated number) files
-HasConfCause NoCommand files = GivesFault fault.NoCommand files
-HasConfCause NoMemory files = ⊤
+-- ---- refusals
+
+-- the refusal of a file that was not read whole
+abbrev pub unread_conf : ConfFile → ReadFault → ConfRefusal
+unread_conf file read.Failed = Site
+unread_conf file read.TooLong = Bad file TooLong
+unread_conf file read.NoMemory = NoMemory
+
+-- that of a file whose lines are refused
+abbrev pub refused_lines : ConfFile → ConfFault → ConfRefusal
+refused_lines file (fault.BadLine number) = Bad file (BadLine number)
+refused_lines file (fault.NoSection number) = Bad file (NoSection number)
+refused_lines file (fault.Repeated number) = Bad file (Repeated number)
+refused_lines file (fault.NotKnown key) = Bad file (NotKnown key)
+refused_lines file fault.NoCommand = Bad file NoCommand
+refused_lines file fault.NoMemory = NoMemory
+
+-- that of a file whose values give no settings
+abbrev pub refused_values : ConfFile → SettleFault → ConfRefusal
+refused_values file settle.NoTestPath = Bad file NoTestPath
+refused_values file settle.NoMemory = NoMemory
+
+-- that of a `pyproject.toml`
+abbrev pub refused_table : TableFault → ConfRefusal
+refused_table table.NotToml = Bad PyProject NotToml
+refused_table table.NotTable = Bad PyProject NotTable
+refused_table (table.BadValue key) = Bad PyProject (BadValue key)
+refused_table table.NoMemory = NoMemory
+
+-- ---- what a file says
+
+-- what the lines of a `.testr.conf` say
+abbrev pub lines_say : Result Settings ConfFault → Result (Option Settings) ConfRefusal
+lines_say (Ok settings) = Ok (Some settings)
+lines_say (Err fault) = Err (refused_lines TestrConf fault)
+
+-- the settings that the values of a file give
+abbrev pub settings_say : ConfFile → Result Settings SettleFault → Result (Option Settings) ConfRefusal
+settings_say file (Ok settings) = Ok (Some settings)
+settings_say file (Err fault) = Err (refused_values file fault)
+
+-- what the values of a file say, where these words stand before them
+abbrev pub values_say : ProjectWords → ConfFile → StestrValues → Result (Option Settings) ConfRefusal
+values_say words file values = settings_say file (settled words.test_path words.top_dir values)
+
+-- what the lines of a `.stestr.conf` say
+abbrev pub stestr_says : ProjectWords → Result StestrValues ConfFault → Result (Option Settings) ConfRefusal
+stestr_says words (Ok values) = values_say words StestrConf values
+stestr_says words (Err fault) = Err (refused_lines StestrConf fault)
+
+-- what the table of a `pyproject.toml` says; nothing where there is none
+abbrev pub table_says : ProjectWords → Result (Option StestrValues) TableFault → Result (Option Settings) ConfRefusal
+table_says words (Ok None) = Ok None
+table_says words (Ok (Some values)) = values_say words PyProject values
+table_says words (Err fault) = Err (refused_table fault)
+
+-- what the text of a file says
+abbrev pub text_says : ProjectWords → ConfFile → List ℕ → Result (Option Settings) ConfRefusal
+text_says words TestrConf text = lines_say (conf_of text)
+text_says words StestrConf text = stestr_says words (stestr_of text)
+text_says words PyProject text = table_says words (table_of text)
+
+-- what a file says that may not be there; it must not be too long
+abbrev pub file_by : ProjectWords → ConfFile → Option (List ℕ) → Result (Option Settings) ConfRefusal
+file_by words file None = Ok None
+file_by words file (Some text) = if nat_lt most_text (length text) then Err (Bad file TooLong) else text_says words file text
+
+-- what this one of the files says
+abbrev pub file_says : ProjectWords → ConfFile → Files → Result (Option Settings) ConfRefusal
+file_says words file files = file_by words file (files (file_name file))
+
+-- ---- what the files say
+
+-- what is said, or else what is said next
+abbrev pub or_next : Result (Option Settings) ConfRefusal → Result (Option Settings) ConfRefusal → Result (Option Settings) ConfRefusal
+or_next (Ok None) next = next
+or_next (Ok (Some settings)) next = Ok (Some settings)
+or_next (Err refusal) next = Err refusal
+
+-- what the files say where the first is not there
+abbrev pub later_say : Face → ProjectWords → Files → Result (Option Settings) ConfRefusal
+later_say face words files = or_next (file_says words (second_file face) files) (file_says words PyProject files)
+
+-- what the files say one after another
+abbrev pub files_say : Face → ProjectWords → Files → Result (Option Settings) ConfRefusal
+files_say face words files = or_next (file_says words (first_file face) files) (later_say face words files)
+
+-- something has to be said
+abbrev pub required : Result (Option Settings) ConfRefusal → Result Settings ConfRefusal
+required (Ok None) = Err Absent
+required (Ok (Some settings)) = Ok settings
+required (Err refusal) = Err refusal
+
+-- the settings, in the folder of this path, with the groups and the arguments that the words say
+abbrev pub settings_of : List ℕ → ProjectWords → Settings → Settings
+settings_of folder words settings = with_arguments words.arguments (grouped_by words.group_regex (settings_in folder settings))
+
+-- what is said, of this project
+abbrev pub said_of : Project → Result Settings ConfRefusal → Result Settings ConfRefusal
+said_of project (Ok settings) = Ok (settings_of project.folder project.words settings)
+said_of project (Err refusal) = Err refusal
+
+-- what the files of this project say of its configuration
+abbrev pub conf_in : Project → Files → Result Settings ConfRefusal
+conf_in project files = said_of project (required (files_say project.face project.words files))
+
+-- the files give these settings
+abbrev pub GivesSettings : Project → Settings → Files → Type 0
+GivesSettings project settings files = conf_in project files ≡ Ok settings
+
+-- The refusal is what is said; but a fault or want of memory may come before anything is said.
+abbrev pub HasConfCause : {T : Type 0} → Result T ConfRefusal → ConfRefusal → Type 0
+HasConfCause said Site = ⊤
+HasConfCause said Absent = said ≡ Err Absent
+HasConfCause said (Bad file why) = said ≡ Err (Bad file why)
+HasConfCause said NoMemory = ⊤
 
 -- whether a read failed
 abbrev pub conf_failed : {T : Type 0} → Result T ConfRefusal → Bool
 conf_failed (Ok value) = false
 conf_failed (Err Site) = true
-conf_failed (Err TooLong) = false
 conf_failed (Err Absent) = false
-conf_failed (Err (BadLine number)) = false
-conf_failed (Err (NoSection number)) = false
-conf_failed (Err (Repeated number)) = false
-conf_failed (Err NoCommand) = false
+conf_failed (Err (Bad file why)) = false
 conf_failed (Err NoMemory) = false
 
--- the refusal of a configuration that was not read whole
-abbrev pub unread_conf : ReadFault → ConfRefusal
-unread_conf read.Failed = Site
-unread_conf read.TooLong = TooLong
-unread_conf read.NoMemory = NoMemory
-
--- that of one whose text is refused
-abbrev pub refused_conf : ConfFault → ConfRefusal
-refused_conf (fault.BadLine number) = BadLine number
-refused_conf (fault.NoSection number) = NoSection number
-refused_conf (fault.Repeated number) = Repeated number
-refused_conf fault.NoCommand = NoCommand
-refused_conf fault.NoMemory = NoMemory
-
--- The step that reads the configuration. What it says of files holds where they are told.
-pub record ReadsConf (before after : Seen Files) (result : Result Settings ConfRefusal) : Type 0 where
-  pub conf : IfOk result (λ settings. IfSome before.told (GivesSettings settings))
-  pub refused : IfErr result (λ refusal. IfSome before.told (HasConfCause refusal))
+-- The step that reads what files say of the configuration. What it says of files holds where they are told.
+pub record ReadsSaid {T : Type 0} (said : Files → Result T ConfRefusal) (before after : Seen Files) (result : Result T ConfRefusal) : Type 0 where
+  pub conf : IfOk result (λ value. IfSome before.told (λ files. said files ≡ Ok value))
+  pub refused : IfErr result (λ refusal. IfSome before.told (λ files. HasConfCause (said files) refusal))
   pub same : after.told ≡ before.told
   pub count : RisesExactlyIf before.faults after.faults (conf_failed result)
+
+-- the step that reads the configuration of this project
+abbrev pub ReadsConf : Project → Seen Files → Seen Files → Result Settings ConfRefusal → Type 0
+ReadsConf project before after result = ReadsSaid (conf_in project) before after result

@@ -2,6 +2,7 @@ pub mod Texts
 pub mod Children
 pub mod ConfFile
 pub mod LoadList
+pub mod PatternList
 pub mod Processors
 pub mod Firsts
 pub mod Saying

@@ -1,16 +1,16 @@
 -- The patterns of a run and its `group_regex`, and what is told of a bad one (docs/FORMATS.md, "Patterns" and "Groups").
-use Rattle.std.specs.Prelude.{◌≡◌, ◌⊎◌, ⊤, ℕ, All, List, [], Option, IfSome, IsSomeAnd, Result, Ok, Err}
+use Rattle.std.specs.Prelude.{◌≡◌, ◌⊎◌, ⊤, ℕ, All, List, [], ◌++◌, Option, IfSome, IsSomeAnd, Result, Ok, Err}
 use Rattle.partition_times.specs.Patterns.{IsPattern, IsBadPattern}
 pub use Rattle.partition_times.specs.Patterns.{IsFirstBadText}
 use Rattle.suite_plan.specs.declared.patterns.Compiled.{Compiled}
 use Rattle.suite_plan.specs.declared.patterns.PatternRefusal.{PatternRefusal}
 use Rattle.suite_plan.specs.declared.patterns.PatternRefusal.TheVariants.{Bad, NoMemory}
 
--- these are the patterns and the regex of the groups, and all of them are good
-pub record AreCompiled (patterns : List (List ℕ)) (regex : Option (List ℕ)) (compiled : Compiled) : Type 0 where
-  pub filters : compiled.filters ≡ patterns
+-- these are the patterns of both kinds and the regex of the groups, and all of them are good
+pub record AreCompiled (including excluding : List (List ℕ)) (regex : Option (List ℕ)) (compiled : Compiled) : Type 0 where
+  pub picks : compiled.picks ≡ record { including = including; excluding = excluding }
   pub groups : compiled.groups ≡ regex
-  pub good : All IsPattern patterns
+  pub good : All IsPattern (including ++ excluding)
   pub good_regex : IfSome regex IsPattern
 
 -- the text is the regex of the groups, and is bad
@@ -29,8 +29,9 @@ ChecksRegex regex (Ok value) = IfSome regex IsPattern
 ChecksRegex regex (Err (Bad given)) = IsBadRegex regex given.now
 ChecksRegex regex (Err NoMemory) = ⊤
 
--- all are compiled; or the first bad pattern is named, and the regex only where every pattern is good; or memory is wanting
-abbrev pub Compiles : List (List ℕ) → Option (List ℕ) → Result Compiled PatternRefusal → Type 0
-Compiles patterns regex (Ok compiled) = AreCompiled patterns regex compiled
-Compiles patterns regex (Err (Bad given)) = IsFirstBadText patterns given.now ⊎ (All IsPattern patterns × IsBadRegex regex given.now)
-Compiles patterns regex (Err NoMemory) = ⊤
+-- All are compiled; or the first bad pattern is named, those that exclude behind those that include, and the regex only where
+-- every pattern is good; or memory is wanting.
+abbrev pub Compiles : (including excluding : List (List ℕ)) → Option (List ℕ) → Result Compiled PatternRefusal → Type 0
+Compiles including excluding regex (Ok compiled) = AreCompiled including excluding regex compiled
+Compiles including excluding regex (Err (Bad given)) = IsFirstBadText (including ++ excluding) given.now ⊎ (All IsPattern (including ++ excluding) × IsBadRegex regex given.now)
+Compiles including excluding regex (Err NoMemory) = ⊤

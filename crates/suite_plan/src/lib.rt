@@ -9,11 +9,12 @@
 //! before, where it does not say otherwise. What it did outside by then stands.
 //!
 //! - `texts`: files that are read whole, and must not be too long
-//! - `conf_file`, `load_list`, `processors`: the configuration, a list of ids, and the table of processors
+//! - `conf_file`, `load_list`, `pattern_list`, `processors`: the configuration, a list of ids, one of patterns, and the table
+//!   of processors
 //! - `output`, `gathering`, `notes`: what a child gives, read to its end
 //! - `listing`, `calling`, `count`: the tests that the project's listing tells of, and the number of workers that it calls out
 //! - `listed`, `first_ids`, `said`, `tail`: the ids that a listing tells, each once, and what is told of a program that failed
-//! - `patterns`, `choice`: which of the tests run
+//! - `patterns`, `picks`, `choice`: which of the tests run
 //! - `sharing`, `lane_jobs`: which worker runs which of them, and the job of each worker
 //! - `laws`: what is told of every output
 #![tactic(auto)]
@@ -31,7 +32,9 @@ mod listing;
 mod load_list;
 mod notes;
 mod output;
+mod pattern_list;
 mod patterns;
+mod picks;
 mod processors;
 mod said;
 mod sharing;
@@ -40,12 +43,14 @@ mod texts;
 
 pub use calling::{CallRefusal, call_out};
 pub use choice::{choose, chosen, in_both};
-pub use conf_file::{ConfRefusal, read_conf};
+pub use conf_file::{BadConf, ConfFile, ConfRefusal, read_conf};
 pub use first_ids::firsts;
 pub use lane_jobs::jobs_of_lanes;
 pub use laws::outputs_tell_one_text;
 pub use listing::{ListingRefusal, list_tests};
 pub use load_list::{ListRefusal, read_load_list};
+pub use pattern_list::{BadLine, PatternListRefusal, read_pattern_list};
 pub use patterns::{Compiled, PatternRefusal, compile};
+pub use picks::{FurtherPicks, Picks};
 pub use processors::{TableRefusal, count_processors};
 pub use sharing::{MOST_WORKERS, share_out};

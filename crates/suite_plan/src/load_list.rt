@@ -1,6 +1,6 @@
 //! The ids of a run that a file lists.
 
-ghost use Rattle.suite_plan.specs.LoadList.{ReadsLoadList};
+ghost use Rattle.suite_plan.specs.LoadList.{ReadsList, ReadsLoadList};
 
 use crate::texts::MOST_TEXT;
 use edge_io::{ReadFault, Site, read_file};
@@ -36,16 +36,27 @@ pub fn read_load_list<'a, F: Site>(
 ) -> Result<IdList, ListRefusal<'a>>
     ensures step { ReadsLoadList name.now (F.seen site.old) (F.seen site.new) result }
 {
-    let text = match read_file(alloc, site, name, MOST_TEXT) {
-        Ok(Some(text)) => text,
-        Ok(None) => return Err(ListRefusal::Absent(name)),
-        Err(ReadFault::Failed) => return Err(ListRefusal::Site),
-        Err(ReadFault::TooLong) => return Err(ListRefusal::TooLong(name)),
-        Err(ReadFault::NoMemory) => return Err(ListRefusal::NoMemory),
-    };
+    let text = read_list(alloc, site, name)?;
     match read_ids(alloc, &text) {
         Ok(ids) => Ok(ids),
         Err(IdsFault::NotText(number)) => Err(ListRefusal::NotId(name, number)),
         Err(IdsFault::NoMemory) => Err(ListRefusal::NoMemory),
+    }
+}
+
+/// The bytes of the list of this name, at most 16,777,216.
+pub(crate) fn read_list<'a, F: Site>(
+    alloc: Global,
+    site: &mut F,
+    name: &'a str,
+) -> Result<Vec<u8>, ListRefusal<'a>>
+    ensures step { ReadsList name.now (F.seen site.old) (F.seen site.new) result }
+{
+    match read_file(alloc, site, name, MOST_TEXT) {
+        Ok(Some(text)) => Ok(text),
+        Ok(None) => Err(ListRefusal::Absent(name)),
+        Err(ReadFault::Failed) => Err(ListRefusal::Site),
+        Err(ReadFault::TooLong) => Err(ListRefusal::TooLong(name)),
+        Err(ReadFault::NoMemory) => Err(ListRefusal::NoMemory),
     }
 }

@@ -4,6 +4,7 @@ ghost use Rattle.std.specs.Prelude.{◌≡◌, ◌<◌, [], length, slice_index_
 ghost use Rattle.std.specs.Option.{option_copied};
 ghost use Rattle.suite_plan.specs.Patterns.{Compiles, ChecksPatterns, ChecksRegex};
 
+use crate::picks::Picks;
 use partition_times::{Filters, Groups, PatternFault};
 use std::alloc::Global;
 use std::str;
@@ -13,7 +14,7 @@ use sub_number::{IdList, Text};
 #[derive(Drop)]
 pub struct Compiled {
     /// The patterns, in their order.
-    pub filters: Filters,
+    pub picks: Picks,
     /// The regex of the groups.
     pub groups: Groups,
 }
@@ -27,18 +28,24 @@ pub enum PatternRefusal<'a> {
     NoMemory,
 }
 
-/// The patterns and the regex of the groups, each compiled once. Without a regex each test is a group of its own.
+/// The patterns of both kinds and the regex of the groups, each compiled once. Without a regex each test is a group of its
+/// own.
 ///
-/// `Bad` comes only with the first bad one of the patterns, in their order, and with the regex only where all of them
-/// are good.
+/// `Bad` comes only with the first bad one of the patterns, in their order, those that exclude behind those that include,
+/// and with the regex only where all of them are good.
 pub fn compile<'a>(
     alloc: Global,
-    patterns: &'a IdList,
+    including: &'a IdList,
+    excluding: &'a IdList,
     group_regex: Option<&'a Text>,
 ) -> Result<Compiled, PatternRefusal<'a>>
-    ensures { Compiles patterns.now (option_copied group_regex.entry) result }
+    ensures { Compiles including.now excluding.now (option_copied group_regex.entry) result }
 {
-    let filters = match compiled_filters(alloc, patterns) {
+    let including = match compiled_filters(alloc, including) {
+        Ok(filters) => filters,
+        Err(refusal) => return Err(refusal),
+    };
+    let excluding = match compiled_filters(alloc, excluding) {
         Ok(filters) => filters,
         Err(refusal) => return Err(refusal),
     };
@@ -46,7 +53,11 @@ pub fn compile<'a>(
         Ok(groups) => groups,
         Err(refusal) => return Err(refusal),
     };
-    Ok(Compiled { filters, groups })
+    let picks = Picks {
+        including,
+        excluding,
+    };
+    Ok(Compiled { picks, groups })
 }
 
 // The patterns, compiled.

@@ -1,4 +1,5 @@
 pub mod HalfLemmas
 pub mod HeardLemmas
+pub mod NoneLostLemmas
 pub mod RunLemmas
 pub mod StartLemmas

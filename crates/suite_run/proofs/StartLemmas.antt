@@ -1,21 +1,20 @@
 -- What the starts of several children come to.
-use Rattle.std.proofs.Common.{◌≡◌, ℕ, zero, suc, ◌+◌, List, [], ◌∷◌, ◌++◌, map, length, take, Option, None, Some, refl, sym, ◌∙◌, ap, subst, arith, append_assoc, append-nil}
+use Rattle.std.proofs.Common.{◌≡◌, ℕ, zero, suc, ◌+◌, ◌<◌, List, [], ◌∷◌, ◌++◌, map, length, take, get_or, Option, None, Some, refl, sym, ◌∙◌, ap, subst, arith, append_assoc, append-nil}
 use Rattle.std.specs.Prelude.{Result, Ok, Err, IfErr, IsErrAnd}
-use Rattle.std.specs.List.{range_with_len}
+use Rattle.std.specs.List.{AllByRecursion, range_with_len}
 use Rattle.std.specs.Option.{option_map}
-use Rattle.std.proofs.lemmas.List.{length-append, length-map, map-append}
+use Rattle.std.proofs.lemmas.List.{length-append, length-map, map-append, take_more}
 use Rattle.edge_io.specs.Causes.{RisesExactlyIf}
 use Rattle.edge_io.specs.Children.{Output, IsOutput, AreBytesLeft, CanFinish}
 use Rattle.edge_io.specs.Spawners.{Spawning, Starts}
 use Rattle.edge_io.specs.Steps.{Goes, Stays}
 use Rattle.edge_io.specs.declared.job.Job.{Job}
-use Rattle.packet_codec.specs.Grammar.{AreBytes}
 use Rattle.suite_run.specs.Starting.{StartsAll, HasStarted, StartsSome, StartsNext, start_failed}
 use Rattle.suite_run.specs.declared.starting.StartRefusal.{StartRefusal}
 use Rattle.suite_run.specs.declared.starting.StartRefusal.TheVariants.{Spawn, NoMemory}
-use Rattle.worker_lane.specs.Rest.{lots_for}
+use Rattle.worker_lane.specs.Rest.{lots_asked}
 use Rattle.worker_lane.specs.declared.lot.Lot.{Lot}
-use Rattle.worker_mux.specs.Outputs.{lots_from}
+use Rattle.worker_mux.specs.Outputs.{AreAllTexts, other_ids, ids_at, lots_asked_from}
 use Rattle.worker_mux.proofs.Lists.{all_more}
 use Rattle.worker_mux.proofs.OutputLemmas.{one_lane_more}
 
@@ -28,9 +27,13 @@ not_empty_before : {X : Type 0} (xs ys : List X) → (xs ≡ [] → ⊥) → xs 
 not_empty_before [] ys some e = some refl
 not_empty_before (x ∷ xs) ys some e = not_empty x (xs ++ ys) e
 
-length_lots : (lane : ℕ) (told : List (Option Output)) → length (lots_from lane told) ≡ length told
-length_lots lane [] = refl
-length_lots lane (t ∷ told) = ap suc (length_lots (suc lane) told)
+-- one more that is so
+pub each_more : {X : Type 0} (P : X → Type 0) (xs : List X) (i : ℕ) (x : X) → i < length xs → x ≡ get_or xs i x → P x → AllByRecursion P (take i xs) → AllByRecursion P (take (i + 1) xs)
+each_more P xs i x below is so all = subst (AllByRecursion P) (ap (λ y. take i xs ++ y ∷ []) is ∙ sym (take_more xs i x below)) (all_more P (take i xs) x all so)
+
+length_lots : (lane : ℕ) (asked : List (List (List ℕ))) (told : List (Option Output)) → length (lots_asked_from lane asked told) ≡ length told
+length_lots lane asked [] = refl
+length_lots lane asked (t ∷ told) = ap suc (length_lots (suc lane) (other_ids asked) told)
 
 from_zero : (n : ℕ) → 0 + n ≡ n
 from_zero n = omega arith
@@ -92,37 +95,43 @@ without_lane job child (Some s) (Some t) starts = record {
 
 -- ---- after others
 
-pub none_started : (old : Option Spawning) → Goes old old (HasStarted [] [])
-none_started None = tt
-none_started (Some s) = record { outputs = []; all = all_none s s refl; are_outputs = tt; rests_are = refl }
+pub none_started : (asked : List (List (List ℕ))) (old : Option Spawning) → AreAllTexts asked → Goes old old (HasStarted [] asked [])
+none_started asked None texts = tt
+none_started asked (Some s) texts = record { outputs = []; all = all_none s s refl; are_outputs = tt; texts = texts; rests_are = refl }
 
-pub nothing_started : {X : Type 0} (left : X → Option (List Lot)) (lanes : List X) (jobs : List Job) (old : Option Spawning) → lanes ≡ [] → Goes old old (HasStarted (take 0 jobs) (map left lanes))
-nothing_started left lanes jobs old none =
-    subst (λ l. Goes old old (HasStarted l (map left lanes))) (sym (take_none jobs)) (subst (λ l. Goes old old (HasStarted [] (map left l))) (sym none) (none_started old))
+pub nothing_started : {X : Type 0} (left : X → Option (List Lot)) (lanes : List X) (jobs : List Job) (asked : List (List (List ℕ))) (old : Option Spawning) → AreAllTexts asked → lanes ≡ [] → Goes old old (HasStarted (take 0 jobs) asked (map left lanes))
+nothing_started left lanes jobs asked old texts none =
+    subst (λ l. Goes old old (HasStarted l asked (map left lanes))) (sym (take_none jobs)) (subst (λ l. Goes old old (HasStarted [] asked (map left l))) (sym none) (none_started asked old texts))
 
-pub starts_more : (done : List Job) (job : Job) (rests more : List (Option (List Lot))) (a b c : Option Spawning) → Goes a b (HasStarted done rests) → StartsNext job rests more b c → Goes a c (HasStarted (done ++ job ∷ []) more)
-starts_more done job rests more a b c started next = at a b c started next.started
+pub starts_more : (done : List Job) (job : Job) (asked : List (List (List ℕ))) (ids : List (List ℕ)) (rests more : List (Option (List Lot))) (a b c : Option Spawning) → ids ≡ ids_at asked (length rests) → Goes a b (HasStarted done asked rests) → StartsNext job ids rests more b c → Goes a c (HasStarted (done ++ job ∷ []) asked more)
+starts_more done job asked ids rests more a b c named started next = at a b c started next.started
   where
-    here : (s t u : Spawning) → HasStarted done rests s t → Starts job next.child t u → HasStarted (done ++ job ∷ []) more s u
+    here : (s t u : Spawning) → HasStarted done asked rests s t → Starts job next.child t u → HasStarted (done ++ job ∷ []) asked more s u
     here s t u before starts =
         let told : next.child ≡ Some starts.output = starts.tells in
         let outputs : List Output = before.outputs in
-        let count : length rests ≡ length outputs = ap length before.rests_are ∙ length_lots 0 (map Some outputs) ∙ length_told outputs in
+        let count : length rests ≡ length outputs = ap length before.rests_are ∙ length_lots 0 asked (map Some outputs) ∙ length_told outputs in
+        let place : length rests ≡ length (map Some outputs) = count ∙ sym (length_told outputs) in
         let mapped : map Some (outputs ++ starts.output ∷ []) ≡ map Some outputs ++ Some starts.output ∷ [] = map-append Some outputs (starts.output ∷ []) in
-        let lots : more ≡ lots_from 0 (map Some outputs) ++ option_map (lots_for (0 + length (map Some outputs))) (Some starts.output) ∷ [] =
-        next.rests_are ∙ ap (λ l. l ++ option_map (lots_for (length rests)) next.child ∷ []) before.rests_are ∙ ap (λ (n : ℕ). lots_from 0 (map Some outputs) ++ option_map (lots_for n) next.child ∷ []) (count ∙ sym (length_told outputs) ∙ sym (from_zero (length (map Some outputs)))) ∙ ap (λ t. lots_from 0 (map Some outputs) ++ option_map (lots_for (0 + length (map Some outputs))) t ∷ []) told in
+        let lots : more ≡ lots_asked_from 0 asked (map Some outputs) ++ option_map (lots_asked (0 + length (map Some outputs)) (ids_at asked (length (map Some outputs)))) (Some starts.output) ∷ [] =
+        next.rests_are
+        ∙ ap (λ l. l ++ option_map (lots_asked (length rests) ids) next.child ∷ []) before.rests_are
+        ∙ ap (λ (l : List (List ℕ)). lots_asked_from 0 asked (map Some outputs) ++ option_map (lots_asked (length rests) l) next.child ∷ []) (named ∙ ap (ids_at asked) place)
+        ∙ ap (λ (n : ℕ). lots_asked_from 0 asked (map Some outputs) ++ option_map (lots_asked n (ids_at asked (length (map Some outputs)))) next.child ∷ []) (place ∙ sym (from_zero (length (map Some outputs))))
+        ∙ ap (λ t. lots_asked_from 0 asked (map Some outputs) ++ option_map (lots_asked (0 + length (map Some outputs)) (ids_at asked (length (map Some outputs)))) t ∷ []) told in
         record {
           outputs = outputs ++ starts.output ∷ [];
           all = all_then done (job ∷ []) outputs (starts.output ∷ []) s t u before.all (all_one job next.child t u starts);
           are_outputs = all_more IsOutput outputs starts.output before.are_outputs (record { bytes = subst AreBytesLeft told next.are_bytes; finish = subst CanFinish told next.has_finish });
-          rests_are = lots ∙ sym (one_lane_more 0 (map Some outputs) (Some starts.output)) ∙ ap (lots_from 0) (sym mapped);
+          texts = before.texts;
+          rests_are = lots ∙ sym (one_lane_more 0 asked (map Some outputs) (Some starts.output)) ∙ ap (lots_asked_from 0 asked) (sym mapped);
         }
       where
         length_told : (outputs : List Output) → length (map Some outputs) ≡ length outputs
         length_told [] = refl
         length_told (output ∷ outputs) = ap suc (length_told outputs)
 
-    at : (a b c : Option Spawning) → Goes a b (HasStarted done rests) → Goes b c (Starts job next.child) → Goes a c (HasStarted (done ++ job ∷ []) more)
+    at : (a b c : Option Spawning) → Goes a b (HasStarted done asked rests) → Goes b c (Starts job next.child) → Goes a c (HasStarted (done ++ job ∷ []) asked more)
     at None None None first second = tt
     at None None (Some u) first second = second
     at None (Some t) c first second = absurd first
@@ -149,10 +158,10 @@ module _ (result : Result (Unit {0}) StartRefusal) (refusal : StartRefusal) wher
       by (Ok done) is = absurd is
       by (Err given) is = subst (λ r. RisesExactlyIf a c (start_failed {T = Unit {0}} (Err r))) (sym is) first
 
-pub some_more : (jobs done : List Job) (job : Job) (rest : List Job) (rests : List (Option (List Lot))) (refusal : StartRefusal) (a b c : Option Spawning) → jobs ≡ done ++ job ∷ rest → Goes a b (HasStarted done rests) → Goes b c (StartsSome (job ∷ []) refusal) → Goes a c (StartsSome jobs refusal)
-some_more jobs done job rest rests refusal a b c split first second = at a b c first second
+pub some_more : (jobs done : List Job) (job : Job) (rest : List Job) (asked : List (List (List ℕ))) (rests : List (Option (List Lot))) (refusal : StartRefusal) (a b c : Option Spawning) → jobs ≡ done ++ job ∷ rest → Goes a b (HasStarted done asked rests) → Goes b c (StartsSome (job ∷ []) refusal) → Goes a c (StartsSome jobs refusal)
+some_more jobs done job rest asked rests refusal a b c split first second = at a b c first second
   where
-    here : (s t u : Spawning) → HasStarted done rests s t → StartsSome (job ∷ []) refusal t u → StartsSome jobs refusal s u
+    here : (s t u : Spawning) → HasStarted done asked rests s t → StartsSome (job ∷ []) refusal t u → StartsSome jobs refusal s u
     here s t u before after = record {
       done = done ++ after.done;
       more = after.more ++ rest;
@@ -162,7 +171,7 @@ some_more jobs done job rest rests refusal a b c split first second = at a b c f
       failed = λ spawn. not_empty_before after.more rest (after.failed spawn);
     }
 
-    at : (a b c : Option Spawning) → Goes a b (HasStarted done rests) → Goes b c (StartsSome (job ∷ []) refusal) → Goes a c (StartsSome jobs refusal)
+    at : (a b c : Option Spawning) → Goes a b (HasStarted done asked rests) → Goes b c (StartsSome (job ∷ []) refusal) → Goes a c (StartsSome jobs refusal)
     at None None None first second = tt
     at None None (Some u) first second = second
     at None (Some t) c first second = absurd first

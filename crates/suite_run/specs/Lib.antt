@@ -3,3 +3,4 @@ pub mod Recording
 pub mod Starting
 pub mod Summed
 pub mod Halves
+pub mod NoneLost

@@ -18,6 +18,6 @@ mod recording;
 mod starting;
 
 pub use half_laws::recorded_rows;
-pub use laws::outputs_are_recorded;
+pub use laws::{no_test_is_lost, outputs_are_recorded};
 pub use recording::{LanesRefusal, record_lanes};
 pub use starting::{StartRefusal, start_lanes};

@@ -6,9 +6,12 @@ ghost use Rattle.edge_io.specs.Causes.{RisesExactlyIf};
 ghost use Rattle.edge_io.specs.Steps.{Goes};
 ghost use Rattle.suite_run.specs.Starting.{StartsLanes, HasStarted, StartsSome, StartsNext, start_failed, rests_in};
 ghost use Rattle.worker_lane.specs.Lanes.{rest, lane_number};
+ghost use Rattle.worker_lane.specs.Lost.{AreTexts};
+ghost use Rattle.worker_mux.specs.Outputs.{AreAllTexts, ids_at as ids_of};
 
 use edge_io::{Child, Job, Spawner};
 use std::alloc::Global;
+use sub_number::{IdList, Text};
 use worker_lane::Lane;
 
 /// Why the children of a run were not started.
@@ -21,7 +24,7 @@ pub enum StartRefusal {
 }
 
 /// Starts the jobs in order, each child as the lane of its place: the first is lane 0, the next one lane 1, and so on.
-/// There are 64 at most.
+/// There are 64 at most. The job at each place names the ids that stand at that place, and none where no list does.
 ///
 /// `Spawn` comes exactly where a start fails. Then, and for want of memory, no further job is started, and the children
 /// that were started are stopped and waited for (no clause says so).
@@ -29,14 +32,16 @@ pub fn start_lanes<S: Spawner>(
     alloc: Global,
     spawner: &mut S,
     jobs: &[Job],
+    asked: &[IdList],
 ) -> Result<Vec<Lane<S::Child>>, StartRefusal>
     requires few { length jobs.now ≤ 64 }
     ensures numbers { IfOk result (λ lanes. map lane_number lanes.items ≡ range_with_len 0 (length lanes.items)) }
     ensures count { IfOk result (λ lanes. length lanes.items ≡ length jobs.now) }
-    ensures step { StartsLanes jobs.now (S.seen spawner.old) (S.seen spawner.new) (rests_in S.Child.seen result) }
+    ensures step { StartsLanes jobs.now asked.now (S.seen spawner.old) (S.seen spawner.new) (rests_in S.Child.seen result) }
 {
+    are_all_texts(asked);
     let mut lanes = Vec::new(alloc);
-    match start_each(alloc, spawner, jobs, &mut lanes) {
+    match start_each(alloc, spawner, jobs, asked, &mut lanes) {
         Ok(()) => Ok(lanes),
         Err(refusal) => {
             give_up_all(lanes);
@@ -50,32 +55,46 @@ fn start_each<S: Spawner>(
     alloc: Global,
     spawner: &mut S,
     jobs: &[Job],
+    asked: &[IdList],
     lanes: &mut Vec<Lane<S::Child>>,
 ) -> Result<(), StartRefusal>
     requires few { length jobs.now ≤ 64 }
+    requires texts { AreAllTexts asked.now }
     requires none { lanes.old.items ≡ [] }
     ensures numbers { OnOk result (map lane_number lanes.new.items ≡ range_with_len 0 (length lanes.new.items)) }
     ensures count { OnOk result (length lanes.new.items ≡ length jobs.now) }
-    ensures started { OnOk result (Goes (S.seen spawner.old).told (S.seen spawner.new).told (HasStarted jobs.now (map (rest S.Child.seen) lanes.new.items))) }
+    ensures started { OnOk result (Goes (S.seen spawner.old).told (S.seen spawner.new).told (HasStarted jobs.now asked.now (map (rest S.Child.seen) lanes.new.items))) }
     ensures refused { IfErr result (λ refusal. Goes (S.seen spawner.old).told (S.seen spawner.new).told (StartsSome jobs.now refusal)) }
     ensures sum { RisesExactlyIf (S.seen spawner.old).faults (S.seen spawner.new).faults (start_failed result) }
 {
     for job in jobs {
-        start_next(alloc, spawner, job, lanes)?;
+        let ids = ids_at(asked, lanes.len());
+        start_next(alloc, spawner, job, ids, lanes)?;
     }
     Ok(())
 }
 
-// Starts the job, as the lane behind those that are there.
+// The ids that the job at this place names.
+fn ids_at(asked: &[IdList], place: usize) -> &[Text]
+    ensures { result.now ≡ ids_of asked.now place }
+{
+    match asked.get(place) {
+        Some(ids) => ids.list(),
+        None => &[],
+    }
+}
+
+// Starts the job, which names these ids, as the lane behind those that are there.
 fn start_next<S: Spawner>(
     alloc: Global,
     spawner: &mut S,
     job: &Job,
+    ids: &[Text],
     lanes: &mut Vec<Lane<S::Child>>,
 ) -> Result<(), StartRefusal>
     requires few { length lanes.old.items < 64 }
     ensures number { OnOk result (map lane_number lanes.new.items ≡ map lane_number lanes.old.items ++ length lanes.old.items ∷ []) }
-    ensures started { OnOk result (StartsNext job.now (map (rest S.Child.seen) lanes.old.items) (map (rest S.Child.seen) lanes.new.items) (S.seen spawner.old).told (S.seen spawner.new).told) }
+    ensures started { OnOk result (StartsNext job.now ids.now (map (rest S.Child.seen) lanes.old.items) (map (rest S.Child.seen) lanes.new.items) (S.seen spawner.old).told (S.seen spawner.new).told) }
     ensures refused { IfErr result (λ refusal. Goes (S.seen spawner.old).told (S.seen spawner.new).told (StartsSome (job.now ∷ []) refusal)) }
     ensures sum { RisesExactlyIf (S.seen spawner.old).faults (S.seen spawner.new).faults (start_failed result) }
 {
@@ -83,7 +102,7 @@ fn start_next<S: Spawner>(
     let Ok(child) = spawner.start(job) else {
         return Err(StartRefusal::Spawn);
     };
-    let lane = match Lane::new(alloc, number, child) {
+    let lane = match Lane::new(alloc, number, child, ids) {
         Ok(lane) => lane,
         Err(child) => {
             give_up(child);
@@ -111,4 +130,21 @@ fn give_up<C: Child + Drop>(child: C) {
     let mut child = child;
     child.stop();
     let _ = child.wait();
+}
+
+// What holds of all ids: each is a text.
+fn are_all_texts(asked: &[IdList])
+    ensures { AreAllTexts asked.now }
+{
+    for ids in asked {
+        are_texts(ids.list());
+    }
+}
+
+fn are_texts(ids: &[Text])
+    ensures { AreTexts ids.now }
+{
+    for id in ids {
+        let _bytes = id.bytes();
+    }
 }

@@ -1,9 +1,10 @@
 //! Tests of what a run is made of, of its workers, and of all of them at once. No program uses it.
 //!
 //! They use the public names of the rooms alone, and stand above them, so that the proofs of a room are not made once more for
-//! its tests. Each file has the room in its name.
+//! its tests. Each file has the room in its name. `many_jobs` has what some of them are made with.
 #![tactic(auto)]
 
+pub mod many_jobs;
 #[cfg(test)]
 mod tests_suite_plan_children;
 #[cfg(test)]

@@ -10,7 +10,9 @@ use partition_times::{Filters, Groups};
 use std::alloc::Global;
 use std::test::Fail;
 use sub_number::{IdList, Text, TimeMap};
-use suite_plan::{PatternRefusal, chosen, compile, firsts, jobs_of_lanes, share_out};
+use suite_plan::{
+    FurtherPicks, PatternRefusal, Picks, chosen, compile, firsts, jobs_of_lanes, share_out,
+};
 use testr_conf::{Conf, JobFault, Key};
 
 const WHOLE: &[u8] =
@@ -218,8 +220,43 @@ fn maybe_ids(alloc: Global, texts: Option<&str>) -> Option<Option<IdList>> {
     }
 }
 
+// The including patterns, the further ones of a list, the excluding ones, and the further ones.
+type Patterns = (
+    &'static str,
+    Option<&'static str>,
+    &'static str,
+    Option<&'static str>,
+);
+
+const NO_PATTERNS: Patterns = ("", None, "", None);
+
 fn filters_of(alloc: Global, patterns: &str) -> Option<Filters> {
     Filters::new(alloc, ids_of(alloc, patterns)?.list()).ok()
+}
+
+fn picks_of(alloc: Global, patterns: &Patterns) -> Option<Picks> {
+    let including = filters_of(alloc, patterns.0)?;
+    let excluding = filters_of(alloc, patterns.2)?;
+    Some(Picks {
+        including,
+        excluding,
+    })
+}
+
+fn maybe_filters(alloc: Global, patterns: Option<&str>) -> Option<Option<Filters>> {
+    match patterns {
+        Some(patterns) => Some(Some(filters_of(alloc, patterns)?)),
+        None => Some(None),
+    }
+}
+
+fn further_of(alloc: Global, patterns: &Patterns) -> Option<FurtherPicks> {
+    let including = maybe_filters(alloc, patterns.1)?;
+    let excluding = maybe_filters(alloc, patterns.3)?;
+    Some(FurtherPicks {
+        including,
+        excluding,
+    })
 }
 
 // The ids of a listing, each once, where there is one.
@@ -232,23 +269,33 @@ fn listing_of(alloc: Global, texts: Option<&str>) -> Option<Option<IdList>>
     }
 }
 
-fn chosen_of(alloc: Global, given: &Given, patterns: &str) -> Option<Option<IdList>> {
+fn chosen_of(alloc: Global, given: &Given, patterns: &Patterns) -> Option<Option<IdList>> {
+    let picks = picks_of(alloc, patterns)?;
+    let further = further_of(alloc, patterns)?;
+    chosen_by(alloc, given, &picks, &further)
+}
+
+fn chosen_by(
+    alloc: Global,
+    given: &Given,
+    picks: &Picks,
+    further: &FurtherPicks,
+) -> Option<Option<IdList>> {
     let failing = maybe_ids(alloc, given.0)?;
     let listed = maybe_ids(alloc, given.1)?;
     let listing = listing_of(alloc, given.2)?;
-    let filters = filters_of(alloc, patterns)?;
-    chosen(alloc, failing, listed, listing, &filters).ok()
+    chosen(alloc, failing, listed, listing, picks, further).ok()
 }
 
 // Whether these ids are chosen, and are given at all.
-fn are_chosen(alloc: Global, given: &Given, patterns: &str, wanted: &str) -> bool {
+fn are_chosen(alloc: Global, given: &Given, patterns: &Patterns, wanted: &str) -> bool {
     match chosen_of(alloc, given, patterns) {
         Some(Some(ids)) => are_ids(&ids, wanted),
         _ => false,
     }
 }
 
-fn is_nothing_given(alloc: Global, patterns: &str) -> bool {
+fn is_nothing_given(alloc: Global, patterns: &Patterns) -> bool {
     matches!(chosen_of(alloc, &(None, None, None), patterns), Some(None))
 }
 
@@ -256,14 +303,37 @@ fn is_nothing_given(alloc: Global, patterns: &str) -> bool {
 fn which_ids_a_run_has(rt: HostRuntime) -> Result<(), Fail> {
     let alloc = rt.alloc();
     let both = (Some("a b c"), Some("c d a c"), None);
-    assert!(rt; are_chosen(alloc, &both, "", "a c"));
-    assert!(rt; are_chosen(alloc, &(Some("a b"), None, None), "", "a b"));
+    assert!(rt; are_chosen(alloc, &both, &NO_PATTERNS, "a c"));
+    assert!(rt; are_chosen(alloc, &(Some("a b"), None, None), &NO_PATTERNS, "a b"));
     let repeated = (None, Some("c a c b a"), None);
-    assert!(rt; are_chosen(alloc, &repeated, "", "c a b"));
-    assert!(rt; are_chosen(alloc, &repeated, "z", ""));
-    let listing = (None, None, Some("b.x a.y b.z"));
-    assert!(rt; are_chosen(alloc, &listing, "^b x$", "b.x b.z"));
-    assert!(rt; is_nothing_given(alloc, "a"));
+    assert!(rt; are_chosen(alloc, &repeated, &NO_PATTERNS, "c a b"));
+    assert!(rt; is_nothing_given(alloc, &("a", None, "b", None)));
+    Ok(())
+}
+
+const LISTED: Given = (None, None, Some("b.x a.y b.z c.x"));
+
+const REPEATED: Given = (None, Some("c a c b a"), None);
+
+// The given ids, the patterns, and the ids that are wanted by them.
+const WANTED: [(Given, Patterns, &str); 9] = [
+    (REPEATED, ("z", None, "", None), ""),
+    (REPEATED, ("", None, "a", None), "c b"),
+    (LISTED, ("^b x$", None, "", None), "b.x b.z c.x"),
+    (LISTED, ("^b x$", None, "z ^c", None), "b.x"),
+    (LISTED, ("^b", Some("^a"), "", None), "b.x a.y b.z"),
+    (LISTED, ("", Some("x$"), "", Some("^b")), "c.x"),
+    (LISTED, ("", Some(""), "", Some("")), "b.x a.y b.z c.x"),
+    (LISTED, ("", None, "y", Some("^b z")), "c.x"),
+    (LISTED, ("x", None, "x", None), ""),
+];
+
+#[test]
+fn which_of_them_patterns_want(rt: HostRuntime) -> Result<(), Fail> {
+    let alloc = rt.alloc();
+    for row in &WANTED {
+        assert!(rt; are_chosen(alloc, &row.0, &row.1, row.2));
+    }
     Ok(())
 }
 
@@ -272,9 +342,16 @@ fn are_same(one: &str, other: &str) -> bool {
 }
 
 // Whether this is the bad pattern that is named, where the empty text stands for none.
-fn is_bad(alloc: Global, patterns: &str, regex: Option<&Text>, wanted: &str) -> Option<bool> {
-    let patterns = ids_of(alloc, patterns)?;
-    match compile(alloc, &patterns, regex) {
+fn is_bad(
+    alloc: Global,
+    including: &str,
+    excluding: &str,
+    regex: Option<&Text>,
+    wanted: &str,
+) -> Option<bool> {
+    let including = ids_of(alloc, including)?;
+    let excluding = ids_of(alloc, excluding)?;
+    match compile(alloc, &including, &excluding, regex) {
         Ok(_) => Some(wanted.is_empty()),
         Err(PatternRefusal::Bad(text)) => Some(are_same(text, wanted)),
         Err(PatternRefusal::NoMemory) => None,
@@ -286,9 +363,10 @@ fn the_first_bad_pattern_is_named(rt: HostRuntime) -> Result<(), Fail> {
     let alloc = rt.alloc();
     let bad = Text::new(alloc, b"[x")?;
     let good = Text::new(alloc, b"^x")?;
-    assert_eq!(rt; is_bad(alloc, "a ( )", Some(&bad), "("), Some(true));
-    assert_eq!(rt; is_bad(alloc, "a b", Some(&bad), "[x"), Some(true));
-    assert_eq!(rt; is_bad(alloc, "a b", Some(&good), ""), Some(true));
-    assert_eq!(rt; is_bad(alloc, "", None, ""), Some(true));
+    assert_eq!(rt; is_bad(alloc, "a ( )", "[y", Some(&bad), "("), Some(true));
+    assert_eq!(rt; is_bad(alloc, "a", "b [y (", Some(&bad), "[y"), Some(true));
+    assert_eq!(rt; is_bad(alloc, "a b", "c", Some(&bad), "[x"), Some(true));
+    assert_eq!(rt; is_bad(alloc, "a b", "c", Some(&good), ""), Some(true));
+    assert_eq!(rt; is_bad(alloc, "", "", None, ""), Some(true));
     Ok(())
 }

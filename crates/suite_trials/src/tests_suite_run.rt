@@ -8,6 +8,7 @@ ghost use Rattle.run_shelf.specs.Repository.{most_runs};
 ghost use Rattle.run_shelf.specs.Stores.{recorder_kinds, recorder_fault, store_kinds, store_fault, FitsUnlessBroken, RecordsUnlessBroken};
 ghost use Rattle.worker_lane.specs.Lanes.{lane_number};
 
+use crate::many_jobs::jobs;
 use edge_io::{Child, Finish, Job, MemShelf, Plan, PlanSpawner, Shelf};
 use packet_codec::Tags;
 use run_shelf::{Found, Recorder, Recording, ShelfCall, Store, finish_run, read_run};
@@ -41,30 +42,6 @@ const PASSED_UNDER_2: &[u8] = b"\xb3\x2d\x03\x0e\x03foo\x01\x32\x4a\xa1\xba\xcc"
 // Five packets.
 const FIVE: &[u8] =
     b"\xb3\x29\x03\x0c\x03foo\x45\x9d\xfe\x10\xb3\x29\x03\x0c\x03foo\x45\x9d\xfe\x10\xb3\x29\x03\x0c\x03foo\x45\x9d\xfe\x10\xb3\x29\x03\x0c\x03foo\x45\x9d\xfe\x10\xb3\x29\x03\x0c\x03foo\x45\x9d\xfe\x10";
-
-fn job(alloc: Global) -> Option<Job> {
-    let command = Bytes::new(alloc, b"true").ok()?;
-    Some(Job {
-        command,
-        id_file: None,
-    })
-}
-
-// A loop that owns nothing, so that an early end drops nothing.
-fn push_jobs(alloc: Global, jobs: &mut Vec<Job>, count: usize) -> Option<()> {
-    for _ in 0..count {
-        let job = job(alloc)?;
-        jobs.push(job).ok()?;
-    }
-    Some(())
-}
-
-// So many jobs.
-pub(crate) fn jobs(alloc: Global, count: usize) -> Option<Vec<Job>> {
-    let mut jobs = Vec::new(alloc);
-    push_jobs(alloc, &mut jobs, count)?;
-    Some(jobs)
-}
 
 fn plan(alloc: Global, output: &[u8], finish: Finish) -> Option<Plan> {
     let output = Bytes::new(alloc, output).ok()?;
@@ -199,7 +176,7 @@ fn record<R: Threads + Wait + Sync>(
         return None;
     }
     let recorder = begin(alloc, shelf)?;
-    match start_lanes(alloc, spawner, jobs) {
+    match start_lanes(alloc, spawner, jobs, &[]) {
         Ok(lanes) => record_started(rt, alloc, recorder, lanes, buf),
         Err(refusal) => Some(Outcome::NotStarted(refusal)),
     }

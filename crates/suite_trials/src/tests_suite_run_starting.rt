@@ -2,7 +2,7 @@
 
 ghost use Rattle.std.specs.Prelude.{◌≡◌};
 
-use crate::tests_suite_run::jobs;
+use crate::many_jobs::jobs;
 use edge_io::{Child, Failed, Job, Spawner};
 use std::alloc::Global;
 use std::process::Abort;
@@ -97,7 +97,11 @@ fn spawner_of_two(stopped: &Arc<AtomicU32>, waited: &Arc<AtomicU32>) -> Option<L
 
 // Whether a start fails among three jobs.
 fn is_refused(alloc: Global, spawner: &mut Limited, jobs: &[Job]) -> bool {
-    jobs.len() == 3 && matches!(start_lanes(alloc, spawner, jobs), Err(StartRefusal::Spawn))
+    jobs.len() == 3
+        && matches!(
+            start_lanes(alloc, spawner, jobs, &[]),
+            Err(StartRefusal::Spawn)
+        )
 }
 
 // Whether a start fails behind two.

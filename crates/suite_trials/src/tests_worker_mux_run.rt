@@ -53,7 +53,7 @@ fn add_lane<C: Child + Drop>(alloc: Global, lanes: &mut Vec<Lane<C>>, child: C) 
     ensures one_more { IfSome result (λ done. length lanes.new.items ≡ length lanes.old.items + 1) }
 {
     let number = lanes.len() as u32;
-    let lane = Lane::new(alloc, number, child).ok()?;
+    let lane = Lane::new(alloc, number, child, &[]).ok()?;
     lanes.push(lane).ok()?;
     Some(())
 }

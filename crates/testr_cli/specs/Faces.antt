@@ -1,10 +1,11 @@
--- What the program promises: what the one face does, or the other.
+-- What the program promises: what the commands do, or the filters.
 use Rattle.std.specs.Prelude.{◌≡◌, ℕ, List, ◌∷◌}
 use Rattle.command_steps.specs.Outside.{Outside}
 use Rattle.filter_cli.specs.Outside.{outside as piped}
 use Rattle.filter_cli.specs.Promises.{Promises as FilterPromises}
-use Rattle.testr_commands.specs.Program.{TestrPromises}
-use Rattle.testr_words.specs.Words.{testr_word}
+use Rattle.testr_commands.specs.WholeCall.{TestrPromises}
+use Rattle.testr_words.specs.Words.{face_word}
+use Rattle.testr_words.specs.declared.command.Face.{Face}
 
 -- what the filters do for the words, from the files and the input to the output; the folder and the spawner stay
 pub record PromisesOfFilters (words : List (List ℕ)) (before after : Outside) (answer : ℕ) : Type 0 where
@@ -12,8 +13,8 @@ pub record PromisesOfFilters (words : List (List ℕ)) (before after : Outside) 
   pub folder : after.folder ≡ before.folder
   pub spawner : after.spawner ≡ before.spawner
 
--- What each call of the program promises for all its words: what `testr` does for those behind its name, and for others
+-- What each call of the program promises for all its words: what `testr` does for those behind the name of a face, and for others
 -- what the filters do, which also say where words are neither.
-pub record ProgramPromises (words : List (List ℕ)) (before after : Outside) (answer : ℕ) : Type 0 where
-  pub testr : (behind : List (List ℕ)) → words ≡ testr_word ∷ behind → TestrPromises behind before after answer
-  pub filters : ((behind : List (List ℕ)) → words ≡ testr_word ∷ behind → ⊥) → PromisesOfFilters words before after answer
+pub record ProgramPromises (folder : List ℕ) (words : List (List ℕ)) (before after : Outside) (answer : ℕ) : Type 0 where
+  pub testr : (face : Face) (behind : List (List ℕ)) → words ≡ face_word face ∷ behind → TestrPromises folder face behind before after answer
+  pub filters : ((face : Face) (behind : List (List ℕ)) → words ≡ face_word face ∷ behind → ⊥) → PromisesOfFilters words before after answer

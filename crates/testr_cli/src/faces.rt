@@ -1,11 +1,12 @@
 //! The first word, and what it leads to.
 
-ghost use Rattle.std.specs.Prelude.{◌≡◌, ◌∷◌, ℕ, List};
+ghost use Rattle.std.specs.Prelude.{◌≡◌, ◌∷◌, ℕ, List, false};
 ghost use Rattle.command_steps.specs.Outside.{outside};
 ghost use Rattle.command_words.specs.Items.{texts};
 ghost use Rattle.testr_commands.specs.Sparing.{SparesReads};
 ghost use Rattle.testr_commands.specs.SparingRun.{SparesRun};
-ghost use Rattle.testr_words.specs.Words.{testr_word, asked_by};
+ghost use Rattle.testr_words.specs.Words.{face_word, asked_by, forced_by};
+ghost use Rattle.testr_words.specs.declared.command.Face.{Face as AFace};
 ghost use Rattle.testr_cli.specs.Faces.{ProgramPromises};
 
 use edge_io::{Shelf, Sink, Site, Source, Spawner};
@@ -13,14 +14,14 @@ use filter_cli::filters;
 use std::alloc::Global;
 use std::sync::Wait;
 use std::thread::Threads;
-use testr_commands::testr;
-use testr_words::is_testr;
+use testr_commands::testr_as;
+use testr_words::called_as;
 
 /// Does what the words say, and answers the exit status.
 ///
-/// Where the first word is `testr`, it is that of `testr` for the words behind it. For all other words it is that of
-/// `filters`; where the first one is no filter's name either, the usage line of the whole program is written to `err`,
-/// and the status is 2.
+/// Where the first word is `testr` or `stestr`, it is that of `testr_as` for this face and the words behind it. For all other
+/// words it is that of `filters`; where the first one is no filter's name either, the usage line of the whole program is
+/// written to `err`, and the status is 2.
 ///
 /// The workers of `run` and `selftest` are read on threads of `rt`. `run` and `list-tests` may wait for the programs that
 /// they start, and `selftest` for its threads.
@@ -43,25 +44,26 @@ pub fn program<
     out: &mut O,
     err: &mut E,
 ) -> u8
-    ensures promises { ProgramPromises (texts words.now)
+    ensures promises { ProgramPromises (F.folder site.old) (texts words.now)
         (outside (H.seen shelf.old) (F.seen site.old) (S.seen spawner.old) (I.seen input.old) (O.seen out.old) (E.seen err.old))
         (outside (H.seen shelf.new) (F.seen site.new) (S.seen spawner.new) (I.seen input.new) (O.seen out.new) (E.seen err.new))
         result }
-    ensures spares { (behind : List (List ℕ)) → texts words.now ≡ testr_word ∷ behind → SparesReads (asked_by behind) (H.seen shelf.old).told (H.clock shelf.old) (H.clock shelf.new) }
-    ensures spares_run { (behind : List (List ℕ)) → texts words.now ≡ testr_word ∷ behind → SparesRun (asked_by behind) (H.seen shelf.old).told (H.seen shelf.new).told result (H.clock shelf.old) (H.clock shelf.new) }
+    ensures spares { (face : AFace) (behind : List (List ℕ)) → texts words.now ≡ face_word face ∷ behind → SparesReads (asked_by (F.folder site.old) face behind) (H.seen shelf.old).told (H.clock shelf.old) (H.clock shelf.new) }
+    ensures spares_run { (face : AFace) (behind : List (List ℕ)) → texts words.now ≡ face_word face ∷ behind → forced_by (F.folder site.old) face behind ≡ false → SparesRun (asked_by (F.folder site.old) face behind) (H.seen shelf.old).told (H.seen shelf.new).told result (H.clock shelf.old) (H.clock shelf.new) }
 {
-    if !is_testr(words) {
-        return filters(alloc, words, site, input, out, err);
+    match called_as(words) {
+        Some(face) => testr_as(
+            rt,
+            alloc,
+            face,
+            &words[1..],
+            shelf,
+            spawner,
+            site,
+            input,
+            out,
+            err,
+        ),
+        None => filters(alloc, words, site, input, out, err),
     }
-    testr(
-        rt,
-        alloc,
-        &words[1..],
-        shelf,
-        spawner,
-        site,
-        input,
-        out,
-        err,
-    )
 }

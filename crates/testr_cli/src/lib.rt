@@ -1,8 +1,8 @@
 //! One program, two faces.
 //!
 //! `program` is what the real program's `main` calls, over traits that stand for the outside: a folder of runs, files by
-//! name, a spawner of programs, an input and two sinks. It looks at the first word: where that is `testr`, it is a call of
-//! `testr`, and else one of `filter_cli::filters`. Its contract is what these two promise.
+//! name, a spawner of programs, an input and two sinks. It looks at the first word: where that is `testr` or `stestr`, it is
+//! a call of `testr_as`, and else one of `filter_cli::filters`. Its contract is what these two promise.
 //!
 //! - `faces`: the first word, and what it leads to
 //!
@@ -14,7 +14,7 @@ mod faces;
 
 pub use faces::program;
 pub use testr_commands::{
-    Command, CopyFault, KeepFault, PrintFault, Question, RecordFault, Refusal, RunsFault,
-    TellFault, UsageFault, Verb, Verdict, quiet, reads, refusals_are_exact,
-    suite_refusals_are_exact, testr,
+    Command, CopyFault, Face, KeepFault, PrintFault, Question, RecordFault, Refusal, RunsFault,
+    TellFault, UsageFault, Verb, Verdict, quiet, reads, reads_as, refusals_are_exact,
+    suite_refusals_are_exact, testr, testr_as,
 };

@@ -10,6 +10,7 @@ use Rattle.packet_codec.specs.declared.event.Event.{Event}
 use Rattle.run_ledger.specs.Cached.{ReadsSound}
 use Rattle.run_ledger.specs.Caches.{IsSound}
 use Rattle.run_ledger.specs.Refreshing.{HoldBoth}
+use Rattle.run_shelf.specs.Looking.{base_calls}
 use Rattle.run_shelf.specs.Outcomes.{Surveys, TicksUpTo}
 use Rattle.run_shelf.specs.Repository.{Run, Shows}
 use Rattle.run_shelf.specs.Sides.{side_name}
@@ -30,7 +31,9 @@ use Rattle.command_steps.specs.Calls.{IsCoveredTo, IsCovered, AsksByFew, StoresB
 use Rattle.command_steps.specs.Steps.{stops, goes_on}
 use Rattle.testr_words.specs.Suites.{RunOptions, is_partial}
 use Rattle.testr_words.specs.Tasks.{Task, load, run, selftest, task_with}
-use Rattle.testr_words.specs.Words.{testr_word, asked_by}
+use Rattle.testr_words.specs.Words.{face_word, asked_by, forced_by}
+use Rattle.testr_words.specs.declared.command.Face.{Face}
+use Rattle.testr_words.proofs.WordsLemmas.{same_face}
 use Rattle.command_steps.specs.declared.answer.Refusal.{Refusal}
 use Rattle.command_steps.specs.declared.answer.Refusal.TheVariants.{Usage, Print, Suspects, Ran, Search}
 use Rattle.command_steps.specs.declared.told.TellFault.{TellFault}
@@ -120,10 +123,10 @@ finds_other asked settings number rows a b result (goes_on verdict m tells (goes
 -- ---- the whole run
 
 -- it was refused before a worker was started
-by_eight : (find partial : Bool) (old new : Option Folder) (answer before now : ℕ) → (answer ≤ 1 → ⊥) → TicksUpTo 8 before now → RunsByFew find partial old new answer before now
+by_eight : (find partial : Bool) (old new : Option Folder) (answer before now : ℕ) → (answer ≤ 1 → ⊥) → TicksUpTo (8 + base_calls old) before now → RunsByFew find partial old new answer before now
 by_eight find partial old new answer before now other few = record { done = λ small quiet. absurd (other small); refused = λ three. few }
 
-pub early : (find partial : Bool) (old new : Option Folder) (answer before now : ℕ) → (answer ≤ 1 → ⊥) → TicksUpTo 8 before now → SparesRunOf find partial old new answer before now
+pub early : (find partial : Bool) (old new : Option Folder) (answer before now : ℕ) → (answer ≤ 1 → ⊥) → TicksUpTo (8 + base_calls old) before now → SparesRunOf find partial old new answer before now
 early find partial None new answer before now other few = tt
 early find partial (Some s) new answer before now other few = λ sound runs shows held. by_eight find partial (Some s) new answer before now other few
 
@@ -131,7 +134,7 @@ adds_before : (partial : Bool) (events : List Event) (a b c : Option Folder) →
 adds_before partial events a b c keeps adds = goes_then a b c KeepsFiles (AddsRun partial events) (AddsRun partial events) keeps adds (λ s m t same more runs shows. more runs (subst (λ (files : Files). Shows files runs) (sym same) shows))
 
 -- behind the look at the folder
-module _ (kinds : List Bool) (find partial : Bool) (old opened : Option Folder) (before middle : ℕ) (survey : Goes old opened (Surveys kinds)) (four : TicksUpTo 4 before middle) where
+module _ (kinds : List Bool) (find partial : Bool) (old opened : Option Folder) (before middle : ℕ) (survey : Goes old opened (Surveys kinds)) (four : TicksUpTo (4 + base_calls old) before middle) where
   covers : (s t : Folder) → Surveys kinds s t → ReadsSound s → (runs : List Run) → Shows s.disk.published runs → HoldBoth (length runs) s → IsCoveredTo (length kinds) t
   covers s t looked sound runs shows held =
       let same : t.disk.published ≡ s.disk.published = ap (λ (f : Folder). f.disk.published) looked.settled in
@@ -207,14 +210,14 @@ no_drawn : (drawn : Option Drawing) (options : RunOptions) → option_map selfte
 no_drawn None options is = cc
 no_drawn (Some drawing) options is = cc
 
-no_run : (v : Verb) (c : Command) (options : RunOptions) → (v ≡ verb.Run → ⊥) → task_with v c ≡ Some (run options) → ⊥
-no_run verb.Run c options other is = other refl
-no_run verb.Load c options other is = no_load (nat_le (length c.names) 64) c options is
-no_run verb.SelfTest c options other is = no_drawn (drawing_of c) options is
-no_run v c options other is = cc
+no_run : (folder : List ℕ) (v : Verb) (c : Command) (options : RunOptions) → (v ≡ verb.Run → ⊥) → task_with folder v c ≡ Some (run options) → ⊥
+no_run folder verb.Run c options other is = other refl
+no_run folder verb.Load c options other is = no_load (nat_le (length c.names) 64) c options is
+no_run folder verb.SelfTest c options other is = no_drawn (drawing_of c) options is
+no_run folder v c options other is = cc
 
-pub of_other : (v : Verb) (c : Command) (old new : Option Folder) (answer before now : ℕ) → (v ≡ verb.Run → ⊥) → SparesRun (task_with v c) old new answer before now
-of_other v c old new answer before now other = λ options is. absurd (no_run v c options other is)
+pub of_other : (folder : List ℕ) (v : Verb) (c : Command) (old new : Option Folder) (answer before now : ℕ) → (v ≡ verb.Run → ⊥) → SparesRun (task_with folder v c) old new answer before now
+of_other folder v c old new answer before now other = λ options is. absurd (no_run folder v c options other is)
 
 pub lists_not : (v : Verb) → v ≡ verb.ListTests → v ≡ verb.Run → ⊥
 lists_not v lists runs = cc
@@ -222,11 +225,15 @@ lists_not v lists runs = cc
 pub draws_not : (v : Verb) → v ≡ verb.SelfTest → v ≡ verb.Run → ⊥
 draws_not v draws runs = cc
 
+pub never_both : (force : Bool) → force ≡ true → force ≡ false → ⊥
+never_both force forced plain = cc
+
 pub of_asked : {asked read : Option Task} → asked ≡ read → (old new : Option Folder) (answer before now : ℕ) → SparesRun asked old new answer before now → SparesRun read old new answer before now
 of_asked is old new answer before now spares = subst (λ (o : Option Task). SparesRun o old new answer before now) is spares
 
 -- the words behind the same name
-pub of_words : (rest behind : List (List ℕ)) (old new : Option Folder) (answer before now : ℕ) → testr_word ∷ rest ≡ testr_word ∷ behind → SparesRun (asked_by rest) old new answer before now → SparesRun (asked_by behind) old new answer before now
-of_words rest behind old new answer before now is spares =
+pub of_words : (folder : List ℕ) (face given : Face) (rest behind : List (List ℕ)) (old new : Option Folder) (answer before now : ℕ) → face_word face ∷ rest ≡ face_word given ∷ behind → (forced_by folder face rest ≡ false → SparesRun (asked_by folder face rest) old new answer before now) → forced_by folder given behind ≡ false → SparesRun (asked_by folder given behind) old new answer before now
+of_words folder face given rest behind old new answer before now is spares =
     let same : rest ≡ behind = cc in
-    subst (λ (l : List (List ℕ)). SparesRun (asked_by l) old new answer before now) same spares
+    subst (λ (f : Face). forced_by folder f behind ≡ false → SparesRun (asked_by folder f behind) old new answer before now) (same_face face given rest behind is)
+    (subst (λ (l : List (List ℕ)). forced_by folder face l ≡ false → SparesRun (asked_by folder face l) old new answer before now) same spares)

@@ -7,7 +7,7 @@ use Rattle.run_shelf.specs.declared.faults.InitFault.TheVariants as init_fault
 use Rattle.run_shelf.specs.declared.faults.OpenFault.{OpenFault}
 use Rattle.run_shelf.specs.declared.faults.OpenFault.TheVariants as open_fault
 use Rattle.run_shelf.specs.declared.found.Found.{Found}
-use Rattle.run_shelf.specs.Repository.{IsRepository, HasKinds, HasFormat, HasOtherFormat, IsGap, format_name, most_runs}
+use Rattle.run_shelf.specs.Repository.{IsRepository, HasKinds, HasFormat, HasOtherFormat, HasBadBase, IsGap, format_name, most_runs}
 use Rattle.run_shelf.specs.Holds.{kinds_of}
 use Rattle.run_shelf.specs.Outcomes.{InitFails, OpenFails, Surveys}
 use Rattle.command_steps.specs.Steps.{stops, goes_on}
@@ -30,7 +30,7 @@ use Rattle.command_steps.specs.declared.told.TellFault.TheVariants as tell_fault
 use Rattle.command_steps.specs.declared.answer.Verdict.{Verdict}
 use Rattle.command_steps.specs.declared.answer.Refusal.{Refusal}
 use Rattle.command_steps.specs.declared.answer.Refusal.TheVariants as refusal
-use Rattle.testr_commands.proofs.FolderLemmas.{none_or_some, takes_in_repository, not_no_store, not_other_format, not_gap, not_full, not_empty}
+use Rattle.testr_commands.proofs.FolderLemmas.{none_or_some, takes_in_repository, not_no_store, not_other_format, not_bad_base, not_gap, not_full, not_empty}
 use Rattle.command_steps.proofs.Resting.{goes_before}
 use Rattle.testr_commands.proofs.ChainLemmas.{gives_not}
 use Rattle.testr_commands.proofs.AskLemmas.{either}
@@ -48,6 +48,7 @@ module _ (a b : Seen Folder) where
   pub open_never : (fault : OpenFault) → IsSomeAnd a.told (λ s. IsRepository s.disk.published) → Opens a b (Err fault) → open_code fault ≡ 3 → ⊥
   open_never open_fault.NoStore repository opens three = not_no_store a.told repository (goes_before a.told b.told (OpenFails open_fault.NoStore) (λ s. s.disk.published format_name ≡ None) opens.refused (λ s t fails. fails.0))
   open_never open_fault.UnknownFormat repository opens three = not_other_format a.told repository (goes_before a.told b.told (OpenFails open_fault.UnknownFormat) (λ s. HasOtherFormat s.disk.published) opens.refused (λ s t fails. fails.0))
+  open_never open_fault.BadBase repository opens three = not_bad_base a.told repository (goes_before a.told b.told (OpenFails open_fault.BadBase) (λ s. HasFormat s.disk.published × HasBadBase s.disk.published) opens.refused (λ s t fails. fails.0))
   open_never (open_fault.Gap number) repository opens three = not_gap a.told repository number (goes_before a.told b.told (OpenFails (open_fault.Gap number)) (λ s. HasFormat s.disk.published × IsGap s.disk.published number) opens.refused (λ s t fails. fails.0))
   open_never (open_fault.Shelf call) repository opens three = omega arith
   open_never open_fault.NoMemory repository opens three = omega arith

@@ -12,7 +12,7 @@ use Rattle.run_shelf.specs.declared.faults.OpenFault.{OpenFault}
 use Rattle.run_shelf.specs.declared.faults.OpenFault.TheVariants as open_fault
 use Rattle.run_shelf.specs.declared.found.Found.{Found}
 use Rattle.run_shelf.specs.Outcomes.{Surveys}
-use Rattle.run_shelf.specs.Repository.{run_at, format_name, format_bytes, HasFormat, HasOtherFormat, IsGap, IsRepository, most_runs}
+use Rattle.run_shelf.specs.Repository.{run_at, format_name, HasFormat, HasOtherFormat, HasBadBase, IsGap, IsRepository, most_runs}
 use Rattle.testr_words.specs.declared.command.Question.{Question}
 use Rattle.command_steps.specs.declared.recording.RecordFault.{RecordFault}
 use Rattle.command_steps.specs.declared.recording.RecordFault.TheVariants as record_fault
@@ -26,21 +26,21 @@ use Rattle.command_steps.specs.Recording.{Records, RecordsAll, most_bytes}
 use Rattle.command_steps.specs.Refreshing.{Refreshes}
 use Rattle.testr_words.specs.Questions.{OfLastRun}
 use Rattle.command_steps.specs.Store.{Makes, Opens, TakesRun, HasRunFor}
-use Rattle.testr_commands.proofs.FolderLemmas.{none_or_some}
+use Rattle.run_shelf.proofs.BadBases.{bad_or_good, bad_or_gap}
+use Rattle.testr_commands.proofs.FolderLemmas.{none_or_some, other_or_format}
 use Rattle.std.proofs.lemmas.Bool.{cases_lt}
 
 -- ---- causes exclude each other
 
 no_format : (files : Files) → files format_name ≡ None → HasFormat files → ⊥
-no_format files none format = cc
+no_format files none (inl format) = cc
+no_format files none (inr format) = cc
 
 no_other : (files : Files) → files format_name ≡ None → HasOtherFormat files → ⊥
-no_other files none (bytes, there, differs) = cc
+no_other files none (bytes, there, first, second) = cc
 
 two_formats : (files : Files) → HasOtherFormat files → HasFormat files → ⊥
-two_formats files (bytes, there, differs) format =
-    let same : Some bytes ≡ Some format_bytes = sym there ∙ format in
-    differs cc
+two_formats files other format = other_or_format files other format
 
 no_gap : (files : Files) (number : ℕ) → IsGap files number → IsRepository files → ⊥
 no_gap files number is repository = none_or_some (run_at files number) is.first.free (repository.no_gap number is.other is.behind is.other_few is.other_run)
@@ -61,6 +61,7 @@ abbrev LookCause : Files → Result Found OpenFault → Type 0
 LookCause files (Ok found) = IsRepository files
 LookCause files (Err open_fault.NoStore) = files format_name ≡ None
 LookCause files (Err open_fault.UnknownFormat) = HasOtherFormat files
+LookCause files (Err open_fault.BadBase) = HasFormat files × HasBadBase files
 LookCause files (Err (open_fault.Gap number)) = HasFormat files × IsGap files number
 LookCause files (Err (open_fault.Shelf call)) = ⊤
 LookCause files (Err open_fault.NoMemory) = ⊤
@@ -81,6 +82,7 @@ look_cause : (before after : Seen Folder) (s : Folder) (result : Result Found Op
 look_cause before after s (Ok found) is look = look_of before.told after.told s is (λ f. IsRepository f.disk.published) _ look.found (λ t step. same_files s t _ step)
 look_cause before after s (Err open_fault.NoStore) is look = look_of before.told after.told s is (λ f. f.disk.published format_name ≡ None) _ look.refused (λ t step. step.0)
 look_cause before after s (Err open_fault.UnknownFormat) is look = look_of before.told after.told s is (λ f. HasOtherFormat f.disk.published) _ look.refused (λ t step. step.0)
+look_cause before after s (Err open_fault.BadBase) is look = look_of before.told after.told s is (λ f. HasFormat f.disk.published × HasBadBase f.disk.published) _ look.refused (λ t step. step.0)
 look_cause before after s (Err (open_fault.Gap number)) is look = look_of before.told after.told s is (λ f. HasFormat f.disk.published × IsGap f.disk.published number) _ look.refused (λ t step. step.0)
 look_cause before after s (Err (open_fault.Shelf call)) is look = tt
 look_cause before after s (Err open_fault.NoMemory) is look = tt
@@ -89,6 +91,7 @@ no_repository_of : (files : Files) (result : Result Found OpenFault) → files f
 no_repository_of files (Ok found) none cause = absurd (no_format files none cause.format)
 no_repository_of files (Err open_fault.NoStore) none cause = inl refl
 no_repository_of files (Err open_fault.UnknownFormat) none cause = absurd (no_other files none cause)
+no_repository_of files (Err open_fault.BadBase) none cause = absurd (no_format files none cause.0)
 no_repository_of files (Err (open_fault.Gap number)) none cause = absurd (no_format files none cause.0)
 no_repository_of files (Err (open_fault.Shelf call)) none cause = inr tt
 no_repository_of files (Err open_fault.NoMemory) none cause = inr tt
@@ -97,6 +100,7 @@ unknown_format_of : (files : Files) (result : Result Found OpenFault) → HasOth
 unknown_format_of files (Ok found) other cause = absurd (two_formats files other cause.format)
 unknown_format_of files (Err open_fault.NoStore) other cause = absurd (no_other files cause other)
 unknown_format_of files (Err open_fault.UnknownFormat) other cause = inl refl
+unknown_format_of files (Err open_fault.BadBase) other cause = absurd (two_formats files other cause.0)
 unknown_format_of files (Err (open_fault.Gap number)) other cause = absurd (two_formats files other cause.0)
 unknown_format_of files (Err (open_fault.Shelf call)) other cause = inr tt
 unknown_format_of files (Err open_fault.NoMemory) other cause = inr tt
@@ -105,9 +109,19 @@ missing_run_of : (files : Files) (number : ℕ) (result : Result Found OpenFault
 missing_run_of files number (Ok found) format gap cause = absurd (no_gap files number gap cause)
 missing_run_of files number (Err open_fault.NoStore) format gap cause = absurd (no_format files cause format)
 missing_run_of files number (Err open_fault.UnknownFormat) format gap cause = absurd (two_formats files cause format)
+missing_run_of files number (Err open_fault.BadBase) format gap cause = absurd (bad_or_gap files number cause.1 gap)
 missing_run_of files number (Err (open_fault.Gap other)) format gap cause = inl (ap (λ (n : ℕ). Err (open_fault.Gap n)) (one_gap files number other gap cause.1))
 missing_run_of files number (Err (open_fault.Shelf call)) format gap cause = inr tt
 missing_run_of files number (Err open_fault.NoMemory) format gap cause = inr tt
+
+bad_base_of : (files : Files) (result : Result Found OpenFault) → HasFormat files → HasBadBase files → LookCause files result → (result ≡ Err open_fault.BadBase) ⊎ OpenEnds result
+bad_base_of files (Ok found) format bad cause = absurd (bad_or_good files bad cause.base)
+bad_base_of files (Err open_fault.NoStore) format bad cause = absurd (no_format files cause format)
+bad_base_of files (Err open_fault.UnknownFormat) format bad cause = absurd (two_formats files cause format)
+bad_base_of files (Err open_fault.BadBase) format bad cause = inl refl
+bad_base_of files (Err (open_fault.Gap number)) format bad cause = absurd (bad_or_gap files number bad cause.1)
+bad_base_of files (Err (open_fault.Shelf call)) format bad cause = inr tt
+bad_base_of files (Err open_fault.NoMemory) format bad cause = inr tt
 
 at_told : (told : Option Folder) (P : Folder → Type 0) (Q : Type 0) → IsSomeAnd told P → ((s : Folder) → told ≡ Some s → P s → Q) → Q
 at_told None P Q holds each = absurd holds
@@ -121,6 +135,9 @@ unknown_format before after result look holds = at_told before.told _ _ holds (�
 
 pub missing_run : (before after : Seen Folder) (result : Result Found OpenFault) (number : ℕ) → Opens before after result → IsSomeAnd before.told (λ s. HasFormat s.disk.published × IsGap s.disk.published number) → (result ≡ Err (open_fault.Gap number)) ⊎ OpenEnds result
 missing_run before after result number look holds = at_told before.told _ _ holds (λ s is both. missing_run_of s.disk.published number result both.0 both.1 (look_cause before after s result is look))
+
+pub bad_base : (before after : Seen Folder) (result : Result Found OpenFault) → Opens before after result → IsSomeAnd before.told (λ s. HasFormat s.disk.published × HasBadBase s.disk.published) → (result ≡ Err open_fault.BadBase) ⊎ OpenEnds result
+bad_base before after result look holds = at_told before.told _ _ holds (λ s is both. bad_base_of s.disk.published result both.0 both.1 (look_cause before after s result is look))
 
 -- ---- the other steps
 

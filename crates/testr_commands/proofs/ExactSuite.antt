@@ -1,5 +1,7 @@
 -- Where the cause of a named refusal of a step of `run` or `list-tests` is there, it comes.
-use Rattle.std.proofs.Common.{◌≡◌, ◌⊎◌, inl, inr, ℕ, ℤ, ◌<◌, ◌≤◌, pos, true, Option, None, Some, IfSome, IsSome, IsSomeAnd, IfOk, IfErr, IsOk, IsErr, All, Result, Ok, Err, List, [], ◌∷◌, length, slice_index_or, refl, sym, ap, subst, ◌∙◌, arith}
+use Rattle.suite_run.specs.NoneLost.{AreAllShort}
+use Rattle.command_steps.specs.declared.planning.LongId.{LongId}
+use Rattle.std.proofs.Common.{◌≡◌, ◌⊎◌, inl, inr, ℕ, ℤ, ◌<◌, ◌≤◌, pos, true, Option, None, Some, IfSome, IsSome, IsSomeAnd, IfOk, IfErr, IsOk, IsErr, All, Result, Ok, Err, List, [], ◌∷◌, ◌++◌, length, slice_index_or, refl, sym, ap, subst, ◌∙◌, arith}
 use Rattle.edge_io.specs.Children.{Output}
 use Rattle.edge_io.specs.Disk.{Files}
 use Rattle.edge_io.specs.Seen.{Seen}
@@ -17,18 +19,22 @@ use Rattle.suite_causes.proofs.AnalysisLemmas.{none_broken}
 use Rattle.suite_plan.specs.Calling.{TellsNumber, TellsNone, CallsSo, HasCallCause, CallsOut}
 use Rattle.suite_plan.specs.Children.{IsBroken, StartsFor}
 use Rattle.suite_plan.specs.Choosing.{Ids}
-use Rattle.suite_plan.specs.ConfFile.{GivesSettings, GivesFault, HasConfCause, ReadsConf, conf_name, refused_conf}
+use Rattle.testr_words.specs.Suites.{Project}
+use Rattle.suite_plan.specs.ConfFile.{GivesSettings, HasConfCause, ReadsConf, conf_in}
 use Rattle.suite_plan.specs.LaneJobs.{lane_jobs}
 use Rattle.suite_plan.specs.Patterns.{Compiles, IsFirstBadText, IsBadRegex}
 use Rattle.suite_plan.specs.declared.patterns.Compiled.{Compiled}
 use Rattle.suite_plan.specs.declared.patterns.PatternRefusal.{PatternRefusal}
 use Rattle.suite_plan.specs.declared.patterns.PatternRefusal.TheVariants as pattern
-use Rattle.partition_times.specs.Patterns.{IsPattern}
+use Rattle.partition_times.specs.Patterns.{IsPattern, IsBadPattern, IsFirstBad}
 use Rattle.testr_commands.proofs.PatternLemmas.{good_not_bad}
 use Rattle.std.proofs.lemmas.Bool.{cases_lt}
 use Rattle.suite_plan.proofs.ToldLemmas.{one_text}
 use Rattle.suite_plan.specs.Listing.{ListsSo, HasFailed, HasListingCause, ListsTests}
 use Rattle.suite_plan.specs.LoadList.{IsLoadList, HasNoId, HasListCause, NamesList, ReadsLoadList}
+use Rattle.suite_plan.specs.PatternList.{IsPatternList, HasOtherLine, HasBadLine, HasPatternsCause, NamesPatterns, ReadsPatternList}
+use Rattle.suite_plan.specs.declared.pattern_list.PatternListRefusal.{PatternListRefusal}
+use Rattle.suite_plan.specs.declared.pattern_list.PatternListRefusal.TheVariants as pattern_list
 use Rattle.suite_plan.specs.Processors.{GivesProcessors, CountsProcessors, table_name}
 use Rattle.suite_plan.specs.Texts.{most_text, HasTooMuch}
 use Rattle.suite_plan.specs.declared.calling.CallRefusal.{CallRefusal}
@@ -42,17 +48,15 @@ use Rattle.suite_plan.specs.declared.load_list.ListRefusal.TheVariants as load_l
 use Rattle.suite_plan.specs.declared.processors.TableRefusal.{TableRefusal}
 use Rattle.suite_plan.specs.declared.processors.TableRefusal.TheVariants as table
 use Rattle.testr_conf.specs.Jobs.{count_job_of, list_job_of}
-use Rattle.testr_conf.specs.ListedIds.{ids_in}
-use Rattle.testr_conf.specs.Settings.{Settings, conf_of}
-use Rattle.testr_conf.specs.declared.fault.ConfFault.{ConfFault}
-use Rattle.testr_conf.specs.declared.fault.ConfFault.TheVariants as conf_fault
+use Rattle.testr_conf.specs.ListedIds.{ids_in, patterns_in, line_of_pattern}
+use Rattle.testr_conf.specs.Settings.{Settings}
 use Rattle.testr_conf.specs.declared.fault.JobFault.{JobFault}
 use Rattle.testr_conf.specs.declared.fault.JobFault.TheVariants as job_fault
 use Rattle.testr_conf.specs.declared.ids.IdsFault.{IdsFault}
 use Rattle.testr_conf.specs.declared.ids.IdsFault.TheVariants.{NotText}
-use Rattle.testr_commands.specs.ExactSuite.{Comes, NextMeets, IsNamedBad, ListEnds, IsListAbsent, IsListTooLong, IsNoId}
-use Rattle.command_steps.specs.Selecting.{HandsIds, MakesJobs}
-use Rattle.testr_commands.proofs.SuiteCauses.{from_both, not_too_much, same_text, not_fault, regex_never, not_ok}
+use Rattle.testr_commands.specs.ExactSuite.{Comes, NextMeets, IsNamedBad, ListEnds, IsListAbsent, IsListTooLong, IsNoId, PatternsEnd, IsPatternsAbsent, IsPatternsTooLong, IsNoText, IsBadLine}
+use Rattle.command_steps.specs.Selecting.{HandsIds, MakesJobs, NamesIds, asked_of}
+use Rattle.testr_commands.proofs.SuiteCauses.{from_both, not_too_much, same_text, not_refused, regex_never, not_ok}
 use Rattle.testr_commands.proofs.SuiteNever.{no_number}
 
 -- ---- files
@@ -70,61 +74,21 @@ not_long (Some text) none long = absurd cc
 
 -- ---- the configuration
 
-module _ (before after : Seen Files) (result : Result Settings ConfRefusal) (reads : ReadsConf before after result) where
-  pub no_conf : IsSomeAnd before.told (λ files. files conf_name ≡ None) → Comes conf.Absent conf.Site conf.NoMemory result
-  no_conf there = by before.told result there reads.conf reads.refused
-    where
-      by : (told : Option Files) (result : Result Settings ConfRefusal) → IsSomeAnd told (λ files. files conf_name ≡ None) → IfOk result (λ settings. IfSome told (GivesSettings settings)) → IfErr result (λ refusal. IfSome told (HasConfCause refusal)) → Comes conf.Absent conf.Site conf.NoMemory result
-      by None result none gives cause = absurd none
-      by (Some files) (Ok settings) none gives cause = not_there (files conf_name) gives.text none gives.has.there
-      by (Some files) (Err conf.Site) none gives cause = inr (inl refl)
-      by (Some files) (Err conf.TooLong) none gives cause = not_long (files conf_name) none cause
-      by (Some files) (Err conf.Absent) none gives cause = inl refl
-      by (Some files) (Err (conf.BadLine number)) none gives cause = not_there (files conf_name) cause.text none cause.has.there
-      by (Some files) (Err (conf.NoSection number)) none gives cause = not_there (files conf_name) cause.text none cause.has.there
-      by (Some files) (Err (conf.Repeated number)) none gives cause = not_there (files conf_name) cause.text none cause.has.there
-      by (Some files) (Err conf.NoCommand) none gives cause = not_there (files conf_name) cause.text none cause.has.there
-      by (Some files) (Err conf.NoMemory) none gives cause = inr (inr refl)
+-- it is refused so, where it is
+refused_so : (said : Result Settings ConfRefusal) (refusal other : ConfRefusal) → said ≡ Err refusal → said ≡ Err other → ◌≡◌ {A = Result Settings ConfRefusal} (Err other) (Err refusal)
+refused_so said refusal other one two = sym two ∙ one
 
-  pub conf_too_long : IsSomeAnd before.told (λ files. HasTooMuch files conf_name) → Comes conf.TooLong conf.Site conf.NoMemory result
-  conf_too_long there = by before.told result there reads.conf reads.refused
-    where
-      by : (told : Option Files) (result : Result Settings ConfRefusal) → IsSomeAnd told (λ files. HasTooMuch files conf_name) → IfOk result (λ settings. IfSome told (GivesSettings settings)) → IfErr result (λ refusal. IfSome told (HasConfCause refusal)) → Comes conf.TooLong conf.Site conf.NoMemory result
-      by None result long gives cause = absurd long
-      by (Some files) (Ok settings) long gives cause = absurd (not_too_much (files conf_name) gives.text gives.has.there gives.has.short long)
-      by (Some files) (Err conf.Site) long gives cause = inr (inl refl)
-      by (Some files) (Err conf.TooLong) long gives cause = inl refl
-      by (Some files) (Err conf.Absent) long gives cause = not_long (files conf_name) cause long
-      by (Some files) (Err (conf.BadLine number)) long gives cause = absurd (not_too_much (files conf_name) cause.text cause.has.there cause.has.short long)
-      by (Some files) (Err (conf.NoSection number)) long gives cause = absurd (not_too_much (files conf_name) cause.text cause.has.there cause.has.short long)
-      by (Some files) (Err (conf.Repeated number)) long gives cause = absurd (not_too_much (files conf_name) cause.text cause.has.there cause.has.short long)
-      by (Some files) (Err conf.NoCommand) long gives cause = absurd (not_too_much (files conf_name) cause.text cause.has.there cause.has.short long)
-      by (Some files) (Err conf.NoMemory) long gives cause = inr (inr refl)
-
-  -- a text is refused in one way
-  same_fault : (one other : ConfFault) (files : Files) → GivesFault one files → GivesFault other files → one ≡ other
-  same_fault one other files first second =
-      let same : first.text ≡ second.text = same_text (files conf_name) first.text second.text first.has.there second.has.there in
-      let both : ◌≡◌ {A = Result Settings ConfFault} (Err one) (Err other) = sym first.says ∙ ap conf_of same ∙ second.says in
-      cc
-
-  pub bad_conf : (fault : ConfFault) → IsSomeAnd before.told (GivesFault fault) → Comes (refused_conf fault) conf.Site conf.NoMemory result
-  bad_conf fault there = by before.told result there reads.conf reads.refused
-    where
-      here : (other : ConfFault) (files : Files) → GivesFault fault files → GivesFault other files → ◌≡◌ {A = Result Settings ConfRefusal} (Err (refused_conf other)) (Err (refused_conf fault))
-      here other files one two = ap (λ (f : ConfFault). Err (refused_conf f)) (same_fault other fault files two one)
-
-      by : (told : Option Files) (result : Result Settings ConfRefusal) → IsSomeAnd told (GivesFault fault) → IfOk result (λ settings. IfSome told (GivesSettings settings)) → IfErr result (λ refusal. IfSome told (HasConfCause refusal)) → Comes (refused_conf fault) conf.Site conf.NoMemory result
-      by None result bad gives cause = absurd bad
-      by (Some files) (Ok settings) bad gives cause = absurd (not_fault settings fault files gives bad)
-      by (Some files) (Err conf.Site) bad gives cause = inr (inl refl)
-      by (Some files) (Err conf.TooLong) bad gives cause = absurd (not_too_much (files conf_name) bad.text bad.has.there bad.has.short cause)
-      by (Some files) (Err conf.Absent) bad gives cause = not_there (files conf_name) bad.text cause bad.has.there
-      by (Some files) (Err (conf.BadLine number)) bad gives cause = inl (here (conf_fault.BadLine number) files bad cause)
-      by (Some files) (Err (conf.NoSection number)) bad gives cause = inl (here (conf_fault.NoSection number) files bad cause)
-      by (Some files) (Err (conf.Repeated number)) bad gives cause = inl (here (conf_fault.Repeated number) files bad cause)
-      by (Some files) (Err conf.NoCommand) bad gives cause = inl (here conf_fault.NoCommand files bad cause)
-      by (Some files) (Err conf.NoMemory) bad gives cause = inr (inr refl)
+pub bad_conf : (project : Project) (before after : Seen Files) (result : Result Settings ConfRefusal) → ReadsConf project before after result
+    → (refusal : ConfRefusal) → IsSomeAnd before.told (λ files. conf_in project files ≡ Err refusal) → Comes refusal conf.Site conf.NoMemory result
+bad_conf project before after result reads refusal there = by before.told result there reads.conf reads.refused
+  where
+    by : (told : Option Files) (result : Result Settings ConfRefusal) → IsSomeAnd told (λ files. conf_in project files ≡ Err refusal) → IfOk result (λ settings. IfSome told (GivesSettings project settings)) → IfErr result (λ other. IfSome told (λ files. HasConfCause (conf_in project files) other)) → Comes refusal conf.Site conf.NoMemory result
+    by None result bad gives cause = absurd bad
+    by (Some files) (Ok settings) bad gives cause = absurd (not_refused (conf_in project files) settings refusal gives bad)
+    by (Some files) (Err conf.Site) bad gives cause = inr (inl refl)
+    by (Some files) (Err conf.Absent) bad gives cause = inl (refused_so (conf_in project files) refusal _ bad cause)
+    by (Some files) (Err (conf.Bad file why)) bad gives cause = inl (refused_so (conf_in project files) refusal _ bad cause)
+    by (Some files) (Err conf.NoMemory) bad gives cause = inr (inr refl)
 
 -- ---- the list of ids
 
@@ -201,17 +165,19 @@ table_too_long before after result counts there = by before.told result there co
 
 -- ---- patterns
 
--- there is one first bad pattern
-same_bad : (patterns : Ids) (one other : List ℕ) → IsFirstBadText patterns one → IsFirstBadText patterns other → other ≡ one
-same_bad patterns one other a b = elim (cases_lt a.index b.index) [
-  | inl less ↦ absurd (good_not_bad _ (b.first.good_before a.index less) a.first.bad)
-  | inr rest ↦ elim (cases_lt b.index a.index) [
-    | inl less ↦ absurd (good_not_bad _ (a.first.good_before b.index less) b.first.bad)
-    | inr also ↦
-        let same : b.index ≡ a.index = omega (arith, rest, also) in
-        b.there ∙ ap (λ i. slice_index_or patterns i []) same ∙ sym a.there
+-- there is one index of a first bad pattern
+same_index : (patterns : Ids) (one other : ℕ) → IsFirstBad patterns one → IsFirstBad patterns other → other ≡ one
+same_index patterns one other a b = elim (cases_lt one other) [
+  | inl less ↦ absurd (good_not_bad _ (b.good_before one less) a.bad)
+  | inr rest ↦ elim (cases_lt other one) [
+    | inl less ↦ absurd (good_not_bad _ (a.good_before other less) b.bad)
+    | inr also ↦ omega (arith, rest, also)
   ]
 ]
+
+-- there is one first bad pattern
+same_bad : (patterns : Ids) (one other : List ℕ) → IsFirstBadText patterns one → IsFirstBadText patterns other → other ≡ one
+same_bad patterns one other a b = b.there ∙ ap (λ i. slice_index_or patterns i []) (same_index patterns a.index b.index a.first b.first) ∙ sym a.there
 
 not_all_good : (patterns : Ids) (text : List ℕ) → IsFirstBadText patterns text → All IsPattern patterns → ⊥
 not_all_good patterns text bad good = good_not_bad _ (good bad.index [] bad.first.in_range) bad.first.bad
@@ -220,18 +186,107 @@ same_regex : (regex : Option (List ℕ)) (one other : List ℕ) → IsBadRegex r
 same_regex None one other a b = absurd a
 same_regex (Some regex) one other a b = b.0 ∙ sym a.0
 
-module _ (patterns : Ids) (regex : Option (List ℕ)) (text : List ℕ) where
-  pub bad_pattern : (result : Result Compiled PatternRefusal) → Compiles patterns regex result → IsFirstBadText patterns text → IsNamedBad text result ⊎ (result ≡ Err pattern.NoMemory)
-  bad_pattern (Ok compiled) compiles bad = absurd (not_all_good patterns text bad compiles.good)
-  bad_pattern (Err (pattern.Bad given)) (inl first) bad = inl (same_bad patterns text given.now bad first)
-  bad_pattern (Err (pattern.Bad given)) (inr (all, second)) bad = absurd (not_all_good patterns text bad all)
+module _ (including excluding : Ids) (regex : Option (List ℕ)) (text : List ℕ) where
+  pub bad_pattern : (result : Result Compiled PatternRefusal) → Compiles including excluding regex result → IsFirstBadText (including ++ excluding) text → IsNamedBad text result ⊎ (result ≡ Err pattern.NoMemory)
+  bad_pattern (Ok compiled) compiles bad = absurd (not_all_good (including ++ excluding) text bad compiles.good)
+  bad_pattern (Err (pattern.Bad given)) (inl first) bad = inl (same_bad (including ++ excluding) text given.now bad first)
+  bad_pattern (Err (pattern.Bad given)) (inr (all, second)) bad = absurd (not_all_good (including ++ excluding) text bad all)
   bad_pattern (Err pattern.NoMemory) compiles bad = inr refl
 
-  pub bad_regex : (result : Result Compiled PatternRefusal) → Compiles patterns regex result → All IsPattern patterns → IsBadRegex regex text → IsNamedBad text result ⊎ (result ≡ Err pattern.NoMemory)
+  pub bad_regex : (result : Result Compiled PatternRefusal) → Compiles including excluding regex result → All IsPattern (including ++ excluding) → IsBadRegex regex text → IsNamedBad text result ⊎ (result ≡ Err pattern.NoMemory)
   bad_regex (Ok compiled) compiles good bad = absurd (regex_never regex text compiles.good_regex bad)
-  bad_regex (Err (pattern.Bad given)) (inl first) good bad = absurd (not_all_good patterns given.now first good)
+  bad_regex (Err (pattern.Bad given)) (inl first) good bad = absurd (not_all_good (including ++ excluding) given.now first good)
   bad_regex (Err (pattern.Bad given)) (inr (all, second)) good bad = inl (same_regex regex text given.now bad second)
   bad_regex (Err pattern.NoMemory) compiles good bad = inr refl
+
+-- ---- a list of patterns
+
+module _ (name : List ℕ) (before after : Seen Files) (result : Result Ids PatternListRefusal) (reads : ReadsPatternList name before after result) where
+  abbrev Given : Option Files → Result Ids PatternListRefusal → Type 0
+  Given told result = IfOk result (λ patterns. IfSome told (IsPatternList name patterns))
+
+  abbrev Why : Option Files → Result Ids PatternListRefusal → Type 0
+  Why told result = IfErr result (λ refusal. IfSome told (HasPatternsCause name refusal))
+
+  pub no_patterns : IsSomeAnd before.told (λ files. files name ≡ None) → IsPatternsAbsent name result ⊎ PatternsEnd result
+  no_patterns there = by before.told result there reads.patterns reads.refused reads.named
+    where
+      by : (told : Option Files) (result : Result Ids PatternListRefusal) → IsSomeAnd told (λ files. files name ≡ None) → Given told result → Why told result → IfErr result (NamesPatterns name) → IsPatternsAbsent name result ⊎ PatternsEnd result
+      by None result none lists cause named = absurd none
+      by (Some files) (Ok ids) none lists cause named = not_there (files name) lists.text none lists.has.there
+      by (Some files) (Err (pattern_list.List load_list.Site)) none lists cause named = inr (inl refl)
+      by (Some files) (Err (pattern_list.List (load_list.TooLong given))) none lists cause named = not_long (files name) none cause
+      by (Some files) (Err (pattern_list.List (load_list.Absent given))) none lists cause named = inl named
+      by (Some files) (Err (pattern_list.List (load_list.NotId given number))) none lists cause named = not_there (files name) cause.text none cause.has.there
+      by (Some files) (Err (pattern_list.List load_list.NoMemory)) none lists cause named = inr (inr refl)
+      by (Some files) (Err (pattern_list.Bad line)) none lists cause named = not_there (files name) cause.text none cause.has.there
+
+  pub patterns_too_long : IsSomeAnd before.told (λ files. HasTooMuch files name) → IsPatternsTooLong name result ⊎ PatternsEnd result
+  patterns_too_long there = by before.told result there reads.patterns reads.refused reads.named
+    where
+      by : (told : Option Files) (result : Result Ids PatternListRefusal) → IsSomeAnd told (λ files. HasTooMuch files name) → Given told result → Why told result → IfErr result (NamesPatterns name) → IsPatternsTooLong name result ⊎ PatternsEnd result
+      by None result long lists cause named = absurd long
+      by (Some files) (Ok ids) long lists cause named = absurd (not_too_much (files name) lists.text lists.has.there lists.has.short long)
+      by (Some files) (Err (pattern_list.List load_list.Site)) long lists cause named = inr (inl refl)
+      by (Some files) (Err (pattern_list.List (load_list.TooLong given))) long lists cause named = inl named
+      by (Some files) (Err (pattern_list.List (load_list.Absent given))) long lists cause named = not_long (files name) cause long
+      by (Some files) (Err (pattern_list.List (load_list.NotId given number))) long lists cause named = absurd (not_too_much (files name) cause.text cause.has.there cause.has.short long)
+      by (Some files) (Err (pattern_list.List load_list.NoMemory)) long lists cause named = inr (inr refl)
+      by (Some files) (Err (pattern_list.Bad line)) long lists cause named = absurd (not_too_much (files name) cause.text cause.has.there cause.has.short long)
+
+  -- what the text of the list says is one thing
+  one_saying : (files : Files) (one other : List ℕ) (x y : Result Ids IdsFault) → files name ≡ Some one → files name ≡ Some other → patterns_in one ≡ x → patterns_in other ≡ y → x ≡ y
+  one_saying files one other x y first second says_one says_other = sym says_one ∙ ap patterns_in (same_text (files name) one other first second) ∙ says_other
+
+  pub no_text : (number : ℕ) → IsSomeAnd before.told (HasOtherLine name number) → IsNoText name number result ⊎ PatternsEnd result
+  no_text number there = by before.told result there reads.patterns reads.refused reads.named
+    where
+      by : (told : Option Files) (result : Result Ids PatternListRefusal) → IsSomeAnd told (HasOtherLine name number) → Given told result → Why told result → IfErr result (NamesPatterns name) → IsNoText name number result ⊎ PatternsEnd result
+      by None result bad lists cause named = absurd bad
+      by (Some files) (Ok ids) bad lists cause named =
+          let both = one_saying files bad.text lists.text (Err (NotText number)) (Ok ids) bad.has.there lists.has.there bad.says lists.says in
+          cc
+      by (Some files) (Err (pattern_list.List load_list.Site)) bad lists cause named = inr (inl refl)
+      by (Some files) (Err (pattern_list.List (load_list.TooLong given))) bad lists cause named = absurd (not_too_much (files name) bad.text bad.has.there bad.has.short cause)
+      by (Some files) (Err (pattern_list.List (load_list.Absent given))) bad lists cause named = not_there (files name) bad.text cause bad.has.there
+      by (Some files) (Err (pattern_list.List (load_list.NotId given line))) bad lists cause named =
+          let both = one_saying files bad.text cause.text (Err (NotText number)) (Err (NotText line)) bad.has.there cause.has.there bad.says cause.says in
+          let same : line ≡ number = cc in
+          inl (named, same)
+      by (Some files) (Err (pattern_list.List load_list.NoMemory)) bad lists cause named = inr (inr refl)
+      by (Some files) (Err (pattern_list.Bad line)) bad lists cause named =
+          let both = one_saying files bad.text cause.text (Err (NotText number)) (Ok cause.patterns) bad.has.there cause.has.there bad.says cause.says in
+          cc
+
+  pub bad_line : (number : ℕ) (pattern : List ℕ) → IsSomeAnd before.told (HasBadLine name number pattern) → IsBadLine name number pattern result ⊎ PatternsEnd result
+  bad_line number pattern there = by before.told result there reads.patterns reads.refused reads.named
+    where
+      same_line : (files : Files) (line : ℕ) (text : List ℕ) → HasBadLine name number pattern files → HasBadLine name line text files → (line ≡ number) × (text ≡ pattern)
+      same_line files line text one other =
+          let texts : other.text ≡ one.text = same_text (files name) other.text one.text other.has.there one.has.there in
+          let both : ◌≡◌ {A = Result Ids IdsFault} (Ok other.patterns) (Ok one.patterns) = one_saying files other.text one.text (Ok other.patterns) (Ok one.patterns) other.has.there one.has.there other.says one.says in
+          let patterns : other.patterns ≡ one.patterns = cc in
+          let index : other.index ≡ one.index = same_index one.patterns one.index other.index one.first (subst (λ (p : Ids). IsFirstBad p other.index) patterns other.first) in (
+            other.line ∙ ap (λ t. line_of_pattern t other.index) texts ∙ ap (λ i. line_of_pattern one.text i) index ∙ sym one.line,
+            other.there ∙ ap (λ p. slice_index_or p other.index []) patterns ∙ ap (λ i. slice_index_or one.patterns i []) index ∙ sym one.there,
+          )
+
+      by : (told : Option Files) (result : Result Ids PatternListRefusal) → IsSomeAnd told (HasBadLine name number pattern) → Given told result → Why told result → IfErr result (NamesPatterns name) → IsBadLine name number pattern result ⊎ PatternsEnd result
+      by None result bad lists cause named = absurd bad
+      by (Some files) (Ok ids) bad lists cause named =
+          let both : ◌≡◌ {A = Result Ids IdsFault} (Ok bad.patterns) (Ok ids) = one_saying files bad.text lists.text (Ok bad.patterns) (Ok ids) bad.has.there lists.has.there bad.says lists.says in
+          let same : bad.patterns ≡ ids = cc in
+          absurd (good_not_bad _ (lists.good bad.index [] (subst (λ (p : Ids). bad.index < length p) same bad.first.in_range)) (subst (λ (p : Ids). IsBadPattern (slice_index_or p bad.index [])) same bad.first.bad))
+      by (Some files) (Err (pattern_list.List load_list.Site)) bad lists cause named = inr (inl refl)
+      by (Some files) (Err (pattern_list.List (load_list.TooLong given))) bad lists cause named = absurd (not_too_much (files name) bad.text bad.has.there bad.has.short cause)
+      by (Some files) (Err (pattern_list.List (load_list.Absent given))) bad lists cause named = not_there (files name) bad.text cause bad.has.there
+      by (Some files) (Err (pattern_list.List (load_list.NotId given line))) bad lists cause named =
+          let both = one_saying files bad.text cause.text (Ok bad.patterns) (Err (NotText line)) bad.has.there cause.has.there bad.says cause.says in
+          cc
+      by (Some files) (Err (pattern_list.List load_list.NoMemory)) bad lists cause named = inr (inr refl)
+      by (Some files) (Err (pattern_list.Bad line)) bad lists cause named =
+          let same = same_line files line.number line.pattern bad cause in
+          inl (named, same.0, same.1)
 
 -- ---- children
 
@@ -313,6 +368,10 @@ module _ (settings : Settings) (before after : Seen Spawning) (result : Result I
       by (Some s) y (Err listing.NoMemory) next gives cause jobless = inr (inr refl)
 
 -- ---- the jobs
+
+pub long_id : (shares : Option (List Ids)) (result : Result (Unit {0}) LongId) → NamesIds shares result → (AreAllShort (asked_of shares) → ⊥) → IsErr result
+long_id shares (Ok done) names long = absurd (long names.named)
+long_id shares (Err fault) names long = refl
 
 pub no_option : (settings : Settings) (shares : Option (List Ids)) (fault : JobFault) (result : Result (List Job) JobFault) → MakesJobs settings shares result → lane_jobs settings shares ≡ Err fault → (result ≡ Err fault) ⊎ (result ≡ Err job_fault.NoMemory)
 no_option settings shares fault result makes refused = by result makes.jobs makes.refused

@@ -3,8 +3,9 @@ use Rattle.std.proofs.Common.{◌≡◌, inl, inr, ℕ, zero, suc, ◌<◌, ◌�
 use Rattle.std.specs.Prelude.{slice_get}
 use Rattle.std.proofs.lemmas.Bool.{cases_lt}
 use Rattle.edge_io.specs.Disk.{Files, Folder}
-use Rattle.run_shelf.specs.Repository.{IsRepository, most_runs, format_name, format_bytes, HasFormat, HasOtherFormat, IsGap, HasKinds, run_at}
+use Rattle.run_shelf.specs.Repository.{IsRepository, most_runs, format_name, format_bytes, based_format_bytes, HasFormat, HasOtherFormat, HasBadBase, IsGap, HasKinds, run_at}
 use Rattle.command_steps.specs.Runs.{HasRuns}
+use Rattle.run_shelf.proofs.BadBases.{bad_or_good}
 
 past_all : {A : Type 0} (xs : List A) (k : ℕ) → length xs ≤ k → slice_get xs k ≡ None
 past_all [] k past = refl
@@ -36,6 +37,18 @@ pub none_or_some : {A : Type 0} (o : Option A) → o ≡ None → IsSome o → �
 none_or_some None none some = cc
 none_or_some (Some a) none some = cc
 
+format_there : (files : Files) → files format_name ≡ None → HasFormat files → ⊥
+format_there files none (inl format) = cc
+format_there files none (inr format) = cc
+
+pub other_or_format : (files : Files) → HasOtherFormat files → HasFormat files → ⊥
+other_or_format files (bytes, there, first, second) (inl format) =
+    let same : Some bytes ≡ Some format_bytes = sym there ∙ format in
+    first cc
+other_or_format files (bytes, there, first, second) (inr format) =
+    let same : Some bytes ≡ Some based_format_bytes = sym there ∙ format in
+    second cc
+
 abbrev TakesRun : Folder → Type 0
 TakesRun s = (number : ℕ) × (number < most_runs) × HasRuns number s
 
@@ -44,15 +57,13 @@ HasSomeRun s = (number : ℕ) × (0 < number) × HasRuns number s
 
 module _ (s : Folder) (repository : IsRepository s.disk.published) where
   no_store : s.disk.published format_name ≡ None → ⊥
-  no_store none =
-      let format : s.disk.published format_name ≡ Some format_bytes = repository.format in
-      cc
+  no_store none = format_there s.disk.published none repository.format
 
   other_format : HasOtherFormat s.disk.published → ⊥
-  other_format (bytes, there, differs) =
-      let format : s.disk.published format_name ≡ Some format_bytes = repository.format in
-      let same : Some bytes ≡ Some format_bytes = sym there ∙ format in
-      differs cc
+  other_format other = other_or_format s.disk.published other repository.format
+
+  bad_base : HasFormat s.disk.published × HasBadBase s.disk.published → ⊥
+  bad_base (format, bad) = bad_or_good s.disk.published bad repository.base
 
   gap : (number : ℕ) → HasFormat s.disk.published × IsGap s.disk.published number → ⊥
   gap number (format, is) = none_or_some (run_at s.disk.published number) is.first.free (repository.no_gap number is.other is.behind is.other_few is.other_run)
@@ -83,6 +94,9 @@ module _ (folder : Option Folder) (repository : IsSomeAnd folder (λ s. IsReposi
 
   pub not_other_format : IfSome folder (λ s. HasOtherFormat s.disk.published) → ⊥
   not_other_format = refutes (λ s. IsRepository s.disk.published) (λ s. HasOtherFormat s.disk.published) folder repository other_format
+
+  pub not_bad_base : IfSome folder (λ s. HasFormat s.disk.published × HasBadBase s.disk.published) → ⊥
+  not_bad_base = refutes (λ s. IsRepository s.disk.published) (λ s. HasFormat s.disk.published × HasBadBase s.disk.published) folder repository bad_base
 
   pub not_gap : (number : ℕ) → IfSome folder (λ s. HasFormat s.disk.published × IsGap s.disk.published number) → ⊥
   not_gap number = refutes (λ s. IsRepository s.disk.published) (λ s. HasFormat s.disk.published × IsGap s.disk.published number) folder repository (λ s r. gap s r number)

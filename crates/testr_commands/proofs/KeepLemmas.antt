@@ -12,9 +12,10 @@ use Rattle.run_shelf.specs.declared.faults.InitFault.TheVariants as init_fault
 use Rattle.run_shelf.specs.Drafts.{OfDraft, PlaceFails}
 use Rattle.run_shelf.specs.Images.{MakesRepository}
 use Rattle.run_shelf.specs.Outcomes.{InitFails, InitFailsAt}
-use Rattle.run_shelf.specs.Repository.{Run, Shows, IsRepository, run_at, run_of_files, run_name, full_name, partial_name, most_runs, format_name, format_bytes}
+use Rattle.run_shelf.specs.Repository.{Run, Shows, IsRepository, run_at, run_name, full_name, partial_name, most_runs, format_name, format_bytes, HasFormat}
+use Rattle.run_shelf.proofs.BaseLemmas.{base_first, base_nothing, same_run}
 use Rattle.run_shelf.proofs.NameLemmas.{format_differs}
-use Rattle.run_shelf.proofs.RunLemmas.{put_other}
+use Rattle.run_shelf.proofs.RunLemmas.{put_here, put_other}
 use Rattle.command_steps.specs.Steps.{Step, Then, stops, goes_on, Gives, At}
 use Rattle.command_steps.specs.Outside.{Work, work_folder, work_out}
 use Rattle.testr_words.specs.Tasks.{load}
@@ -34,6 +35,10 @@ use Rattle.command_steps.proofs.Resting.{Rests}
 use Rattle.testr_commands.proofs.ChainLemmas.{Quiet, gives_not}
 use Rattle.testr_commands.proofs.StepLaws.{still_quiet, open_quiet, begin_quiet, record_quiet}
 
+no_format : (files : Files) → files format_name ≡ None → HasFormat files → ⊥
+no_format files none (inl format) = cc
+no_format files none (inr format) = cc
+
 pub files_keep : (s t : Folder) → KeepsFiles s t → KeepsRuns s t
 files_keep s t same runs shows = subst (λ (files : Files). Shows files runs) (sym same) shows
 
@@ -46,19 +51,18 @@ abbrev with_format : Files → Files
 with_format files = put files format_name format_bytes
 
 -- `format` is the name of no run
-beside_format : (files : Files) (runs : List Run) → Shows files runs → Shows (with_format files) runs
-beside_format files runs shows = record { few = shows.few; each = λ number few. still number few ∙ shows.each number few }
+beside_format : (files : Files) (runs : List Run) → files format_name ≡ None → Shows files runs → Shows (with_format files) runs
+beside_format files runs absent shows = record { few = shows.few; each = λ number few. still number few ∙ shows.each number few }
   where
     stays : (number : ℕ) (partial : Bool) → number < most_runs → with_format files (run_name number partial) ≡ files (run_name number partial)
     stays number partial few = put_other files format_name format_bytes (run_name number partial) (λ same. format_differs number partial (omega (arith, few)) (sym same))
 
     still : (number : ℕ) → number < most_runs → run_at (with_format files) number ≡ run_at files number
     still number few =
-        ap (λ found. run_of_files found (with_format files (partial_name number))) (stays number false few)
-        ∙ ap (run_of_files (files (full_name number))) (stays number true few)
+        same_run files (with_format files) (base_first (with_format files) (put_here files format_name format_bytes format_name refl) ∙ sym (base_nothing files absent)) number (stays number false few) (stays number true few)
 
-format_keeps : (s t : Folder) → t.disk.published ≡ with_format s.disk.published → KeepsRuns s t
-format_keeps s t same runs shows = subst (λ (files : Files). Shows files runs) (sym same) (beside_format s.disk.published runs shows)
+format_keeps : (s t : Folder) → s.disk.published format_name ≡ None → t.disk.published ≡ with_format s.disk.published → KeepsRuns s t
+format_keeps s t absent same runs shows = subst (λ (files : Files). Shows files runs) (sym same) (beside_format s.disk.published runs absent shows)
 
 settled_keeps : (s t : Folder) → Settled s t → KeepsRuns s t
 settled_keeps s t is = files_keep s t (ap (λ (f : Folder). f.disk.published) is)
@@ -71,12 +75,12 @@ init_fails_keep StartDraft s t fails = files_keep s t (ap (λ (d : Disk). d.publ
 init_fails_keep Append s t fails = files_keep s t (ap (λ (d : Disk). d.published) fails.disk)
 init_fails_keep SyncDraft s t fails = files_keep s t (ap (λ (d : Disk). d.published) fails.disk)
 init_fails_keep Publish s t (inl lacks) = files_keep s t (ap (λ (d : Disk). d.published) lacks.disk)
-init_fails_keep Publish s t (inr there) = format_keeps s t there.reads
+init_fails_keep Publish s t (inr there) = format_keeps s t there.absent there.reads
 init_fails_keep SyncFolder s t (inl stays) = files_keep s t (ap (λ (f : Folder). f.disk.published) stays)
-init_fails_keep SyncFolder s t (inr there) = format_keeps s t there.reads
+init_fails_keep SyncFolder s t (inr there) = format_keeps s t there.absent there.reads
 
 make_keeps : (a b : Seen Folder) (result : Result (Unit {0}) InitFault) → Makes a b result → Goes a.told b.told KeepsRuns
-make_keeps a b (Ok done) makes = goes_weaker a.told b.told MakesRepository KeepsRuns makes.made (λ s t made. format_keeps s t (ap (λ (d : Disk). d.published) made.disk))
+make_keeps a b (Ok done) makes = goes_weaker a.told b.told MakesRepository KeepsRuns makes.made (λ s t made. format_keeps s t made.absent (ap (λ (d : Disk). d.published) made.disk))
 make_keeps a b (Err init_fault.Exists) makes = goes_weaker a.told b.told (InitFails init_fault.Exists) KeepsRuns makes.refused (λ s t there. settled_keeps s t there.1)
 make_keeps a b (Err (init_fault.Shelf call)) makes = goes_weaker a.told b.told (InitFails (init_fault.Shelf call)) KeepsRuns makes.refused (init_fails_keep call)
 
@@ -86,9 +90,7 @@ init_keeps a b outcome (goes_on v m step gives) = subst (λ (f : Seen Folder). G
 
 -- where `init` puts `format` there was none, so no repository
 lacks_format : (s t : Folder) → s.disk.published format_name ≡ None → KeepsRepository s t
-lacks_format s t absent repository =
-    let both : Some format_bytes ≡ None = sym repository.format ∙ absent in
-    cc
+lacks_format s t absent repository = absurd (no_format s.disk.published absent repository.format)
 
 same_repository : (s t : Folder) → t.disk.published ≡ s.disk.published → KeepsRepository s t
 same_repository s t same repository = subst IsRepository (sym same) repository

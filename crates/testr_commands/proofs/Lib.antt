@@ -21,6 +21,8 @@ pub mod SuiteDone
 pub mod CallLemmas
 pub mod CauseLaws
 pub mod SuiteCauses
+pub mod FurtherLaws
+pub mod ListCauses
 pub mod ProbeCauses
 pub mod LeftIds
 pub mod SuiteNever
@@ -33,6 +35,8 @@ pub mod SuiteLaws
 pub mod SelfTestLaws
 pub mod PrintedLaws
 pub mod PromiseLemmas
+pub mod ForceLemmas
+pub mod WholeLemmas
 pub mod Performing
 pub mod SelfTestRows
 pub mod RunLemmas

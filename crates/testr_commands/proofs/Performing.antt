@@ -1,5 +1,5 @@
 -- A command is the one that is performed.
-use Rattle.std.proofs.Common.{◌≡◌, ◌⊎◌, inl, inr, ◌<◌, ◌≤◌, length, Bool, true, false, cond, Option, None, Some, Result, Err, refl, sym, ap, subst, ◌∙◌}
+use Rattle.std.proofs.Common.{◌≡◌, ◌⊎◌, inl, inr, ◌<◌, ◌≤◌, length, Bool, true, false, cond, Option, None, Some, Result, Err, refl, sym, ap, subst, ◌∙◌, List, ℕ}
 use Rattle.std.specs.Prelude.{nat_le, option_map}
 use Rattle.std.proofs.lemmas.Bool.{cond-true, cond-false, le-leb, lt-leb}
 use Rattle.sub_number.specs.declared.memory.NoMemory.{NoMemory}
@@ -24,15 +24,15 @@ pub refuses : {asked : Option Task} (before : Work) → asked ≡ None → Perfo
 refuses before none = subst (λ c. Performs c before before (Err (Usage Words))) (sym none) (record { usage = refl; same = λ i. before })
 
 -- a load has 64 names at most
-pub too_many : (c : Command) → 64 < length c.names → task_with Load c ≡ None
-too_many c more = cond-false (nat_le (length c.names) 64) (Some (load c.partial c.names)) None (lt-leb (length c.names) 64 more)
+pub too_many : (folder : List ℕ) (c : Command) → 64 < length c.names → task_with folder Load c ≡ None
+too_many folder c more = cond-false (nat_le (length c.names) 64) (Some (load c.partial c.names)) None (lt-leb (length c.names) 64 more)
 
-pub few_enough : (c : Command) → length c.names ≤ 64 → task_with Load c ≡ Some (load c.partial c.names)
-few_enough c few = cond-true (nat_le (length c.names) 64) (Some (load c.partial c.names)) None (le-leb (length c.names) 64 few)
+pub few_enough : (folder : List ℕ) (c : Command) → length c.names ≤ 64 → task_with folder Load c ≡ Some (load c.partial c.names)
+few_enough folder c few = cond-true (nat_le (length c.names) 64) (Some (load c.partial c.names)) None (le-leb (length c.names) 64 few)
 
 -- a load starts nothing
-pub quiet_load : (c : Command) → quiet_of (task_with Load c) ≡ task_with Load c
-quiet_load c = by (nat_le (length c.names) 64)
+pub quiet_load : (folder : List ℕ) (c : Command) → quiet_of (task_with folder Load c) ≡ task_with folder Load c
+quiet_load folder c = by (nat_le (length c.names) 64)
   where
     by : (few : Bool) → quiet_of (cond few (Some (load c.partial c.names)) None) ≡ cond few (Some (load c.partial c.names)) None
     by true = refl
@@ -47,18 +47,18 @@ drawn_none None = refl
 drawn_none (Some drawing) = refl
 
 -- a command of these verbs is none that is done where nothing can be started
-pub not_done : (v : Verb) (c : Command) → IsLoud v → quiet_of (task_with v c) ≡ None
-not_done v c (inl is) = ap (λ v. quiet_of (task_with v c)) is
-not_done v c (inr (inl is)) = ap (λ v. quiet_of (task_with v c)) is
-not_done v c (inr (inr is)) = ap (λ v. quiet_of (task_with v c)) is ∙ drawn_none (drawing_of c)
+pub not_done : (folder : List ℕ) (v : Verb) (c : Command) → IsLoud v → quiet_of (task_with folder v c) ≡ None
+not_done folder v c (inl is) = ap (λ v. quiet_of (task_with folder v c)) is
+not_done folder v c (inr (inl is)) = ap (λ v. quiet_of (task_with folder v c)) is
+not_done folder v c (inr (inr is)) = ap (λ v. quiet_of (task_with folder v c)) is ∙ drawn_none (drawing_of c)
 
 -- and one of all others is done there
-pub all_done : (v : Verb) (c : Command) → (v ≡ Run → ⊥) → (v ≡ ListTests → ⊥) → (v ≡ SelfTest → ⊥) → quiet_of (task_with v c) ≡ task_with v c
-all_done Load c run list test = quiet_load c
-all_done Run c run list test = absurd (run refl)
-all_done ListTests c run list test = absurd (list refl)
-all_done SelfTest c run list test = absurd (test refl)
-all_done other c run list test = refl
+pub all_done : (folder : List ℕ) (v : Verb) (c : Command) → (v ≡ Run → ⊥) → (v ≡ ListTests → ⊥) → (v ≡ SelfTest → ⊥) → quiet_of (task_with folder v c) ≡ task_with folder v c
+all_done folder Load c run list test = quiet_load folder c
+all_done folder Run c run list test = absurd (run refl)
+all_done folder ListTests c run list test = absurd (list refl)
+all_done folder SelfTest c run list test = absurd (test refl)
+all_done folder other c run list test = refl
 
 pub gives_up : (before : Work) (fault : NoMemory) → GivesUp before before (Err (Memory fault))
 gives_up before fault = record { fault = fault; memory = refl; same = λ i. before }

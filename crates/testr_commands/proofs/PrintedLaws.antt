@@ -12,8 +12,8 @@ use Rattle.run_shelf.specs.Repository.{Run, run_at}
 use Rattle.run_shelf.specs.declared.found.Found.{Found}
 use Rattle.run_shelf.proofs.Joining.{stays_some}
 use Rattle.sub_text.specs.Texts.{summary_of}
-use Rattle.suite_plan.specs.Choosing.{Ids}
 use Rattle.suite_plan.specs.Listing.{ListsSo}
+use Rattle.testr_words.specs.Suites.{ListOptions}
 use Rattle.testr_commands.specs.Ask.{CopiesLast, PrintsAnswer, AnswersOf, Asks}
 use Rattle.command_steps.specs.Copying.{BeginsAt, Copies}
 use Rattle.testr_commands.specs.Load.{Loads}
@@ -38,6 +38,8 @@ use Rattle.testr_words.specs.declared.drawing.Drawing.{Drawing}
 use Rattle.testr_commands.proofs.AskLemmas.{either}
 use Rattle.testr_commands.proofs.CommandLaws.{of_shown}
 use Rattle.command_steps.proofs.CopyLemmas.{bytes_said}
+use Rattle.testr_words.specs.Suites.{Wanted}
+use Rattle.testr_commands.proofs.FurtherLaws.{gives_further}
 use Rattle.testr_commands.proofs.DoneLaws.{LoadedSo, loaded_so, out_stays}
 use Rattle.command_steps.proofs.Resting.{surveyed_fits, goes_ends}
 use Rattle.testr_commands.proofs.SuiteLeaves.{prefix_rows}
@@ -200,22 +202,25 @@ children_left : (text : List ℕ) (v : Verdict) (m b : Work) (result : Result Ve
 children_left text v m b result (stops fault is step) = λ i. (step.rest i).spawner.told
 children_left text v m b result (goes_on _ n step gives) = (λ i. (gives.same i).spawner.told) ∙ (λ i. (step.rest i).spawner.told)
 
-pub list_prints : (patterns : Ids) (a b : Work) (result : Result Verdict Refusal) → ListsSuite patterns a b result → (b.out.told ≡ a.out.told) ⊎ PrintsOfListing patterns a b
-list_prints patterns a b result lists =
+pub list_prints : (options : ListOptions) (a b : Work) (result : Result Verdict Refusal) → ListsSuite options a b result → (b.out.told ≡ a.out.told) ⊎ PrintsOfListing options a b
+list_prints options a b result lists =
     then_printed out_of a b result (λ r m s i. (s.rest i).out.told) (λ settings f conf.
     then_printed out_of f b result (λ r m s i. (s.same i).out.told) (λ _ p compiled.
-    then_printed out_of p b result (λ r m s i. (s.rest i).out.told) (λ ids l listed.
+    then_printed out_of p b result (λ r m s i. (s.rest i).out.told) (λ further q read.
+    then_printed out_of q b result (λ r m s i. (s.rest i).out.told) (λ ids l listed.
     then_printed out_of l b result (λ r m s i. (s.same i).out.told) (λ text t made printed.
-    let begun : p.spawner.told ≡ a.spawner.told = (λ i. (compiled.same i).spawner.told) ∙ (λ i. (conf.rest i).spawner.told) in
+    let begun : q.spawner.told ≡ a.spawner.told = (λ i. (read.rest i).spawner.told) ∙ (λ i. (compiled.same i).spawner.told) ∙ (λ i. (conf.rest i).spawner.told) in
     let ended : l.spawner.told ≡ b.spawner.told = sym (children_left text Passed t b result printed ∙ (λ i. (made.same i).spawner.told)) in
-    let out : t.out.told ≡ a.out.told = (λ i. (made.same i).out.told) ∙ (λ i. (listed.rest i).out.told) ∙ (λ i. (compiled.same i).out.told) ∙ (λ i. (conf.rest i).out.told) in
+    let out : t.out.told ≡ a.out.told = (λ i. (made.same i).out.told) ∙ (λ i. (listed.rest i).out.told) ∙ (λ i. (read.rest i).out.told) ∙ (λ i. (compiled.same i).out.told) ∙ (λ i. (conf.rest i).out.told) in
     inr (record {
       settings = settings;
       conf = conf.at.conf;
+      further = further;
+      lists = gives_further options.wanted p.site q.site a.site.told further ((λ i. (compiled.same i).site.told) ∙ conf.at.same) read.at;
       ids = ids;
       listed = goes_ends (ListsSo settings ids) begun ended listed.at.listed;
       printed = part_as a.out.told t.out.told b.out.told text _ out made.says.lines (printed_part text Passed t b result printed);
-    })))))
+    }))))))
     lists
 
 -- ---- `selftest`

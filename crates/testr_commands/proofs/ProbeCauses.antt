@@ -34,6 +34,7 @@ use Rattle.command_steps.specs.declared.answer.Refusal.{Refusal}
 use Rattle.command_steps.specs.declared.answer.Refusal.TheVariants as refusal
 use Rattle.command_steps.specs.declared.told.TellFault.{TellFault}
 use Rattle.command_steps.specs.declared.told.TellFault.TheVariants as tell_fault
+use Rattle.command_steps.specs.Selecting.{Planned}
 use Rattle.testr_commands.proofs.ChainLemmas.{gives_not}
 use Rattle.testr_commands.proofs.FindLemmas.{TellsEvents, before_of, ids_so, cause_did, cause_still, suspects_are}
 use Rattle.testr_commands.proofs.MergeLaws.{AreOfOutputs}
@@ -161,7 +162,7 @@ module _ (settings : Settings) (number : ℕ) (events : List Event) (a b : Work)
 
 -- ---- behind the workers
 
-pub probes_behind : (jobs : List Job) (outputs : List Output) (events : List Event) (a b : Option Spawning) → IsSomeAnd a (λ s. Unit {0}) → IfSome a (ProbesEnd (length jobs)) → Goes a b (StartsAll jobs outputs) → IfSome a (λ _. AreOfOutputs events outputs) → IsSomeAnd b (λ t. UseNoBroken events (suspects_in events) t.outputs)
-probes_behind jobs outputs events None b some ends started are = absurd some
-probes_behind jobs outputs events (Some s) None some ends started are = absurd started
-probes_behind jobs outputs events (Some s) (Some t) some ends started are = ends outputs t.outputs started.taken started.count events are.merged
+pub probes_behind : (plan : Planned) (outputs : List Output) (events : List Event) (a b : Option Spawning) → IsSomeAnd a (λ s. Unit {0}) → IfSome a (ProbesEnd plan) → Goes a b (StartsAll plan.jobs outputs) → IfSome a (λ _. AreOfOutputs events plan.asked outputs) → IsSomeAnd b (λ t. UseNoBroken events (suspects_in events) t.outputs)
+probes_behind plan outputs events None b some ends started are = absurd some
+probes_behind plan outputs events (Some s) None some ends started are = absurd started
+probes_behind plan outputs events (Some s) (Some t) some ends started are = ends outputs t.outputs started.taken started.count events are.merged

@@ -10,13 +10,12 @@ use Rattle.testr_commands.specs.Answer.{may_have_kept, IsChildFault}
 use Rattle.command_steps.specs.Refusals.{refusal_code, code_of, place_in}
 use Rattle.command_steps.specs.Outside.{Outside, Work, work_of, shown, work_out, Place, SomeRose, SameCounts, RisesAt}
 use Rattle.testr_commands.specs.Printed.{PrintsInPart}
-use Rattle.testr_commands.specs.Program.{Performs, Does, CanPerform, Leaves, Keeps, StartsPrograms, SomeFailed, IsPerformed, GivesUp, Answers, Promises, AnswersQuestion, TestrPromises}
+use Rattle.testr_commands.specs.Program.{Performs, Does, CanPerform, Leaves, Keeps, StartsPrograms, SomeFailed, IsPerformed, GivesUp, Answers, Promises, AnswersQuestion}
 use Rattle.command_steps.specs.Runs.{KeepsFiles, KeepsRepository, KeepsRuns}
 use Rattle.testr_commands.specs.Stops.{PassesTask, PassesLoad, HasLoadedRun}
 use Rattle.testr_commands.specs.SuiteStops.{PassesSuiteRun}
 use Rattle.testr_words.specs.Tasks.{Task, init, load, ask, list, run, selftest}
 use Rattle.command_steps.specs.Verdicts.{verdict_code}
-use Rattle.testr_words.specs.Words.{testr_word}
 use Rattle.command_steps.specs.declared.answer.Verdict.{Verdict}
 use Rattle.command_steps.specs.declared.answer.Verdict.TheVariants.{Passed, Failed}
 use Rattle.command_steps.specs.declared.answer.Refusal.{Refusal}
@@ -35,7 +34,8 @@ use Rattle.command_steps.proofs.Resting.{Rests, rests_same}
 use Rattle.testr_commands.proofs.SelfTestLaws.{selftest_beside, selftest_failed, selftest_never, selftest_did}
 use Rattle.command_steps.proofs.SoundLemmas.{rests_repository, rests_sound}
 use Rattle.testr_commands.proofs.StepLaws.{still_counts}
-use Rattle.testr_commands.proofs.SuiteCauses.{NoCause, list_never}
+use Rattle.testr_commands.proofs.ListCauses.{list_never}
+use Rattle.testr_commands.proofs.SuiteCauses.{NoCause}
 use Rattle.testr_commands.proofs.SuiteDone.{list_did, run_did}
 use Rattle.testr_commands.proofs.SuiteKeeps.{run_keeps}
 use Rattle.testr_commands.proofs.SuiteLaws.{list_refused, list_counted, run_refused, run_counted, selftest_refused, selftest_counted}
@@ -97,7 +97,7 @@ module _ (a b : Work) where
   refused init r done = subst (λ (w : Work). IsRefused ⊥ r a w) (sym done.rest) (init_refuses a.site a.spawner a.input a.out a.folder b.folder r done.at)
   refused (load partial names) r done = load_refuses partial names a b r done
   refused (ask question) r done = subst (λ (w : Work). IsRefused ⊥ r a w) (sym done.rest) (ask_refuses a.site a.spawner a.input question (shown a.folder a.out) (shown b.folder b.out) r done.at)
-  refused (list patterns) r done = list_refused patterns a b r done
+  refused (list options) r done = list_refused options a b r done
   refused (run options) r done = run_refused options a b r done
   refused (selftest drawing) r done = selftest_refused drawing a b r done
 
@@ -105,7 +105,7 @@ module _ (a b : Work) where
   counted init v done = subst (SameCounts a) (sym done.rest) (init_counts a.site a.spawner a.input a.out a.folder b.folder v done.at)
   counted (load partial names) v done = load_counts partial names a b v done
   counted (ask question) v done = subst (SameCounts a) (sym done.rest) (ask_counts a.site a.spawner a.input question (shown a.folder a.out) (shown b.folder b.out) v done.at)
-  counted (list patterns) v done = list_counted patterns a b v done
+  counted (list options) v done = list_counted options a b v done
   counted (run options) v done = run_counted options a b v done
   counted (selftest drawing) v done = selftest_counted drawing a b v done
 
@@ -124,7 +124,7 @@ module _ (a b : Work) where
   moments_of (Some init) outcome done = init_moves a.folder b.folder outcome done.at
   moments_of (Some (load partial names)) outcome done = goes_weaker a.folder.told b.folder.told (Moves (HasLoadedRun partial names a.site.told a.input.told)) (PassesLoad partial names a.site.told a.input.told) (load_moves partial names a b outcome done) (λ s t moves. moves.stops)
   moments_of (Some (ask question)) outcome done = goes_weaker a.folder.told b.folder.told Rests PassesOld (asked_rests question outcome done) (λ s t rests. rests.old)
-  moments_of (Some (list patterns)) outcome done = same_moments a b (list_same patterns a b outcome done) (Some (list patterns))
+  moments_of (Some (list options)) outcome done = same_moments a b (list_same options a b outcome done) (Some (list options))
   moments_of (Some (run options)) outcome done = goes_weaker a.folder.told b.folder.told (RunsMoves options a b) (PassesSuiteRun options a b) (run_suite_moves options a b outcome done) (λ s t moves. moves.stops)
   moments_of (Some (selftest drawing)) outcome done = same_moments a b (λ i. (tested drawing outcome done i).folder) (Some (selftest drawing))
 
@@ -133,7 +133,7 @@ module _ (a b : Work) where
   sound_of (Some init) outcome done = init_sound a.folder b.folder outcome done.at
   sound_of (Some (load partial names)) outcome done = goes_weaker a.folder.told b.folder.told (Moves (HasLoadedRun partial names a.site.told a.input.told)) KeepsSound (load_moves partial names a b outcome done) (λ s t moves. moves.sound)
   sound_of (Some (ask question)) outcome done = goes_weaker a.folder.told b.folder.told Rests KeepsSound (asked_rests question outcome done) rests_sound
-  sound_of (Some (list patterns)) outcome done = same_sound a b (list_same patterns a b outcome done)
+  sound_of (Some (list options)) outcome done = same_sound a b (list_same options a b outcome done)
   sound_of (Some (run options)) outcome done = goes_weaker a.folder.told b.folder.told (RunsMoves options a b) KeepsSound (run_suite_moves options a b outcome done) (λ s t moves. moves.sound)
   sound_of (Some (selftest drawing)) outcome done = same_sound a b (λ i. (tested drawing outcome done i).folder)
 
@@ -142,7 +142,7 @@ module _ (a b : Work) where
   repository_of (Some init) outcome done = init_repository a.folder b.folder outcome done.at
   repository_of (Some (load partial names)) outcome done = goes_weaker a.folder.told b.folder.told (Moves (HasLoadedRun partial names a.site.told a.input.told)) KeepsRepository (load_moves partial names a b outcome done) (λ s t moves. moves.repository)
   repository_of (Some (ask question)) outcome done = goes_weaker a.folder.told b.folder.told Rests KeepsRepository (asked_rests question outcome done) rests_repository
-  repository_of (Some (list patterns)) outcome done = same_repository a b (list_same patterns a b outcome done)
+  repository_of (Some (list options)) outcome done = same_repository a b (list_same options a b outcome done)
   repository_of (Some (run options)) outcome done = goes_weaker a.folder.told b.folder.told (RunsMoves options a b) KeepsRepository (run_suite_moves options a b outcome done) (λ s t moves. moves.repository)
   repository_of (Some (selftest drawing)) outcome done = same_repository a b (λ i. (tested drawing outcome done i).folder)
 
@@ -152,7 +152,7 @@ module _ (a b : Work) where
   kept_of (Some (load partial names)) (Ok v) done not = cc
   kept_of (Some (load partial names)) (Err r) done not = load_keeps partial names a b r done not
   kept_of (Some (ask question)) outcome done not = goes_weaker a.folder.told b.folder.told Rests KeepsFiles (asked_rests question outcome done) (λ s t rests. rests.files)
-  kept_of (Some (list patterns)) outcome done not = same_keeps a b (list_same patterns a b outcome done) (Some (list patterns))
+  kept_of (Some (list options)) outcome done not = same_keeps a b (list_same options a b outcome done) (Some (list options))
   kept_of (Some (run options)) (Ok v) done not = cc
   kept_of (Some (run options)) (Err r) done not = run_keeps options a b r done not
   kept_of (Some (selftest drawing)) outcome done not = same_keeps a b (λ i. (tested drawing outcome done i).folder) (Some (selftest drawing))
@@ -161,7 +161,7 @@ module _ (a b : Work) where
   did_of init v done = (init_made a.folder b.folder v done.at, init_passed a.folder b.folder v done.at)
   did_of (load partial names) v done = load_did partial names a b v done
   did_of (ask question) v done = subst (λ (w : Work). AnswersQuestion question a w (verdict_code v)) (sym done.rest) (ask_did question a.site a.spawner a.input (shown a.folder a.out) (shown b.folder b.out) v done.at)
-  did_of (list patterns) v done = list_did patterns a b v done
+  did_of (list options) v done = list_did options a b v done
   did_of (run options) v done = run_did options a b v done
   did_of (selftest drawing) v done = selftest_did drawing a b v done
 
@@ -170,7 +170,7 @@ module _ (a b : Work) where
   printed_of (Some init) outcome done = inl (λ i. (done.rest i).out.told)
   printed_of (Some (load partial names)) outcome done = load_prints partial names a b outcome done
   printed_of (Some (ask question)) outcome done = subst (PrintsInPart (Some (ask question)) a) (sym done.rest) (ask_prints question a.site a.spawner a.input (shown a.folder a.out) (shown b.folder b.out) outcome done.at)
-  printed_of (Some (list patterns)) outcome done = list_prints patterns a b outcome done
+  printed_of (Some (list options)) outcome done = list_prints options a b outcome done
   printed_of (Some (run options)) outcome done = (run_leaves options a b outcome done).printed
   printed_of (Some (selftest drawing)) outcome done = selftest_prints drawing a b outcome done
 
@@ -184,7 +184,7 @@ module _ (a b : Work) where
       ((λ three. omega (arith, four, three)), no_child init r (λ starts. starts) done)
   never_of (load partial names) r done can = (load_never partial names a b r done can, no_child (load partial names) r (λ starts. starts) done)
   never_of (ask question) r done can = (ask_never question a.site a.spawner a.input (shown a.folder a.out) (shown b.folder b.out) r done.at can, no_child (ask question) r (λ starts. starts) done)
-  never_of (list patterns) r done can = list_never patterns a b r done can
+  never_of (list options) r done can = list_never options a b r done can
   never_of (run options) r done can = run_never options a b r done can
   never_of (selftest drawing) r done can = (selftest_never drawing a b r done, no_child (selftest drawing) r (λ starts. starts) done)
 
@@ -235,14 +235,14 @@ leaves_of before after None outcome done = λ i. (done.same i).spawner
 leaves_of before after (Some init) outcome done = λ i. (done.rest i).spawner
 leaves_of before after (Some (load partial names)) outcome done = load_beside partial names (work_of before) (work_of after) outcome done
 leaves_of before after (Some (ask question)) outcome done = λ i. (done.rest i).spawner
-leaves_of before after (Some (list patterns)) outcome done = tt
+leaves_of before after (Some (list options)) outcome done = tt
 leaves_of before after (Some (run options)) outcome done = run_leaves options (work_of before) (work_of after) outcome done
 leaves_of before after (Some (selftest drawing)) outcome done =
     let same = tested (work_of before) (work_of after) drawing outcome done in
     record { folder = λ i. (same i).folder; site = λ i. (same i).site; spawner = λ i. (same i).spawner; input = λ i. (same i).input }
 
 leaves_all : (before after : Outside) (asked : Option Task) → work_of after ≡ work_of before → Leaves asked before after
-leaves_all before after (Some (list patterns)) same = tt
+leaves_all before after (Some (list options)) same = tt
 leaves_all before after (Some (run options)) same = record { started = inl (same_few 2 before.spawner.told after.spawner.told (λ i. (same i).spawner.told)); printed = inl (λ i. (same i).out.told) }
 leaves_all before after (Some (selftest drawing)) same = record { folder = λ i. (same i).folder; site = λ i. (same i).site; spawner = λ i. (same i).spawner; input = λ i. (same i).input }
 leaves_all before after asked same = λ i. (same i).spawner
@@ -310,7 +310,7 @@ pub asked_as : {reading : Bool} {read asked : Option Task} → read ≡ asked �
 asked_as {reading = reading} is before after answer answers = subst (λ (o : Option Task). Answers reading o before after answer) is answers
 
 -- what is answered without a reading of words is answered with one
-with_reading : {asked : Option Task} {before after : Outside} {answer : ℕ} → Answers false asked before after answer → Answers true asked before after answer
+pub with_reading : {asked : Option Task} {before after : Outside} {answer : ℕ} → Answers false asked before after answer → Answers true asked before after answer
 with_reading answers = record {
   outcome = answers.outcome;
   done = only answers.done;
@@ -320,12 +320,3 @@ with_reading answers = record {
     only : {A B : Type 0} → A ⊎ (IsTrue false × B) → A ⊎ (IsTrue true × B)
     only (inl done) = inl done
     only (inr given) = absurd (cc)
-
-pub read_for : {asked read : Option Task} → asked ≡ read → (before after : Outside) (answer : ℕ) → Answers false asked before after answer → Promises true read before after answer
-read_for {read = read} is before after answer answers = promises true read before after answer (with_reading (asked_as is before after answer answers))
-
--- the words behind the name are these
-pub testr_behind : (rest behind : List (List ℕ)) → testr_word ∷ rest ≡ testr_word ∷ behind → (before after : Outside) (answer : ℕ) → TestrPromises rest before after answer → TestrPromises behind before after answer
-testr_behind rest behind is before after answer given =
-    let same : rest ≡ behind = cc in
-    subst (λ (l : List (List ℕ)). TestrPromises l before after answer) same given

@@ -7,6 +7,7 @@ use Rattle.outcome_fold.specs.declared.row.Row.{Row}
 use Rattle.testr_conf.specs.Settings.{Settings}
 use Rattle.command_steps.specs.Outside.{Work}
 use Rattle.testr_commands.specs.RunSuite.{TellsAndFinds, TellsRun}
+use Rattle.command_steps.specs.Selecting.{Planned}
 use Rattle.command_steps.specs.Working.{Works}
 use Rattle.command_steps.specs.declared.answer.Refusal.{Refusal}
 use Rattle.command_steps.specs.declared.answer.Verdict.{Verdict}
@@ -16,9 +17,10 @@ use Rattle.command_steps.specs.declared.answer.Verdict.TheVariants.{Passed, Fail
 use Rattle.testr_commands.proofs.ChainLemmas.{then_did}
 use Rattle.testr_commands.proofs.DoneLaws.{same_verdict}
 
-pub works_as : {given partial : Bool} {number : ℕ} {given_jobs jobs : List Job} {a b : Work} {result : Result (List Row) Refusal} → given ≡ partial → given_jobs ≡ jobs → Works given number given_jobs a b result → Works partial number jobs a b result
-works_as {given = given} {number = number} {jobs = jobs} {a = a} {b = b} {result = result} is jobs_are works =
-    subst (λ (p : Bool). Works p number jobs a b result) is (subst (λ (l : List Job). Works given number l a b result) jobs_are works)
+pub works_as : {given partial : Bool} {number : ℕ} {given_jobs jobs : List Job} {given_ids asked : List (List (List ℕ))} {a b : Work} {result : Result (List Row) Refusal} → given ≡ partial → given_jobs ≡ jobs → given_ids ≡ asked → Works given number (record { jobs = given_jobs; asked = given_ids }) a b result → Works partial number (record { jobs = jobs; asked = asked }) a b result
+works_as {given = given} {number = number} {given_jobs = given_jobs} {jobs = jobs} {given_ids = given_ids} {asked = asked} {a = a} {b = b} {result = result} is jobs_are ids_are works =
+    let same : ◌≡◌ {A = Planned} (record { jobs = given_jobs; asked = given_ids }) (record { jobs = jobs; asked = asked }) = λ i. record { jobs = jobs_are i; asked = ids_are i } in
+    subst (λ (p : Bool). Works p number (record { jobs = jobs; asked = asked }) a b result) is (subst (λ (p : Planned). Works given number p a b result) same works)
 
 pub finds_as : (asked : Bool) (settings : Settings) {given number : ℕ} {rows : List Row} {a b : Work} {result : Result Verdict Refusal} → given ≡ number → TellsAndFinds asked settings given rows a b result → TellsAndFinds asked settings number rows a b result
 finds_as asked settings {rows = rows} {a = a} {b = b} {result = result} is tells =

@@ -46,7 +46,7 @@ use Rattle.testr_commands.proofs.SuiteDone.{work_did}
 
 -- ---- the rows of jobs are those of their outputs one after another
 
-in_turn : (jobs : List Job) (outputs : List Output) (events : List Event) (rows : List Row) (told after : Option Spawning) → Goes told after (StartsAll jobs outputs) → IfSome told (λ _. AreOfOutputs events outputs) → rows ≡ rows_of events → IfSome told (λ s. RunsInTurn jobs s rows)
+in_turn : (jobs : List Job) (outputs : List Output) (events : List Event) (rows : List Row) (told after : Option Spawning) → Goes told after (StartsAll jobs outputs) → IfSome told (λ _. AreOfOutputs events [] outputs) → rows ≡ rows_of events → IfSome told (λ s. RunsInTurn jobs s rows)
 in_turn jobs outputs events rows None after starts are is = tt
 in_turn jobs outputs events rows (Some s) None starts are is = absurd starts
 in_turn jobs outputs events rows (Some s) (Some t) starts are is = record {
@@ -57,13 +57,13 @@ in_turn jobs outputs events rows (Some s) (Some t) starts are is = record {
   in_turn = is ∙ are.in_turn.rows;
 }
 
-pub works_in_turn : (number : ℕ) (jobs : List Job) (a b : Work) (rows : List Row) → length jobs ≤ 64 → Works false number jobs a b (Ok rows) → IfSome a.spawner.told (λ s. RunsInTurn jobs s rows)
+pub works_in_turn : (number : ℕ) (jobs : List Job) (a b : Work) (rows : List Row) → length jobs ≤ 64 → Works false number (record { jobs = jobs; asked = [] }) a b (Ok rows) → IfSome a.spawner.told (λ s. RunsInTurn jobs s rows)
 works_in_turn number jobs a b rows few works =
-    let worked = work_did false number jobs a b rows few works in
+    let worked = work_did false number (record { jobs = jobs; asked = [] }) a b rows few works in
     in_turn jobs worked.outputs worked.events rows a.spawner.told b.spawner.told worked.started worked.of_workers worked.rows_are
 
 pub ran_in_turn : (number : ℕ) (filter_tags : List (List ℕ)) (jobs : List Job) (folder left : Seen Folder) (spawner after : Seen Spawning) (result : Result Summary Refusal) → filter_tags ≡ [] → length jobs ≤ 64
-    → GivesSums filter_tags (λ rows. (site : Seen Files) (input out : Seen (List ℕ)) → Works false number jobs (work folder site spawner input out) (work left site after input out) rows) result
+    → GivesSums filter_tags (λ rows. (site : Seen Files) (input out : Seen (List ℕ)) → Works false number (record { jobs = jobs; asked = [] }) (work folder site spawner input out) (work left site after input out) rows) result
     → IfOk result (λ summary. (rows : List Row) × Sums [] rows summary × IfSome spawner.told (λ s. RunsInTurn jobs s rows))
 ran_in_turn number filter_tags jobs folder left spawner after (Ok summary) none_filters few gives =
     let site : Seen Files = record { told = None; faults = 0 } in

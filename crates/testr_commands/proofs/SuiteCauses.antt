@@ -1,6 +1,6 @@
 -- Why `list-tests` does not give up without a cause, and the steps that it shares with `run`: their refusals of status 3 are
 -- contradicted one by one, and so are those of a child that they ask.
-use Rattle.std.proofs.Common.{◌≡◌, inl, inr, ℕ, ℤ, suc, ◌<◌, ◌≤◌, pos, Option, None, Some, IfSome, IsSomeAnd, IsOk, IsErr, All, Result, Ok, Err, List, [], ◌∷◌, length, refl, sym, ap, subst, ◌∙◌, arith}
+use Rattle.std.proofs.Common.{◌≡◌, inl, inr, ℕ, ℤ, suc, ◌<◌, ◌≤◌, pos, Option, None, Some, IfSome, IsSomeAnd, IsOk, IsErr, All, Result, Ok, Err, List, [], ◌∷◌, ◌++◌, length, refl, sym, ap, subst, ◌∙◌, arith}
 use Rattle.edge_io.specs.Children.{Output}
 use Rattle.edge_io.specs.Disk.{Files}
 use Rattle.edge_io.specs.Seen.{Seen}
@@ -8,11 +8,12 @@ use Rattle.edge_io.specs.Spawners.{Spawning}
 use Rattle.edge_io.specs.Steps.{Goes}
 use Rattle.edge_io.specs.declared.child.Finish.TheVariants.{Exit}
 use Rattle.edge_io.specs.declared.job.Job.{Job}
+use Rattle.testr_words.specs.Suites.{ListOptions, Project}
 use Rattle.testr_commands.proofs.PatternLemmas.{good_not_bad}
 use Rattle.partition_times.specs.Patterns.{IsPattern}
 use Rattle.suite_plan.specs.Children.{StartsFor, IsBroken}
 use Rattle.suite_plan.specs.Choosing.{Ids}
-use Rattle.suite_plan.specs.ConfFile.{GivesSettings, GivesFault, HasConfCause, ReadsConf, conf_name}
+use Rattle.suite_plan.specs.ConfFile.{GivesSettings, HasConfCause, ReadsConf, conf_in}
 use Rattle.suite_plan.specs.Listing.{HasFailed, HasListingCause, ListsTests}
 use Rattle.suite_plan.specs.Patterns.{Compiles, IsBadRegex}
 use Rattle.suite_plan.specs.Texts.{most_text}
@@ -23,9 +24,7 @@ use Rattle.suite_plan.specs.declared.listing.ListingRefusal.TheVariants as listi
 use Rattle.suite_plan.specs.declared.patterns.PatternRefusal.{PatternRefusal}
 use Rattle.suite_plan.specs.declared.patterns.PatternRefusal.TheVariants as pattern
 use Rattle.testr_conf.specs.Jobs.{list_job_of}
-use Rattle.testr_conf.specs.Settings.{Settings, conf_of}
-use Rattle.testr_conf.specs.declared.fault.ConfFault.{ConfFault}
-use Rattle.testr_conf.specs.declared.fault.ConfFault.TheVariants as conf_fault
+use Rattle.testr_conf.specs.Settings.{Settings}
 use Rattle.testr_commands.specs.Answer.{IsChildFault}
 use Rattle.command_steps.specs.Refusals.{refusal_code}
 use Rattle.command_steps.specs.Outside.{Work}
@@ -77,36 +76,29 @@ same_text file one other is also =
 
 -- ---- the configuration
 
-pub not_fault : (settings : Settings) (fault : ConfFault) (files : Files) → GivesSettings settings files → GivesFault fault files → ⊥
-not_fault settings fault files gives refused =
-    let same : gives.text ≡ refused.text = same_text (files conf_name) gives.text refused.text gives.has.there refused.has.there in
-    let both : ◌≡◌ {A = Result Settings ConfFault} (Ok settings) (Err fault) = sym gives.says ∙ ap conf_of same ∙ refused.says in
+pub not_refused : (said : Result Settings ConfRefusal) (settings : Settings) (refusal : ConfRefusal) → said ≡ Ok settings → said ≡ Err refusal → ⊥
+not_refused said settings refusal gives refused =
+    let both : ◌≡◌ {A = Result Settings ConfRefusal} (Ok settings) (Err refusal) = sym gives ∙ refused in
     cc
 
-conf_cause : (settings : Settings) (fault : ConfRefusal) (files : Files) → GivesSettings settings files → HasConfCause fault files → conf_code fault ≡ 3 → ⊥
-conf_cause settings conf.Site files gives cause three = omega arith
-conf_cause settings conf.TooLong files gives cause three = not_too_much (files conf_name) gives.text gives.has.there gives.has.short cause
-conf_cause settings conf.Absent files gives cause three =
-    let both : Some gives.text ≡ None = sym gives.has.there ∙ cause in
-    cc
-conf_cause settings (conf.BadLine number) files gives cause three = not_fault settings (conf_fault.BadLine number) files gives cause
-conf_cause settings (conf.NoSection number) files gives cause three = not_fault settings (conf_fault.NoSection number) files gives cause
-conf_cause settings (conf.Repeated number) files gives cause three = not_fault settings (conf_fault.Repeated number) files gives cause
-conf_cause settings conf.NoCommand files gives cause three = not_fault settings conf_fault.NoCommand files gives cause
-conf_cause settings conf.NoMemory files gives cause three = omega arith
+conf_cause : (said : Result Settings ConfRefusal) (settings : Settings) (fault : ConfRefusal) → said ≡ Ok settings → HasConfCause said fault → conf_code fault ≡ 3 → ⊥
+conf_cause said settings conf.Site gives cause three = omega arith
+conf_cause said settings conf.Absent gives cause three = not_refused said settings _ gives cause
+conf_cause said settings (conf.Bad file why) gives cause three = not_refused said settings _ gives cause
+conf_cause said settings conf.NoMemory gives cause three = omega arith
 
-pub conf_never : (settings : Settings) (a b : Seen Files) (fault : ConfRefusal) → IsSomeAnd a.told (GivesSettings settings) → ReadsConf a b (Err fault) → NoCause (refusal.Conf fault)
-conf_never settings a b fault gives reads = (
-  (λ three. from_told a.told (GivesSettings settings) (HasConfCause fault) gives reads.refused (λ files given cause. conf_cause settings fault files given cause three)),
-  (λ child. child),
-)
+module _ (project : Project) where
+  pub conf_never : (settings : Settings) (a b : Seen Files) (fault : ConfRefusal) → IsSomeAnd a.told (GivesSettings project settings) → ReadsConf project a b (Err fault) → NoCause (refusal.Conf fault)
+  conf_never settings a b fault gives reads = (
+    (λ three. from_told a.told (GivesSettings project settings) (λ files. HasConfCause (conf_in project files) fault) gives reads.refused (λ files given cause. conf_cause (conf_in project files) settings fault given cause three)),
+    (λ child. child),
+  )
 
--- what is read is what the file gives
-pub same_settings : (given read : Settings) (a b : Seen Files) → IsSomeAnd a.told (GivesSettings given) → ReadsConf a b (Ok read) → given ≡ read
-same_settings given read a b gives reads = from_told a.told (GivesSettings given) (GivesSettings read) gives reads.conf (λ files one other.
-    let same : one.text ≡ other.text = same_text (files conf_name) one.text other.text one.has.there other.has.there in
-    let both : ◌≡◌ {A = Result Settings ConfFault} (Ok given) (Ok read) = sym one.says ∙ ap conf_of same ∙ other.says in
-    cc)
+  -- what is read is what the file gives
+  pub same_settings : (given read : Settings) (a b : Seen Files) → IsSomeAnd a.told (GivesSettings project given) → ReadsConf project a b (Ok read) → given ≡ read
+  same_settings given read a b gives reads = from_told a.told (GivesSettings project given) (GivesSettings project read) gives reads.conf (λ files one other.
+      let both : ◌≡◌ {A = Result Settings ConfRefusal} (Ok given) (Ok read) = sym one ∙ other in
+      cc)
 
 -- ---- patterns
 
@@ -114,13 +106,13 @@ pub regex_never : (regex : Option (List ℕ)) (text : List ℕ) → IfSome regex
 regex_never None text good bad = bad
 regex_never (Some regex) text good bad = good_not_bad regex good bad.1
 
-pattern_cause : (patterns : Ids) (regex : Option (List ℕ)) (fault : PatternRefusal) → All IsPattern patterns → IfSome regex IsPattern → Compiles patterns regex (Err fault) → pattern_code fault ≡ 3 → ⊥
-pattern_cause patterns regex (pattern.Bad given) good good_regex (inl bad) three = good_not_bad _ (good bad.index [] bad.first.in_range) bad.first.bad
-pattern_cause patterns regex (pattern.Bad given) good good_regex (inr (all, bad)) three = regex_never regex given.now good_regex bad
-pattern_cause patterns regex pattern.NoMemory good good_regex compiles three = omega arith
+pattern_cause : (including excluding : Ids) (regex : Option (List ℕ)) (fault : PatternRefusal) → All IsPattern (including ++ excluding) → IfSome regex IsPattern → Compiles including excluding regex (Err fault) → pattern_code fault ≡ 3 → ⊥
+pattern_cause including excluding regex (pattern.Bad given) good good_regex (inl bad) three = good_not_bad _ (good bad.index [] bad.first.in_range) bad.first.bad
+pattern_cause including excluding regex (pattern.Bad given) good good_regex (inr (all, bad)) three = regex_never regex given.now good_regex bad
+pattern_cause including excluding regex pattern.NoMemory good good_regex compiles three = omega arith
 
-pub pattern_never : (patterns : Ids) (regex : Option (List ℕ)) (fault : PatternRefusal) → All IsPattern patterns → IfSome regex IsPattern → Compiles patterns regex (Err fault) → NoCause (refusal.Pattern fault)
-pattern_never patterns regex fault good good_regex compiles = ((λ three. pattern_cause patterns regex fault good good_regex compiles three), (λ child. child))
+pub pattern_never : (including excluding : Ids) (regex : Option (List ℕ)) (fault : PatternRefusal) → All IsPattern (including ++ excluding) → IfSome regex IsPattern → Compiles including excluding regex (Err fault) → NoCause (refusal.Pattern fault)
+pattern_never including excluding regex fault good good_regex compiles = ((λ three. pattern_cause including excluding regex fault good good_regex compiles three), (λ child. child))
 
 -- ---- the listing
 
@@ -152,21 +144,3 @@ listing_cause settings listing.NoMemory s t job ends cause = ((λ three. omega a
 
 pub listing_never : (settings : Settings) (a b : Seen Spawning) (fault : ListingRefusal) → IsOk (list_job_of settings) → IsSomeAnd a.told (EndsWell 0) → ListsTests settings a b (Err fault) → NoCause (refusal.Listing fault)
 listing_never settings a b fault job ends lists = from_both a.told b.told (EndsWell 0) (HasListingCause settings fault) ends lists.refused (λ s t well cause. listing_cause settings fault s t job well cause)
-
--- ---- `list-tests`
-
-list_by_never : (patterns : Ids) (settings : Settings) (a b : Work) (r : Refusal) → ListsBy patterns settings a b (Err r) → All IsPattern patterns → IsOk (list_job_of settings) → IsSomeAnd a.spawner.told (EndsWell 0) → NoCause r
-list_by_never patterns settings a b r (stops fault is step) good job ends = same_cause (refusal.Pattern fault) r is (pattern_never patterns None fault good tt step.says)
-list_by_never patterns settings a b r (goes_on _ m compiled (stops fault is step)) good job ends =
-    let same : a.spawner.told ≡ m.spawner.told = sym (λ i. (compiled.same i).spawner.told) in
-    same_cause (refusal.Listing fault) r is (listing_never settings m.spawner b.spawner fault job (subst (λ (o : Option Spawning). IsSomeAnd o (EndsWell 0)) same ends) step.at)
-list_by_never patterns settings a b r (goes_on _ m compiled (goes_on ids m2 listed (stops fault is step))) good job ends = same_cause (refusal.Memory fault) r is ((λ three. omega arith), (λ child. child))
-list_by_never patterns settings a b r (goes_on _ m compiled (goes_on ids m2 listed (goes_on text m3 written (stops fault is step)))) good job ends = same_cause (refusal.Print fault) r is ((λ three. omega arith), (λ child. child))
-list_by_never patterns settings a b r (goes_on _ m compiled (goes_on ids m2 listed (goes_on text m3 written (goes_on _ m4 printed gives)))) good job ends = absurd (gives_not m4 b r gives)
-
-pub list_never : (patterns : Ids) (a b : Work) (r : Refusal) → ListsSuite patterns a b (Err r) → CanList patterns a → NoCause r
-list_never patterns a b r (stops fault is step) can = same_cause (refusal.Conf fault) r is (conf_never can.settings a.site b.site fault can.conf step.at)
-list_never patterns a b r (goes_on settings m read next) can =
-    let same : can.settings ≡ settings = same_settings can.settings settings a.site m.site can.conf read.at in
-    let spawner : a.spawner.told ≡ m.spawner.told = sym (λ i. (read.rest i).spawner.told) in
-    list_by_never patterns settings m b r next can.good (subst (λ (s : Settings). IsOk (list_job_of s)) same can.job) (subst (λ (o : Option Spawning). IsSomeAnd o (EndsWell 0)) spawner can.ends)

@@ -33,51 +33,56 @@ use Rattle.command_steps.specs.Reporting.{Report, IsReport}
 use Rattle.testr_commands.specs.RunSuite.{ListsSuite, RunsSuite, TellsRun}
 use Rattle.command_steps.specs.Working.{Works}
 use Rattle.command_steps.specs.Runs.{run_bytes, KeepsFiles, AddsRun}
-use Rattle.command_steps.specs.Selecting.{UsesCalled, CountsWorkers, Selects, Plans}
+use Rattle.command_steps.specs.Selecting.{UsesCalled, CountsWorkers, Selects, Planned, Plans}
 use Rattle.command_steps.specs.Steps.{Step, Then, Gives, At}
 use Rattle.testr_commands.specs.Searches.{SearchesAll}
 use Rattle.testr_commands.specs.SuiteProgram.{ListsAll, RunsAll}
-use Rattle.testr_words.specs.Suites.{RunOptions, is_partial}
+use Rattle.testr_words.specs.Suites.{ListOptions, RunOptions, is_partial}
 use Rattle.command_steps.specs.Verdicts.{verdict_code}
 use Rattle.command_steps.specs.declared.answer.Refusal.{Refusal}
 use Rattle.command_steps.specs.declared.answer.Refusal.TheVariants as refusal
 use Rattle.command_steps.specs.declared.answer.Verdict.{Verdict}
 use Rattle.command_steps.specs.declared.selecting.Selected.{Selected}
+use Rattle.suite_run.proofs.NoneLostLemmas.{none_lost}
 use Rattle.testr_commands.proofs.ChainLemmas.{then_did}
 use Rattle.testr_commands.proofs.DoneLaws.{appended, same_verdict, status_is, kept_through}
 use Rattle.command_steps.proofs.SoundLemmas.{adds_run}
 use Rattle.testr_commands.proofs.MergeLaws.{AreOfOutputs, have_outputs, of_outputs}
 use Rattle.testr_commands.proofs.PacketBytes.{packets_bytes}
 use Rattle.command_steps.proofs.Resting.{Rests, goes_ends, stays_is}
+use Rattle.testr_commands.proofs.FurtherLaws.{gives_further}
 use Rattle.testr_commands.proofs.FindLemmas.{TellsEvents, tells_behind, causes_still, causes_input, causes_did, all_some}
 use Rattle.testr_commands.proofs.KeepingLaws.{keeps_moves}
 use Rattle.command_steps.proofs.SoundLemmas.{IsCalm, PassesAll, KeepsRunAndCaches, surveyed_calm, goes_cached, fresh_through}
 use Rattle.testr_commands.proofs.RowsLemmas.{rows_of_written}
 use Rattle.testr_commands.proofs.StepLaws.{open_quiet}
-use Rattle.testr_commands.proofs.SuiteJobs.{selected_range, few_jobs}
+use Rattle.testr_commands.proofs.SuiteJobs.{selected_range, few_jobs, short_ids}
 
 -- ---- `list-tests`
 
-pub list_did : (patterns : Ids) (a b : Work) (v : Verdict) → ListsSuite patterns a b (Ok v) → ListsAll patterns a b (verdict_code v)
-list_did patterns a b v lists =
+pub list_did : (options : ListOptions) (a b : Work) (v : Verdict) → ListsSuite options a b (Ok v) → ListsAll options a b (verdict_code v)
+list_did options a b v lists =
     let conf = then_did v lists in
     let compiled = then_did v conf.next in
-    let listed = then_did v compiled.next in
+    let further = then_did v compiled.next in
+    let listed = then_did v further.next in
     let text = then_did v listed.next in
     let printed = then_did v text.next in
     let gives = printed.next in
-    let begun : compiled.between.spawner.told ≡ a.spawner.told = (λ i. (compiled.done.same i).spawner.told) ∙ (λ i. (conf.done.rest i).spawner.told) in
+    let begun : further.between.spawner.told ≡ a.spawner.told = (λ i. (further.done.rest i).spawner.told) ∙ (λ i. (compiled.done.same i).spawner.told) ∙ (λ i. (conf.done.rest i).spawner.told) in
     let ended : listed.between.spawner.told ≡ b.spawner.told = sym ((λ i. (gives.same i).spawner.told) ∙ (λ i. (printed.done.rest i).spawner.told) ∙ (λ i. (text.done.same i).spawner.told)) in
-    let out : text.between.out.told ≡ a.out.told = (λ i. (text.done.same i).out.told) ∙ (λ i. (listed.done.rest i).out.told) ∙ (λ i. (compiled.done.same i).out.told) ∙ (λ i. (conf.done.rest i).out.told) in
+    let out : text.between.out.told ≡ a.out.told = (λ i. (text.done.same i).out.told) ∙ (λ i. (listed.done.rest i).out.told) ∙ (λ i. (further.done.rest i).out.told) ∙ (λ i. (compiled.done.same i).out.told) ∙ (λ i. (conf.done.rest i).out.told) in
     record {
       settings = conf.value;
       conf = conf.done.at.conf;
+      further = further.value;
+      lists = gives_further options.wanted compiled.between.site further.between.site a.site.told further.value ((λ i. (compiled.done.same i).site.told) ∙ conf.done.at.same) further.done.at;
       ids = listed.value;
       listed = goes_ends (ListsSo conf.value listed.value) begun ended listed.done.at.listed;
       printed = appended {z = printed.between.out.told} out (λ i. (sym gives.same i).out.told) text.done.says.lines printed.done.at.whole;
       status = ap verdict_code (same_verdict gives.answer);
-      folder = (λ i. (gives.same i).folder) ∙ (λ i. (printed.done.rest i).folder) ∙ (λ i. (text.done.same i).folder) ∙ (λ i. (listed.done.rest i).folder) ∙ (λ i. (compiled.done.same i).folder) ∙ (λ i. (conf.done.rest i).folder);
-      input = (λ i. (gives.same i).input) ∙ (λ i. (printed.done.rest i).input) ∙ (λ i. (text.done.same i).input) ∙ (λ i. (listed.done.rest i).input) ∙ (λ i. (compiled.done.same i).input) ∙ (λ i. (conf.done.rest i).input);
+      folder = (λ i. (gives.same i).folder) ∙ (λ i. (printed.done.rest i).folder) ∙ (λ i. (text.done.same i).folder) ∙ (λ i. (listed.done.rest i).folder) ∙ (λ i. (further.done.rest i).folder) ∙ (λ i. (compiled.done.same i).folder) ∙ (λ i. (conf.done.rest i).folder);
+      input = (λ i. (gives.same i).input) ∙ (λ i. (printed.done.rest i).input) ∙ (λ i. (text.done.same i).input) ∙ (λ i. (listed.done.rest i).input) ∙ (λ i. (further.done.rest i).input) ∙ (λ i. (compiled.done.same i).input) ∙ (λ i. (conf.done.rest i).input);
     }
 
 -- ---- `run`: the steps before the workers
@@ -187,44 +192,47 @@ workers_leave settings true zero a b number calls =
 pub select_leaves : (settings : Settings) (options : RunOptions) (a b : Work) (selected : Selected) → Selects settings options a b (Ok selected) → Leaves a b
 select_leaves settings options a b selected selects =
     let listed = then_did selected selects in
-    let failing = then_did selected listed.next in
+    let further = then_did selected listed.next in
+    let failing = then_did selected further.next in
     let counted = then_did selected failing.next in
     let listing = then_did selected counted.next in
     let chosen = then_did selected listing.next in
     let to_listed = leaves_site a listed.between listed.done.rest in
-    let to_failing = leaves_folder listed.between failing.between failing.done.rest (perhaps_same FindsFailing (when options.failing) listed.between.folder failing.between.folder (Ok failing.value) (λ answer found. found.same) failing.done.at) in
+    let to_further = leaves_site listed.between further.between further.done.rest in
+    let to_failing = leaves_folder further.between failing.between failing.done.rest (perhaps_same FindsFailing (when options.failing) further.between.folder failing.between.folder (Ok failing.value) (λ answer found. found.same) failing.done.at) in
     let to_counted = workers_leave settings options.parallel options.concurrency failing.between counted.between counted.value counted.done in
     let to_listing = leaves_spawner counted.between listing.between listing.done.rest (listing_told settings _ counted.between.spawner listing.between.spawner listing.value listing.done.at) in
     let to_end = leaves_same listing.between b (chosen.next.same ∙ chosen.done.same) in
-    leaves_then a listed.between b to_listed (leaves_then listed.between failing.between b to_failing (leaves_then failing.between counted.between b to_counted (leaves_then counted.between listing.between b to_listing to_end)))
+    leaves_then a listed.between b to_listed (leaves_then listed.between further.between b to_further (leaves_then further.between failing.between b to_failing (leaves_then failing.between counted.between b to_counted (leaves_then counted.between listing.between b to_listing to_end))))
 
-pub plan_leaves : (settings : Settings) (asked : Bool) (selected : Selected) (a b : Work) (jobs : List Job) → Plans settings asked selected a b (Ok jobs) → Leaves a b
-plan_leaves settings asked selected a b jobs plans =
-    let timed = then_did jobs plans in
-    let divided = then_did jobs timed.next in
-    let made = then_did jobs divided.next in
-    let handed = then_did jobs made.next in
+pub plan_leaves : (settings : Settings) (asked : Bool) (selected : Selected) (a b : Work) (plan : Planned) → Plans settings asked selected a b (Ok plan) → Leaves a b
+plan_leaves settings asked selected a b plan plans =
+    let timed = then_did plan plans in
+    let divided = then_did plan timed.next in
+    let named = then_did plan divided.next in
+    let made = then_did plan named.next in
+    let handed = then_did plan made.next in
     let to_timed = leaves_folder a timed.between timed.done.rest (perhaps_same FindsTimes (when (nat_lt 1 selected.workers)) a.folder timed.between.folder (Ok timed.value) (λ answer found. found.same) timed.done.at) in
-    leaves_then a timed.between b to_timed (leaves_same timed.between b (handed.next.same ∙ handed.done.same ∙ made.done.same ∙ divided.done.same))
+    leaves_then a timed.between b to_timed (leaves_same timed.between b (handed.next.same ∙ handed.done.same ∙ made.done.same ∙ named.done.same ∙ divided.done.same))
 
 -- ---- the workers
 
-pub record Worked (partial : Bool) (number : ℕ) (jobs : List Job) (rows : List Row) (a b : Work) : Type 0 where
+pub record Worked (partial : Bool) (number : ℕ) (plan : Planned) (rows : List Row) (a b : Work) : Type 0 where
   pub outputs : List Output
-  pub started : Goes a.spawner.told b.spawner.told (StartsAll jobs outputs)
+  pub started : Goes a.spawner.told b.spawner.told (StartsAll plan.jobs outputs)
   pub events : List Event
   pub are_events : All IsEvent events
   pub fit : All Fits events
-  pub of_lanes : All (IsOfLaneBelow (length jobs)) events
-  pub of_workers : IfSome a.spawner.told (λ _. AreOfOutputs events outputs)
+  pub of_lanes : All (IsOfLaneBelow (length plan.jobs)) events
+  pub of_workers : IfSome a.spawner.told (λ _. AreOfOutputs events plan.asked outputs)
   pub rows_are : rows ≡ rows_of events
   pub kept : Goes a.folder.told b.folder.told (KeepsRunAndCaches number (run_of partial (run_bytes events)))
   pub passes : IfSome a.folder.told IsCalm → Goes a.folder.told b.folder.told (PassesAll number (run_of partial (run_bytes events)))
   input : b.input ≡ a.input
   pub out : b.out.told ≡ a.out.told
 
-pub work_did : (partial : Bool) (number : ℕ) (jobs : List Job) (a b : Work) (rows : List Row) → length jobs ≤ 64 → Works partial number jobs a b (Ok rows) → Worked partial number jobs rows a b
-work_did partial number jobs a b rows few works =
+pub work_did : (partial : Bool) (number : ℕ) (plan : Planned) (a b : Work) (rows : List Row) → length plan.jobs ≤ 64 → Works partial number plan a b (Ok rows) → Worked partial number plan rows a b
+work_did partial number plan a b rows few works =
     let begun = then_did rows works in
     let started = then_did rows begun.next in
     let recorded = then_did rows started.next in
@@ -234,18 +242,18 @@ work_did partial number jobs a b rows few works =
     let adds : AddsMerge started.value started.between.folder.told recorded.between.folder.told = recorded.done.at.recorded.merge in
     let begin : begun.between.spawner.told ≡ a.spawner.told = λ i. (begun.done.rest i).spawner.told in
     let ended : started.between.spawner.told ≡ b.spawner.told = sym ((λ i. (gives.same i).spawner.told) ∙ (λ i. (refreshed.done.rest i).spawner.told) ∙ (λ i. (kept.done.rest i).spawner.told) ∙ (λ i. (recorded.done.rest i).spawner.told)) in
-    let told = have_outputs jobs started.value begun.between.spawner.told started.between.spawner.told started.done.at.started in
+    let told = have_outputs plan.jobs plan.asked started.value begun.between.spawner.told started.between.spawner.told started.done.at.started in
     let run : List ℕ = run_bytes adds.events in
     let grows : Goes begun.between.folder.told recorded.between.folder.told (Grown run) = goes_ends (Grown run) (λ i. (started.done.rest i).folder.told) refl adds.added in
     let written = goes_writes a.folder.told begun.between.folder.told recorded.between.folder.told run begun.done.at.begun grows in
     record {
       outputs = told.outputs;
-      started = goes_ends (StartsAll jobs told.outputs) begin ended told.all;
+      started = goes_ends (StartsAll plan.jobs told.outputs) begin ended told.all;
       events = adds.events;
       are_events = adds.are_events;
       fit = adds.fit;
       of_lanes = subst (λ (n : ℕ). All (IsOfLaneBelow n) adds.events) started.done.at.count adds.of_lanes;
-      of_workers = subst (λ (o : Option Spawning). IfSome o (λ _. AreOfOutputs adds.events told.outputs)) begin (of_outputs jobs started.value told.outputs begun.between.spawner.told started.between.folder.told recorded.between.folder.told adds few told.count told.rests_are told.are_outputs);
+      of_workers = subst (λ (o : Option Spawning). IfSome o (λ _. AreOfOutputs adds.events plan.asked told.outputs)) begin (of_outputs plan.jobs plan.asked started.value told.outputs begun.between.spawner.told started.between.folder.told recorded.between.folder.told adds few told.count told.rests_are told.are_outputs told.texts);
       rows_are = same_value gives.answer ∙ rows_of_written run adds.events recorded.value (packets_bytes adds.events adds.are_events) adds.are_events adds.fit refl recorded.done.at.recorded.rows_are;
       kept = goes_ends (KeepsRunAndCaches number (run_of partial run)) refl (λ i. (sym gives.same i).folder.told)
           (goes_cached number (run_of partial run) recorded.value a.folder.told kept.between.folder refreshed.between.folder refreshed.done.at recorded.done.at.recorded.rows_are
@@ -306,7 +314,7 @@ run_did options a b v runs =
     let partial : Bool = is_partial options in
     let kinds : List Bool = kinds_of found.value in
     let begin : Work = compiled.between in
-    let few : length planned.value ≤ 64 = few_jobs conf.value options.find_causes selected.value selected.between planned.between planned.value (selected_range conf.value options begin selected.between selected.value selected.done) planned.done in
+    let few : length planned.value.jobs ≤ 64 = few_jobs conf.value options.find_causes selected.value selected.between planned.between planned.value (selected_range conf.value options begin selected.between selected.value selected.done) planned.done in
     let before = leaves_then begin selected.between planned.between (select_leaves conf.value options begin selected.between selected.value selected.done) (plan_leaves conf.value options.find_causes selected.value selected.between planned.between planned.value planned.done) in
     let work = work_did partial (length kinds) planned.value planned.between worked.between worked.value few worked.done in
     let told = then_did v worked.next in
@@ -327,8 +335,8 @@ run_did options a b v runs =
     let stored : Goes a.folder.told b.folder.told (KeepsRunAndCaches (length kinds) run) = kept_through (length kinds) run a.folder.told begin.folder.told b.folder.told quiet keeps in
     let at_rest : IfSome begin.folder.told IsCalm = subst (λ (w : Work). IfSome w.folder.told IsCalm) (sym calm) (surveyed_calm kinds conf.between.folder.told found.between.folder.told found.done.at.found) in
     let says : IsReport (length kinds) conf.value.filter_tags (rows_of work.events) tell.report = subst (λ (l : List Row). IsReport (length kinds) conf.value.filter_tags l tell.report) work.rows_are tell.says in
-    let workers_here = told_before begin.spawner.told planned.between.spawner.told (λ s t. ⊤) (AreOfOutputs work.events work.outputs) before.told work.of_workers in
-    let workers : IfSome a.spawner.told (λ _. AreOfOutputs work.events work.outputs) = subst (λ (o : Option Spawning). IfSome o (λ _. AreOfOutputs work.events work.outputs)) (λ i. (opened i).spawner.told) workers_here in
+    let workers_here = told_before begin.spawner.told planned.between.spawner.told (λ s t. ⊤) (AreOfOutputs work.events planned.value.asked work.outputs) before.told work.of_workers in
+    let workers : IfSome a.spawner.told (λ _. AreOfOutputs work.events planned.value.asked work.outputs) = subst (λ (o : Option Spawning). IfSome o (λ _. AreOfOutputs work.events planned.value.asked work.outputs)) (λ i. (opened i).spawner.told) workers_here in
     let out : worked.between.out.told ≡ a.out.told = work.out ∙ before.out ∙ (λ i. (opened i).out.told) in
     let tells : Goes a.folder.told here.folder.told (λ s t. TellsEvents (length kinds) work.events t) =
     goes_ends (λ s t. TellsEvents (length kinds) work.events t) refl (sym tell.folder) (tells_behind partial (length kinds) work.events a.folder.told begin.folder.told worked.between.folder.told Rests work.are_events work.fit quiet at_rest kept) in
@@ -342,7 +350,7 @@ run_did options a b v runs =
     (λ lines_out. subst (λ (o : Option (List ℕ)). Appends a.out.told o (tell.report.text ++ causes.lines)) (sym (λ i. (gives.same i).out.told)) (Appends-trans a.out.told here.out.told there.out.told tell.report.text causes.lines report_out lines_out)) causes.printed in
     record {
       workers = record {
-        jobs = planned.value;
+        plan = planned.value;
         planning = planned.between;
         planned = record {
           settings = conf.value;
@@ -363,8 +371,8 @@ run_did options a b v runs =
         are_events = work.are_events;
         fit = work.fit;
         of_lanes = work.of_lanes;
-        merged = where_told a.spawner.told (AreOfOutputs work.events work.outputs) _ (λ are. are.merged) workers;
-        in_turn = where_told a.spawner.told (AreOfOutputs work.events work.outputs) _ (λ are. are.in_turn) workers;
+        merged = where_told a.spawner.told (AreOfOutputs work.events planned.value.asked work.outputs) _ (λ are. are.merged) workers;
+        in_turn = where_told a.spawner.told (AreOfOutputs work.events planned.value.asked work.outputs) _ (λ are. are.in_turn) workers;
         lines = causes.lines;
         probed = all_some options.find_causes conf.value work.events causes.lines a.folder.told worked.between.spawner.told b.spawner.told searched;
       };
@@ -372,6 +380,7 @@ run_did options a b v runs =
       stored = goes_weaker a.folder.told b.folder.told (KeepsRunAndCaches (length kinds) run) (AddsRun partial work.events) stored (adds_run partial (length kinds) work.events);
       printed = rows_told partial (length kinds) conf.value.filter_tags work.events tell.report (λ text. Appends a.out.told b.out.told (text ++ causes.lines)) a.folder.told b.folder.told stored says all_out;
       found = searched;
+      none_lost = where_told a.spawner.told (AreOfOutputs work.events planned.value.asked work.outputs) _ (λ are. none_lost work.events planned.value.asked work.outputs (short_ids conf.value options.find_causes selected.value selected.between planned.between planned.value planned.done) are.merged) workers;
       status = ap verdict_code (same_verdict gives.answer ∙ tell.verdict ∙ says.verdict) ∙ status_is (rows_of work.events);
       input = (λ i. (gives.same i).input) ∙ causes_input options.find_causes conf.value (length kinds) worked.value here there (Ok finds.value) finds.done ∙ tell.input ∙ work.input ∙ before.input ∙ (λ i. (opened i).input);
     }

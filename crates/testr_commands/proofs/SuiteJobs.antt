@@ -16,7 +16,8 @@ use Rattle.suite_plan.specs.Sharing.{dealt_among, shares_for}
 use Rattle.suite_plan.specs.declared.sharing.TheConstants.{MOST_WORKERS}
 use Rattle.suite_plan.proofs.ShareLemmas.{few_kept}
 use Rattle.command_steps.specs.Outside.{Work}
-use Rattle.command_steps.specs.Selecting.{UsesCalled, UsesAsked, CountsWorkers, Selects, shares_of_ids, Plans}
+use Rattle.suite_run.specs.NoneLost.{AreAllShort}
+use Rattle.command_steps.specs.Selecting.{UsesCalled, UsesAsked, CountsWorkers, Selects, shares_of_ids, Planned, Plans}
 use Rattle.command_steps.specs.Selecting.{Times as KnownTimes}
 use Rattle.command_steps.specs.Steps.{Gives}
 use Rattle.testr_words.specs.Suites.{RunOptions}
@@ -81,17 +82,18 @@ lane_count : (settings : Settings) (shares : Option (List Ids)) (jobs : List Job
 lane_count settings None jobs few is = omega (arith, before_count (run_job_of settings None 0) (Ok []) jobs 0 none_count is)
 lane_count settings (Some shares) jobs few is = omega (arith, few, from_count settings 0 shares jobs is)
 
-same_jobs : (a b : List Job) → ◌≡◌ {A = Result (List Job) Refusal} (Ok a) (Ok b) → a ≡ b
-same_jobs a b is = cc
+same_plan : (a b : Planned) → ◌≡◌ {A = Result Planned Refusal} (Ok a) (Ok b) → a ≡ b
+same_plan a b is = cc
 
-pub few_jobs : (settings : Settings) (asked : Bool) (selected : Selected) (a b : Work) (jobs : List Job) → IsInRange selected.workers → Plans settings asked selected a b (Ok jobs) → length jobs ≤ 64
-few_jobs settings asked selected a b jobs range plans =
-    let known = then_did jobs plans in
-    let divided = then_did jobs known.next in
-    let made = then_did jobs divided.next in
-    let handed = then_did jobs made.next in
+pub few_jobs : (settings : Settings) (asked : Bool) (selected : Selected) (a b : Work) (plan : Planned) → IsInRange selected.workers → Plans settings asked selected a b (Ok plan) → length plan.jobs ≤ 64
+few_jobs settings asked selected a b plan range plans =
+    let known = then_did plan plans in
+    let divided = then_did plan known.next in
+    let named = then_did plan divided.next in
+    let made = then_did plan named.next in
+    let handed = then_did plan made.next in
     let few : IfSome divided.value (λ list. length list ≤ 64) = subst (λ (s : Option (List Ids)). IfSome s (λ list. length list ≤ 64)) (sym divided.done.says.shares) (few_by_ids settings.group_regex known.value selected range) in
-    subst (λ (l : List Job). length l ≤ 64) (sym (same_jobs _ _ handed.next.answer)) (lane_count settings divided.value made.value few made.done.says.jobs)
+    subst (λ (p : Planned). length p.jobs ≤ 64) (sym (same_plan _ _ handed.next.answer)) (lane_count settings divided.value made.value few made.done.says.jobs)
 
 -- ---- the number of workers
 
@@ -129,8 +131,19 @@ same_selected s t is = cc
 pub selected_range : (settings : Settings) (options : RunOptions) (a b : Work) (selected : Selected) → Selects settings options a b (Ok selected) → IsInRange selected.workers
 selected_range settings options a b selected selects =
     let listed = then_did selected selects in
-    let failing = then_did selected listed.next in
+    let further = then_did selected listed.next in
+    let failing = then_did selected further.next in
     let counted = then_did selected failing.next in
     let listing = then_did selected counted.next in
     let chosen = then_did selected listing.next in
     subst (λ (s : Selected). IsInRange s.workers) (sym (same_selected _ _ chosen.next.answer)) (workers_range settings options.parallel options.concurrency failing.between counted.between counted.value counted.done)
+
+-- each id that a job names can be told of
+pub short_ids : (settings : Settings) (asked : Bool) (selected : Selected) (a b : Work) (plan : Planned) → Plans settings asked selected a b (Ok plan) → AreAllShort plan.asked
+short_ids settings asked selected a b plan plans =
+    let known = then_did plan plans in
+    let divided = then_did plan known.next in
+    let named = then_did plan divided.next in
+    let made = then_did plan named.next in
+    let handed = then_did plan made.next in
+    subst (λ (p : Planned). AreAllShort p.asked) (sym (same_plan _ _ handed.next.answer)) named.done.says.named

@@ -1,12 +1,12 @@
 -- The runs that a folder showed are shown still, where no run may have been kept by `run`.
 use Rattle.std.proofs.Common.{◌≡◌, ℕ, Bool, true, false, Some, Err, List, [], ◌∷◌, refl, sym, ◌∙◌}
-use Rattle.edge_io.specs.declared.job.Job.{Job}
 use Rattle.outcome_fold.specs.declared.row.Row.{Row}
 use Rattle.suite_causes.specs.declared.suspects.Suspect.{Suspect}
 use Rattle.testr_conf.specs.Settings.{Settings}
 use Rattle.command_steps.specs.Outside.{Work}
 use Rattle.command_steps.specs.Causes.{candidates_in, FindsAmong, FindsCause, FindsEach, FindsCauses}
 use Rattle.testr_commands.specs.RunSuite.{TellsRun, TellsAndFinds, RunsSuite}
+use Rattle.command_steps.specs.Selecting.{Planned}
 use Rattle.command_steps.specs.Working.{Works}
 use Rattle.command_steps.specs.Steps.{Then, stops, goes_on, Gives}
 use Rattle.testr_commands.specs.Answer.{may_have_kept}
@@ -24,8 +24,8 @@ module _ (options : RunOptions) where
   abbrev may_have : Refusal → Bool
   may_have r = may_have_kept (Some (run options)) (Err r)
 
-  works_keep : (number : ℕ) (jobs : List Job) → KeepsUnless may_have (Works (is_partial options) number jobs)
-  works_keep number jobs =
+  works_keep : (number : ℕ) (plan : Planned) → KeepsUnless may_have (Works (is_partial options) number plan)
+  works_keep number plan =
       then_keeps may_have (λ a b r s. begin_quiet a b r s.at) (λ _.
       then_keeps may_have (λ a b r s. spawner_quiet a b s.rest) (λ rests.
       then_keeps may_have (λ a b r s. rests_of_same a.folder.told b.folder.told s.at.files) (λ rows.
@@ -61,9 +61,9 @@ module _ (options : RunOptions) where
   finds_late settings number rows a b r (goes_on verdict m step (stops fault is finds)) = refused_as may_have fault r is ∙ causes_late options.find_causes settings number rows m b fault finds
   finds_late settings number rows a b r (goes_on verdict m step (goes_on _ m2 finds gives)) = absurd (gives_not m2 b r gives)
 
-  works_last : (number : ℕ) (jobs : List Job) (settings : Settings) → KeepsUnless may_have (Then (λ refusal. refusal) (Works (is_partial options) number jobs) (λ rows. TellsAndFinds options.find_causes settings number rows))
-  works_last number jobs settings a b r (stops fault is step) not = works_keep number jobs a b fault step (sym (refused_as may_have fault r is) ∙ not)
-  works_last number jobs settings a b r (goes_on rows m step next) not = absurd (never may_have r (finds_late settings number rows m b r next) not)
+  works_last : (number : ℕ) (plan : Planned) (settings : Settings) → KeepsUnless may_have (Then (λ refusal. refusal) (Works (is_partial options) number plan) (λ rows. TellsAndFinds options.find_causes settings number rows))
+  works_last number plan settings a b r (stops fault is step) not = works_keep number plan a b fault step (sym (refused_as may_have fault r is) ∙ not)
+  works_last number plan settings a b r (goes_on rows m step next) not = absurd (never may_have r (finds_late settings number rows m b r next) not)
 
   pub run_keeps : KeepsUnless may_have (RunsSuite options)
   run_keeps =
@@ -72,5 +72,5 @@ module _ (options : RunOptions) where
       then_keeps may_have (λ a b r s. still_quiet a b s.same) (λ _.
       then_keeps may_have (λ a b r s. still_quiet a b s.same) (λ _.
       then_keeps may_have (select_quiet settings options) (λ selected.
-      then_keeps may_have (plan_quiet settings options.find_causes selected) (λ jobs.
-      works_last _ jobs settings))))))
+      then_keeps may_have (plan_quiet settings options.find_causes selected) (λ plan.
+      works_last _ plan settings))))))

@@ -1,5 +1,6 @@
 -- What is true where `run`, `list-tests` and `selftest` refuse, and at each of their exits, from their chains: one line a
 -- step, in the chains' order.
+use Rattle.command_steps.specs.declared.planning.LongId.{LongId}
 use Rattle.std.proofs.Common.{◌≡◌, ℕ, zero, suc, Bool, true, false, cond, Option, None, Some, Ok, Err, List, [], ◌∷◌, refl, subst}
 use Rattle.std.specs.Prelude.{⊤}
 use Rattle.edge_io.specs.Causes.{RisesExactlyIf}
@@ -20,6 +21,7 @@ use Rattle.suite_plan.specs.declared.calling.CallRefusal.{CallRefusal}
 use Rattle.suite_plan.specs.declared.conf_file.ConfRefusal.{ConfRefusal}
 use Rattle.suite_plan.specs.declared.listing.ListingRefusal.{ListingRefusal}
 use Rattle.suite_plan.specs.declared.load_list.ListRefusal.{ListRefusal}
+use Rattle.suite_plan.specs.declared.pattern_list.PatternListRefusal.{PatternListRefusal}
 use Rattle.suite_plan.specs.declared.patterns.PatternRefusal.{PatternRefusal}
 use Rattle.suite_plan.specs.declared.processors.TableRefusal.{TableRefusal}
 use Rattle.suite_run.specs.Recording.{RecordsLanes}
@@ -34,10 +36,10 @@ use Rattle.command_steps.specs.Outside.{Work, work_folder, work_site, work_spawn
 use Rattle.command_steps.specs.Perhaps.{Perhaps, not_asked, did, refused}
 use Rattle.testr_commands.specs.RunSuite.{ListsBy, ListsSuite, TellsRun, TellsAndFinds, RunsBy, RunsSuite}
 use Rattle.command_steps.specs.Working.{Works}
-use Rattle.command_steps.specs.Selecting.{UsesCalled, UsesAsked, CountsWorkers, Selects, Plans}
+use Rattle.command_steps.specs.Selecting.{list_refusal, ReadsFurther, UsesCalled, UsesAsked, CountsWorkers, Selects, Plans, Planned}
 use Rattle.testr_commands.specs.SelfTest.{TestsItself}
 use Rattle.command_steps.specs.Steps.{Step, Gives}
-use Rattle.testr_words.specs.Suites.{RunOptions}
+use Rattle.testr_words.specs.Suites.{ListOptions, Wanted, RunOptions, Project}
 use Rattle.command_steps.specs.Told.{fault_fails}
 use Rattle.command_steps.specs.declared.answer.Refusal.{Refusal}
 use Rattle.command_steps.specs.declared.answer.Refusal.TheVariants as refusal
@@ -45,6 +47,7 @@ use Rattle.testr_words.specs.declared.drawing.Drawing.{Drawing}
 use Rattle.command_steps.specs.declared.selecting.Selected.{Selected}
 use Rattle.command_steps.specs.declared.told.TellFault.{TellFault}
 use Rattle.testr_commands.proofs.ChainLemmas.{IsRefused, Counts, Refuses, then_counts, then_refuses, gives_refuses}
+use Rattle.testr_commands.proofs.FurtherLaws.{further_stands, further_rises, further_named, further_place}
 use Rattle.testr_commands.proofs.RefusalLemmas.{tell_place, ran_place, search_place, lanes_place, conf_place, list_place, table_place, call_place, listing_place, start_place}
 use Rattle.testr_commands.proofs.StepLaws.{folder_same, folder_counts, placed, still_counts, still_refuses, runs_refuse, memory_refuses, open_counts, open_refuses, begin_counts, begin_refuses, keep_counts, keep_refuses, refresh_counts, refresh_refuses, print_counts, print_refuses}
 
@@ -97,11 +100,14 @@ module _ (a b : Work) where
     site_counts true count = (count.rose refl, (λ i. (rest i).folder.faults), (λ i. (rest i).spawner.faults), (λ i. (rest i).input.faults), (λ i. (rest i).out.faults))
     site_counts false count = site_same (count.stands refl)
 
-    conf_refuses : (fault : ConfRefusal) → ReadsConf a.site b.site (Err fault) → IsRefused ⊤ (refusal.Conf fault) a b
-    conf_refuses fault reads = placed a b (refusal.Conf fault) tt (λ c. tt) (conf_place Settings fault) (site_counts _ reads.count)
+    conf_refuses : (project : Project) (fault : ConfRefusal) → ReadsConf project a.site b.site (Err fault) → IsRefused ⊤ (refusal.Conf fault) a b
+    conf_refuses project fault reads = placed a b (refusal.Conf fault) tt (λ c. tt) (conf_place Settings fault) (site_counts _ reads.count)
 
     list_refuses : (name : List ℕ) (fault : ListRefusal) → ReadsLoadList name a.site b.site (Err fault) → IsRefused ⊤ (refusal.LoadList fault) a b
     list_refuses name fault reads = placed a b (refusal.LoadList fault) tt (λ c. tt) (list_place (List (List ℕ)) fault) (site_counts _ reads.count)
+
+    further_refuses : (wanted : Wanted) (fault : PatternListRefusal) → ReadsFurther wanted a.site b.site (Err fault) → IsRefused ⊤ (list_refusal fault) a b
+    further_refuses wanted fault reads = placed a b (list_refusal fault) (further_named fault) (λ c. tt) (further_place fault) (site_counts _ (further_rises wanted a.site b.site fault reads))
 
     table_refuses : (fault : TableRefusal) → CountsProcessors a.site b.site (Err fault) → IsRefused ⊤ (refusal.Table fault) a b
     table_refuses fault counts = placed a b (refusal.Table fault) tt (λ c. tt) (table_place ℕ fault) (site_counts _ counts.count)
@@ -120,8 +126,8 @@ module _ (a b : Work) where
     listing_refuses : (settings : Settings) (fault : ListingRefusal) → ListsTests settings a.spawner b.spawner (Err fault) → IsRefused ⊤ (refusal.Listing fault) a b
     listing_refuses settings fault lists = placed a b (refusal.Listing fault) tt (λ c. tt) (listing_place fault) (spawner_counts _ lists.count)
 
-    start_refuses : (jobs : List Job) (fault : StartRefusal) → StartsLanes jobs a.spawner b.spawner (Err fault) → IsRefused ⊤ (refusal.Start fault) a b
-    start_refuses jobs fault starts = placed a b (refusal.Start fault) tt (λ c. tt) (start_place (List (Option (List Lot))) fault) (spawner_counts _ starts.sum)
+    start_refuses : (plan : Planned) (fault : StartRefusal) → StartsLanes plan.jobs plan.asked a.spawner b.spawner (Err fault) → IsRefused ⊤ (refusal.Start fault) a b
+    start_refuses plan fault starts = placed a b (refusal.Start fault) tt (λ c. tt) (start_place (List (Option (List Lot))) fault) (spawner_counts _ starts.sum)
 
     search_refuses : (settings : Settings) (candidates : List (List ℕ)) (test : List ℕ) (fault : SearchFault) → Searches settings candidates test a.spawner b.spawner (Err fault) → IsRefused ⊤ (refusal.Search fault) a b
     search_refuses settings candidates test fault searches = placed a b (refusal.Search fault) tt (λ c. tt) (search_place Found fault) (spawner_counts _ searches.count)
@@ -136,6 +142,9 @@ module _ (a b : Work) where
 
   suspects_refuse : (fault : NoMemory) → b ≡ a → IsRefused ⊤ (refusal.Suspects fault) a b
   suspects_refuse fault = still_refuses a b (refusal.Suspects fault) tt (λ c. tt) refl
+
+  long_refuses : (fault : LongId) → b ≡ a → IsRefused ⊤ (refusal.LongId fault) a b
+  long_refuses fault = still_refuses a b (refusal.LongId fault) tt (λ c. tt) refl
 
   job_refuses : (fault : JobFault) → b ≡ a → IsRefused ⊤ (refusal.Job fault) a b
   job_refuses fault = still_refuses a b (refusal.Job fault) tt (λ c. tt) refl
@@ -173,50 +182,54 @@ workers_count settings true asked = asked_counts settings asked
 select_refuses : (settings : Settings) (options : RunOptions) → SuiteRefuses (λ r. r) (Selects settings options)
 select_refuses settings options =
     then_refuses all (λ a b v s. site_same a b s.rest (perhaps_stands (λ _ x y ids reads. reads.count.stands refl) a.site b.site v s.at)) (λ a b e s. perhaps_refused a.site b.site (λ (f : ListRefusal). IsRefused ⊤ (refusal.LoadList f) a b) (λ name f reads. list_refuses a b s.rest name f reads) e s.at) (λ listed.
+    then_refuses all (λ a b v s. site_same a b s.rest (further_stands options.wanted a.site b.site v s.at)) (λ a b e s. further_refuses a b s.rest options.wanted e s.at) (λ further.
     then_refuses all (λ a b v s. folder_same a b s.rest (perhaps_stands (λ _ x y ids finds. finds.count.stands refl) a.folder b.folder v s.at)) (λ a b e s. perhaps_refused a.folder b.folder (λ (f : TellFault). IsRefused ⊤ (refusal.Tell f) a b) (λ _ f finds. tell_refuses a b s.rest f finds.count) e s.at) (λ failing.
     then_refuses all (workers_count settings options.parallel options.concurrency) (workers_refuse settings options.parallel options.concurrency) (λ workers.
     then_refuses all (λ a b v s. spawner_same a b s.rest (perhaps_stands (λ _ x y ids lists. lists.count.stands refl) a.spawner b.spawner v s.at)) (λ a b e s. perhaps_refused a.spawner b.spawner (λ (f : ListingRefusal). IsRefused ⊤ (refusal.Listing f) a b) (λ _ f lists. listing_refuses a b s.rest settings f lists) e s.at) (λ listing.
     then_refuses all (λ a b v s. still_counts a b s.same) (λ a b e s. memory_refuses a b e s.same) (λ ids.
-    value_refuses)))))
+    value_refuses))))))
 
 select_counts : (settings : Settings) (options : RunOptions) → Counts all (Selects settings options)
 select_counts settings options =
     then_counts all (λ a b v s. site_same a b s.rest (perhaps_stands (λ _ x y ids reads. reads.count.stands refl) a.site b.site v s.at)) (λ listed.
+    then_counts all (λ a b v s. site_same a b s.rest (further_stands options.wanted a.site b.site v s.at)) (λ further.
     then_counts all (λ a b v s. folder_same a b s.rest (perhaps_stands (λ _ x y ids finds. finds.count.stands refl) a.folder b.folder v s.at)) (λ failing.
     then_counts all (workers_count settings options.parallel options.concurrency) (λ workers.
     then_counts all (λ a b v s. spawner_same a b s.rest (perhaps_stands (λ _ x y ids lists. lists.count.stands refl) a.spawner b.spawner v s.at)) (λ listing.
     then_counts all (λ a b v s. still_counts a b s.same) (λ ids.
-    value_counts)))))
+    value_counts))))))
 
 plan_refuses : (settings : Settings) (asked : Bool) (selected : Selected) → SuiteRefuses (λ r. r) (Plans settings asked selected)
 plan_refuses settings asked selected =
     then_refuses all (λ a b v s. folder_same a b s.rest (perhaps_stands (λ _ x y times finds. finds.count.stands refl) a.folder b.folder v s.at)) (λ a b e s. perhaps_refused a.folder b.folder (λ (f : TellFault). IsRefused ⊤ (refusal.Tell f) a b) (λ _ f finds. tell_refuses a b s.rest f finds.count) e s.at) (λ times.
     then_refuses all (λ a b v s. still_counts a b s.same) (λ a b e s. memory_refuses a b e s.same) (λ shares.
+    then_refuses all (λ a b v s. still_counts a b s.same) (λ a b e s. long_refuses a b e s.same) (λ _.
     then_refuses all (λ a b v s. still_counts a b s.same) (λ a b e s. job_refuses a b e s.same) (λ jobs.
     then_refuses all (λ a b v s. still_counts a b s.same) (λ a b e s. job_refuses a b e s.same) (λ _.
-    value_refuses))))
+    value_refuses)))))
 
 plan_counts : (settings : Settings) (asked : Bool) (selected : Selected) → Counts all (Plans settings asked selected)
 plan_counts settings asked selected =
     then_counts all (λ a b v s. folder_same a b s.rest (perhaps_stands (λ _ x y times finds. finds.count.stands refl) a.folder b.folder v s.at)) (λ times.
     then_counts all (λ a b v s. still_counts a b s.same) (λ shares.
+    then_counts all (λ a b v s. still_counts a b s.same) (λ _.
     then_counts all (λ a b v s. still_counts a b s.same) (λ jobs.
     then_counts all (λ a b v s. still_counts a b s.same) (λ _.
-    value_counts))))
+    value_counts)))))
 
 -- ---- the workers, and the report
 
-work_refuses : (partial : Bool) (number : ℕ) (jobs : List Job) → SuiteRefuses (λ r. r) (Works partial number jobs)
-work_refuses partial number jobs =
+work_refuses : (partial : Bool) (number : ℕ) (plan : Planned) → SuiteRefuses (λ r. r) (Works partial number plan)
+work_refuses partial number plan =
     then_refuses all (λ a b v s. begin_counts a b v s.at s.rest) (λ a b e s. begin_refuses a b e s.at s.rest) (λ _.
-    then_refuses all (λ a b v s. spawner_same a b s.rest (s.at.sum.stands refl)) (λ a b e s. start_refuses a b s.rest jobs e s.at) (λ rests.
+    then_refuses all (λ a b v s. spawner_same a b s.rest (s.at.sum.stands refl)) (λ a b e s. start_refuses a b s.rest plan e s.at) (λ rests.
     then_refuses all (λ a b v s. folder_same a b s.rest (s.at.sum.stands refl)) (λ a b e s. lanes_refuse a b s.rest rests e s.at) (λ rows.
     then_refuses all (λ a b v s. keep_counts a b partial number v s.at s.rest) (λ a b e s. keep_refuses a b partial number e s.at s.rest) (λ _.
     then_refuses all (λ a b v s. refresh_counts a b number rows v s.at s.rest) (λ a b e s. refresh_refuses a b number rows e s.at s.rest) (λ _.
     value_refuses)))))
 
-work_counts : (partial : Bool) (number : ℕ) (jobs : List Job) → Counts all (Works partial number jobs)
-work_counts partial number jobs =
+work_counts : (partial : Bool) (number : ℕ) (plan : Planned) → Counts all (Works partial number plan)
+work_counts partial number plan =
     then_counts all (λ a b v s. begin_counts a b v s.at s.rest) (λ _.
     then_counts all (λ a b v s. spawner_same a b s.rest (s.at.sum.stands refl)) (λ rests.
     then_counts all (λ a b v s. folder_same a b s.rest (s.at.sum.stands refl)) (λ rows.
@@ -294,21 +307,23 @@ finds_count asked settings number rows =
 
 -- ---- the commands
 
-list_by_refuses : (patterns : List (List ℕ)) (settings : Settings) → SuiteRefuses (λ r. r) (ListsBy patterns settings)
-list_by_refuses patterns settings =
+list_by_refuses : (wanted : Wanted) (settings : Settings) → SuiteRefuses (λ r. r) (ListsBy wanted settings)
+list_by_refuses wanted settings =
     then_refuses all (λ a b v s. still_counts a b s.same) (λ a b e s. pattern_refuses a b e s.same) (λ _.
+    then_refuses all (λ a b v s. site_same a b s.rest (further_stands wanted a.site b.site v s.at)) (λ a b e s. further_refuses a b s.rest wanted e s.at) (λ further.
     then_refuses all (λ a b v s. spawner_same a b s.rest (s.at.count.stands refl)) (λ a b e s. listing_refuses a b s.rest settings e s.at) (λ ids.
     then_refuses all (λ a b v s. still_counts a b s.same) (λ a b e s. memory_refuses a b e s.same) (λ text.
     then_refuses all (λ a b v s. print_counts a b text v s.at s.rest) (λ a b e s. print_refuses a b text e s.at s.rest) (λ _.
-    value_refuses))))
+    value_refuses)))))
 
-list_by_counts : (patterns : List (List ℕ)) (settings : Settings) → Counts all (ListsBy patterns settings)
-list_by_counts patterns settings =
+list_by_counts : (wanted : Wanted) (settings : Settings) → Counts all (ListsBy wanted settings)
+list_by_counts wanted settings =
     then_counts all (λ a b v s. still_counts a b s.same) (λ _.
+    then_counts all (λ a b v s. site_same a b s.rest (further_stands wanted a.site b.site v s.at)) (λ further.
     then_counts all (λ a b v s. spawner_same a b s.rest (s.at.count.stands refl)) (λ ids.
     then_counts all (λ a b v s. still_counts a b s.same) (λ text.
     then_counts all (λ a b v s. print_counts a b text v s.at s.rest) (λ _.
-    value_counts))))
+    value_counts)))))
 
 run_by_refuses : (options : RunOptions) (settings : Settings) → SuiteRefuses (λ r. r) (RunsBy options settings)
 run_by_refuses options settings =
@@ -316,8 +331,8 @@ run_by_refuses options settings =
     then_refuses all (λ a b v s. still_counts a b s.same) (λ a b e s. runs_refuse a b e s.same) (λ _.
     then_refuses all (λ a b v s. still_counts a b s.same) (λ a b e s. pattern_refuses a b e s.same) (λ _.
     then_refuses all (select_counts settings options) (select_refuses settings options) (λ selected.
-    then_refuses all (plan_counts settings options.find_causes selected) (plan_refuses settings options.find_causes selected) (λ jobs.
-    then_refuses all (work_counts _ _ jobs) (work_refuses _ _ jobs) (λ rows.
+    then_refuses all (plan_counts settings options.find_causes selected) (plan_refuses settings options.find_causes selected) (λ plan.
+    then_refuses all (work_counts _ _ plan) (work_refuses _ _ plan) (λ rows.
     finds_refuse options.find_causes settings _ rows))))))
 
 run_by_counts : (options : RunOptions) (settings : Settings) → Counts all (RunsBy options settings)
@@ -326,18 +341,18 @@ run_by_counts options settings =
     then_counts all (λ a b v s. still_counts a b s.same) (λ _.
     then_counts all (λ a b v s. still_counts a b s.same) (λ _.
     then_counts all (select_counts settings options) (λ selected.
-    then_counts all (plan_counts settings options.find_causes selected) (λ jobs.
-    then_counts all (work_counts _ _ jobs) (λ rows.
+    then_counts all (plan_counts settings options.find_causes selected) (λ plan.
+    then_counts all (work_counts _ _ plan) (λ rows.
     finds_count options.find_causes settings _ rows))))))
 
-pub list_refused : (patterns : List (List ℕ)) → SuiteRefuses (λ r. r) (ListsSuite patterns)
-list_refused patterns = then_refuses all (λ a b v s. site_same a b s.rest (s.at.count.stands refl)) (λ a b e s. conf_refuses a b s.rest e s.at) (list_by_refuses patterns)
+pub list_refused : (options : ListOptions) → SuiteRefuses (λ r. r) (ListsSuite options)
+list_refused options = then_refuses all (λ a b v s. site_same a b s.rest (s.at.count.stands refl)) (λ a b e s. conf_refuses a b s.rest options.project e s.at) (list_by_refuses options.wanted)
 
 pub run_refused : (options : RunOptions) → SuiteRefuses (λ r. r) (RunsSuite options)
-run_refused options = then_refuses all (λ a b v s. site_same a b s.rest (s.at.count.stands refl)) (λ a b e s. conf_refuses a b s.rest e s.at) (run_by_refuses options)
+run_refused options = then_refuses all (λ a b v s. site_same a b s.rest (s.at.count.stands refl)) (λ a b e s. conf_refuses a b s.rest options.project e s.at) (run_by_refuses options)
 
-pub list_counted : (patterns : List (List ℕ)) → Counts all (ListsSuite patterns)
-list_counted patterns = then_counts all (λ a b v s. site_same a b s.rest (s.at.count.stands refl)) (list_by_counts patterns)
+pub list_counted : (options : ListOptions) → Counts all (ListsSuite options)
+list_counted options = then_counts all (λ a b v s. site_same a b s.rest (s.at.count.stands refl)) (list_by_counts options.wanted)
 
 pub run_counted : (options : RunOptions) → Counts all (RunsSuite options)
 run_counted options = then_counts all (λ a b v s. site_same a b s.rest (s.at.count.stands refl)) (run_by_counts options)

@@ -26,6 +26,7 @@ use Rattle.suite_run.specs.Starting.{StartsAll, StartsSome, StartsLanes}
 use Rattle.suite_run.specs.declared.starting.StartRefusal.{StartRefusal}
 use Rattle.worker_lane.specs.declared.lot.Lot.{Lot}
 use Rattle.worker_mux.specs.Runs.{AddsMerge}
+use Rattle.command_steps.specs.Selecting.{Planned}
 use Rattle.command_steps.specs.Outside.{Work, work_folder, work_spawner}
 use Rattle.command_steps.specs.Refreshing.{Refreshes}
 use Rattle.command_steps.specs.Reporting.{Report, IsReport}
@@ -74,11 +75,11 @@ module _ (partial : Bool) (number : ℕ) where
   ends_out rows a b result (goes_on _ m step (stops fault is second)) = (λ i. (second.rest i).out.told) ∙ (λ i. (step.rest i).out.told)
   ends_out rows a b result (goes_on _ m step (goes_on _ k second gives)) = (λ i. (gives.same i).out.told) ∙ (λ i. (second.rest i).out.told) ∙ (λ i. (step.rest i).out.told)
 
-  works_out : (jobs : List Job) (a b : Work) (result : Result (List Row) Refusal) → Works partial number jobs a b result → b.out.told ≡ a.out.told
-  works_out jobs a b result (stops fault is step) = λ i. (step.rest i).out.told
-  works_out jobs a b result (goes_on _ m begun (stops fault is step)) = (λ i. (step.rest i).out.told) ∙ (λ i. (begun.rest i).out.told)
-  works_out jobs a b result (goes_on _ m begun (goes_on rests k started (stops fault is step))) = (λ i. (step.rest i).out.told) ∙ (λ i. (started.rest i).out.told) ∙ (λ i. (begun.rest i).out.told)
-  works_out jobs a b result (goes_on _ m begun (goes_on rests k started (goes_on rows l recorded next))) =
+  works_out : (plan : Planned) (a b : Work) (result : Result (List Row) Refusal) → Works partial number plan a b result → b.out.told ≡ a.out.told
+  works_out plan a b result (stops fault is step) = λ i. (step.rest i).out.told
+  works_out plan a b result (goes_on _ m begun (stops fault is step)) = (λ i. (step.rest i).out.told) ∙ (λ i. (begun.rest i).out.told)
+  works_out plan a b result (goes_on _ m begun (goes_on rests k started (stops fault is step))) = (λ i. (step.rest i).out.told) ∙ (λ i. (started.rest i).out.told) ∙ (λ i. (begun.rest i).out.told)
+  works_out plan a b result (goes_on _ m begun (goes_on rests k started (goes_on rows l recorded next))) =
       ends_out rows l b result next ∙ (λ i. (recorded.rest i).out.told) ∙ (λ i. (started.rest i).out.told) ∙ (λ i. (begun.rest i).out.told)
 
   tells_folder : (tags : List (List ℕ)) (rows : List Row) (a b : Work) (result : Result Verdict Refusal) → TellsRun number tags rows a b result → b.folder.told ≡ a.folder.told
@@ -116,8 +117,11 @@ module _ (options : RunOptions) (a : Work) (reached : Reached options a) (end : 
   abbrev number : ℕ
   number = reached.number
 
+  abbrev plan : Planned
+  plan = reached.plan
+
   abbrev jobs : List Job
-  jobs = reached.jobs
+  jobs = plan.jobs
 
   abbrev start : Work
   start = reached.planning
@@ -127,7 +131,7 @@ module _ (options : RunOptions) (a : Work) (reached : Reached options a) (end : 
   told_at_first X = told_before a.spawner.told start.spawner.told (AsksFew 2) X reached.mild.asked
 
   -- the workers, where their outputs were recorded
-  module _ (k l m : Work) (rests : List (Option (List Lot))) (rows : List Row) (begun : At work_folder Begins start k (Ok tt)) (started : At work_spawner (StartsLanes jobs) k l (Ok rests)) (recorded : At work_folder (RecordsLanes rests) l m (Ok rows)) (is : end.spawner.told ≡ m.spawner.told) where
+  module _ (k l m : Work) (rests : List (Option (List Lot))) (rows : List Row) (begun : At work_folder Begins start k (Ok tt)) (started : At work_spawner (StartsLanes jobs plan.asked) k l (Ok rests)) (recorded : At work_folder (RecordsLanes rests) l m (Ok rows)) (is : end.spawner.told ≡ m.spawner.told) where
     abbrev adds : AddsMerge rests l.folder.told m.folder.told
     adds = recorded.at.recorded.merge
 
@@ -137,18 +141,18 @@ module _ (options : RunOptions) (a : Work) (reached : Reached options a) (end : 
     ended : l.spawner.told ≡ end.spawner.told
     ended = sym (is ∙ (λ i. (recorded.rest i).spawner.told))
 
-    of_workers : (outputs : List Output) → IfSome k.spawner.told (λ _. AreOfOutputs adds.events outputs) → IfSome a.spawner.told (λ _. AreOfOutputs adds.events outputs)
-    of_workers outputs are = told_at_first (AreOfOutputs adds.events outputs) (subst (λ (o : Option Spawning). IfSome o (λ _. AreOfOutputs adds.events outputs)) begin are)
+    of_workers : (outputs : List Output) → IfSome k.spawner.told (λ _. AreOfOutputs adds.events plan.asked outputs) → IfSome a.spawner.told (λ _. AreOfOutputs adds.events plan.asked outputs)
+    of_workers outputs are = told_at_first (AreOfOutputs adds.events plan.asked outputs) (subst (λ (o : Option Spawning). IfSome o (λ _. AreOfOutputs adds.events plan.asked outputs)) begin are)
 
-    abbrev have : HaveOutputs jobs rests k.spawner.told l.spawner.told
-    have = have_outputs jobs rests k.spawner.told l.spawner.told started.at.started
+    abbrev have : HaveOutputs jobs plan.asked rests k.spawner.told l.spawner.told
+    have = have_outputs jobs plan.asked rests k.spawner.told l.spawner.told started.at.started
 
-    are_of : IfSome a.spawner.told (λ _. AreOfOutputs adds.events have.outputs)
-    are_of = of_workers have.outputs (of_outputs jobs rests have.outputs k.spawner.told l.folder.told m.folder.told adds reached.planned.few have.count have.rests_are have.are_outputs)
+    are_of : IfSome a.spawner.told (λ _. AreOfOutputs adds.events plan.asked have.outputs)
+    are_of = of_workers have.outputs (of_outputs jobs plan.asked rests have.outputs k.spawner.told l.folder.told m.folder.told adds reached.planned.few have.count have.rests_are have.are_outputs have.texts)
 
     abbrev recorded_workers : RunsWorkers options a end
     recorded_workers = record {
-      jobs = jobs;
+      plan = plan;
       planning = start;
       planned = reached.planned;
       outputs = have.outputs;
@@ -158,20 +162,20 @@ module _ (options : RunOptions) (a : Work) (reached : Reached options a) (end : 
       are_events = adds.are_events;
       fit = adds.fit;
       of_lanes = subst (λ (n : ℕ). All (IsOfLaneBelow n) adds.events) started.at.count adds.of_lanes;
-      merged = where_told a.spawner.told (AreOfOutputs adds.events have.outputs) _ (λ each. each.merged) are_of;
-      in_turn = where_told a.spawner.told (AreOfOutputs adds.events have.outputs) _ (λ each. each.in_turn) are_of;
+      merged = where_told a.spawner.told (AreOfOutputs adds.events plan.asked have.outputs) _ (λ each. each.merged) are_of;
+      in_turn = where_told a.spawner.told (AreOfOutputs adds.events plan.asked have.outputs) _ (λ each. each.in_turn) are_of;
       lines = [];
       probed = none_searched options.find_causes reached.planned.settings adds.events a.folder.told end.spawner.told end.spawner.told refl;
     }
 
   -- the same where the run was kept, with what was searched behind that
-  module _ (m : Work) (rows : List Row) (work : Worked partial number jobs rows start m) (lines : List ℕ) (probed : SearchesSome options.find_causes reached.planned.settings work.events lines a.folder.told m.spawner.told end.spawner.told) where
-    are_so : IfSome a.spawner.told (λ _. AreOfOutputs work.events work.outputs)
-    are_so = told_at_first (AreOfOutputs work.events work.outputs) work.of_workers
+  module _ (m : Work) (rows : List Row) (work : Worked partial number plan rows start m) (lines : List ℕ) (probed : SearchesSome options.find_causes reached.planned.settings work.events lines a.folder.told m.spawner.told end.spawner.told) where
+    are_so : IfSome a.spawner.told (λ _. AreOfOutputs work.events plan.asked work.outputs)
+    are_so = told_at_first (AreOfOutputs work.events plan.asked work.outputs) work.of_workers
 
     abbrev worked_workers : RunsWorkers options a end
     worked_workers = record {
-      jobs = jobs;
+      plan = plan;
       planning = start;
       planned = reached.planned;
       outputs = work.outputs;
@@ -181,22 +185,22 @@ module _ (options : RunOptions) (a : Work) (reached : Reached options a) (end : 
       are_events = work.are_events;
       fit = work.fit;
       of_lanes = work.of_lanes;
-      merged = where_told a.spawner.told (AreOfOutputs work.events work.outputs) _ (λ each. each.merged) are_so;
-      in_turn = where_told a.spawner.told (AreOfOutputs work.events work.outputs) _ (λ each. each.in_turn) are_so;
+      merged = where_told a.spawner.told (AreOfOutputs work.events plan.asked work.outputs) _ (λ each. each.merged) are_so;
+      in_turn = where_told a.spawner.told (AreOfOutputs work.events plan.asked work.outputs) _ (λ each. each.in_turn) are_so;
       lines = lines;
       probed = probed;
     }
 
   -- ---- what was started
 
-  starts : (m : Work) (result : Result (List Row) Refusal) → end.spawner.told ≡ m.spawner.told → Works partial number jobs start m result → StartsInOrder options a end
+  starts : (m : Work) (result : Result (List Row) Refusal) → end.spawner.told ≡ m.spawner.told → Works partial number plan start m result → StartsInOrder options a end
   starts m result is (stops fault step_is step) =
       let same : start.spawner.told ≡ end.spawner.told = sym (is ∙ (λ i. (step.rest i).spawner.told)) in
       inl (goes_ends (AsksFew 2) refl same reached.mild.asked)
   starts m result is (goes_on _ k begun (stops fault step_is step)) =
       let some = some_first jobs fault k.spawner.told m.spawner.told step.at.refused in
       inr (inl (record {
-        jobs = jobs;
+        plan = plan;
         planning = start;
         planned = reached.planned;
         done = some.done;
@@ -206,9 +210,9 @@ module _ (options : RunOptions) (a : Work) (reached : Reached options a) (end : 
         started = goes_ends (StartsAll some.done some.outputs) (λ i. (begun.rest i).spawner.told) (sym is) some.started;
       }))
   starts m result is (goes_on _ k begun (goes_on rests l started next)) =
-      let have = have_outputs jobs rests k.spawner.told l.spawner.told started.at.started in
+      let have = have_outputs jobs plan.asked rests k.spawner.told l.spawner.told started.at.started in
       inr (inl (record {
-        jobs = jobs;
+        plan = plan;
         planning = start;
         planned = reached.planned;
         done = jobs;
@@ -232,9 +236,9 @@ module _ (options : RunOptions) (a : Work) (reached : Reached options a) (end : 
     printed : IfSome a.folder.told (λ s. (runs : List Run) → Shows s.disk.published runs → TakesFirst (report_of (rows_of workers.events) (length runs) workers.planned.settings.filter_tags) workers.lines workers.worked end.spawner.told a.out.told end.out.told)
     passes : Goes start.folder.told m.folder.told (PassesAll number (run_of partial (run_bytes workers.events)))
 
-  module _ (m : Work) (rows : List Row) (works : Works partial number jobs start m (Ok rows)) where
-    abbrev work : Worked partial number jobs rows start m
-    work = work_did partial number jobs start m rows reached.planned.few works
+  module _ (m : Work) (rows : List Row) (works : Works partial number plan start m (Ok rows)) where
+    abbrev work : Worked partial number plan rows start m
+    work = work_did partial number plan start m rows reached.planned.few works
 
     stored : Goes a.folder.told m.folder.told (KeepsRunAndCaches number (run_of partial (run_bytes work.events)))
     stored = kept_through number (run_of partial (run_bytes work.events)) a.folder.told start.folder.told m.folder.told reached.mild.quiet work.kept
@@ -243,7 +247,7 @@ module _ (options : RunOptions) (a : Work) (reached : Reached options a) (end : 
     told_as report says = subst (λ (l : List Row). IsReport number tags l report) work.rows_are says
 
     out_as : m.out.told ≡ a.out.told
-    out_as = works_out partial number jobs start m (Ok rows) works ∙ reached.mild.out
+    out_as = works_out partial number plan start m (Ok rows) works ∙ reached.mild.out
 
     -- a first part of the report was printed, and nothing searched
     printed_so : (report : Report) → end.spawner.told ≡ m.spawner.told → IsReport number tags rows report → AppendsPrefix m.out.told end.out.told report.text → Behind m
@@ -308,13 +312,13 @@ module _ (options : RunOptions) (a : Work) (reached : Reached options a) (end : 
   HasPrinted = (end.out.told ≡ a.out.told) ⊎ PrintsFirst options a end
 
   -- the chain from the workers on
-  prints : (result : Result Verdict Refusal) → GoesOnWith options number jobs settings start end result → HasPrinted
-  prints result (stops fault step_is step) = inl (works_out partial number jobs start end (Err fault) step ∙ reached.mild.out)
+  prints : (result : Result Verdict Refusal) → GoesOnWith options number plan settings start end result → HasPrinted
+  prints result (stops fault step_is step) = inl (works_out partial number plan start end (Err fault) step ∙ reached.mild.out)
   prints result (goes_on rows m step next) =
       let so = behind m rows step result next in
       inr (record { workers = so.workers; printed = so.printed })
 
-  begun_all : (result : Result Verdict Refusal) → GoesOnWith options number jobs settings start end result → StartsInOrder options a end
+  begun_all : (result : Result Verdict Refusal) → GoesOnWith options number plan settings start end result → StartsInOrder options a end
   begun_all result (stops fault step_is step) = starts end (Err fault) refl step
   begun_all result (goes_on rows m step next) = inr (inr (behind m rows step result next).workers)
 
@@ -341,7 +345,7 @@ module _ (options : RunOptions) (a : Work) (reached : Reached options a) (end : 
         (run_passes (HasSuiteRun partial workers.events) number run suite_run a.folder.told start.folder.told m.folder.told reached.mild.quiet runs)
         (λ s t moves. record { stops = inr (workers, moves.stops); sound = moves.sound; repository = moves.repository })
 
-  works_moves : (m : Work) (result : Result (List Row) Refusal) → end.spawner.told ≡ m.spawner.told → Works partial number jobs start m result → Goes a.folder.told m.folder.told RunMoves
+  works_moves : (m : Work) (result : Result (List Row) Refusal) → end.spawner.told ≡ m.spawner.told → Works partial number plan start m result → Goes a.folder.told m.folder.told RunMoves
   works_moves m result is (stops fault step_is step) = quiet_moves m (quiet_then m (begin_quiet start m (Err fault) step.at))
     where
       quiet_then : (w : Work) → IsQuiet start w → IsQuiet a w
@@ -358,7 +362,7 @@ module _ (options : RunOptions) (a : Work) (reached : Reached options a) (end : 
       run_moves workers m
       (keeps_moves partial number bytes rows (Gives rows) (λ x y r gives i. (gives.same i).folder) start.folder.told recorded.at.recorded.rows_are reached.calm n m result written named)
 
-  moves : (result : Result Verdict Refusal) → GoesOnWith options number jobs settings start end result → Goes a.folder.told end.folder.told RunMoves
+  moves : (result : Result Verdict Refusal) → GoesOnWith options number plan settings start end result → Goes a.folder.told end.folder.told RunMoves
   moves result (stops fault step_is step) = works_moves end (Err fault) refl step
   moves result (goes_on rows m step next) =
       let so = behind m rows step result next in

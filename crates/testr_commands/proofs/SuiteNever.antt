@@ -1,5 +1,7 @@
 -- `run` and `list-tests` do not give up without a cause.
-use Rattle.std.proofs.Common.{◌≡◌, ◌⊎◌, inl, inr, ℕ, zero, suc, ◌+◌, ◌<◌, ◌≤◌, pos, Bool, true, false, not, Option, None, Some, IfSome, IsSomeAnd, IsOk, All, Result, Ok, Err, List, [], ◌∷◌, length, refl, sym, ap, subst, ◌∙◌, arith}
+use Rattle.suite_run.specs.NoneLost.{AreAllShort}
+use Rattle.command_steps.specs.declared.planning.LongId.{LongId}
+use Rattle.std.proofs.Common.{◌≡◌, ◌⊎◌, inl, inr, ℕ, zero, suc, ◌+◌, ◌<◌, ◌≤◌, pos, Bool, true, false, not, Option, None, Some, IfSome, IsSomeAnd, IsOk, All, Result, Ok, Err, List, [], ◌∷◌, ◌++◌, length, refl, sym, ap, subst, ◌∙◌, arith}
 use Rattle.std.specs.Bool.{⊤}
 use Rattle.std.specs.FinMap as fin
 use Rattle.std.specs.Option.{unwrap_or}
@@ -50,7 +52,7 @@ use Rattle.command_steps.specs.Working.{Works}
 use Rattle.testr_commands.specs.Searches.{ProbesEnd, suspects_in, UseNoBroken}
 use Rattle.testr_commands.specs.Prospects.{MayCount, MaySelect, MayPlan}
 use Rattle.command_steps.specs.Runs.{HasRuns, KeepsFiles, run_bytes}
-use Rattle.command_steps.specs.Selecting.{Times, UsesCalled, UsesAsked, CountsWorkers, needs_listing, Selects, shares_of_ids, MakesJobs, HandsIds, Plans}
+use Rattle.command_steps.specs.Selecting.{Times, list_refusal, UsesCalled, UsesAsked, CountsWorkers, needs_listing, Selects, shares_of_ids, MakesJobs, HandsIds, Plans, asked_of, Planned, NamesIds}
 use Rattle.command_steps.specs.Steps.{Step, stops, goes_on}
 use Rattle.testr_commands.specs.SuiteProgram.{calls_by, calls_of, EndsWell, CountIsTold, CallsOutNone, CanHand, CanRun}
 use Rattle.command_steps.specs.SuiteTexts.{list_code, table_code, job_code, start_code, lanes_code}
@@ -63,6 +65,8 @@ use Rattle.command_steps.specs.declared.told.TellFault.{TellFault}
 use Rattle.command_steps.specs.declared.told.TellFault.TheVariants as tell_fault
 use Rattle.testr_commands.proofs.FolderLemmas.{takes_in_repository, not_full}
 use Rattle.testr_commands.proofs.ChainLemmas.{then_did, gives_not}
+use Rattle.testr_commands.specs.Further.{CanReadFurther}
+use Rattle.testr_commands.proofs.FurtherLaws.{further_told, further_never}
 use Rattle.testr_commands.proofs.FindLemmas.{TellsEvents, tells_behind}
 use Rattle.testr_commands.proofs.LeftIds.{no_shares}
 use Rattle.testr_commands.proofs.ProbeCauses.{causes_never, probes_behind}
@@ -272,6 +276,7 @@ workers_ends settings true asked a b n counts ends = asked_ends settings asked a
 -- what the steps behind the opening of the folder need of the files and the children
 record CanSelect (options : RunOptions) (settings : Settings) (site : Option Files) (children : Option Spawning) : Type 0 where
   load_list : IfSome options.load_list (λ name. IsSomeAnd site (HasList name))
+  lists : CanReadFurther options.wanted site
   table : Counts settings options.parallel options.concurrency children site
   count : IsSomeAnd children (CountIsTold (calls_of options settings))
   job : (workers : ℕ) → MayCount settings options site children workers → needs_listing options workers ≡ true → IsOk (list_job_of settings)
@@ -281,10 +286,13 @@ select_never : (settings : Settings) (options : RunOptions) (a b : Work) (r : Re
 select_never settings options a b r (stops fault is step) can =
     let asked = perhaps_asked a.site b.site fault step.at in
     same_cause (refusal.LoadList fault) r is (load_list_never asked.0 a.site b.site fault (asked_list options.load_list a.site.told asked.0 asked.1 can.load_list) asked.2)
-select_never settings options a b r (goes_on listed m read (stops fault is step)) can = same_cause (refusal.Tell fault) r is ((λ three. tell_never fault three), (λ child. child))
-select_never settings options a b r (goes_on listed m read (goes_on failing m2 found next)) can =
-    let site : a.site.told ≡ m2.site.told = sym ((λ i. (found.rest i).site.told) ∙ list_stays options.load_list a.site m.site listed read.at) in
-    let children : a.spawner.told ≡ m2.spawner.told = sym ((λ i. (found.rest i).spawner.told) ∙ (λ i. (read.rest i).spawner.told)) in
+select_never settings options a b r (goes_on listed m read (stops fault is step)) can =
+    let site : a.site.told ≡ m.site.told = sym (list_stays options.load_list a.site m.site listed read.at) in
+    same_cause (list_refusal fault) r is (further_never options.wanted m.site b.site fault (subst (CanReadFurther options.wanted) site can.lists) step.at)
+select_never settings options a b r (goes_on listed m read (goes_on further n more (stops fault is step))) can = same_cause (refusal.Tell fault) r is ((λ three. tell_never fault three), (λ child. child))
+select_never settings options a b r (goes_on listed m read (goes_on further n more (goes_on failing m2 found next))) can =
+    let site : a.site.told ≡ m2.site.told = sym ((λ i. (found.rest i).site.told) ∙ further_told options.wanted m.site n.site (Ok further) more.at ∙ list_stays options.load_list a.site m.site listed read.at) in
+    let children : a.spawner.told ≡ m2.spawner.told = sym ((λ i. (found.rest i).spawner.told) ∙ (λ i. (more.rest i).spawner.told) ∙ (λ i. (read.rest i).spawner.told)) in
     let on_site : Counts settings options.parallel options.concurrency a.spawner.told m2.site.told = subst (Counts settings options.parallel options.concurrency a.spawner.told) site can.table in
     let short : Counts settings options.parallel options.concurrency m2.spawner.told m2.site.told = subst (λ (o : Option Spawning). Counts settings options.parallel options.concurrency o m2.site.told) children on_site in
     let tells : IsSomeAnd m2.spawner.told (CountIsTold (calls_of options settings)) = subst (λ (o : Option Spawning). IsSomeAnd o (CountIsTold (calls_of options settings))) children can.count in
@@ -353,23 +361,29 @@ hands_never settings asked fault can hands = ((λ three. by (probe_job settings 
         let five : job_code fault ≡ 5 = ap job_code is in
         omega (arith, five, three)
 
-plan_never : (settings : Settings) (asked : Bool) (selected : Selected) (a b : Work) (r : Refusal) → Plans settings asked selected a b (Err r) → IsInRange selected.workers → IfSome selected.ids (CanHand settings) → (asked ≡ true → CanHandIds settings) → NoCause r
-plan_never settings asked selected a b r (stops fault is step) range handed can = same_cause (refusal.Tell fault) r is ((λ three. tell_never fault three), (λ child. child))
-plan_never settings asked selected a b r (goes_on times m found (stops fault is step)) range handed can = same_cause (refusal.Memory fault) r is ((λ three. omega arith), (λ child. child))
-plan_never settings asked selected a b r (goes_on times m found (goes_on shares m2 dealt (stops fault is step))) range handed can =
+-- no id is too long
+long_never : (shares : Option (List Ids)) (fault : LongId) → AreAllShort (asked_of shares) → NamesIds shares (Err fault) → NoCause (refusal.LongId fault)
+long_never shares fault short names = absurd (names.refused short)
+
+plan_never : (settings : Settings) (asked : Bool) (selected : Selected) (a b : Work) (r : Refusal) → Plans settings asked selected a b (Err r) → IsInRange selected.workers → IfSome selected.ids (CanHand settings) → ((times : Option Times) → AreAllShort (asked_of (shares_of_ids settings.group_regex times selected))) → (asked ≡ true → CanHandIds settings) → NoCause r
+plan_never settings asked selected a b r (stops fault is step) range handed short can = same_cause (refusal.Tell fault) r is ((λ three. tell_never fault three), (λ child. child))
+plan_never settings asked selected a b r (goes_on times m found (stops fault is step)) range handed short can = same_cause (refusal.Memory fault) r is ((λ three. omega arith), (λ child. child))
+plan_never settings asked selected a b r (goes_on times m found (goes_on shares m2 dealt (stops fault is step))) range handed short can =
+    same_cause (refusal.LongId fault) r is (long_never shares fault (subst (λ (s : Option (List Ids)). AreAllShort (asked_of s)) (sym dealt.says.shares) (short times)) step.says)
+plan_never settings asked selected a b r (goes_on times m found (goes_on shares m2 dealt (goes_on _ n named (stops fault is step)))) range handed short can =
     same_cause (refusal.Job fault) r is (job_never settings shares fault (subst (HandsShares settings) (sym dealt.says.shares) (handed_shares settings times selected range handed)) step.says)
-plan_never settings asked selected a b r (goes_on times m found (goes_on shares m2 dealt (goes_on jobs m3 made (stops fault is step)))) range handed can = same_cause (refusal.Job fault) r is (hands_never settings asked fault can step.says)
-plan_never settings asked selected a b r (goes_on times m found (goes_on shares m2 dealt (goes_on jobs m3 made (goes_on _ m4 hands gives)))) range handed can = absurd (gives_not m4 b r gives)
+plan_never settings asked selected a b r (goes_on times m found (goes_on shares m2 dealt (goes_on _ n named (goes_on jobs m3 made (stops fault is step))))) range handed short can = same_cause (refusal.Job fault) r is (hands_never settings asked fault can step.says)
+plan_never settings asked selected a b r (goes_on times m found (goes_on shares m2 dealt (goes_on _ n named (goes_on jobs m3 made (goes_on _ m4 hands gives))))) range handed short can = absurd (gives_not m4 b r gives)
 
 -- ---- the workers, and what is told of the run
 
-work_never : (partial : Bool) (number : ℕ) (jobs : List Job) (a b : Work) (r : Refusal) → Works partial number jobs a b (Err r) → NoCause r
-work_never partial number jobs a b r (stops fault is step) = same_cause (refusal.Keep fault) r is ((λ three. omega arith), (λ child. child))
-work_never partial number jobs a b r (goes_on _ m begun (stops fault is step)) = same_cause (refusal.Start fault) r is ((λ three. start_never fault three), (λ child. child))
-work_never partial number jobs a b r (goes_on _ m begun (goes_on rests m2 started (stops fault is step))) = same_cause (refusal.Lanes fault) r is ((λ three. lanes_never fault three), (λ child. child))
-work_never partial number jobs a b r (goes_on _ m begun (goes_on rests m2 started (goes_on _ m3 recorded (stops fault is step)))) = same_cause (refusal.Keep fault) r is ((λ three. omega arith), (λ child. child))
-work_never partial number jobs a b r (goes_on _ m begun (goes_on rests m2 started (goes_on _ m3 recorded (goes_on _ m4 kept (stops fault is step))))) = same_cause (refusal.Refresh fault) r is ((λ three. tell_never fault three), (λ child. child))
-work_never partial number jobs a b r (goes_on _ m begun (goes_on rests m2 started (goes_on _ m3 recorded (goes_on _ m4 kept (goes_on _ m5 refreshed gives))))) = absurd (gives_not m5 b r gives)
+work_never : (partial : Bool) (number : ℕ) (plan : Planned) (a b : Work) (r : Refusal) → Works partial number plan a b (Err r) → NoCause r
+work_never partial number plan a b r (stops fault is step) = same_cause (refusal.Keep fault) r is ((λ three. omega arith), (λ child. child))
+work_never partial number plan a b r (goes_on _ m begun (stops fault is step)) = same_cause (refusal.Start fault) r is ((λ three. start_never fault three), (λ child. child))
+work_never partial number plan a b r (goes_on _ m begun (goes_on rests m2 started (stops fault is step))) = same_cause (refusal.Lanes fault) r is ((λ three. lanes_never fault three), (λ child. child))
+work_never partial number plan a b r (goes_on _ m begun (goes_on rests m2 started (goes_on _ m3 recorded (stops fault is step)))) = same_cause (refusal.Keep fault) r is ((λ three. omega arith), (λ child. child))
+work_never partial number plan a b r (goes_on _ m begun (goes_on rests m2 started (goes_on _ m3 recorded (goes_on _ m4 kept (stops fault is step))))) = same_cause (refusal.Refresh fault) r is ((λ three. tell_never fault three), (λ child. child))
+work_never partial number plan a b r (goes_on _ m begun (goes_on rests m2 started (goes_on _ m3 recorded (goes_on _ m4 kept (goes_on _ m5 refreshed gives))))) = absurd (gives_not m5 b r gives)
 
 told_never : (number : ℕ) (tags : Ids) (rows : List Row) (a b : Work) (r : Refusal) → TellsRun number tags rows a b (Err r) → NoCause r
 told_never number tags rows a b r (stops fault is step) = same_cause (refusal.Report fault) r is ((λ three. omega arith), (λ child. child))
@@ -380,15 +394,16 @@ told_never number tags rows a b r (goes_on report m found (goes_on _ m2 printed 
 
 -- no child is broken that probes use, for each plan that may be made
 abbrev ProbesMayEnd : RunOptions → Settings → Work → Type 0
-ProbesMayEnd options settings w = (jobs : List Job) (planning : Work) → MayPlan settings options w jobs planning → IfSome planning.spawner.told (ProbesEnd (length jobs))
+ProbesMayEnd options settings w = (plan : Planned) (planning : Work) → MayPlan settings options w plan planning → IfSome planning.spawner.told (ProbesEnd plan)
 
 -- what the steps behind the configuration need
 record CanRunBy (options : RunOptions) (settings : Settings) (w : Work) : Type 0 where
   free : IsSomeAnd w.folder.told (λ s. (number : ℕ) × (number < most_runs) × HasRuns number s)
-  good : All IsPattern options.patterns
+  good : All IsPattern (options.wanted.patterns ++ options.wanted.excluded)
   good_regex : IfSome settings.group_regex IsPattern
   select : CanSelect options settings w.site.told w.spawner.told
   handed : (selected : Selected) → MaySelect settings options w selected → IfSome selected.ids (CanHand settings)
+  named : (times : Option Times) (selected : Selected) → MaySelect settings options w selected → AreAllShort (asked_of (shares_of_ids settings.group_regex times selected))
   hands_ids : options.find_causes ≡ true → CanHandIds settings
   probes : options.find_causes ≡ true → ProbesMayEnd options settings w
 
@@ -417,7 +432,7 @@ run_by_never options settings a b r (stops fault is step) can = same_cause (refu
   (λ child. child),
 )
 run_by_never options settings a b r (goes_on found m opened (stops fault is step)) can = absurd (not_full a.folder.told can.free (runs_are a.folder m.folder found most_runs opened.at step.says.full.1))
-run_by_never options settings a b r (goes_on found m opened (goes_on _ m2 took (stops fault is step))) can = same_cause (refusal.Pattern fault) r is (pattern_never options.patterns settings.group_regex fault can.good can.good_regex step.says)
+run_by_never options settings a b r (goes_on found m opened (goes_on _ m2 took (stops fault is step))) can = same_cause (refusal.Pattern fault) r is (pattern_never options.wanted.patterns options.wanted.excluded settings.group_regex fault can.good can.good_regex step.says)
 run_by_never options settings a b r (goes_on found m opened (goes_on _ m2 took (goes_on _ m3 compiled (stops fault is step)))) can =
     let site : a.site.told ≡ m3.site.told = sym ((λ i. (compiled.same i).site.told) ∙ (λ i. (took.same i).site.told) ∙ (λ i. (opened.rest i).site.told)) in
     let children : a.spawner.told ≡ m3.spawner.told = sym ((λ i. (compiled.same i).spawner.told) ∙ (λ i. (took.same i).spawner.told) ∙ (λ i. (opened.rest i).spawner.told)) in
@@ -435,9 +450,9 @@ run_by_never options settings a b r (goes_on found m opened (goes_on _ m2 took (
       selecting = m4;
       selects = selects;
     } in
-    same_cause fault r is (plan_never settings options.find_causes selected m4 b fault step (selected_range settings options m3 m4 selected selects) (can.handed selected may) can.hands_ids)
-run_by_never options settings a b r (goes_on found m opened (goes_on _ m2 took (goes_on _ m3 compiled (goes_on selected m4 selects (goes_on jobs m5 planned (stops fault is step)))))) can = same_cause fault r is (work_never _ _ jobs m5 b fault step)
-run_by_never options settings a b r (goes_on found m opened (goes_on _ m2 took (goes_on _ m3 compiled (goes_on selected m4 selects (goes_on jobs m5 planned (goes_on rows m6 worked tells)))))) can =
+    same_cause fault r is (plan_never settings options.find_causes selected m4 b fault step (selected_range settings options m3 m4 selected selects) (can.handed selected may) (λ times. can.named times selected may) can.hands_ids)
+run_by_never options settings a b r (goes_on found m opened (goes_on _ m2 took (goes_on _ m3 compiled (goes_on selected m4 selects (goes_on plan m5 planned (stops fault is step)))))) can = same_cause fault r is (work_never _ _ plan m5 b fault step)
+run_by_never options settings a b r (goes_on found m opened (goes_on _ m2 took (goes_on _ m3 compiled (goes_on selected m4 selects (goes_on plan m5 planned (goes_on rows m6 worked tells)))))) can =
     let calm : m3 ≡ m = compiled.same ∙ took.same in
     let quiet : Goes a.folder.told m3.folder.told Rests = subst (λ (w : Work). Goes a.folder.told w.folder.told Rests) (sym calm) (open_quiet a m (Ok found) opened.at) in
     let children : m3.spawner.told ≡ a.spawner.told = (λ i. (calm i).spawner.told) ∙ (λ i. (opened.rest i).spawner.told) in
@@ -450,8 +465,8 @@ run_by_never options settings a b r (goes_on found m opened (goes_on _ m2 took (
       selects = selects;
     } in
     let range = selected_range settings options m3 m4 selected selects in
-    let before = leaves_then m3 m4 m5 (select_leaves settings options m3 m4 selected selects) (plan_leaves settings options.find_causes selected m4 m5 jobs planned) in
-    let work = work_did (is_partial options) (length (kinds_of found)) jobs m5 m6 rows (few_jobs settings options.find_causes selected m4 m5 jobs range planned) worked in
+    let before = leaves_then m3 m4 m5 (select_leaves settings options m3 m4 selected selects) (plan_leaves settings options.find_causes selected m4 m5 plan planned) in
+    let work = work_did (is_partial options) (length (kinds_of found)) plan m5 m6 rows (few_jobs settings options.find_causes selected m4 m5 plan range planned) worked in
     let at_rest : IfSome m3.folder.told IsCalm = subst (λ (w : Work). IfSome w.folder.told IsCalm) (sym calm) (surveyed_calm (kinds_of found) a.folder.told m.folder.told opened.at.found) in
     let kept = goes_ends (KeepsRunAndCaches (length (kinds_of found)) (run_of (is_partial options) (run_bytes work.events))) before.folder refl work.kept in
     let tells_of : Goes a.folder.told m6.folder.told (λ s t. TellsEvents (length (kinds_of found)) work.events t) =
@@ -460,7 +475,7 @@ run_by_never options settings a b r (goes_on found m opened (goes_on _ m2 took (
     let some_children : IsSomeAnd m5.spawner.told (λ s. Unit {0}) =
     still_told m3.spawner.told m5.spawner.told (λ s. Unit {0}) (λ s t. ⊤) (subst (λ (o : Option Spawning). IsSomeAnd o (λ s. Unit {0})) (sym children) (some_of a.spawner.told _ can.select.count)) before.told in
     finds_never settings (length (kinds_of found)) work.events options.find_causes rows a.folder.told m6 b r work.rows_are some_folder tells_of
-    (λ asked. probes_behind jobs work.outputs work.events m5.spawner.told m6.spawner.told some_children (can.probes asked jobs m5 (record { selected = selected; may = may; plans = planned })) work.started work.of_workers)
+    (λ asked. probes_behind plan work.outputs work.events m5.spawner.told m6.spawner.told some_children (can.probes asked plan m5 (record { selected = selected; may = may; plans = planned })) work.started work.of_workers)
     tells
 
 can_run_by : (options : RunOptions) (a : Work) (can : CanRun options a) → CanRunBy options can.settings a
@@ -468,8 +483,9 @@ can_run_by options a can = record {
   free = can.free;
   good = can.good;
   good_regex = can.good_regex;
-  select = record { load_list = can.load_list; table = can.table; count = can.count; job = can.job; ends = can.ends };
+  select = record { load_list = can.load_list; lists = can.lists; table = can.table; count = can.count; job = can.job; ends = can.ends };
   handed = can.handed;
+  named = can.named;
   hands_ids = can.hands_ids;
   probes = can.probes;
 }
@@ -484,8 +500,9 @@ read_then options settings a m folder site children can =
       good_regex = can.good_regex;
       select = subst (CanSelect options settings m.site.told) (sym children) on_site;
       handed = λ selected may. can.handed selected (before selected may);
+      named = λ times selected may. can.named times selected (before selected may);
       hands_ids = can.hands_ids;
-      probes = λ asked jobs planning may. can.probes asked jobs planning (record { selected = may.selected; may = before may.selected may.may; plans = may.plans });
+      probes = λ asked plan planning may. can.probes asked plan planning (record { selected = may.selected; may = before may.selected may.may; plans = may.plans });
     }
   where
     before : (selected : Selected) → MaySelect settings options m selected → MaySelect settings options a selected
@@ -499,8 +516,8 @@ read_then options settings a m folder site children can =
     }
 
 pub run_never : (options : RunOptions) (a b : Work) (r : Refusal) → RunsSuite options a b (Err r) → CanRun options a → NoCause r
-run_never options a b r (stops fault is step) can = same_cause (refusal.Conf fault) r is (conf_never can.settings a.site b.site fault can.conf step.at)
+run_never options a b r (stops fault is step) can = same_cause (refusal.Conf fault) r is (conf_never options.project can.settings a.site b.site fault can.conf step.at)
 run_never options a b r (goes_on settings m read next) can =
-    let same : can.settings ≡ settings = same_settings can.settings settings a.site m.site can.conf read.at in
+    let same : can.settings ≡ settings = same_settings options.project can.settings settings a.site m.site can.conf read.at in
     let by : CanRunBy options settings a = subst (λ (s : Settings). CanRunBy options s a) same (can_run_by options a can) in
     run_by_never options settings m b r next (read_then options settings a m (λ i. (read.rest i).folder.told) read.at.same (λ i. (read.rest i).spawner.told) by)

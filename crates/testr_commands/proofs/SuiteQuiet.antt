@@ -10,7 +10,7 @@ use Rattle.command_steps.specs.Perhaps.{Perhaps, not_asked, did, refused}
 use Rattle.testr_commands.specs.RunSuite.{ListsSuite}
 use Rattle.command_steps.specs.Selecting.{UsesCalled, UsesAsked, CountsWorkers, Selects, Plans}
 use Rattle.command_steps.specs.Steps.{Step, Gives}
-use Rattle.testr_words.specs.Suites.{RunOptions}
+use Rattle.testr_words.specs.Suites.{ListOptions, RunOptions}
 use Rattle.command_steps.specs.declared.answer.Refusal.{Refusal}
 use Rattle.command_steps.specs.declared.selecting.Selected.{Selected}
 use Rattle.command_steps.proofs.Resting.{Rests, rests_same, rests_of_stays}
@@ -54,27 +54,30 @@ workers_quiet settings true asked = asked_quiet settings asked
 pub select_quiet : (settings : Settings) (options : RunOptions) → Quiet all (Selects settings options)
 select_quiet settings options =
     then_quiet all (λ a b r s. site_quiet a b s.rest) (λ listed.
+    then_quiet all (λ a b r s. site_quiet a b s.rest) (λ further.
     then_quiet all (λ a b r s. perhaps_rests (λ _ x y found step. rests_of_stays x.told y.told step.same) a.folder b.folder r s.at) (λ failing.
     then_quiet all (workers_quiet settings options.parallel options.concurrency) (λ workers.
     then_quiet all (λ a b r s. spawner_quiet a b s.rest) (λ listing.
     then_quiet all (λ a b r s. still_quiet a b s.same) (λ ids.
-    value_quiet)))))
+    value_quiet))))))
 
 pub plan_quiet : (settings : Settings) (asked : Bool) (selected : Selected) → Quiet all (Plans settings asked selected)
 plan_quiet settings asked selected =
     then_quiet all (λ a b r s. perhaps_rests (λ _ x y found step. rests_of_stays x.told y.told step.same) a.folder b.folder r s.at) (λ times.
     then_quiet all (λ a b r s. still_quiet a b s.same) (λ shares.
+    then_quiet all (λ a b r s. still_quiet a b s.same) (λ _.
     then_quiet all (λ a b r s. still_quiet a b s.same) (λ jobs.
     then_quiet all (λ a b r s. still_quiet a b s.same) (λ _.
-    value_quiet))))
+    value_quiet)))))
 
 -- ---- steps that leave the folder as it is
 
-pub list_same : (patterns : List (List ℕ)) → LeavesPart work_folder.of (ListsSuite patterns)
-list_same patterns =
+pub list_same : (options : ListOptions) → LeavesPart work_folder.of (ListsSuite options)
+list_same options =
     then_leaves work_folder.of (λ a b r s i. (s.rest i).folder) (λ settings.
     then_leaves work_folder.of (λ a b r s i. (s.same i).folder) (λ _.
+    then_leaves work_folder.of (λ a b r s i. (s.rest i).folder) (λ further.
     then_leaves work_folder.of (λ a b r s i. (s.rest i).folder) (λ ids.
     then_leaves work_folder.of (λ a b r s i. (s.same i).folder) (λ text.
     then_leaves work_folder.of (λ a b r s i. (s.rest i).folder) (λ _ a b r s i.
-    (s.same i).folder)))))
+    (s.same i).folder))))))

@@ -23,7 +23,7 @@ use Rattle.command_steps.specs.Perhaps.{Perhaps, not_asked, did, refused}
 use Rattle.testr_commands.specs.RunSuite.{TellsAndFinds, RunsBy, RunsSuite}
 use Rattle.command_steps.specs.Working.{Works}
 use Rattle.command_steps.specs.Runs.{KeepsFiles}
-use Rattle.command_steps.specs.Selecting.{Ids, UsesCalled, UsesAsked, CountsWorkers, Selects, Plans}
+use Rattle.command_steps.specs.Selecting.{Ids, UsesCalled, UsesAsked, CountsWorkers, Selects, Planned, Plans}
 use Rattle.command_steps.specs.Steps.{Step, Then, stops, goes_on, Gives}
 use Rattle.testr_words.specs.Suites.{RunOptions, is_partial}
 use Rattle.testr_commands.specs.Workers.{AsksFew, HasPlanned}
@@ -152,40 +152,42 @@ perhaps_rests rests a b result (refused x fault asked is step) = rests x a b (Er
 select_mild : (settings : Settings) (options : RunOptions) → IsMild 2 (Selects settings options)
 select_mild settings options =
     then_mild 0 2 (λ a b r s. mild_site a b s.rest) (λ listed.
+    then_mild 0 2 (λ a b r s. mild_site a b s.rest) (λ further.
     then_mild 0 2 (λ a b r s. mild_folder a b s.rest (perhaps_rests (λ _ x y found step. rests_of_stays x.told y.told step.same) a.folder b.folder r s.at)) (λ failing.
     then_mild 1 1 (workers_mild settings options.parallel options.concurrency) (λ workers.
     then_mild 1 0 (λ a b r s. mild_spawner 1 a b s.rest (listing_few settings a.spawner b.spawner r s.at)) (λ listing.
     then_mild 0 0 (λ a b r s. mild_same a b s.same) (λ ids.
-    gives_mild)))))
+    gives_mild))))))
 
 plan_mild : (settings : Settings) (asked : Bool) (selected : Selected) → IsMild 0 (Plans settings asked selected)
 plan_mild settings asked selected =
     then_mild 0 0 (λ a b r s. mild_folder a b s.rest (perhaps_rests (λ _ x y found step. rests_of_stays x.told y.told step.same) a.folder b.folder r s.at)) (λ times.
     then_mild 0 0 (λ a b r s. mild_same a b s.same) (λ shares.
+    then_mild 0 0 (λ a b r s. mild_same a b s.same) (λ _.
     then_mild 0 0 (λ a b r s. mild_same a b s.same) (λ jobs.
     then_mild 0 0 (λ a b r s. mild_same a b s.same) (λ _.
-    gives_mild))))
+    gives_mild)))))
 
 -- ---- the workers
 
 -- jobs were made, and nothing else was done by then
 pub record Reached (options : RunOptions) (a : Work) : Type 0 where
-  pub jobs : List Job
+  pub plan : Planned
   pub planning : Work
-  pub planned : HasPlanned options a planning jobs
+  pub planned : HasPlanned options a planning plan
   pub number : ℕ
   pub mild : Mild 2 a planning
   pub calm : IfSome planning.folder.told IsCalm
 
 -- what is done then
-abbrev pub GoesOnWith : (options : RunOptions) (number : ℕ) (jobs : List Job) (settings : Settings) → Step Work Verdict Refusal
-GoesOnWith options number jobs settings = Then (λ refusal. refusal) (Works (is_partial options) number jobs) (λ rows. TellsAndFinds options.find_causes settings number rows)
+abbrev pub GoesOnWith : (options : RunOptions) (number : ℕ) (plan : Planned) (settings : Settings) → Step Work Verdict Refusal
+GoesOnWith options number plan settings = Then (λ refusal. refusal) (Works (is_partial options) number plan) (λ rows. TellsAndFinds options.find_causes settings number rows)
 
 -- a run refuses before, or comes to them
 abbrev pub Reaches : RunOptions → Work → Work → Result Verdict Refusal → Type 0
-Reaches options a b result = Mild 2 a b ⊎ ((reached : Reached options a) × GoesOnWith options reached.number reached.jobs reached.planned.settings reached.planning b result)
+Reaches options a b result = Mild 2 a b ⊎ ((reached : Reached options a) × GoesOnWith options reached.number reached.plan reached.planned.settings reached.planning b result)
 
-module _ (options : RunOptions) (settings : Settings) (a : Work) (conf : IfSome a.site.told (GivesSettings settings)) where
+module _ (options : RunOptions) (settings : Settings) (a : Work) (conf : IfSome a.site.told (GivesSettings options.project settings)) where
   by_reaches : (b : Work) (result : Result Verdict Refusal) → RunsBy options settings a b result → Reaches options a b result
   by_reaches b result (stops fault is step) = inl (mild_more 0 2 a b (omega arith) (mild_folder a b step.rest (open_quiet a b (Err fault) step.at)))
   by_reaches b result (goes_on found m opened (stops fault is step)) =
@@ -203,15 +205,15 @@ module _ (options : RunOptions) (settings : Settings) (a : Work) (conf : IfSome 
       calm : IfSome m3.folder.told IsCalm
       calm = subst (λ (w : Work). IfSome w.folder.told IsCalm) (sym same) (surveyed_calm (kinds_of found) a.folder.told m.folder.told opened.at.found)
 
-      behind : Then (λ refusal. refusal) (Selects settings options) (λ selected. Then (λ refusal. refusal) (Plans settings options.find_causes selected) (λ jobs. GoesOnWith options (length (kinds_of found)) jobs settings)) m3 b result → Reaches options a b result
+      behind : Then (λ refusal. refusal) (Selects settings options) (λ selected. Then (λ refusal. refusal) (Plans settings options.find_causes selected) (λ plan. GoesOnWith options (length (kinds_of found)) plan settings)) m3 b result → Reaches options a b result
       behind (stops fault is step) = inl (mild_then 0 2 a m3 b first (select_mild settings options m3 b (Err fault) step))
       behind (goes_on selected m4 selects (stops fault is step)) =
           inl (mild_then 0 2 a m3 b first (mild_then 2 0 m3 m4 b (select_mild settings options m3 m4 (Ok selected) selects) (plan_mild settings options.find_causes selected m4 b (Err fault) step)))
-      behind (goes_on selected m4 selects (goes_on jobs m5 plans works)) =
-          let chosen : Mild 2 m3 m5 = mild_then 2 0 m3 m4 m5 (select_mild settings options m3 m4 (Ok selected) selects) (plan_mild settings options.find_causes selected m4 m5 (Ok jobs) plans) in
+      behind (goes_on selected m4 selects (goes_on plan m5 plans works)) =
+          let chosen : Mild 2 m3 m5 = mild_then 2 0 m3 m4 m5 (select_mild settings options m3 m4 (Ok selected) selects) (plan_mild settings options.find_causes selected m4 m5 (Ok plan) plans) in
           inr (
             record {
-              jobs = jobs;
+              plan = plan;
               planning = m5;
               planned = record {
                 settings = settings;
@@ -223,7 +225,7 @@ module _ (options : RunOptions) (settings : Settings) (a : Work) (conf : IfSome 
                 selecting = m4;
                 selects = selects;
                 plans = plans;
-                few = few_jobs settings options.find_causes selected m4 m5 jobs (selected_range settings options m3 m4 selected selects) plans;
+                few = few_jobs settings options.find_causes selected m4 m5 plan (selected_range settings options m3 m4 selected selects) plans;
               };
               number = length (kinds_of found);
               mild = mild_then 0 2 a m3 m5 first chosen;

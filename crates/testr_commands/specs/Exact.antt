@@ -18,6 +18,7 @@ abbrev pub OpenEnds : {T : Type 0} → Result T OpenFault → Type 0
 OpenEnds (Ok value) = ⊥
 OpenEnds (Err open_fault.NoStore) = ⊥
 OpenEnds (Err open_fault.UnknownFormat) = ⊥
+OpenEnds (Err open_fault.BadBase) = ⊥
 OpenEnds (Err (open_fault.Gap number)) = ⊥
 OpenEnds (Err (open_fault.Shelf call)) = ⊤
 OpenEnds (Err open_fault.NoMemory) = ⊤

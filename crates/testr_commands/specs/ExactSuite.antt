@@ -6,6 +6,8 @@ use Rattle.edge_io.specs.Seen.{Seen}
 use Rattle.edge_io.specs.Spawners.{Spawning}
 use Rattle.suite_plan.specs.declared.patterns.PatternRefusal.{PatternRefusal}
 use Rattle.suite_plan.specs.declared.patterns.PatternRefusal.TheVariants as pattern
+use Rattle.suite_plan.specs.declared.pattern_list.PatternListRefusal.{PatternListRefusal}
+use Rattle.suite_plan.specs.declared.pattern_list.PatternListRefusal.TheVariants.{List as Unlisted, Bad}
 use Rattle.suite_plan.specs.declared.load_list.ListRefusal.{ListRefusal}
 use Rattle.suite_plan.specs.declared.load_list.ListRefusal.TheVariants.{Site, TooLong, Absent, NotId, NoMemory}
 
@@ -23,7 +25,7 @@ IsNamedBad text (Ok value) = ⊥
 IsNamedBad text (Err (pattern.Bad given)) = given.now ≡ text
 IsNamedBad text (Err pattern.NoMemory) = ⊥
 
--- ---- a list of ids, whose refusals name it
+-- ---- a list, whose refusals name it
 
 -- a read of the list failed, or memory was wanting
 abbrev pub ListEnds : {T : Type 0} → Result T ListRefusal → Type 0
@@ -55,3 +57,33 @@ IsNoId name number (Err (TooLong given)) = ⊥
 IsNoId name number (Err (Absent given)) = ⊥
 IsNoId name number (Err (NotId given line)) = (given.now ≡ name) × (line ≡ number)
 IsNoId name number (Err NoMemory) = ⊥
+
+-- ---- a list of patterns, whose refusals name it, too
+
+-- a read of the list failed, or memory was wanting
+abbrev pub PatternsEnd : {T : Type 0} → Result T PatternListRefusal → Type 0
+PatternsEnd result = (result ≡ Err (Unlisted Site)) ⊎ (result ≡ Err (Unlisted NoMemory))
+
+-- the list of this name was refused as one that is missing
+abbrev pub IsPatternsAbsent : {T : Type 0} → List ℕ → Result T PatternListRefusal → Type 0
+IsPatternsAbsent name (Ok value) = ⊥
+IsPatternsAbsent {T = T} name (Err (Unlisted refusal)) = IsListAbsent {T = T} name (Err refusal)
+IsPatternsAbsent name (Err (Bad line)) = ⊥
+
+-- it was refused as one that is too long
+abbrev pub IsPatternsTooLong : {T : Type 0} → List ℕ → Result T PatternListRefusal → Type 0
+IsPatternsTooLong name (Ok value) = ⊥
+IsPatternsTooLong {T = T} name (Err (Unlisted refusal)) = IsListTooLong {T = T} name (Err refusal)
+IsPatternsTooLong name (Err (Bad line)) = ⊥
+
+-- it was refused at this line, which is no text
+abbrev pub IsNoText : {T : Type 0} → List ℕ → ℕ → Result T PatternListRefusal → Type 0
+IsNoText name number (Ok value) = ⊥
+IsNoText {T = T} name number (Err (Unlisted refusal)) = IsNoId {T = T} name number (Err refusal)
+IsNoText name number (Err (Bad line)) = ⊥
+
+-- it was refused at this line, as this bad pattern
+abbrev pub IsBadLine : {T : Type 0} → List ℕ → ℕ → (pattern : List ℕ) → Result T PatternListRefusal → Type 0
+IsBadLine name number pattern (Ok value) = ⊥
+IsBadLine name number pattern (Err (Unlisted refusal)) = ⊥
+IsBadLine name number pattern (Err (Bad line)) = (line.name.now ≡ name) × (line.number ≡ number) × (line.pattern ≡ pattern)

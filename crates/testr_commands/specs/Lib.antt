@@ -2,6 +2,7 @@ pub mod Workers
 pub mod Answer
 pub mod Searches
 pub mod RunSuite
+pub mod Further
 pub mod SelfTest
 pub mod Init
 pub mod Load
@@ -13,6 +14,8 @@ pub mod Stops
 pub mod Printed
 pub mod SuiteProgram
 pub mod Program
+pub mod Forced
+pub mod WholeCall
 pub mod Prospects
 pub mod Exact
 pub mod ExactSuite

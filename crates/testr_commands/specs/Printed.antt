@@ -7,15 +7,19 @@ use Rattle.packet_codec.specs.Grammar.{AreBytes}
 use Rattle.packet_codec.specs.declared.event.Event.{Event}
 use Rattle.run_shelf.specs.Repository.{Run, Shows}
 use Rattle.sub_text.specs.Texts.{report_of, summary_of}
-use Rattle.suite_plan.specs.Choosing.{Ids, chosen_of}
+use Rattle.suite_plan.specs.Choosing.{Ids, with_further, chosen_of}
 use Rattle.suite_plan.specs.ConfFile.{GivesSettings}
 use Rattle.suite_plan.specs.Listing.{ListsSo}
+use Rattle.suite_plan.specs.declared.picks.FurtherPicks.{FurtherPicks}
 use Rattle.testr_conf.specs.Jobs.{id_lines}
 use Rattle.testr_conf.specs.Settings.{Settings}
 use Rattle.command_steps.specs.Files.{AreSources, HasRecordedInTurn}
 use Rattle.command_steps.specs.Outside.{Work}
 use Rattle.command_steps.specs.Says.{SaysOfFolder}
+use Rattle.command_steps.specs.Selecting.{picks_of}
+use Rattle.testr_commands.specs.Further.{GivesFurther}
 use Rattle.testr_commands.specs.SelfTest.{rows_in_turn}
+use Rattle.testr_words.specs.Suites.{ListOptions}
 use Rattle.testr_words.specs.Tasks.{Task, load, ask, list, run, selftest}
 use Rattle.testr_commands.specs.Workers.{PrintsFirst}
 use Rattle.command_steps.specs.declared.answer.Verdict.{Verdict}
@@ -37,19 +41,21 @@ pub record PrintsOfAnswer (question : Question) (before after : Work) : Type 0 w
   pub says : IfSome after.folder.told (SaysOfFolder question text verdict)
   pub printed : AppendsPrefix before.out.told after.out.told text
 
--- a first part of the lines of the ids that the project's listing gave and the patterns pick
-pub record PrintsOfListing (patterns : Ids) (before after : Work) : Type 0 where
+-- a first part of the lines of the ids that the project's listing gave and that are wanted
+pub record PrintsOfListing (options : ListOptions) (before after : Work) : Type 0 where
   pub settings : Settings
-  pub conf : IfSome before.site.told (GivesSettings settings)
+  pub conf : IfSome before.site.told (GivesSettings options.project settings)
+  pub further : FurtherPicks
+  pub lists : GivesFurther options.wanted further before.site.told
   pub ids : Ids
   pub listed : Goes before.spawner.told after.spawner.told (ListsSo settings ids)
-  pub printed : AppendsPrefix before.out.told after.out.told (id_lines (chosen_of patterns ids))
+  pub printed : AppendsPrefix before.out.told after.out.told (id_lines (chosen_of (with_further (picks_of options.wanted) further) ids))
 
 -- so it is of each task; where it is no task, or `init`, nothing is printed
 abbrev pub PrintsPart : Option Task → Work → Work → Type 0
 PrintsPart (Some (load partial names)) before after = PrintsOfLoad names before after
 PrintsPart (Some (ask question)) before after = PrintsOfAnswer question before after
-PrintsPart (Some (list patterns)) before after = PrintsOfListing patterns before after
+PrintsPart (Some (list options)) before after = PrintsOfListing options before after
 PrintsPart (Some (run options)) before after = PrintsFirst options before after
 PrintsPart (Some (selftest drawing)) before after = AppendsPrefix before.out.told after.out.told (summary_of (rows_in_turn drawing) 0 [])
 PrintsPart asked before after = ⊥

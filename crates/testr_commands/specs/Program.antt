@@ -35,7 +35,6 @@ use Rattle.testr_commands.specs.Stops.{PassesTask}
 use Rattle.testr_commands.specs.SuiteProgram.{ListsAll, RunsAll, CanList, CanRun}
 use Rattle.testr_words.specs.Tasks.{Task, init, load, ask, list, run, selftest}
 use Rattle.command_steps.specs.Verdicts.{verdict_code}
-use Rattle.testr_words.specs.Words.{asked_by}
 use Rattle.command_steps.specs.declared.answer.Refusal.{Refusal}
 use Rattle.command_steps.specs.declared.answer.Refusal.TheVariants.{Usage, Memory}
 use Rattle.testr_commands.specs.Workers.{LeavesRun}
@@ -131,7 +130,7 @@ Performs None = Refuses
 Performs (Some init) = At work_folder Inits
 Performs (Some (load partial names)) = Loads partial names
 Performs (Some (ask question)) = At work_shown (Asks question)
-Performs (Some (list patterns)) = ListsSuite patterns
+Performs (Some (list options)) = ListsSuite options
 Performs (Some (run options)) = RunsSuite options
 Performs (Some (selftest drawing)) = TestsItself drawing
 
@@ -141,7 +140,7 @@ Does None before after answer = ⊥
 Does (Some init) before after answer = Goes before.folder.told after.folder.told MakesRepository × (answer ≡ 0)
 Does (Some (load partial names)) before after answer = LoadsAll partial names before after answer
 Does (Some (ask question)) before after answer = AnswersQuestion question before after answer
-Does (Some (list patterns)) before after answer = ListsAll patterns before after answer
+Does (Some (list options)) before after answer = ListsAll options before after answer
 Does (Some (run options)) before after answer = RunsAll options before after answer
 Does (Some (selftest drawing)) before after answer = SumsUpAll drawing before after answer
 
@@ -151,13 +150,13 @@ CanPerform None before = ⊥
 CanPerform (Some init) before = CanInit before
 CanPerform (Some (load partial names)) before = CanLoad names before
 CanPerform (Some (ask question)) before = CanAsk question before
-CanPerform (Some (list patterns)) before = CanList patterns before
+CanPerform (Some (list options)) before = CanList options before
 CanPerform (Some (run options)) before = CanRun options before
 CanPerform (Some (selftest drawing)) before = ⊤
 
 -- what stays as it was at every exit; of a run, what it has started and printed by then
 abbrev pub Leaves : Option Task → Outside → Outside → Type 0
-Leaves (Some (list patterns)) before after = ⊤
+Leaves (Some (list options)) before after = ⊤
 Leaves (Some (run options)) before after = LeavesRun options (work_of before) (work_of after)
 Leaves (Some (selftest drawing)) before after = LeavesOutside before after
 Leaves asked before after = after.spawner ≡ before.spawner
@@ -169,7 +168,7 @@ Keeps asked = KeepsFiles
 
 -- it starts programs, so a fault may be that of one of them, of which there is no count
 abbrev pub StartsPrograms : Option Task → Type 0
-StartsPrograms (Some (list patterns)) = ⊤
+StartsPrograms (Some (list options)) = ⊤
 StartsPrograms (Some (run options)) = ⊤
 StartsPrograms asked = ⊥
 
@@ -223,7 +222,3 @@ pub record Promises (reading : Bool) (asked : Option Task) (before after : Outsi
   pub did : answer ≤ 1 → Does asked (work_of before) (work_of after) answer
   -- it does not give up without a cause
   pub completeness : CanPerform asked (work_of before) → (SomeFailed asked (work_of before) (work_of after) → ⊥) → IsPerformed asked answer ⊎ (IsTrue reading × (answer ≡ 5))
-
--- what `testr` promises for all its words
-abbrev pub TestrPromises : List (List ℕ) → Outside → Outside → ℕ → Type 0
-TestrPromises words = Promises true (asked_by words)

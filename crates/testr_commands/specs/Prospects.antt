@@ -7,7 +7,7 @@ use Rattle.edge_io.specs.declared.job.Job.{Job}
 use Rattle.testr_conf.specs.Settings.{Settings}
 use Rattle.command_steps.specs.Outside.{Work}
 use Rattle.command_steps.specs.Runs.{KeepsFiles}
-use Rattle.command_steps.specs.Selecting.{CountsWorkers, Selects, Plans}
+use Rattle.command_steps.specs.Selecting.{CountsWorkers, Selects, Planned, Plans}
 use Rattle.testr_words.specs.Suites.{RunOptions}
 use Rattle.command_steps.specs.declared.selecting.Selected.{Selected}
 
@@ -28,8 +28,8 @@ pub record MaySelect (settings : Settings) (options : RunOptions) (before : Work
   pub selecting : Work
   pub selects : Selects settings options start selecting (Ok selected)
 
--- These jobs may be made for the workers, over this outside, and this is the outside then.
-pub record MayPlan (settings : Settings) (options : RunOptions) (before : Work) (jobs : List Job) (planning : Work) : Type 0 where
+-- This may be planned for the workers, over this outside, and this is the outside then.
+pub record MayPlan (settings : Settings) (options : RunOptions) (before : Work) (plan : Planned) (planning : Work) : Type 0 where
   pub selected : Selected
   pub may : MaySelect settings options before selected
-  pub plans : Plans settings options.find_causes selected may.selecting planning (Ok jobs)
+  pub plans : Plans settings options.find_causes selected may.selecting planning (Ok plan)

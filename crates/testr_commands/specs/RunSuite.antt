@@ -6,17 +6,18 @@ use Rattle.sub_number.specs.declared.memory.NoMemory.{NoMemory}
 use Rattle.testr_conf.specs.Jobs.{id_lines}
 use Rattle.testr_conf.specs.Settings.{Settings}
 use Rattle.suite_plan.specs.ConfFile.{ReadsConf}
-use Rattle.suite_plan.specs.Choosing.{Ids, chosen_of}
+use Rattle.suite_plan.specs.Choosing.{Ids, with_further, chosen_of}
 use Rattle.suite_plan.specs.Listing.{ListsTests}
 use Rattle.suite_plan.specs.Patterns.{Compiles}
 use Rattle.command_steps.specs.Causes.{FindsCauses}
 use Rattle.command_steps.specs.Outside.{Work, work_folder, work_site, work_spawner, work_out}
 use Rattle.command_steps.specs.Reporting.{Reports, Prints}
-use Rattle.command_steps.specs.Selecting.{Selects, Plans}
+use Rattle.command_steps.specs.Selecting.{picks_of, list_refusal, ReadsFurther, Selects, Plans}
 use Rattle.command_steps.specs.Steps.{Step, Then, Still, Gives, At}
 use Rattle.command_steps.specs.Store.{Opens, TakesRun}
-use Rattle.testr_words.specs.Suites.{RunOptions, is_partial}
+use Rattle.testr_words.specs.Suites.{ListOptions, Wanted, RunOptions, is_partial}
 use Rattle.suite_plan.specs.declared.patterns.Compiled.{Compiled}
+use Rattle.suite_plan.specs.declared.picks.Picks.{Picks}
 use Rattle.testr_commands.specs.declared.run.Asked.{Asked}
 use Rattle.command_steps.specs.declared.answer.Verdict.{Verdict}
 use Rattle.command_steps.specs.declared.answer.Verdict.TheVariants.{Passed}
@@ -26,22 +27,23 @@ use Rattle.command_steps.specs.Working.{Works}
 
 -- ---- `list-tests`
 
--- of the tests listed, those in which a pattern is found, each on a line
-pub record WritesIds (patterns ids : Ids) (result : Result (List ℕ) NoMemory) : Type 0 where
-  pub lines : IfOk result (λ text. text ≡ id_lines (chosen_of patterns ids))
+-- of the tests listed, those that are wanted by these patterns, each on a line
+pub record WritesIds (picks : Picks) (ids : Ids) (result : Result (List ℕ) NoMemory) : Type 0 where
+  pub lines : IfOk result (λ text. text ≡ id_lines (chosen_of picks ids))
 
 -- what is done with a configuration
-abbrev pub ListsBy : Ids → Settings → Step Work Verdict Refusal
-ListsBy patterns settings =
-    Then Pattern (Still (Compiles patterns None)) (λ _.
+abbrev pub ListsBy : Wanted → Settings → Step Work Verdict Refusal
+ListsBy wanted settings =
+    Then Pattern (Still (Compiles wanted.patterns wanted.excluded None)) (λ _.
+    Then list_refusal (At work_site (ReadsFurther wanted)) (λ further.
     Then Listing (At work_spawner (ListsTests settings)) (λ ids.
-    Then Memory (Still (WritesIds patterns ids)) (λ text.
+    Then Memory (Still (WritesIds (with_further (picks_of wanted) further) ids)) (λ text.
     Then Print (At work_out (Prints text)) (λ _.
-    Gives Passed))))
+    Gives Passed)))))
 
 -- the chain of `list-tests`
-abbrev pub ListsSuite : Ids → Step Work Verdict Refusal
-ListsSuite patterns = Then Conf (At work_site ReadsConf) (ListsBy patterns)
+abbrev pub ListsSuite : ListOptions → Step Work Verdict Refusal
+ListsSuite options = Then Conf (At work_site (ReadsConf options.project)) (ListsBy options.wanted)
 
 -- the report of the run of these rows and this number is made and printed
 abbrev pub TellsRun : (number : ℕ) → (filter_tags : Ids) → List Row → Step Work Verdict Refusal
@@ -67,12 +69,12 @@ abbrev pub RunsBy : RunOptions → Settings → Step Work Verdict Refusal
 RunsBy options settings =
     Then Open (At work_folder Opens) (λ found.
     Then Runs (Still (TakesRun (length (kinds_of found)))) (λ _.
-    Then Pattern (Still (Compiles options.patterns settings.group_regex)) (λ _.
+    Then Pattern (Still (Compiles options.wanted.patterns options.wanted.excluded settings.group_regex)) (λ _.
     Then (λ refusal. refusal) (Selects settings options) (λ selected.
-    Then (λ refusal. refusal) (Plans settings options.find_causes selected) (λ jobs.
-    Then (λ refusal. refusal) (Works (is_partial options) (length (kinds_of found)) jobs) (λ rows.
+    Then (λ refusal. refusal) (Plans settings options.find_causes selected) (λ plan.
+    Then (λ refusal. refusal) (Works (is_partial options) (length (kinds_of found)) plan) (λ rows.
     TellsAndFinds options.find_causes settings (length (kinds_of found)) rows))))))
 
 -- the chain of `run`
 abbrev pub RunsSuite : RunOptions → Step Work Verdict Refusal
-RunsSuite options = Then Conf (At work_site ReadsConf) (RunsBy options)
+RunsSuite options = Then Conf (At work_site (ReadsConf options.project)) (RunsBy options)

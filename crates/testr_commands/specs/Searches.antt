@@ -17,7 +17,8 @@ use Rattle.suite_causes.specs.Suspects.{candidates_of, suspects_of}
 use Rattle.suite_causes.specs.declared.searching.SearchFault.{SearchFault}
 use Rattle.suite_causes.specs.declared.suspects.Suspect.{Suspect}
 use Rattle.testr_conf.specs.Settings.{Settings}
-use Rattle.worker_mux.specs.Outputs.{lists_from}
+use Rattle.worker_mux.specs.Outputs.{lists_asked}
+use Rattle.command_steps.specs.Selecting.{Planned}
 
 -- ---- what was searched, where the run's events are these
 
@@ -90,8 +91,8 @@ UseNoBroken events (one ∷ more) outputs =
     let candidates = candidates_of one.id one.lane events in
     UsesNoBroken one.id candidates outputs × UseNoBroken events more (drop (length (asked_for one.id candidates outputs)) outputs)
 
--- Behind so many workers no probe's child is broken: in whichever order the packets of the workers come.
-abbrev pub ProbesEnd : (workers : ℕ) → Spawning → Type 0
-ProbesEnd workers s =
-    (outputs later : List Output) → s.outputs ≡ outputs ++ later → length outputs ≡ workers
-    → (events : List Event) → IsMerge events (lists_from 0 outputs) → UseNoBroken events (suspects_in events) later
+-- Behind the workers of this plan no probe's child is broken: in whichever order the packets of the workers come.
+abbrev pub ProbesEnd : Planned → Spawning → Type 0
+ProbesEnd plan s =
+    (outputs later : List Output) → s.outputs ≡ outputs ++ later → length outputs ≡ length plan.jobs
+    → (events : List Event) → IsMerge events (lists_asked 0 plan.asked outputs) → UseNoBroken events (suspects_in events) later

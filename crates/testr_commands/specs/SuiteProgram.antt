@@ -1,4 +1,5 @@
 -- What `list-tests` and `run` do, and what they need to be done. The promise of a run is the run theorem.
+use Rattle.suite_run.specs.NoneLost.{AreAllShort, LoseNone}
 use Rattle.std.specs.Prelude.{◌≡◌, ⊤, ℕ, zero, suc, ◌≤◌, ◌<◌, pos, Bool, true, Option, Some, None, IfSome, IsSomeAnd, All, List, [], ◌∷◌, ◌++◌, length, IsOk}
 use Rattle.std.specs.Io.KnownBytes.{Appends}
 use Rattle.edge_io.specs.Children.{Output}
@@ -13,34 +14,38 @@ use Rattle.run_shelf.specs.Repository.{Run, Shows, most_runs}
 use Rattle.sub_text.specs.Texts.{report_of}
 use Rattle.suite_causes.specs.Searching.{CanHandIds}
 use Rattle.suite_plan.specs.Calling.{TellsNumber}
-use Rattle.suite_plan.specs.Choosing.{Ids, chosen_of}
+use Rattle.suite_plan.specs.Choosing.{Ids, with_further, chosen_of}
 use Rattle.suite_plan.specs.ConfFile.{GivesSettings}
 use Rattle.suite_plan.specs.Listing.{ListsSo}
 use Rattle.suite_plan.specs.LoadList.{IsLoadList}
 use Rattle.suite_plan.specs.Processors.{table_name}
 use Rattle.suite_plan.specs.Texts.{most_text}
+use Rattle.suite_plan.specs.declared.picks.FurtherPicks.{FurtherPicks}
 use Rattle.testr_conf.specs.Jobs.{count_job_of, list_job_of, run_job_of, id_lines}
 use Rattle.testr_conf.specs.Settings.{Settings}
 use Rattle.command_steps.specs.Outside.{Work}
 use Rattle.command_steps.specs.Refreshing.{BringsCaches}
 use Rattle.command_steps.specs.Runs.{HasRuns, AddsRun}
+use Rattle.testr_commands.specs.Further.{GivesFurther, CanReadFurther}
 use Rattle.testr_commands.specs.Searches.{ProbesEnd, SearchesAll}
 use Rattle.testr_commands.specs.Prospects.{MayCount, MaySelect, MayPlan}
-use Rattle.command_steps.specs.Selecting.{needs_listing}
-use Rattle.testr_words.specs.Suites.{RunOptions, is_partial}
+use Rattle.command_steps.specs.Selecting.{picks_of, needs_listing, Times, asked_of, shares_of_ids, Planned}
+use Rattle.testr_words.specs.Suites.{ListOptions, RunOptions, is_partial}
 use Rattle.testr_commands.specs.Workers.{RunsWorkers}
 use Rattle.command_steps.specs.declared.selecting.Selected.{Selected}
 
 -- ---- `list-tests`
 
--- The listing of the project's own configuration gave these ids, those that are picked were printed, each on a line, and
+-- The listing of the project's own configuration gave these ids, those that are wanted were printed, each on a line, and
 -- nothing else happened.
-pub record ListsAll (patterns : Ids) (before after : Work) (answer : ℕ) : Type 0 where
+pub record ListsAll (options : ListOptions) (before after : Work) (answer : ℕ) : Type 0 where
   pub settings : Settings
-  pub conf : IfSome before.site.told (GivesSettings settings)
+  pub conf : IfSome before.site.told (GivesSettings options.project settings)
+  pub further : FurtherPicks
+  pub lists : GivesFurther options.wanted further before.site.told
   pub ids : Ids
   pub listed : Goes before.spawner.told after.spawner.told (ListsSo settings ids)
-  pub printed : Appends before.out.told after.out.told (id_lines (chosen_of patterns ids))
+  pub printed : Appends before.out.told after.out.told (id_lines (chosen_of (with_further (picks_of options.wanted) further) ids))
   pub status : answer ≡ 0
   pub folder : after.folder ≡ before.folder
   pub input : after.input ≡ before.input
@@ -50,8 +55,8 @@ pub record ListsAll (patterns : Ids) (before after : Work) (answer : ℕ) : Type
 -- The run theorem. By the project's configuration tests were selected, and a job was made for each worker. These jobs were
 -- started; their outputs are the workers'. Whatever runs the folder showed, it shows one run more, and so does what each
 -- later stop leaves: its packets are those of events that are each under one of the lanes, and where the outputs are told
--- they are a merge of what is recorded of each: all of it, once and in order under its lane. The report of the run's rows
--- was printed and the status is theirs; both are those of the workers read one after another. Where causes are looked for, each
+-- they are a merge of what is recorded of each: all of it, once and in order under its lane. No test vanishes: each id that a
+-- job names is the id of a row, or the job's worker ended with 0. The report of the run's rows was printed and the status is theirs; both are those of the workers read one after another. Where causes are looked for, each
 -- test that fails was searched behind that, and its line stands behind the report. Where the files were sound, the caches are
 -- those of all runs.
 pub record RunsAll (options : RunOptions) (before after : Work) (answer : ℕ) : Type 0 where
@@ -60,6 +65,7 @@ pub record RunsAll (options : RunOptions) (before after : Work) (answer : ℕ) :
   pub cached : Goes before.folder.told after.folder.told BringsCaches
   pub printed : IfSome before.folder.told (λ s. (runs : List Run) → Shows s.disk.published runs → Appends before.out.told after.out.told (report_of (rows_of workers.events) (length runs) workers.planned.settings.filter_tags ++ workers.lines))
   pub found : SearchesAll options.find_causes workers.planned.settings workers.events workers.lines before.folder.told workers.worked after.spawner.told
+  pub none_lost : IfSome before.spawner.told (λ _. LoseNone (rows_of workers.events) workers.plan.asked workers.outputs)
   pub status : answer ≡ status_of (rows_of workers.events)
   pub input : after.input ≡ before.input
 
@@ -93,29 +99,32 @@ CallsOutNone (Some job) s = (output : Output) × (later : List Output) × (s.out
 abbrev pub CanHand : Settings → Ids → Type 0
 CanHand settings ids = (ids ≡ [] → ⊥) → (share : Ids) (lane : ℕ) → IsOk (run_job_of settings (Some share) lane)
 
--- the configuration is there, its patterns are good, it has a listing, and the listing ends with 0
-pub record CanList (patterns : Ids) (before : Work) : Type 0 where
+-- the configuration is there, the patterns are good and their lists can be read, it has a listing, and the listing ends with 0
+pub record CanList (options : ListOptions) (before : Work) : Type 0 where
   pub settings : Settings
-  pub conf : IsSomeAnd before.site.told (GivesSettings settings)
-  pub good : All IsPattern patterns
+  pub conf : IsSomeAnd before.site.told (GivesSettings options.project settings)
+  pub good : All IsPattern (options.wanted.patterns ++ options.wanted.excluded)
+  pub lists : CanReadFurther options.wanted before.site.told
   pub job : IsOk (list_job_of settings)
   pub ends : IsSomeAnd before.spawner.told (EndsWell 0)
 
--- The same of a run. There is room for one, the list of ids can be read, so can the table of processors where the number of
+-- The same of a run. There is room for one, the lists of ids and patterns can be read, so can the table of processors where the number of
 -- workers is neither said nor called out. Where the tests are listed, by the number of workers that was found, there is a
--- listing, and it ends with 0. Where ids are left to run, they can be handed to a worker. Where causes are looked for, ids can be
+-- listing, and it ends with 0. Where ids are left to run, they can be handed to a worker, and none is too long, by whichever times they are shared out. Where causes are looked for, ids can be
 -- handed to a probe, and no probe's child is broken.
 pub record CanRun (options : RunOptions) (before : Work) : Type 0 where
   pub settings : Settings
-  pub conf : IsSomeAnd before.site.told (GivesSettings settings)
+  pub conf : IsSomeAnd before.site.told (GivesSettings options.project settings)
   pub free : IsSomeAnd before.folder.told (λ s. (number : ℕ) × (number < most_runs) × HasRuns number s)
-  pub good : All IsPattern options.patterns
+  pub good : All IsPattern (options.wanted.patterns ++ options.wanted.excluded)
   pub good_regex : IfSome settings.group_regex IsPattern
   pub load_list : IfSome options.load_list (λ name. IsSomeAnd before.site.told (λ files. (ids : Ids) × IsLoadList name ids files))
+  pub lists : CanReadFurther options.wanted before.site.told
   pub table : options.parallel ≡ true → options.concurrency ≡ 0 → IsSomeAnd before.spawner.told (CallsOutNone (count_job_of settings)) → IsSomeAnd before.site.told (λ files. IfSome (files table_name) (λ text. length text ≤ most_text))
   pub count : IsSomeAnd before.spawner.told (CountIsTold (calls_of options settings))
   pub job : (workers : ℕ) → MayCount settings options before.site.told before.spawner.told workers → needs_listing options workers ≡ true → IsOk (list_job_of settings)
   pub ends : (workers : ℕ) → MayCount settings options before.site.told before.spawner.told workers → needs_listing options workers ≡ true → IsSomeAnd before.spawner.told (EndsWell (calls_of options settings))
   pub handed : (selected : Selected) → MaySelect settings options before selected → IfSome selected.ids (CanHand settings)
+  pub named : (times : Option Times) (selected : Selected) → MaySelect settings options before selected → AreAllShort (asked_of (shares_of_ids settings.group_regex times selected))
   pub hands_ids : options.find_causes ≡ true → CanHandIds settings
-  pub probes : options.find_causes ≡ true → (jobs : List Job) (planning : Work) → MayPlan settings options before jobs planning → IfSome planning.spawner.told (ProbesEnd (length jobs))
+  pub probes : options.find_causes ≡ true → (plan : Planned) (planning : Work) → MayPlan settings options before plan planning → IfSome planning.spawner.told (ProbesEnd plan)

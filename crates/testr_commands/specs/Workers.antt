@@ -15,19 +15,19 @@ use Rattle.sub_text.specs.Texts.{report_of}
 use Rattle.suite_plan.specs.ConfFile.{GivesSettings}
 use Rattle.suite_run.specs.Starting.{StartsAll}
 use Rattle.testr_conf.specs.Settings.{Settings}
-use Rattle.worker_mux.specs.Outputs.{lists_from}
+use Rattle.worker_mux.specs.Outputs.{lists_asked}
 use Rattle.testr_commands.specs.Searches.{SearchesSome, TakesFirst}
 use Rattle.command_steps.specs.Outside.{Work, work_folder}
 use Rattle.command_steps.specs.Runs.{KeepsFiles}
-use Rattle.command_steps.specs.Selecting.{Selects, Plans}
+use Rattle.command_steps.specs.Selecting.{Selects, Planned, Plans}
 use Rattle.testr_words.specs.Suites.{RunOptions}
 use Rattle.command_steps.specs.declared.selecting.Selected.{Selected}
 
 -- The jobs of a run: by the project's configuration tests and a number of workers were selected, and a job was made for each
 -- worker.
-pub record HasPlanned (options : RunOptions) (before planning : Work) (jobs : List Job) : Type 0 where
+pub record HasPlanned (options : RunOptions) (before planning : Work) (plan : Planned) : Type 0 where
   pub settings : Settings
-  pub conf : IfSome before.site.told (GivesSettings settings)
+  pub conf : IfSome before.site.told (GivesSettings options.project settings)
   -- the folder was opened, and reads give the files as before
   pub opened : Work
   pub opened_is : opened ≡ work_folder.put before opened.folder
@@ -37,27 +37,27 @@ pub record HasPlanned (options : RunOptions) (before planning : Work) (jobs : Li
   pub selecting : Work
   pub selects : Selects settings options opened selecting (Ok selected)
   -- the jobs were made
-  pub plans : Plans settings options.find_causes selected selecting planning (Ok jobs)
-  pub few : length jobs ≤ 64
+  pub plans : Plans settings options.find_causes selected selecting planning (Ok plan)
+  pub few : length plan.jobs ≤ 64
 
 -- Up to the moment `worked` these jobs were started, in this order, and no others behind the choice of the tests; the first
 -- outputs to come then are the workers', and what comes later is left. There are events, each under one of the lanes; where the outputs are told they
--- are a merge of what is recorded of each: all of it, once and in order under its lane, and nothing else. Behind the workers,
+-- are a merge of what is recorded of each, and of the ids that its job names: all of it, once and in order under its lane, and nothing else. Behind the workers,
 -- where causes are looked for, some first tests of those that fail were searched, and nothing else was started.
 pub record RunsWorkers (options : RunOptions) (before after : Work) : Type 0 where
-  pub jobs : List Job
+  pub plan : Planned
   pub planning : Work
-  pub planned : HasPlanned options before planning jobs
+  pub planned : HasPlanned options before planning plan
   pub outputs : List Output
   pub worked : Option Spawning
-  pub started : Goes planning.spawner.told worked (StartsAll jobs outputs)
+  pub started : Goes planning.spawner.told worked (StartsAll plan.jobs outputs)
   pub events : List Event
   pub are_events : All IsEvent events
   pub fit : All Fits events
-  pub of_lanes : All (IsOfLaneBelow (length jobs)) events
-  pub merged : IfSome before.spawner.told (λ _. IsMerge events (lists_from 0 outputs))
+  pub of_lanes : All (IsOfLaneBelow (length plan.jobs)) events
+  pub merged : IfSome before.spawner.told (λ _. IsMerge events (lists_asked 0 plan.asked outputs))
   -- so they say the same as the events of the outputs one after another
-  pub in_turn : IfSome before.spawner.told (λ _. SaySame events (joined (lists_from 0 outputs)))
+  pub in_turn : IfSome before.spawner.told (λ _. SaySame events (joined (lists_asked 0 plan.asked outputs)))
   -- and what was searched behind them, with the lines of the tests that came to a verdict
   pub lines : List ℕ
   pub probed : SearchesSome options.find_causes planned.settings events lines before.folder.told worked after.spawner.told
@@ -72,12 +72,12 @@ pub record AsksFew (most : ℕ) (s t : Spawning) : Type 0 where
 
 -- workers were started for some first jobs, in their order
 pub record StartsFirst (options : RunOptions) (before after : Work) : Type 0 where
-  pub jobs : List Job
+  pub plan : Planned
   pub planning : Work
-  pub planned : HasPlanned options before planning jobs
+  pub planned : HasPlanned options before planning plan
   pub done : List Job
   pub more : List Job
-  pub jobs_are : jobs ≡ done ++ more
+  pub jobs_are : plan.jobs ≡ done ++ more
   pub outputs : List Output
   pub started : Goes planning.spawner.told after.spawner.told (StartsAll done outputs)
 

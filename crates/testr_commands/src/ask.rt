@@ -1,6 +1,7 @@
 //! The commands that tell of a repository, and change nothing.
 
-ghost use Rattle.std.specs.Prelude.{◌↔◌, IsTrue};
+ghost use Rattle.std.specs.Prelude.{◌↔◌, ◌+◌, IsTrue};
+ghost use Rattle.run_shelf.specs.Looking.{base_calls};
 ghost use Rattle.testr_commands.specs.Ask.{Asks};
 ghost use Rattle.command_steps.specs.Outside.{shown};
 ghost use Rattle.testr_words.specs.Questions.{OfBytes};
@@ -24,7 +25,7 @@ pub fn ask<H: Shelf, O: Sink>(
         (shown (H.seen shelf.old) (O.seen out.old))
         (shown (H.seen shelf.new) (O.seen out.new))
         result }
-    ensures spares { SparesFor 6 question (H.seen shelf.old).told (H.clock shelf.old) (H.clock shelf.new) }
+    ensures spares { SparesFor (6 + base_calls (H.seen shelf.old).told) question (H.seen shelf.old).told (H.clock shelf.old) (H.clock shelf.new) }
     ensures looks { LooksOnly (H.seen shelf.old).told (H.clock shelf.old) (H.clock shelf.new) }
 {
     let found = open(alloc, shelf)?;

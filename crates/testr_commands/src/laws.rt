@@ -7,9 +7,9 @@ ghost use Rattle.outcome_fold.specs.declared.row.Row.{Row as ARow};
 ghost use Rattle.run_shelf.specs.declared.faults.InitFault.{InitFault as AnInitFault};
 ghost use Rattle.run_shelf.specs.declared.faults.InitFault.TheVariants.{Exists};
 ghost use Rattle.run_shelf.specs.declared.faults.OpenFault.{OpenFault as AnOpenFault};
-ghost use Rattle.run_shelf.specs.declared.faults.OpenFault.TheVariants.{NoStore, UnknownFormat, Gap};
+ghost use Rattle.run_shelf.specs.declared.faults.OpenFault.TheVariants.{NoStore, UnknownFormat, BadBase, Gap};
 ghost use Rattle.run_shelf.specs.declared.found.Found.{Found as AFound};
-ghost use Rattle.run_shelf.specs.Repository.{format_name, HasFormat, HasOtherFormat, IsGap, most_runs};
+ghost use Rattle.run_shelf.specs.Repository.{format_name, HasFormat, HasOtherFormat, HasBadBase, IsGap, most_runs};
 ghost use Rattle.testr_words.specs.declared.command.Question.{Question as AQuestion};
 ghost use Rattle.command_steps.specs.declared.recording.RecordFault.{RecordFault as ARecordFault};
 ghost use Rattle.command_steps.specs.declared.recording.RecordFault.TheVariants.{TooLong};
@@ -35,6 +35,8 @@ pub fn refusals_are_exact()
         → IsSomeAnd before.told (λ s. s.disk.published format_name ≡ None) → (result ≡ Err NoStore) ⊎ OpenEnds result }
     ensures unknown_format { (before after : Seen Folder) (result : Result AFound AnOpenFault) → Opens before after result
         → IsSomeAnd before.told (λ s. HasOtherFormat s.disk.published) → (result ≡ Err UnknownFormat) ⊎ OpenEnds result }
+    ensures bad_base { (before after : Seen Folder) (result : Result AFound AnOpenFault) → Opens before after result
+        → IsSomeAnd before.told (λ s. HasFormat s.disk.published × HasBadBase s.disk.published) → (result ≡ Err BadBase) ⊎ OpenEnds result }
     ensures missing_run { (before after : Seen Folder) (result : Result AFound AnOpenFault) (number : ℕ) → Opens before after result
         → IsSomeAnd before.told (λ s. HasFormat s.disk.published × IsGap s.disk.published number) → (result ≡ Err (Gap number)) ⊎ OpenEnds result }
     ensures full { (result : Result (Unit {0}) ARunsFault) → TakesRun most_runs result → result ≡ Err Full }

@@ -8,6 +8,7 @@
 //!
 //! - `init`, `load`, `ask`, `run`, `list`, `selftest`: the commands, each a chain of steps
 //! - `top`: `testr` and `quiet`
+//! - `nowhere`: the output of a command that prints no report
 //! - `laws`, `suite_laws`: each named refusal comes exactly where its cause is
 //!
 //! Its tests stand in rooms of their own above it, `load_trials` and `run_trials`.
@@ -18,6 +19,7 @@ mod init;
 mod laws;
 mod list;
 mod load;
+mod nowhere;
 mod run;
 mod selftest;
 mod suite_laws;
@@ -29,5 +31,5 @@ pub use command_steps::{
 };
 pub use laws::refusals_are_exact;
 pub use suite_laws::suite_refusals_are_exact;
-pub use testr_words::{Command, Question, Verb, reads};
-pub use top::{quiet, testr};
+pub use testr_words::{Command, Face, Question, Verb, reads, reads_as};
+pub use top::{quiet, testr, testr_as};

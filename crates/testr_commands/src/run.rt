@@ -1,6 +1,6 @@
 //! `testr run`.
 
-ghost use Rattle.std.specs.Prelude.{◌≡◌, ◌<◌, ◌≤◌, ℕ, List, length, true, IfOk, IfSome};
+ghost use Rattle.std.specs.Prelude.{[], ◌≡◌, ◌<◌, ◌≤◌, ℕ, List, length, true, IfOk, IfSome};
 ghost use Rattle.edge_io.specs.Disk.{Files, Folder};
 ghost use Rattle.edge_io.specs.Seen.{Seen};
 ghost use Rattle.outcome_fold.specs.Summed.{Sums};
@@ -14,7 +14,7 @@ ghost use Rattle.testr_commands.specs.RunSuite.{RunsBy, TellsAndFinds, TellsRun,
 ghost use Rattle.testr_commands.specs.SparingRun.{SparesRunOf};
 ghost use Rattle.command_steps.specs.Verdicts.{verdict_of};
 ghost use Rattle.command_steps.specs.declared.answer.Verdict.TheVariants.{Passed};
-ghost use Rattle.testr_words.specs.Suites.{run_options, is_part, is_partial as is_partial_run};
+ghost use Rattle.testr_words.specs.Suites.{wanted_of, run_options, is_part, is_partial as is_partial_run};
 ghost use Rattle.suite_plan.specs.Patterns.{Compiles};
 
 use crate::{Refusal, Verdict};
@@ -48,11 +48,11 @@ pub fn run<'a, R: Threads + Wait + Sync, H: Shelf, S: Spawner, F: Site, O: Sink>
     site: &mut F,
     out: &mut O,
 ) -> Result<Verdict, Refusal<'a>>
-    ensures step { (input : Seen (List ℕ)) → RunsBy (run_options command.now) conf.now
+    ensures step { (input : Seen (List ℕ)) → RunsBy (run_options [] command.now) conf.now
         (work (H.seen shelf.old) (F.seen site.old) (S.seen spawner.old) input (O.seen out.old))
         (work (H.seen shelf.new) (F.seen site.new) (S.seen spawner.new) input (O.seen out.new))
         result }
-    ensures calls { SparesRunOf command.now.find_causes (is_partial_run (run_options command.now)) (H.seen shelf.old).told (H.seen shelf.new).told (code_of result) (H.clock shelf.old) (H.clock shelf.new) }
+    ensures calls { SparesRunOf command.now.find_causes (is_partial_run (run_options [] command.now)) (H.seen shelf.old).told (H.seen shelf.new).told (code_of result) (H.clock shelf.old) (H.clock shelf.new) }
 {
     let found = open(alloc, shelf)?;
     take_run(&found)?;
@@ -62,13 +62,13 @@ pub fn run<'a, R: Threads + Wait + Sync, H: Shelf, S: Spawner, F: Site, O: Sink>
         alloc,
         conf,
         command,
-        &asked.compiled.filters,
+        &asked.compiled.picks,
         shelf,
         &found,
         spawner,
         site,
     )?;
-    let jobs = plan(
+    let plan = plan(
         alloc,
         conf,
         &asked.compiled.groups,
@@ -80,7 +80,8 @@ pub fn run<'a, R: Threads + Wait + Sync, H: Shelf, S: Spawner, F: Site, O: Sink>
     let kept = run_workers(
         rt,
         alloc,
-        &jobs,
+        &plan.jobs,
+        &plan.asked,
         asked.partial,
         command.find_causes,
         shelf,
@@ -185,12 +186,12 @@ fn read_asked<'a>(
     command: &'a Command,
     conf: &'a Conf,
 ) -> Result<Asked, PatternRefusal<'a>>
-    ensures compiled { Compiles command.now.names conf.now.group_regex (compiled_in result) }
+    ensures compiled { Compiles command.now.names command.now.excluded conf.now.group_regex (compiled_in result) }
     ensures filter_tags { IfOk result (λ asked. asked.filter_tags ≡ conf.now.filter_tags) }
-    ensures partial { IfOk result (λ asked. asked.partial ≡ is_part command.now.partial command.now.failing command.now.load_list command.now.names) }
+    ensures partial { IfOk result (λ asked. asked.partial ≡ is_part command.now.partial command.now.failing command.now.load_list (wanted_of command.now)) }
 {
     let partial = is_partial(command);
-    match compile(alloc, &command.names, conf.group_regex()) {
+    match compile(alloc, &command.names, &command.excluded, conf.group_regex()) {
         Ok(compiled) => match copies_of(alloc, conf.filter_tags().list()) {
             Ok(filter_tags) => Ok(Asked {
                 compiled,
@@ -205,12 +206,9 @@ fn read_asked<'a>(
 
 // Whether the run is of a part of the tests: it is called so, or its tests are chosen.
 fn is_partial(command: &Command) -> bool
-    ensures { result ≡ is_part command.now.partial command.now.failing command.now.load_list command.now.names }
+    ensures { result ≡ is_part command.now.partial command.now.failing command.now.load_list (wanted_of command.now) }
 {
-    command.partial
-        || command.failing
-        || command.load_list.is_some()
-        || !command.names.list().is_empty()
+    command.partial || command.failing || command.load_list.is_some() || command.is_choosing()
 }
 
 // Prints the report of the run of this number, which is kept, and of whose rows this is. Its last lines are made before the

@@ -115,6 +115,7 @@ fn run_drawn<R: Threads + Wait + Sync, H: Shelf, S: Spawner>(
         rt,
         alloc,
         jobs,
+        &[],
         false,
         false,
         shelf,

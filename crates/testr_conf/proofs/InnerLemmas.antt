@@ -1,7 +1,10 @@
 -- The lines right below a setting.
-use Rattle.std.proofs.Common.{◌≡◌, ◌+◌, ℕ, suc, true, cond, List, [], ◌∷◌, ◌++◌, take, map, refl, sym, ap, ◌∙◌, arith, append_assoc}
+use Rattle.std.proofs.Common.{◌≡◌, ◌+◌, ◌&&◌, ℕ, suc, Bool, true, false, Option, Some, cond, List, [], ◌∷◌, ◌++◌, take, map, refl, sym, ap, ◌∙◌, arith, append_assoc}
 use Rattle.std.specs.List.{flat_map, take_while, prefix_len}
-use Rattle.testr_conf.specs.Lines.{Line, more, skipped, ended_line_of}
+use Rattle.std.specs.List.{list_any, after_first}
+use Rattle.std.proofs.lemmas.Bool.{true≢false}
+use Rattle.testr_conf.specs.White.{trimmed, has_bytes}
+use Rattle.testr_conf.specs.Lines.{Line, bad, setting, section, more, skipped, is_sign, is_deeper, setting_key, setting_line, ended_line_of, line_behind, depth_behind, lines_behind}
 use Rattle.testr_conf.specs.Settings.{is_inner, added_text}
 
 one_more : (n : ℕ) → 1 + n ≡ suc n
@@ -13,21 +16,43 @@ inner line lines is =
     ap (λ b. flat_map added_text (take (cond b (1 + prefix_len is_inner lines) 0) (line ∷ lines))) is
     ∙ ap (λ n. flat_map added_text (take n (line ∷ lines))) (one_more (prefix_len is_inner lines))
 
-module _ (all value : List ℕ) (lines rest : List (List ℕ)) (line : List ℕ) (kind : Line)
-    (read : all ≡ value ++ flat_map added_text (take_while is_inner (map ended_line_of lines))) (first : lines ≡ line ∷ rest) (kind_is : kind ≡ ended_line_of line) where
-  split : (k : Line) → kind ≡ k → is_inner k ≡ true → all ≡ value ++ (added_text k ++ flat_map added_text (take_while is_inner (map ended_line_of rest)))
-  split k is yes' =
-      read ∙ ap (λ l. value ++ flat_map added_text (take_while is_inner (map ended_line_of l))) first
-      ∙ ap (λ x. value ++ flat_map added_text (take_while is_inner (x ∷ map ended_line_of rest))) (sym kind_is ∙ is)
-      ∙ ap (λ t. value ++ t) (inner k (map ended_line_of rest) yes')
+-- a setting is no inner line
+setting_outer : (line : List ℕ) → is_inner (setting_line line) ≡ false
+setting_outer line = by (list_any is_sign line && has_bytes (setting_key line))
+  where
+    by : (b : Bool) → is_inner (cond b (setting (setting_key line) (trimmed (after_first is_sign line))) bad) ≡ false
+    by true = refl
+    by false = refl
 
-  pub more_read : (text pushed new : List ℕ) → kind ≡ more text → pushed ≡ value ++ 10 ∷ [] → new ≡ pushed ++ text
-      → all ≡ new ++ flat_map added_text (take_while is_inner (map ended_line_of rest))
-  more_read text pushed new is pushed_is new_is =
-      split (more text) is refl
-      ∙ sym (append_assoc value (10 ∷ text) (flat_map added_text (take_while is_inner (map ended_line_of rest))))
-      ∙ ap (λ t. t ++ flat_map added_text (take_while is_inner (map ended_line_of rest)))
+-- behind an inner line the setting above the next line is the same
+inner_depth : (above : Option ℕ) (line : Line) → is_inner (line_behind above line) ≡ true → depth_behind above line ≡ above
+inner_depth above (section name) is = absurd (true≢false (sym is))
+inner_depth above (setting key own) is = absurd (true≢false (sym is))
+inner_depth above skipped is = refl
+inner_depth above bad is = absurd (true≢false (sym is))
+inner_depth above (more depth text line) is = by (is_deeper depth above) is
+  where
+    by : (b : Bool) → is_inner (cond b (more depth text line) (setting_line line)) ≡ true → cond b above (Some depth) ≡ above
+    by true is = refl
+    by false is = absurd (true≢false (sym is ∙ setting_outer line))
+
+module _ (all value : List ℕ) (above : Option ℕ) (lines rest : List (List ℕ)) (line : List ℕ) (kind : Line)
+    (read : all ≡ value ++ flat_map added_text (take_while is_inner (lines_behind above (map ended_line_of lines)))) (first : lines ≡ line ∷ rest) (kind_is : kind ≡ line_behind above (ended_line_of line)) where
+  split : (k : Line) → kind ≡ k → is_inner k ≡ true → all ≡ value ++ (added_text k ++ flat_map added_text (take_while is_inner (lines_behind above (map ended_line_of rest))))
+  split k is yes' =
+      let same : depth_behind above (ended_line_of line) ≡ above = inner_depth above (ended_line_of line) (ap is_inner (sym kind_is ∙ is) ∙ yes') in
+      read ∙ ap (λ l. value ++ flat_map added_text (take_while is_inner (lines_behind above (map ended_line_of l)))) first
+      ∙ ap (λ x. value ++ flat_map added_text (take_while is_inner (x ∷ lines_behind (depth_behind above (ended_line_of line)) (map ended_line_of rest)))) (sym kind_is ∙ is)
+      ∙ ap (λ d. value ++ flat_map added_text (take_while is_inner (k ∷ lines_behind d (map ended_line_of rest)))) same
+      ∙ ap (λ t. value ++ t) (inner k (lines_behind above (map ended_line_of rest)) yes')
+
+  pub more_read : (depth : ℕ) (text whole pushed new : List ℕ) → kind ≡ more depth text whole → pushed ≡ value ++ 10 ∷ [] → new ≡ pushed ++ text
+      → all ≡ new ++ flat_map added_text (take_while is_inner (lines_behind above (map ended_line_of rest)))
+  more_read depth text whole pushed new is pushed_is new_is =
+      split (more depth text whole) is refl
+      ∙ sym (append_assoc value (10 ∷ text) (flat_map added_text (take_while is_inner (lines_behind above (map ended_line_of rest)))))
+      ∙ ap (λ t. t ++ flat_map added_text (take_while is_inner (lines_behind above (map ended_line_of rest))))
       (sym (append_assoc value (10 ∷ []) text) ∙ ap (λ t. t ++ text) (sym pushed_is) ∙ sym new_is)
 
-  pub skipped_read : kind ≡ skipped → all ≡ value ++ flat_map added_text (take_while is_inner (map ended_line_of rest))
+  pub skipped_read : kind ≡ skipped → all ≡ value ++ flat_map added_text (take_while is_inner (lines_behind above (map ended_line_of rest)))
   skipped_read is = split skipped is refl

@@ -1,100 +1,61 @@
 -- Which key a name is.
-use Rattle.std.proofs.Common.{◌≡◌, Bool, true, false, cond, ◌||◌, Option, Some, None, is_some, List, ℕ, refl, sym, ap, subst}
-use Rattle.std.specs.Prelude.{codes}
+use Rattle.std.proofs.Common.{◌≡◌, Bool, true, false, cond, Option, Some, None, List, [], ◌∷◌, ℕ, refl, sym, subst}
+use Rattle.std.specs.List.{find, list_all}
 use Rattle.std.specs.Str.{bytes_eq}
-use Rattle.std.proofs.lemmas.Bool.{false≢true}
+use Rattle.std.proofs.lemmas.Bool.{false≢true, and_parts}
+use Rattle.std.proofs.lemmas.Option.{same_Some}
 use Rattle.std.proofs.lemmas.Slice.Eq.{bytes_eq-Decides}
-use Rattle.testr_conf.specs.Settings.{is_known}
-use Rattle.testr_conf.specs.Names.{key_name}
-use Rattle.testr_conf.specs.Keys.{named}
+use Rattle.testr_conf.specs.Names.{key_name, names_of, named, has_name}
+use Rattle.testr_conf.specs.declared.name.Dialect.{Dialect}
+use Rattle.testr_conf.specs.declared.name.Dialect.TheVariants.{Testr, Stestr}
 use Rattle.testr_conf.specs.declared.name.Name.{Name}
-use Rattle.testr_conf.specs.declared.name.Name.TheVariants.{Command, IdOption, ListOption, IdList, Concurrency, GroupRegex, FilterTags}
+use Rattle.testr_conf.specs.declared.name.Name.TheVariants.{Command, IdOption, ListOption, IdList, Concurrency, GroupRegex, FilterTags, TestPath, TopDir, ParallelClass}
 
-pick : (a b c d e f g : Bool) → Option Name
-pick a b c d e f g = cond a (Some Command) (cond b (Some IdOption) (cond c (Some ListOption) (cond d (Some IdList) (cond e (Some Concurrency) (cond f (Some GroupRegex) (cond g (Some FilterTags) None))))))
+-- what is found passes the test by which it is found, and each that all pass
+found_passes : {X : Type 0} (p q : X → Bool) (xs : List X) (x : X) → list_all q xs ≡ true → find p xs ≡ Some x → (p x ≡ true) × (q x ≡ true)
+found_passes p q [] x all found = cc
+found_passes p q (y ∷ ys) x all found =
+    let parts = and_parts (q y) (list_all q ys) all in
+    by (p y) refl parts.0 (λ here. found_passes p q ys x parts.1 here) found
+  where
+    by : (b : Bool) → p y ≡ b → q y ≡ true → (find p ys ≡ Some x → (p x ≡ true) × (q x ≡ true)) → cond b (Some y) (find p ys) ≡ Some x → (p x ≡ true) × (q x ≡ true)
+    by true is has later here =
+        let same : y ≡ x = same_Some y x here in
+        (subst (λ z. p z ≡ true) same is, subst (λ z. q z ≡ true) same has)
+    by false is has later here = later here
 
-pick_known : (a b c d e f g : Bool) → is_some (pick a b c d e f g) ≡ (a || (b || (c || (d || (e || (f || (g || false)))))))
-unfolding pick
-pick_known true b c d e f g = refl
-pick_known false true c d e f g = refl
-pick_known false false true d e f g = refl
-pick_known false false false true e f g = refl
-pick_known false false false false true f g = refl
-pick_known false false false false false true g = refl
-pick_known false false false false false false true = refl
-pick_known false false false false false false false = refl
+all_had : (dialect : Dialect) → list_all (has_name dialect) (names_of dialect) ≡ true
+all_had Testr = refl
+all_had Stestr = refl
 
-picked : Option Name → (a b c d e f g : Bool) → Bool
-picked None a b c d e f g = true
-picked (Some Command) a b c d e f g = a
-picked (Some IdOption) a b c d e f g = b
-picked (Some ListOption) a b c d e f g = c
-picked (Some IdList) a b c d e f g = d
-picked (Some Concurrency) a b c d e f g = e
-picked (Some GroupRegex) a b c d e f g = f
-picked (Some FilterTags) a b c d e f g = g
+named_parts : (dialect : Dialect) (key : List ℕ) (name : Name) → named dialect key ≡ Some name → (bytes_eq key (key_name name) ≡ true) × (has_name dialect name ≡ true)
+named_parts dialect key name is = found_passes (λ n. bytes_eq key (key_name n)) (has_name dialect) (names_of dialect) name (all_had dialect) is
 
-pick_is : (a b c d e f g : Bool) → picked (pick a b c d e f g) a b c d e f g ≡ true
-unfolding pick picked
-pick_is true b c d e f g = refl
-pick_is false true c d e f g = refl
-pick_is false false true d e f g = refl
-pick_is false false false true e f g = refl
-pick_is false false false false true f g = refl
-pick_is false false false false false true g = refl
-pick_is false false false false false false true = refl
-pick_is false false false false false false false = refl
+pub named_key : (dialect : Dialect) (key : List ℕ) (name : Name) → named dialect key ≡ Some name → key ≡ key_name name
+named_key dialect key name is = (bytes_eq-Decides key (key_name name)).0 (named_parts dialect key name is).0
 
-pub named_known : (key : List ℕ) → is_some (named key) ≡ is_known key
-unfolding pick
-named_known key =
-    pick_known (bytes_eq key (codes "test_command")) (bytes_eq key (codes "test_id_option")) (bytes_eq key (codes "test_list_option")) (bytes_eq key (codes "test_id_list_default")) (bytes_eq key (codes "test_run_concurrency")) (bytes_eq key (codes "group_regex")) (bytes_eq key (codes "filter_tags"))
+pub named_had : (dialect : Dialect) (key : List ℕ) (name : Name) → named dialect key ≡ Some name → has_name dialect name ≡ true
+named_had dialect key name is = (named_parts dialect key name is).1
 
-picked_key : (name : Name) (key : List ℕ)
-    → picked (Some name) (bytes_eq key (codes "test_command")) (bytes_eq key (codes "test_id_option")) (bytes_eq key (codes "test_list_option")) (bytes_eq key (codes "test_id_list_default")) (bytes_eq key (codes "test_run_concurrency")) (bytes_eq key (codes "group_regex")) (bytes_eq key (codes "filter_tags")) ≡ true
-    → key ≡ key_name name
-unfolding picked
-picked_key Command key is = (bytes_eq-Decides key (codes "test_command")).0 is
-picked_key IdOption key is = (bytes_eq-Decides key (codes "test_id_option")).0 is
-picked_key ListOption key is = (bytes_eq-Decides key (codes "test_list_option")).0 is
-picked_key IdList key is = (bytes_eq-Decides key (codes "test_id_list_default")).0 is
-picked_key Concurrency key is = (bytes_eq-Decides key (codes "test_run_concurrency")).0 is
-picked_key GroupRegex key is = (bytes_eq-Decides key (codes "group_regex")).0 is
-picked_key FilterTags key is = (bytes_eq-Decides key (codes "filter_tags")).0 is
-
-pub named_key : (key : List ℕ) (name : Name) → named key ≡ Some name → key ≡ key_name name
-unfolding pick
-named_key key name is =
-    picked_key name key
-    (subst (λ o. picked o (bytes_eq key (codes "test_command")) (bytes_eq key (codes "test_id_option")) (bytes_eq key (codes "test_list_option")) (bytes_eq key (codes "test_id_list_default")) (bytes_eq key (codes "test_run_concurrency")) (bytes_eq key (codes "group_regex")) (bytes_eq key (codes "filter_tags")) ≡ true)
-    is
-    (pick_is (bytes_eq key (codes "test_command")) (bytes_eq key (codes "test_id_option")) (bytes_eq key (codes "test_list_option")) (bytes_eq key (codes "test_id_list_default")) (bytes_eq key (codes "test_run_concurrency")) (bytes_eq key (codes "group_regex")) (bytes_eq key (codes "filter_tags"))))
-
--- where it is none, it differs from each
-pub record Differs (a b c d e f g : Bool) : Type 0 where
-  pub command : a ≡ false
-  pub id_option : b ≡ false
-  pub list_option : c ≡ false
-  pub id_list : d ≡ false
-  pub concurrency : e ≡ false
-  pub group_regex : f ≡ false
-  pub filter_tags : g ≡ false
-
-pick_none : (a b c d e f g : Bool) → is_some (pick a b c d e f g) ≡ false → Differs a b c d e f g
-unfolding pick
-pick_none true b c d e f g none = absurd (false≢true (sym none))
-pick_none false true c d e f g none = absurd (false≢true (sym none))
-pick_none false false true d e f g none = absurd (false≢true (sym none))
-pick_none false false false true e f g none = absurd (false≢true (sym none))
-pick_none false false false false true f g none = absurd (false≢true (sym none))
-pick_none false false false false false true g none = absurd (false≢true (sym none))
-pick_none false false false false false false true none = absurd (false≢true (sym none))
-pick_none false false false false false false false none =
-    record { command = refl; id_option = refl; list_option = refl; id_list = refl; concurrency = refl; group_regex = refl; filter_tags = refl }
-
-pub named_none : (key : List ℕ) → named key ≡ None
-    → Differs (bytes_eq key (codes "test_command")) (bytes_eq key (codes "test_id_option")) (bytes_eq key (codes "test_list_option")) (bytes_eq key (codes "test_id_list_default")) (bytes_eq key (codes "test_run_concurrency")) (bytes_eq key (codes "group_regex")) (bytes_eq key (codes "filter_tags"))
-unfolding pick
-named_none key none =
-    pick_none (bytes_eq key (codes "test_command")) (bytes_eq key (codes "test_id_option")) (bytes_eq key (codes "test_list_option")) (bytes_eq key (codes "test_id_list_default")) (bytes_eq key (codes "test_run_concurrency")) (bytes_eq key (codes "group_regex")) (bytes_eq key (codes "filter_tags"))
-    (ap is_some none)
+-- the key of a name that a file has is that name's
+pub names_itself : (dialect : Dialect) (name : Name) → has_name dialect name ≡ true → named dialect (key_name name) ≡ Some name
+names_itself Testr Command has = refl
+names_itself Testr IdOption has = refl
+names_itself Testr ListOption has = refl
+names_itself Testr IdList has = refl
+names_itself Testr Concurrency has = refl
+names_itself Testr GroupRegex has = refl
+names_itself Testr FilterTags has = refl
+names_itself Testr TestPath has = absurd (false≢true has)
+names_itself Testr TopDir has = absurd (false≢true has)
+names_itself Testr ParallelClass has = absurd (false≢true has)
+names_itself Stestr Command has = absurd (false≢true has)
+names_itself Stestr IdOption has = absurd (false≢true has)
+names_itself Stestr ListOption has = absurd (false≢true has)
+names_itself Stestr IdList has = absurd (false≢true has)
+names_itself Stestr Concurrency has = absurd (false≢true has)
+names_itself Stestr GroupRegex has = refl
+names_itself Stestr FilterTags has = absurd (false≢true has)
+names_itself Stestr TestPath has = refl
+names_itself Stestr TopDir has = refl
+names_itself Stestr ParallelClass has = refl

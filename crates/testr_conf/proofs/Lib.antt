@@ -9,5 +9,7 @@ pub mod InnerLemmas
 pub mod KeyLemmas
 pub mod SettingLemmas
 pub mod StandLemmas
+pub mod PathLemmas
+pub mod QuoteLemmas
 pub mod JobLemmas
 pub mod IdLemmas

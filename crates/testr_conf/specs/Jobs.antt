@@ -1,6 +1,7 @@
 -- The jobs of a configuration (docs/FORMATS.md, "Jobs").
-use Rattle.std.specs.Prelude.{ℕ, Option, None, Some, Result, Ok, Err, List, [], ◌∷◌, ◌++◌, codes, if◌then◌else◌}
-use Rattle.std.specs.List.{flat_map, join_by}
+use Rattle.std.specs.Prelude.{ℕ, Bool, not, ◌&&◌, ◌||◌, ◌==◌, length, Option, None, Some, Result, Ok, Err, List, [], ◌∷◌, ◌++◌, codes, if◌then◌else◌}
+use Rattle.std.specs.Char.{is_ascii_alphanumeric}
+use Rattle.std.specs.List.{flat_map, join_by, list_all}
 use Rattle.std.specs.Option.{option_map, unwrap_or}
 use Rattle.std.specs.Fmt.{decimal}
 use Rattle.edge_io.specs.declared.job.Job.{Job}
@@ -18,20 +19,43 @@ plain_job command = record { command = command; id_file = None }
 
 -- The job that lists the tests.
 
--- the values of variables in the command that lists: the option alone
-abbrev pub list_values : List ℕ → Values
-list_values option = record { id_option = []; id_file = []; id_list = []; list_option = option }
+-- the values of variables in the command that lists: the list of ids that is set, and the option
+abbrev pub list_values : List ℕ → List ℕ → Values
+list_values id_list option = record { id_option = []; id_file = []; id_list = id_list; list_option = option }
 
--- the job that lists the tests, by the command and its option for that
-abbrev pub list_job_by : List ℕ → Option (List ℕ) → Result Job JobFault
-list_job_by command None = Err (NoOption key.ListOption)
-list_job_by command (Some option) =
-    if has_variable name.ListOption command then Ok (plain_job (filled (list_values option) command))
+-- the job that lists the tests, by the command, the list of ids and the option for that
+abbrev pub list_job_by : List ℕ → List ℕ → Option (List ℕ) → Result Job JobFault
+list_job_by command id_list None = Err (NoOption key.ListOption)
+list_job_by command id_list (Some option) =
+    if has_variable name.ListOption command then Ok (plain_job (filled (list_values id_list option) command))
     else Err (NoOption key.ListOption)
 
 -- the job that lists the tests
 abbrev pub list_job_of : Settings → Result Job JobFault
-list_job_of settings = list_job_by settings.command settings.list_option
+list_job_of settings = list_job_by settings.command (unwrap_or settings.id_list []) settings.list_option
+
+-- The words that stand behind the command of a job that runs tests.
+
+-- a byte between single quotes, of which one would end them
+abbrev pub quoted_byte : ℕ → List ℕ
+quoted_byte byte = if byte == 39 then codes "'\\''" else byte ∷ []
+
+-- a word between single quotes
+abbrev pub quoted : List ℕ → List ℕ
+quoted word = 39 ∷ flat_map quoted_byte word ++ 39 ∷ []
+
+-- each word between single quotes, behind a space
+abbrev pub arguments_text : List (List ℕ) → List ℕ
+arguments_text words = flat_map (λ word. 32 ∷ quoted word) words
+
+-- the job, with these words behind its command
+abbrev pub followed_by : List (List ℕ) → Job → Job
+followed_by words job = record job { command = job.command ++ arguments_text words }
+
+-- the same, where the job is made
+abbrev pub followed : List (List ℕ) → Result Job JobFault → Result Job JobFault
+followed words (Ok job) = Ok (followed_by words job)
+followed words (Err fault) = Err fault
 
 -- The job that runs all tests.
 
@@ -41,7 +65,7 @@ all_values id_list = record { id_option = []; id_file = []; id_list = id_list; l
 
 -- the job that runs all tests
 abbrev pub all_job_of : Settings → Job
-all_job_of settings = plain_job (filled (all_values (unwrap_or settings.id_list [])) settings.command)
+all_job_of settings = followed_by settings.arguments (plain_job (filled (all_values (unwrap_or settings.id_list [])) settings.command))
 
 -- The job of a lane that runs these tests.
 
@@ -61,31 +85,45 @@ id_list_of ids = join_by (λ id. id) (32 ∷ []) ids
 abbrev pub id_file_of : List (List ℕ) → ℕ → IdFile
 id_file_of ids lane = record { name = id_file_name lane; bytes = id_lines ids }
 
--- within the option no option is replaced, so that a `$IDOPTION` there is nothing
-abbrev pub option_values : List (List ℕ) → ℕ → Values
-option_values ids lane =
-    record { id_option = []; id_file = id_file_name lane; id_list = id_list_of ids; list_option = [] }
+-- an ASCII letter, a digit, or one of the signs `/`, `.`, `_`, `-`, `+`, `@`, `%`, `,`, `:` and `=`, which no shell reads
+abbrev pub is_plain_byte : ℕ → Bool
+is_plain_byte byte =
+    is_ascii_alphanumeric byte
+    || (byte == 47 || byte == 46 || byte == 95 || byte == 45 || byte == 43 || byte == 64 || byte == 37 || byte == 44 || byte == 58 || byte == 61)
+
+-- a path of such bytes, of which there is one at least
+abbrev pub is_plain_path : List ℕ → Bool
+is_plain_path path = not (length path == 0) && list_all is_plain_byte path
+
+-- the path of a file of this name in the folder of this path, where that is plain; else the name
+abbrev pub path_in : List ℕ → List ℕ → List ℕ
+path_in folder name = if is_plain_path folder then folder ++ 47 ∷ name else name
+
+-- Within the option no option is replaced, so that a `$IDOPTION` there is nothing. The project stands in the folder of this path.
+abbrev pub option_values : List ℕ → List (List ℕ) → ℕ → Values
+option_values folder ids lane =
+    record { id_option = []; id_file = path_in folder (id_file_name lane); id_list = id_list_of ids; list_option = [] }
 
 -- the values of variables in the command that runs these tests in a lane
-abbrev pub ids_values : List ℕ → List (List ℕ) → ℕ → Values
-ids_values option ids lane =
-    record { id_option = filled (option_values ids lane) option; id_file = id_file_name lane; id_list = id_list_of ids; list_option = [] }
+abbrev pub ids_values : List ℕ → List ℕ → List (List ℕ) → ℕ → Values
+ids_values folder option ids lane =
+    record { id_option = filled (option_values folder ids lane) option; id_file = path_in folder (id_file_name lane); id_list = id_list_of ids; list_option = [] }
 
--- the job that runs these tests in a lane, by the command and its option for ids
-abbrev pub ids_job : List ℕ → List ℕ → List (List ℕ) → ℕ → Job
-ids_job command option ids lane =
-    record { command = filled (ids_values option ids lane) command; id_file = Some (id_file_of ids lane) }
+-- the job that runs these tests in a lane, by the folder, the command and its option for ids
+abbrev pub ids_job : List ℕ → List ℕ → List ℕ → List (List ℕ) → ℕ → Job
+ids_job folder command option ids lane =
+    record { command = filled (ids_values folder option ids lane) command; id_file = Some (id_file_of ids lane) }
 
 -- the same job, where the option may not be set and the command may need it
-abbrev pub ids_job_by : List ℕ → Option (List ℕ) → List (List ℕ) → ℕ → Result Job JobFault
-ids_job_by command (Some option) ids lane = Ok (ids_job command option ids lane)
-ids_job_by command None ids lane =
-    if has_variable name.IdOption command then Err (NoOption key.IdOption) else Ok (ids_job command [] ids lane)
+abbrev pub ids_job_by : List ℕ → List ℕ → Option (List ℕ) → List (List ℕ) → ℕ → Result Job JobFault
+ids_job_by folder command (Some option) ids lane = Ok (ids_job folder command option ids lane)
+ids_job_by folder command None ids lane =
+    if has_variable name.IdOption command then Err (NoOption key.IdOption) else Ok (ids_job folder command [] ids lane)
 
 -- of all tests, or of these
 abbrev pub run_job_of : Settings → Option (List (List ℕ)) → ℕ → Result Job JobFault
 run_job_of settings None lane = Ok (all_job_of settings)
-run_job_of settings (Some ids) lane = ids_job_by settings.command settings.id_option ids lane
+run_job_of settings (Some ids) lane = followed settings.arguments (ids_job_by settings.folder settings.command settings.id_option ids lane)
 
 -- The job that tells how many tests may run at a time, where there is one.
 abbrev pub count_job_of : Settings → Option Job

@@ -1,23 +1,11 @@
--- The keys that are used, and the values found for them.
+-- The values found for the keys that are used.
 use Rattle.std.specs.Prelude.{ℕ, Option, Some, None, List, if◌then◌else◌}
-use Rattle.std.specs.Str.{bytes_eq}
-use Rattle.testr_conf.specs.Names.{key_name}
+use Rattle.testr_conf.specs.Names.{key_name, has_name}
 use Rattle.testr_conf.specs.Settings.{Setting, setting_value}
+use Rattle.testr_conf.specs.declared.name.Dialect.{Dialect}
 use Rattle.testr_conf.specs.declared.name.Name.{Name}
-use Rattle.testr_conf.specs.declared.name.Name.TheVariants.{Command, IdOption, ListOption, IdList, Concurrency, GroupRegex, FilterTags}
+use Rattle.testr_conf.specs.declared.name.Name.TheVariants.{Command, IdOption, ListOption, IdList, Concurrency, GroupRegex, FilterTags, TestPath, TopDir, ParallelClass}
 use Rattle.testr_conf.specs.declared.found_values.Found.{Found}
-
--- which of the used keys this is, if any
-abbrev pub named : List ℕ → Option Name
-named key =
-    if bytes_eq key (key_name Command) then Some Command
-    else (if bytes_eq key (key_name IdOption) then Some IdOption
-    else (if bytes_eq key (key_name ListOption) then Some ListOption
-    else (if bytes_eq key (key_name IdList) then Some IdList
-    else (if bytes_eq key (key_name Concurrency) then Some Concurrency
-    else (if bytes_eq key (key_name GroupRegex) then Some GroupRegex
-    else (if bytes_eq key (key_name FilterTags) then Some FilterTags
-    else None))))))
 
 -- the value that was found under a name
 abbrev pub found_value : Name → Found → Option (List ℕ)
@@ -28,6 +16,9 @@ found_value IdList found = found.id_list
 found_value Concurrency found = found.concurrency
 found_value GroupRegex found = found.group_regex
 found_value FilterTags found = found.filter_tags
+found_value TestPath found = found.test_path
+found_value TopDir found = found.top_dir
+found_value ParallelClass found = found.parallel_class
 
 -- what was found, and this value under a name
 abbrev pub with_value : Name → List ℕ → Found → Found
@@ -38,15 +29,25 @@ with_value IdList value found = record found { id_list = Some value }
 with_value Concurrency value found = record found { concurrency = Some value }
 with_value GroupRegex value found = record found { group_regex = Some value }
 with_value FilterTags value found = record found { filter_tags = Some value }
+with_value TestPath value found = record found { test_path = Some value }
+with_value TopDir value found = record found { top_dir = Some value }
+with_value ParallelClass value found = record found { parallel_class = Some value }
+
+-- the value that the settings give to the key of this name, where a file of this dialect has it
+abbrev pub value_in : Dialect → Name → List Setting → Option (List ℕ)
+value_in dialect name settings = if has_name dialect name then setting_value (key_name name) settings else None
 
 -- the values that the settings give
-abbrev pub found_of : List Setting → Found
-found_of settings = record {
-  command = setting_value (key_name Command) settings;
-  id_option = setting_value (key_name IdOption) settings;
-  list_option = setting_value (key_name ListOption) settings;
-  id_list = setting_value (key_name IdList) settings;
-  concurrency = setting_value (key_name Concurrency) settings;
-  group_regex = setting_value (key_name GroupRegex) settings;
-  filter_tags = setting_value (key_name FilterTags) settings;
+abbrev pub found_of : Dialect → List Setting → Found
+found_of dialect settings = record {
+  command = value_in dialect Command settings;
+  id_option = value_in dialect IdOption settings;
+  list_option = value_in dialect ListOption settings;
+  id_list = value_in dialect IdList settings;
+  concurrency = value_in dialect Concurrency settings;
+  group_regex = value_in dialect GroupRegex settings;
+  filter_tags = value_in dialect FilterTags settings;
+  test_path = value_in dialect TestPath settings;
+  top_dir = value_in dialect TopDir settings;
+  parallel_class = value_in dialect ParallelClass settings;
 }

@@ -3,9 +3,11 @@ pub mod Lines
 pub mod Seen
 pub mod Parts
 pub mod Names
+pub mod Values
 pub mod Settings
 pub mod Keys
 pub mod Steps
+pub mod Stestr
 pub mod Variables
 pub mod Jobs
 pub mod Filled

@@ -1,17 +1,17 @@
 -- The lines of a `.testr.conf`, each by itself (docs/FORMATS.md, "The configuration").
-use Rattle.std.specs.Prelude.{ℕ, ◌-◌, Bool, false, ◌&&◌, ◌||◌, not, ◌==◌, nat_eq, List, [], ◌∷◌, length, take, drop, map, if◌then◌else◌}
+use Rattle.std.specs.Prelude.{ℕ, ◌-◌, Bool, false, nat_lt, Option, None, Some, ◌&&◌, ◌||◌, not, ◌==◌, nat_eq, List, [], ◌∷◌, length, take, drop, map, if◌then◌else◌}
 use Rattle.std.specs.List.{list_any, ends_with, before_first, after_first}
 use Rattle.std.specs.Str.{is_utf8}
 use Rattle.std.specs.Char.{to_ascii_lowercase}
 use Rattle.bstr.specs.Text.{lines_of}
-use Rattle.testr_conf.specs.White.{trimmed, has_bytes}
+use Rattle.testr_conf.specs.White.{front_trimmed, trimmed, has_bytes}
 
 -- what a line is: refused, skipped, more of the setting above it, the beginning of a section, or a setting with its key
--- and its value
+-- and its value. One that is indented so deep is more of the setting above it by its text, or a setting by the whole line.
 pub data Line : Type 0 where
   bad : Line
   skipped : Line
-  more : List ℕ → Line
+  more : (depth : ℕ) → (text line : List ℕ) → Line
   section : List ℕ → Line
   setting : List ℕ → List ℕ → Line
 
@@ -58,7 +58,7 @@ setting_line line =
 abbrev pub text_line : List ℕ → List ℕ → Line
 text_line line text =
     if not (has_bytes text) || begins_by is_comment_sign text then skipped
-    else (if begins_by is_indent line then more text
+    else (if begins_by is_indent line then more (length line - length (front_trimmed line)) text line
     else (if begins_by is_bracket line then section_line (drop 1 text)
     else setting_line line))
 
@@ -74,6 +74,39 @@ strip_last_byte byte bytes = if ends_with nat_eq bytes (byte ∷ []) then take (
 abbrev pub ended_line_of : List ℕ → Line
 ended_line_of line = conf_line_of (strip_last_byte 13 (strip_last_byte 10 line))
 
+-- Which indented lines go on with a setting.
+
+-- the line is deeper than the setting above it in its section, where there is one
+abbrev pub is_deeper : ℕ → Option ℕ → Bool
+is_deeper depth None = false
+is_deeper depth (Some above) = nat_lt above depth
+
+-- The line, where the setting above it in its section stands so deep, or there is none. An indented line that is no deeper is
+-- a setting.
+abbrev pub line_behind : Option ℕ → Line → Line
+line_behind above (more depth text line) = if is_deeper depth above then more depth text line else setting_line line
+line_behind above (section name) = section name
+line_behind above (setting key own) = setting key own
+line_behind above skipped = skipped
+line_behind above bad = bad
+
+-- how deep the setting stands that is above the next line
+abbrev pub depth_behind : Option ℕ → Line → Option ℕ
+depth_behind above (more depth text line) = if is_deeper depth above then above else Some depth
+depth_behind above (section name) = None
+depth_behind above (setting key own) = Some 0
+depth_behind above skipped = above
+depth_behind above bad = above
+
+-- the lines, one after another
+abbrev pub lines_behind : Option ℕ → List Line → List Line
+lines_behind above [] = []
+lines_behind above (line ∷ lines) = line_behind above line ∷ lines_behind (depth_behind above line) lines
+
+-- the lines of a text below a setting that stands so deep, or in front of any
+abbrev pub lines_below : Option ℕ → List ℕ → List Line
+lines_below above text = lines_behind above (map ended_line_of (lines_of text))
+
 -- the lines of a text
 abbrev pub conf_lines : List ℕ → List Line
-conf_lines text = map ended_line_of (lines_of text)
+conf_lines text = lines_below None text

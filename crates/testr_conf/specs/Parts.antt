@@ -7,6 +7,6 @@ use Rattle.testr_conf.specs.Lines.{Line, bad, skipped, more, section, setting}
 abbrev pub FitsWithin : Line → ℕ → Type 0
 FitsWithin bad size = Unit {0}
 FitsWithin skipped size = Unit {0}
-FitsWithin (more text) size = IsText text × (length text ≤ size)
+FitsWithin (more depth text line) size = (IsText text × (length text ≤ size)) × (IsText line × (length line ≤ size))
 FitsWithin (section name) size = Unit {0}
 FitsWithin (setting key own) size = IsText own × (length own ≤ size)

@@ -9,6 +9,6 @@ use Rattle.testr_conf.specs.declared.line.Line.TheVariants.{Bad, Skipped, More, 
 abbrev pub seen : Line → spec.Line
 seen Bad = spec.bad
 seen Skipped = spec.skipped
-seen (More text) = spec.more text.now
+seen (More depth text line) = spec.more depth text.now line.now
 seen (Section name) = spec.section name.now
 seen (Setting key value) = spec.setting (map to_ascii_lowercase key.now) value.now

@@ -1,14 +1,19 @@
--- What a `.testr.conf` says, and where it is refused (docs/FORMATS.md, "The configuration").
-use Rattle.std.specs.Prelude.{ℕ, ◌+◌, Bool, true, false, ◌&&◌, Option, None, Some, is_none, Result, Ok, Err, List, [], ◌∷◌, ◌++◌, length, codes, if◌then◌else◌}
+-- What a `.testr.conf` says, and where it or a `.stestr.conf` is refused (docs/FORMATS.md, "The configuration").
+use Rattle.std.specs.Prelude.{ℕ, ◌+◌, Bool, true, false, ◌&&◌, Option, None, Some, is_none, is_some, Result, Ok, Err, List, [], ◌∷◌, ◌++◌, length, codes, if◌then◌else◌}
 use Rattle.std.specs.List.{fold, find, list_any, take_while, flat_map}
 use Rattle.std.specs.Option.{option_map}
 use Rattle.std.specs.Str.{bytes_eq}
 use Rattle.testr_conf.specs.White.{words_of}
-use Rattle.testr_conf.specs.Names.{key_name}
+use Rattle.testr_conf.specs.Names.{key_name, machine_name, named}
+use Rattle.testr_conf.specs.Values.{is_unfit}
 use Rattle.testr_conf.specs.Lines.{Line, bad, skipped, more, section, setting, conf_lines}
+use Rattle.testr_conf.specs.declared.name.Dialect.{Dialect}
+use Rattle.testr_conf.specs.declared.name.Dialect.TheVariants.{Testr, Stestr}
 use Rattle.testr_conf.specs.declared.name.Name.TheVariants.{Command, IdOption, ListOption, IdList, Concurrency, GroupRegex, FilterTags}
 use Rattle.testr_conf.specs.declared.fault.ConfFault.{ConfFault}
-use Rattle.testr_conf.specs.declared.fault.ConfFault.TheVariants.{BadLine, NoSection, Repeated, NoCommand}
+use Rattle.testr_conf.specs.declared.fault.ConfFault.TheVariants.{BadLine, NoSection, Repeated, NotKnown, NoCommand}
+use Rattle.testr_conf.specs.declared.fault.MachineKey.{MachineKey}
+use Rattle.testr_conf.specs.declared.fault.MachineKey.TheVariants.{Provision, Execute, Dispose}
 
 -- Which section a line stands in.
 
@@ -16,7 +21,7 @@ use Rattle.testr_conf.specs.declared.fault.ConfFault.TheVariants.{BadLine, NoSec
 abbrev pub section_after : Option (List ℕ) → Line → Option (List ℕ)
 section_after last (section name) = Some name
 section_after last (setting key own) = last
-section_after last (more text) = last
+section_after last (more depth text line) = last
 section_after last skipped = last
 section_after last bad = last
 
@@ -40,7 +45,7 @@ pub record Setting : Type 0 where
 abbrev pub is_inner : Line → Bool
 is_inner (section name) = false
 is_inner (setting key own) = false
-is_inner (more text) = true
+is_inner (more depth text line) = true
 is_inner skipped = true
 is_inner bad = false
 
@@ -48,7 +53,7 @@ is_inner bad = false
 abbrev pub added_text : Line → List ℕ
 added_text (section name) = []
 added_text (setting key own) = []
-added_text (more text) = 10 ∷ text
+added_text (more depth text line) = 10 ∷ text
 added_text skipped = []
 added_text bad = []
 
@@ -63,7 +68,7 @@ settings_from last (section name ∷ lines) = settings_from (Some name) lines
 settings_from last (setting key own ∷ lines) =
     if is_default last then record { key = key; value = value_above own lines } ∷ settings_from last lines
     else settings_from last lines
-settings_from last (more text ∷ lines) = settings_from last lines
+settings_from last (more depth text line ∷ lines) = settings_from last lines
 settings_from last (skipped ∷ lines) = settings_from last lines
 settings_from last (bad ∷ lines) = settings_from last lines
 
@@ -73,60 +78,63 @@ settings_of lines = settings_from None lines
 
 -- The refusals.
 
--- whether a setting has come since the last section line
-abbrev pub is_open_after : Bool → Line → Bool
-is_open_after open_above (section name) = false
-is_open_after open_above (setting key own) = true
-is_open_after open_above (more text) = open_above
-is_open_after open_above skipped = open_above
-is_open_after open_above bad = open_above
-
--- a setting has come since the last section line, so that a line may go on with it
-abbrev pub is_setting_open : List Line → Bool
-is_setting_open lines = fold is_open_after false lines
-
--- the keys that are used
-abbrev pub known_keys : List (List ℕ)
-known_keys =
-    key_name Command ∷ key_name IdOption ∷ key_name ListOption ∷ key_name IdList
-    ∷ key_name Concurrency ∷ key_name GroupRegex ∷ key_name FilterTags ∷ []
-
--- the key is one that is read
-abbrev pub is_known : List ℕ → Bool
-is_known key = list_any (bytes_eq key) known_keys
-
 -- a setting of this key is among them
 abbrev pub has_key : List ℕ → List Setting → Bool
 has_key key settings = list_any (λ s. bytes_eq s.key key) settings
 
--- one of the known keys, a second time in `[DEFAULT]`
-abbrev pub is_repeated : List ℕ → List Line → Bool
-is_repeated key before = is_default (section_of before) && is_known key && has_key key (settings_of before)
+-- one of the file's keys, a second time in `[DEFAULT]`
+abbrev pub is_repeated : Dialect → List ℕ → List Line → Bool
+is_repeated dialect key before = is_default (section_of before) && is_some (named dialect key) && has_key key (settings_of before)
 
--- why a line is refused behind these lines, with its number; lines are counted from 1
-abbrev pub fault_of : List Line → Line → Option ConfFault
-fault_of before (section name) = None
-fault_of before (setting key own) =
-    if is_none (section_of before) then Some (NoSection (length before + 1))
-    else if is_repeated key before then Some (Repeated (length before + 1)) else None
-fault_of before (more text) = if is_setting_open before then None else Some (BadLine (length before + 1))
-fault_of before skipped = None
-fault_of before bad = Some (BadLine (length before + 1))
+-- which key of machines this is, if any; a file of stestr has none
+abbrev pub machine_key : Dialect → List ℕ → Option MachineKey
+machine_key Testr key =
+    if bytes_eq key (machine_name Provision) then Some Provision
+    else (if bytes_eq key (machine_name Execute) then Some Execute
+    else (if bytes_eq key (machine_name Dispose) then Some Dispose
+    else None))
+machine_key Stestr key = None
+
+-- a key of machines in `[DEFAULT]`, where the setting stands in this section, be its value empty or not
+abbrev pub machine_fault : Dialect → List ℕ → Option (List ℕ) → Option ConfFault
+machine_fault dialect key last = if is_default last then option_map NotKnown (machine_key dialect key) else None
+
+-- a value in `[DEFAULT]` that its key may not have, where the setting stands in this section
+abbrev pub is_misfit : Dialect → List ℕ → List ℕ → Option (List ℕ) → Bool
+is_misfit dialect key value last = is_default last && is_unfit (named dialect key) value
 
 -- the fault that comes first
 abbrev pub or_later : Option ConfFault → Option ConfFault → Option ConfFault
 or_later None later = later
 or_later (Some fault) later = Some fault
 
+-- the fault, where there is reason for it
+abbrev pub fault_if : Bool → ConfFault → Option ConfFault
+fault_if reason fault = if reason then Some fault else None
+
+-- why a line is refused between those before it and those below, with its number; lines are counted from 1
+abbrev pub fault_of : Dialect → (before : List Line) → Line → (below : List Line) → Option ConfFault
+fault_of dialect before (section name) below = None
+fault_of dialect before (setting key own) below =
+    if is_none (section_of before) then Some (NoSection (length before + 1))
+    else or_later (machine_fault dialect key (section_of before))
+    (or_later (fault_if (is_repeated dialect key before) (Repeated (length before + 1)))
+    (fault_if (is_misfit dialect key (value_above own below) (section_of before)) (BadLine (length before + 1))))
+fault_of dialect before (more depth text line) below = None
+fault_of dialect before skipped below = None
+fault_of dialect before bad below = Some (BadLine (length before + 1))
+
 -- why the first line that is refused is refused, behind those before it
-abbrev pub first_fault : List Line → List Line → Option ConfFault
-first_fault before [] = None
-first_fault before (line ∷ lines) = or_later (fault_of before line) (first_fault (before ++ line ∷ []) lines)
+abbrev pub first_fault : Dialect → (before : List Line) → List Line → Option ConfFault
+first_fault dialect before [] = None
+first_fault dialect before (line ∷ lines) = or_later (fault_of dialect before line lines) (first_fault dialect (before ++ line ∷ []) lines)
 
 -- The configuration.
 
--- Of the optional keys, `None` is one that is not set.
+-- Of the optional keys, `None` is one that is not set. `folder` is the absolute path of the folder that the project stands
+-- in; nothing where it is not known. `arguments` are the words that stand behind the command of each job that runs tests.
 pub record Settings : Type 0 where
+  pub folder : List ℕ
   pub command : List ℕ
   pub id_option : Option (List ℕ)
   pub list_option : Option (List ℕ)
@@ -134,6 +142,7 @@ pub record Settings : Type 0 where
   pub concurrency : Option (List ℕ)
   pub group_regex : Option (List ℕ)
   pub filter_tags : List (List ℕ)
+  pub arguments : List (List ℕ)
 
 -- the value of the first setting of this key
 abbrev pub setting_value : List ℕ → List Setting → Option (List ℕ)
@@ -158,6 +167,7 @@ words_in (Some text) = words_of text
 abbrev pub with_command : Option (List ℕ) → List Setting → Result Settings ConfFault
 with_command None settings = Err NoCommand
 with_command (Some command) settings = Ok (record {
+  folder = [];
   command = command;
   id_option = set_of (key_name IdOption) settings;
   list_option = set_of (key_name ListOption) settings;
@@ -165,18 +175,37 @@ with_command (Some command) settings = Ok (record {
   concurrency = set_of (key_name Concurrency) settings;
   group_regex = set_of (key_name GroupRegex) settings;
   filter_tags = words_in (set_of (key_name FilterTags) settings);
+  arguments = [];
 })
 
 -- what was said, unless a line was refused
-abbrev pub unless_refused : Option ConfFault → Result Settings ConfFault → Result Settings ConfFault
+abbrev pub unless_refused : {T : Type 0} → Option ConfFault → Result T ConfFault → Result T ConfFault
 unless_refused None said = said
 unless_refused (Some fault) said = Err fault
 
 -- The first line that is refused decides; where none is, `test_command` has to be set.
 abbrev pub conf_of_lines : List Line → Result Settings ConfFault
 conf_of_lines lines =
-    unless_refused (first_fault [] lines) (with_command (set_of (key_name Command) (settings_of lines)) (settings_of lines))
+    unless_refused (first_fault Testr [] lines) (with_command (set_of (key_name Command) (settings_of lines)) (settings_of lines))
 
 -- what the configuration's text says
 abbrev pub conf_of : List ℕ → Result Settings ConfFault
 conf_of text = conf_of_lines (conf_lines text)
+
+-- the same settings, of a project in the folder of this path
+abbrev pub settings_in : List ℕ → Settings → Settings
+settings_in folder settings = record settings { folder = folder }
+
+-- what stands in place of a value: this one, where it is there and not empty
+abbrev pub or_given : (given own : Option (List ℕ)) → Option (List ℕ)
+or_given None own = own
+or_given (Some []) own = own
+or_given (Some (byte ∷ bytes)) own = Some (byte ∷ bytes)
+
+-- the same settings, whose tests are grouped by this pattern, where it is there and not empty
+abbrev pub grouped_by : Option (List ℕ) → Settings → Settings
+grouped_by pattern settings = record settings { group_regex = or_given pattern settings.group_regex }
+
+-- the same settings, with these words behind the command of each job that runs tests
+abbrev pub with_arguments : List (List ℕ) → Settings → Settings
+with_arguments arguments settings = record settings { arguments = arguments }

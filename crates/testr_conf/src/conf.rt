@@ -3,14 +3,16 @@
 ghost use Rattle.std.specs.Prelude.{◌≡◌, ◌≤◌, ◌<◌, ◌⊎◌, [], length, IfOk, IfErr, IfSome};
 ghost use Rattle.std.specs.Option.{option_copied, unwrap_or};
 ghost use Rattle.sub_number.specs.Texts.{IsText};
-ghost use Rattle.testr_conf.specs.Settings.{conf_of, unless_empty, words_in};
+ghost use Rattle.testr_conf.specs.Settings.{conf_of, settings_in, unless_empty, words_in, or_given, grouped_by, with_arguments};
+ghost use Rattle.testr_conf.specs.Stestr.{command_settings};
 ghost use Rattle.testr_conf.specs.Steps.{settled};
-ghost use Rattle.testr_conf.specs.Jobs.{list_job_of, all_job_of, run_job_of, count_job_of};
+ghost use Rattle.testr_conf.specs.Jobs.{list_job_of, all_job_of, ids_job_by, run_job_of, count_job_of};
 
 use crate::fault::{ConfFault, JobFault, Key};
 use crate::found_values::Found;
-use crate::job::{id_file, join_ids, plain_job};
+use crate::job::{follow, id_file, id_path, join_ids, plain_job};
 use crate::line_reader::read_lines;
+use crate::name::Dialect;
 use crate::variable::{Values, Variable, fill, has_variable};
 use crate::white_space::read_words;
 use edge_io::Job;
@@ -22,6 +24,7 @@ use sub_number::{Bytes, IdList, NoMemory, Text};
 /// The settings of a `.testr.conf`. Contracts see it as the record of what is set.
 #[derive(Drop)]
 pub struct Conf {
+    folder: String,
     command: Text,
     id_option: Option<Text>,
     list_option: Option<Text>,
@@ -29,6 +32,7 @@ pub struct Conf {
     concurrency: Option<Text>,
     group_regex: Option<Text>,
     filter_tags: Tags,
+    arguments: IdList,
 }
 
 impl Model for Conf {
@@ -37,6 +41,7 @@ impl Model for Conf {
     ghost Value = { Settings };
 
     ghost view = { λ c. record {
+      folder = c.folder.bytes.items;
       command = c.command;
       id_option = c.id_option;
       list_option = c.list_option;
@@ -44,16 +49,27 @@ impl Model for Conf {
       concurrency = c.concurrency;
       group_regex = c.group_regex;
       filter_tags = c.filter_tags;
+      arguments = c.arguments;
     } };
 }
 
 // A value that is not empty.
-fn unless_empty(value: Option<Text>) -> Option<Text>
+pub(crate) fn unless_empty(value: Option<Text>) -> Option<Text>
     ensures { result ≡ unless_empty value }
 {
     match value {
         Some(text) if !text.bytes().is_empty() => Some(text),
         _ => None,
+    }
+}
+
+// The value, where it is there and not empty, and else what is the project's own.
+fn or_given(given: Option<Text>, own: Option<Text>) -> Option<Text>
+    ensures { result ≡ or_given given own }
+{
+    match unless_empty(given) {
+        Some(text) => Some(text),
+        None => own,
     }
 }
 
@@ -70,14 +86,15 @@ impl Conf {
     /// The configuration that a text of at most 16 MiB gives (docs/FORMATS.md, "The configuration").
     ///
     /// `BadLine`, `NoSection` and `Repeated` come with the number of the first line that is refused, exactly where it
-    /// is refused so; `NoCommand` comes exactly where no line is refused and `test_command` is not set or empty.
+    /// is refused so, and `NotKnown` with its key; `NoCommand` comes exactly where no line is refused and
+    /// `test_command` is not set or empty.
     pub fn read(alloc: Global, text: &[u8]) -> Result<Self, ConfFault>
         requires { length text.now ≤ 16777216 }
         ensures read { IfOk result (λ conf. conf_of text.now ≡ Ok conf) }
         ensures refused { IfErr result (λ fault. (conf_of text.now ≡ Err fault) ⊎ (fault ≡ ConfFault.NoMemory)) }
         ensures exactly { IfErr (conf_of text.now) (λ fault. (result ≡ Err fault) ⊎ (result ≡ Err ConfFault.NoMemory)) }
     {
-        let found = read_lines(alloc, text)?;
+        let found = read_lines(alloc, Dialect::Testr, text)?;
         Conf::settle(alloc, found)
     }
 
@@ -89,6 +106,7 @@ impl Conf {
             return Err(ConfFault::NoCommand);
         };
         Ok(Conf {
+            folder: String::new(alloc),
             command,
             id_option: unless_empty(found.id_option),
             list_option: unless_empty(found.list_option),
@@ -96,7 +114,55 @@ impl Conf {
             concurrency: unless_empty(found.concurrency),
             group_regex: unless_empty(found.group_regex),
             filter_tags: read_tags(alloc, found.filter_tags)?,
+            arguments: IdList::new(alloc),
         })
+    }
+
+    /// The settings of this command with these options for ids and for a listing, whose tests are grouped by this pattern.
+    pub fn of_command(
+        alloc: Global,
+        command: Text,
+        id_option: Text,
+        list_option: Text,
+        group_regex: Option<Text>,
+    ) -> Self
+        ensures { result ≡ command_settings command id_option list_option group_regex }
+    {
+        Conf {
+            folder: String::new(alloc),
+            command,
+            id_option: Some(id_option),
+            list_option: Some(list_option),
+            id_list: None,
+            concurrency: None,
+            group_regex,
+            filter_tags: Tags::new(alloc),
+            arguments: IdList::new(alloc),
+        }
+    }
+
+    /// The same settings, of a project in the folder of this absolute path.
+    pub fn stand_in(self, folder: String) -> Self
+        ensures { result ≡ settings_in folder.bytes.items self }
+    {
+        Conf { folder, ..self }
+    }
+
+    /// The same settings, whose tests are grouped by this pattern, where it is there and not empty.
+    pub fn grouped_by(self, pattern: Option<Text>) -> Self
+        ensures { result ≡ grouped_by pattern self }
+    {
+        Conf {
+            group_regex: or_given(pattern, self.group_regex),
+            ..self
+        }
+    }
+
+    /// The same settings, with these words behind the command of each job that runs tests.
+    pub fn with_arguments(self, arguments: IdList) -> Self
+        ensures { result ≡ with_arguments arguments self }
+    {
+        Conf { arguments, ..self }
     }
 
     /// The pattern by which tests are grouped. `None` comes exactly where it is not set.
@@ -115,7 +181,8 @@ impl Conf {
 }
 
 impl Conf {
-    /// The job that lists the tests: `test_command` with `$LISTOPT` replaced by `test_list_option`.
+    /// The job that lists the tests: `test_command` with `$LISTOPT` replaced by `test_list_option`, and `$IDLIST` by
+    /// `test_id_list_default`.
     ///
     /// `NoOption` comes exactly where that is not set, or `$LISTOPT` is not in the command.
     pub fn list_job(&self, alloc: Global) -> Result<Job, JobFault>
@@ -134,7 +201,7 @@ impl Conf {
         let values = Values {
             id_option: b"",
             id_file: b"",
-            id_list: b"",
+            id_list: bytes_or_none(&self.id_list),
             list_option: option.bytes(),
         };
         Ok(plain_job(fill(alloc, command, &values)?))
@@ -158,9 +225,10 @@ impl Conf {
 
     /// The job of a lane that runs these tests, or that of all tests where there are no ids.
     ///
-    /// With ids, `$IDFILE` is the name of the lane's id file, `$IDLIST` the ids with a space between each two, and
+    /// With ids, `$IDFILE` is the path of the lane's id file, where that of the project's folder is known and no shell reads a
+    /// byte of it, and else its name; `$IDLIST` the ids with a space between each two, and
     /// `$IDOPTION` is `test_id_option` with these replaced in it. Without them `$IDLIST` is `test_id_list_default`. All
-    /// else is nothing. `NoOption` comes exactly where there are ids, `$IDOPTION` is in the command and
+    /// else is nothing. Behind the command stand the arguments, each between single quotes. `NoOption` comes exactly where there are ids, `$IDOPTION` is in the command and
     /// `test_id_option` is not set.
     pub fn run_job(&self, alloc: Global, ids: Option<&IdList>, lane: u32) -> Result<Job, JobFault>
         requires { lane < 64 }
@@ -185,7 +253,8 @@ impl Conf {
             id_list: bytes_or_none(&self.id_list),
             list_option: b"",
         };
-        Ok(plain_job(fill(alloc, self.command.bytes(), &values)?))
+        let job = plain_job(fill(alloc, self.command.bytes(), &values)?);
+        follow(job, self.arguments.list())
     }
 
     fn job_of_ids(&self, alloc: Global, ids: &IdList, lane: u32) -> Result<Job, JobFault>
@@ -194,15 +263,27 @@ impl Conf {
         ensures refused { IfErr result (λ fault. (run_job_of self.now (Some ids.now) lane ≡ Err fault) ⊎ (fault ≡ JobFault.NoMemory)) }
         ensures text { IfOk result (λ job. IsText job.command) }
     {
+        let job = self.own_job_of_ids(alloc, ids, lane)?;
+        Ok(follow(job, self.arguments.list())?)
+    }
+
+    // The same without words behind it.
+    fn own_job_of_ids(&self, alloc: Global, ids: &IdList, lane: u32) -> Result<Job, JobFault>
+        requires { lane < 64 }
+        ensures job { IfOk result (λ job. ids_job_by self.now.folder self.now.command self.now.id_option ids.now lane ≡ Ok job) }
+        ensures refused { IfErr result (λ fault. (ids_job_by self.now.folder self.now.command self.now.id_option ids.now lane ≡ Err fault) ⊎ (fault ≡ JobFault.NoMemory)) }
+        ensures text { IfOk result (λ job. IsText job.command) }
+    {
         let command = self.command.bytes();
         if self.id_option.is_none() && has_variable(Variable::IdOption, command) {
             return Err(JobFault::NoOption(Key::IdOption));
         }
         let file = id_file(alloc, ids, lane)?;
+        let path = id_path(alloc, self.folder.as_str(), &file.name)?;
         let id_list = join_ids(alloc, ids.list())?;
         let within = Values {
             id_option: b"",
-            id_file: file.name.bytes(),
+            id_file: &path,
             id_list: &id_list,
             list_option: b"",
         };

@@ -6,16 +6,29 @@ use sub_number::NoMemory;
 #[derive(Clone, Copy, PartialEq, Eq, Debug)]
 pub enum ConfFault {
     /// This line is no setting. It is not UTF-8, has a NUL, a bracket without its other one, no key or no sign behind
-    /// it. Or it continues a setting where none stands above it in its section.
+    /// it, or of a `.stestr.conf` a value that its key may not have.
     BadLine(u32),
     /// This line is a setting in front of any section.
     NoSection(u32),
     /// This line sets a key that an earlier one has set.
     Repeated(u32),
+    /// This key is set, which would have the tests run on other machines.
+    NotKnown(MachineKey),
     /// `test_command` is not set, or is empty.
     NoCommand,
     /// There is not enough memory.
     NoMemory,
+}
+
+/// A key of a project whose tests run on other machines. Its tests would run on this one, so it is refused.
+#[derive(Clone, Copy, PartialEq, Eq, Debug)]
+pub enum MachineKey {
+    /// `instance_provision`, which makes machines.
+    Provision,
+    /// `instance_execute`, which runs a command on a machine.
+    Execute,
+    /// `instance_dispose`, which gives machines back.
+    Dispose,
 }
 
 /// A setting that a job needs.

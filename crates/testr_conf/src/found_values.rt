@@ -1,6 +1,7 @@
 //! The values that were found.
 
 ghost use Rattle.std.specs.Prelude.{◌≡◌, [], is_some};
+ghost use Rattle.testr_conf.specs.declared.name.Dialect.{Dialect as ADialect};
 ghost use Rattle.testr_conf.specs.Keys.{found_value, with_value, found_of};
 
 use crate::name::Name;
@@ -15,11 +16,14 @@ pub(crate) struct Found {
     pub(crate) concurrency: Option<Text>,
     pub(crate) group_regex: Option<Text>,
     pub(crate) filter_tags: Option<Text>,
+    pub(crate) test_path: Option<Text>,
+    pub(crate) top_dir: Option<Text>,
+    pub(crate) parallel_class: Option<Text>,
 }
 
 impl Found {
     pub(crate) fn new() -> Self
-        ensures { result ≡ found_of [] }
+        ensures { (dialect : ADialect) → result ≡ found_of dialect [] }
     {
         Found {
             command: None,
@@ -29,6 +33,9 @@ impl Found {
             concurrency: None,
             group_regex: None,
             filter_tags: None,
+            test_path: None,
+            top_dir: None,
+            parallel_class: None,
         }
     }
 
@@ -44,6 +51,9 @@ impl Found {
             Name::Concurrency => self.concurrency.is_some(),
             Name::GroupRegex => self.group_regex.is_some(),
             Name::FilterTags => self.filter_tags.is_some(),
+            Name::TestPath => self.test_path.is_some(),
+            Name::TopDir => self.top_dir.is_some(),
+            Name::ParallelClass => self.parallel_class.is_some(),
         }
     }
 
@@ -59,6 +69,9 @@ impl Found {
             Name::Concurrency => self.concurrency = Some(value),
             Name::GroupRegex => self.group_regex = Some(value),
             Name::FilterTags => self.filter_tags = Some(value),
+            Name::TestPath => self.test_path = Some(value),
+            Name::TopDir => self.top_dir = Some(value),
+            Name::ParallelClass => self.parallel_class = Some(value),
         }
     }
 }

@@ -1,9 +1,9 @@
 //! The parts of a job.
 
-ghost use Rattle.std.specs.Prelude.{◌≡◌, ◌<◌, ◌∷◌, ◌++◌, IfOk, OnOk};
-ghost use Rattle.std.specs.List.{flat_map};
+ghost use Rattle.std.specs.Prelude.{◌≡◌, ◌<◌, ◌∷◌, ◌++◌, true, IfOk, OnOk};
+ghost use Rattle.std.specs.List.{flat_map, list_all};
 ghost use Rattle.sub_number.specs.Texts.{IsText};
-ghost use Rattle.testr_conf.specs.Jobs.{plain_job, id_file_name, id_lines, id_list_of, id_file_of};
+ghost use Rattle.testr_conf.specs.Jobs.{plain_job, id_file_name, id_lines, id_list_of, id_file_of, is_plain_byte, is_plain_path, path_in, quoted_byte, quoted, arguments_text, followed_by};
 
 use edge_io::{IdFile, Job};
 use itoa::Buffer;
@@ -57,6 +57,54 @@ pub(crate) fn id_file(alloc: Global, ids: &IdList, lane: u32) -> Result<IdFile, 
     })
 }
 
+// Whether no shell reads the byte.
+fn is_plain_byte(byte: u8) -> bool
+    ensures { result ≡ is_plain_byte byte }
+{
+    byte.is_ascii_alphanumeric()
+        || matches!(
+            byte,
+            b'/' | b'.' | b'_' | b'-' | b'+' | b'@' | b'%' | b',' | b':' | b'='
+        )
+}
+
+// Whether no shell reads any of the bytes.
+fn are_plain(bytes: &[u8]) -> bool
+    ensures { result ≡ list_all is_plain_byte bytes.now }
+{
+    bytes.iter().all(|byte| is_plain_byte(*byte))
+}
+
+fn is_plain_path(path: &[u8]) -> bool
+    ensures { result ≡ is_plain_path path.now }
+{
+    !path.is_empty() && are_plain(path)
+}
+
+// What stands for the id file of this name in a command, where the project is in this folder.
+pub(crate) fn id_path(alloc: Global, folder: &str, name: &Text) -> Result<Vec<u8>, NoMemory>
+    ensures value { IfOk result (λ path. path.items ≡ path_in folder.now name.now) }
+    ensures text { IfOk result (λ path. IsText path.items) }
+{
+    if is_plain_path(folder.as_bytes()) {
+        join_path(alloc, folder.as_bytes(), name)
+    } else {
+        Ok(Vec::from_slice(alloc, name.bytes())?)
+    }
+}
+
+// The folder, a slash, and the name.
+fn join_path(alloc: Global, folder: &[u8], name: &Text) -> Result<Vec<u8>, NoMemory>
+    requires { is_plain_path folder.now ≡ true }
+    ensures value { IfOk result (λ path. path.items ≡ folder.now ++ 47 ∷ name.now) }
+    ensures text { IfOk result (λ path. IsText path.items) }
+{
+    let mut path = Vec::from_slice(alloc, folder)?;
+    path.push(b'/')?;
+    path.extend_from_slice(name.bytes())?;
+    Ok(path)
+}
+
 // Adds each id behind a space.
 fn add_ids(ids: &[Text], list: &mut Vec<u8>) -> Result<(), NoMemory>
     requires { IsText list.old.items }
@@ -81,4 +129,62 @@ pub(crate) fn join_ids(alloc: Global, ids: &[Text]) -> Result<Vec<u8>, NoMemory>
     let mut list = Vec::from_slice(alloc, first.bytes())?;
     add_ids(others, &mut list)?;
     Ok(list)
+}
+
+// Adds a word's byte as it stands between single quotes.
+fn add_quoted_byte(byte: u8, command: &mut Vec<u8>) -> Result<(), NoMemory>
+    ensures { OnOk result (command.new.items ≡ command.old.items ++ quoted_byte byte) }
+{
+    if byte == b'\'' {
+        command.extend_from_slice(b"'\\''")?;
+    } else {
+        command.push(byte)?;
+    }
+    Ok(())
+}
+
+// Adds the word's bytes as they stand between single quotes.
+fn add_quoted_bytes(word: &[u8], command: &mut Vec<u8>) -> Result<(), NoMemory>
+    ensures { OnOk result (command.new.items ≡ command.old.items ++ flat_map quoted_byte word.now) }
+{
+    for byte in word {
+        add_quoted_byte(*byte, command)?;
+    }
+    Ok(())
+}
+
+// Adds the word between single quotes, behind a space.
+fn add_argument(word: &[u8], command: &mut Vec<u8>) -> Result<(), NoMemory>
+    ensures { OnOk result (command.new.items ≡ command.old.items ++ 32 ∷ quoted word.now) }
+{
+    command.extend_from_slice(b" '")?;
+    add_quoted_bytes(word, command)?;
+    command.push(b'\'')?;
+    Ok(())
+}
+
+// Adds each of the words between single quotes, behind a space.
+fn add_arguments(words: &[Text], command: &mut Vec<u8>) -> Result<(), NoMemory>
+    requires { IsText command.old.items }
+    ensures value { OnOk result (command.new.items ≡ command.old.items ++ arguments_text words.now) }
+    ensures text { OnOk result (IsText command.new.items) }
+{
+    for word in words {
+        add_argument(word.bytes(), command)?;
+    }
+    Ok(())
+}
+
+// The job, with these words behind its command.
+pub(crate) fn follow(job: Job, words: &[Text]) -> Result<Job, NoMemory>
+    requires { IsText job.command }
+    ensures job { IfOk result (λ followed. followed ≡ followed_by words.now job) }
+    ensures text { IfOk result (λ followed. IsText followed.command) }
+{
+    let mut command = job.command.into_vec();
+    add_arguments(words, &mut command)?;
+    Ok(Job {
+        command: Bytes::from_vec(command),
+        id_file: job.id_file,
+    })
 }

@@ -2,11 +2,11 @@
 
 ghost use Rattle.std.specs.Prelude.{◌≡◌, ◌<◌, length, drop, MatchOption};
 ghost use Rattle.std.specs.List.{position_or_len};
-ghost use Rattle.testr_conf.specs.Lines.{is_sign, section_line, setting_line, text_line, ended_line_of, strip_last_byte};
+ghost use Rattle.testr_conf.specs.Lines.{is_sign, is_deeper, section_line, setting_line, text_line, ended_line_of, strip_last_byte, line_behind, depth_behind};
 ghost use Rattle.testr_conf.specs.White.{trimmed};
 ghost use Rattle.testr_conf.specs.Seen.{seen};
 
-use crate::white_space::trim;
+use crate::white_space::{trim, trim_front};
 use memchr::memchr2;
 
 // What a line is.
@@ -16,12 +16,46 @@ pub(crate) enum Line<'a> {
     Bad,
     // It is empty, or a comment.
     Skipped,
-    // It continues the setting above it by this text.
-    More(&'a [u8]),
+    // It is indented so deep. It continues the setting above it by this text, or is one by the whole line.
+    More(usize, &'a [u8], &'a [u8]),
     // The section of this name begins.
     Section(&'a [u8]),
     // A key, and its value.
     Setting(&'a [u8], &'a [u8]),
+}
+
+// Whether a line so deep is deeper than the setting above it, where there is one.
+fn is_deeper(depth: usize, above: Option<usize>) -> bool
+    ensures { result ≡ is_deeper depth above }
+{
+    match above {
+        Some(above) => above < depth,
+        None => false,
+    }
+}
+
+impl<'a> Line<'a> {
+    // The line, where the setting above it in its section stands so deep, or there is none.
+    pub(crate) fn behind(self, above: Option<usize>) -> Line<'a>
+        ensures { seen result ≡ line_behind above (seen self.entry) }
+    {
+        match self {
+            Line::More(depth, _, line) if !is_deeper(depth, above) => read_setting(line),
+            line => line,
+        }
+    }
+
+    // How deep the setting stands that is above the next line.
+    pub(crate) fn depth_behind(self, above: Option<usize>) -> Option<usize>
+        ensures { result ≡ depth_behind above (seen self.entry) }
+    {
+        match self {
+            Line::More(depth, _, _) if !is_deeper(depth, above) => Some(depth),
+            Line::More(_, _, _) | Line::Skipped | Line::Bad => above,
+            Line::Section(_) => None,
+            Line::Setting(_, _) => Some(0),
+        }
+    }
 }
 
 // The bytes without this last byte, where it is theirs.
@@ -52,7 +86,13 @@ fn read_text_line(line: &[u8]) -> Line<'_>
     let text = trim(line);
     match (text.first(), line.first()) {
         (None | Some(b'#' | b';'), _) => Line::Skipped,
-        (_, Some(b' ' | b'\t')) => Line::More(text),
+        (_, Some(b' ' | b'\t')) => {
+            Line::More(
+                line.len().saturating_sub(trim_front(line).len()),
+                text,
+                line,
+            )
+        }
         (_, Some(b'[')) => read_section(text),
         _ => read_setting(line),
     }

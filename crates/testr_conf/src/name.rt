@@ -2,7 +2,20 @@
 
 ghost use Rattle.std.specs.Prelude.{◌≡◌, map};
 ghost use Rattle.std.specs.Char.{to_ascii_lowercase};
-ghost use Rattle.testr_conf.specs.Keys.{named};
+ghost use Rattle.testr_conf.specs.Names.{named};
+ghost use Rattle.testr_conf.specs.Settings.{machine_key};
+ghost use Rattle.testr_conf.specs.declared.name.Dialect.TheVariants.{Testr, Stestr};
+
+use crate::fault::MachineKey;
+
+// Whose keys a file has.
+#[derive(Clone, Copy)]
+pub(crate) enum Dialect {
+    // Those of `.testr.conf`.
+    Testr,
+    // Those of `.stestr.conf`.
+    Stestr,
+}
 
 #[derive(Clone, Copy)]
 pub(crate) enum Name {
@@ -13,11 +26,23 @@ pub(crate) enum Name {
     Concurrency,
     GroupRegex,
     FilterTags,
+    TestPath,
+    TopDir,
+    ParallelClass,
 }
 
-// The name of this key, whose letters may be capital ones. `None` comes exactly where it is not used.
-pub(crate) fn read_name(key: &[u8]) -> Option<Name>
-    ensures { result ≡ named (map to_ascii_lowercase key.now) }
+// The name of this key, whose letters may be capital ones. `None` comes exactly where the file does not have it.
+pub(crate) fn read_name(dialect: Dialect, key: &[u8]) -> Option<Name>
+    ensures { result ≡ named dialect (map to_ascii_lowercase key.now) }
+{
+    match dialect {
+        Dialect::Testr => read_testr_name(key),
+        Dialect::Stestr => read_stestr_name(key),
+    }
+}
+
+fn read_testr_name(key: &[u8]) -> Option<Name>
+    ensures { result ≡ named Testr (map to_ascii_lowercase key.now) }
 {
     if key.eq_ignore_ascii_case(b"test_command") {
         Some(Name::Command)
@@ -33,6 +58,46 @@ pub(crate) fn read_name(key: &[u8]) -> Option<Name>
         Some(Name::GroupRegex)
     } else if key.eq_ignore_ascii_case(b"filter_tags") {
         Some(Name::FilterTags)
+    } else {
+        None
+    }
+}
+
+fn read_stestr_name(key: &[u8]) -> Option<Name>
+    ensures { result ≡ named Stestr (map to_ascii_lowercase key.now) }
+{
+    if key.eq_ignore_ascii_case(b"test_path") {
+        Some(Name::TestPath)
+    } else if key.eq_ignore_ascii_case(b"top_dir") {
+        Some(Name::TopDir)
+    } else if key.eq_ignore_ascii_case(b"group_regex") {
+        Some(Name::GroupRegex)
+    } else if key.eq_ignore_ascii_case(b"parallel_class") {
+        Some(Name::ParallelClass)
+    } else {
+        None
+    }
+}
+
+// Which key of machines this is, whose letters may be capital ones. `None` comes exactly where the file has none, or it is none.
+pub(crate) fn read_machine(dialect: Dialect, key: &[u8]) -> Option<MachineKey>
+    ensures { result ≡ machine_key dialect (map to_ascii_lowercase key.now) }
+{
+    match dialect {
+        Dialect::Testr => read_testr_machine(key),
+        Dialect::Stestr => None,
+    }
+}
+
+fn read_testr_machine(key: &[u8]) -> Option<MachineKey>
+    ensures { result ≡ machine_key Testr (map to_ascii_lowercase key.now) }
+{
+    if key.eq_ignore_ascii_case(b"instance_provision") {
+        Some(MachineKey::Provision)
+    } else if key.eq_ignore_ascii_case(b"instance_execute") {
+        Some(MachineKey::Execute)
+    } else if key.eq_ignore_ascii_case(b"instance_dispose") {
+        Some(MachineKey::Dispose)
     } else {
         None
     }

@@ -16,7 +16,7 @@ fn is_gap(byte: u8) -> bool
     matches!(byte, b' ' | b'\t' | b'\r' | 0x0b | 0x0c | b'\n')
 }
 
-fn trim_front(bytes: &[u8]) -> &[u8]
+pub(crate) fn trim_front(bytes: &[u8]) -> &[u8]
     ensures { result.now ≡ front_trimmed bytes.now }
 {
     let mut rest = bytes;

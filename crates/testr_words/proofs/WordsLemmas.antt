@@ -1,22 +1,48 @@
 -- Which command words are.
-use Rattle.std.proofs.Common.{◌≡◌, ℕ, Bool, true, false, List, [], ◌∷◌, ◌++◌, drop, None, Some, Option, String, string_bytes, cond, append_assoc, refl, sym, ap, ◌∙◌}
+use Rattle.std.proofs.Common.{◌≡◌, ℕ, Bool, true, false, List, [], ◌∷◌, ◌++◌, drop, bytes_eq, None, Some, Option, String, string_bytes, cond, append_assoc, refl, sym, ap, ◌∙◌}
 use Rattle.std.specs.declared.alloc.Global.{Global}
-use Rattle.std.specs.Prelude.{◌&&◌}
+use Rattle.std.specs.Prelude.{◌&&◌, codes}
 use Rattle.std.specs.List.{list_all}
 use Rattle.std.proofs.lemmas.List.Folds.{list_all-append}
 use Rattle.std.proofs.lemmas.Slice.Eq.{bytes_eq-Decides}
 use Rattle.command_words.specs.Items.{texts, is_text}
-use Rattle.testr_words.specs.Words.{testr_word, names_testr, and_then, if_texts}
+use Rattle.testr_words.specs.Words.{face_word, face_of, face_in, and_then, if_texts}
+use Rattle.testr_words.specs.declared.command.Face.{Face}
+use Rattle.testr_words.specs.declared.command.Face.TheVariants.{Testr, Stestr}
 
--- words that name this program are its name and the words behind it
-pub names_first : (words : List (String Global)) → names_testr (texts words) ≡ true → texts words ≡ testr_word ∷ texts (drop 1 words)
-names_first [] is = cc
-names_first (word ∷ words) is = λ i. (bytes_eq-Decides (string_bytes word) testr_word).0 is i ∷ texts words
+-- the word that names a face is its own
+named : (word : List ℕ) (face : Face) → face_of word ≡ Some face → word ≡ face_word face
+named word face is = by (bytes_eq word (codes "testr")) (bytes_eq word (codes "stestr")) (bytes_eq-Decides word (codes "testr")).0 (bytes_eq-Decides word (codes "stestr")).0 is
+  where
+    by : (first second : Bool) → (first ≡ true → word ≡ codes "testr") → (second ≡ true → word ≡ codes "stestr") → cond first (Some Testr) (cond second (Some Stestr) None) ≡ Some face → word ≡ face_word face
+    by true second first_is other some =
+        let same : Testr ≡ face = cc in
+        first_is refl ∙ ap face_word same
+    by false true first_is second_is some =
+        let same : Stestr ≡ face = cc in
+        second_is refl ∙ ap face_word same
+    by false false first_is second_is some = cc
 
--- and others are not
-pub names_other : (words : List (List ℕ)) → names_testr words ≡ false → (behind : List (List ℕ)) → words ≡ testr_word ∷ behind → ⊥
-names_other words unnamed behind is =
-    let named : names_testr words ≡ true = ap names_testr is ∙ (bytes_eq-Decides testr_word testr_word).1 refl in
+-- words that name a face are its name and the words behind it
+pub face_first : (words : List (String Global)) (face : Face) → face_in (texts words) ≡ Some face → texts words ≡ face_word face ∷ texts (drop 1 words)
+face_first [] face is = cc
+face_first (word ∷ words) face is = λ i. named (string_bytes word) face is i ∷ texts words
+
+-- the first word of a face names it
+names_itself : (face : Face) → face_of (face_word face) ≡ Some face
+names_itself Testr = refl
+names_itself Stestr = refl
+
+-- and other words name none
+pub face_other : (words : List (List ℕ)) → face_in words ≡ None → (face : Face) (behind : List (List ℕ)) → words ≡ face_word face ∷ behind → ⊥
+face_other words unnamed face behind is =
+    let there : face_in words ≡ Some face = ap face_in is ∙ names_itself face in
+    cc
+
+-- words name one face
+pub same_face : (face given : Face) (rest behind : List (List ℕ)) → face_word face ∷ rest ≡ face_word given ∷ behind → face ≡ given
+same_face face given rest behind is =
+    let both : Some face ≡ Some given = sym (names_itself face) ∙ ap face_in is ∙ names_itself given in
     cc
 
 -- these names behind others, where each of them is a text

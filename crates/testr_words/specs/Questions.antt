@@ -1,7 +1,7 @@
 -- Which runs a question is of.
 use Rattle.std.specs.Prelude.{true}
 use Rattle.testr_words.specs.declared.command.Question.{Question}
-use Rattle.testr_words.specs.declared.command.Question.TheVariants.{Last, Slowest}
+use Rattle.testr_words.specs.declared.command.Question.TheVariants.{Last, Skips, Slowest}
 
 -- whether it is of the last run's bytes
 abbrev pub OfBytes : Question → Type 0
@@ -11,5 +11,6 @@ OfBytes question = ⊥
 -- whether the question is of the last run
 abbrev pub OfLastRun : Question → Type 0
 OfLastRun (Last subunit) = Unit {0}
+OfLastRun Skips = Unit {0}
 OfLastRun (Slowest all) = Unit {0}
 OfLastRun question = ⊥

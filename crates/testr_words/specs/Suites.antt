@@ -1,9 +1,61 @@
--- What `run` asks for.
+-- What `run` and `list-tests` ask for.
 use Rattle.std.specs.Prelude.{Bool, not, ◌||◌, nat_eq, Option, Some, None, List, ℕ, length, is_some}
 use Rattle.testr_words.specs.declared.command.Command.{Command}
+use Rattle.testr_words.specs.declared.command.Face.{Face}
+use Rattle.testr_words.specs.declared.command.ProjectWords.{ProjectWords}
+
+-- which tests are wanted, by patterns
+pub record Wanted : Type 0 where
+  -- the patterns of the ids that are wanted, in their order
+  pub patterns : List (List ℕ)
+  -- the patterns of the ids that are left out, in their order
+  pub excluded : List (List ℕ)
+  -- the file of further patterns of the ids that are wanted
+  pub include_list : Option (List ℕ)
+  -- the file of further patterns of the ids that are left out
+  pub exclude_list : Option (List ℕ)
+
+-- something is said of it
+abbrev pub is_choosing : Wanted → Bool
+is_choosing wanted = not (nat_eq (length wanted.patterns) 0) || (not (nat_eq (length wanted.excluded) 0) || (is_some wanted.include_list || is_some wanted.exclude_list))
+
+-- what is said of it by the command
+abbrev pub wanted_of : Command → Wanted
+wanted_of command = record {
+  patterns = command.names;
+  excluded = command.excluded;
+  include_list = command.include_list;
+  exclude_list = command.exclude_list;
+}
+
+-- the project whose tests are run, and what the words say of it
+pub record Project : Type 0 where
+  -- the absolute path of its folder; empty where it is not known
+  pub folder : List ℕ
+  -- by which name the program was called
+  pub face : Face
+  -- what stands in place of the configuration's values, and behind its commands
+  pub words : ProjectWords
+
+-- the project in the folder of this path, of which the command says something
+abbrev pub project_of : List ℕ → Command → Project
+project_of folder command = record { folder = folder; face = command.face; words = command.project }
+
+-- what `list-tests` is asked to do
+pub record ListOptions : Type 0 where
+  -- whose tests are listed
+  pub project : Project
+  -- by which name the program was called
+  pub face : Face
+  -- which tests are wanted
+  pub wanted : Wanted
 
 -- what `run` is asked to do
 pub record RunOptions : Type 0 where
+  -- whose tests are run
+  pub project : Project
+  -- by which name the program was called
+  pub face : Face
   -- the run is called partial
   pub partial : Bool
   -- only the tests that fail are wanted
@@ -16,25 +68,33 @@ pub record RunOptions : Type 0 where
   pub concurrency : ℕ
   -- the file of the ids that are wanted
   pub load_list : Option (List ℕ)
-  -- the patterns of the ids that are wanted, in their order
-  pub patterns : List (List ℕ)
+  -- which tests are wanted, by patterns
+  pub wanted : Wanted
 
--- A run is partial exactly where it is called so, or its tests are chosen: by the failing set, a load list or a pattern.
-abbrev pub is_part : (called failing : Bool) → (load_list : Option (List ℕ)) → (patterns : List (List ℕ)) → Bool
-is_part called failing load_list patterns = called || (failing || (is_some load_list || not (nat_eq (length patterns) 0)))
+-- A run is partial exactly where it is called so, or its tests are chosen: by the failing set, a load list, a pattern or a
+-- file of patterns.
+abbrev pub is_part : (called failing : Bool) → (load_list : Option (List ℕ)) → Wanted → Bool
+is_part called failing load_list wanted = called || (failing || (is_some load_list || is_choosing wanted))
 
 -- the run that is asked for is partial
 abbrev pub is_partial : RunOptions → Bool
-is_partial options = is_part options.partial options.failing options.load_list options.patterns
+is_partial options = is_part options.partial options.failing options.load_list options.wanted
 
--- what is said of a run by the command
-abbrev pub run_options : Command → RunOptions
-run_options command = record {
+-- what is said of a listing by the command, in the folder of this path
+abbrev pub list_options : List ℕ → Command → ListOptions
+list_options folder command = record { project = project_of folder command; face = command.face; wanted = wanted_of command }
+
+-- What is said of a run by the command, in the folder of this path. Only the reading of the configuration asks for the project,
+-- so the steps behind it name none.
+abbrev pub run_options : List ℕ → Command → RunOptions
+run_options folder command = record {
+  project = project_of folder command;
+  face = command.face;
   partial = command.partial;
   failing = command.failing;
   parallel = command.parallel;
   find_causes = command.find_causes;
   concurrency = command.concurrency;
   load_list = command.load_list;
-  patterns = command.names;
+  wanted = wanted_of command;
 }

@@ -1,12 +1,12 @@
 -- What a command asks for.
-use Rattle.std.specs.Prelude.{Bool, nat_le, Option, Some, None, option_map, List, ℕ, length, if◌then◌else◌}
+use Rattle.std.specs.Prelude.{Bool, true, false, nat_le, Option, Some, None, option_map, List, ℕ, length, if◌then◌else◌}
 use Rattle.testr_words.specs.Drawings.{drawing_of}
-use Rattle.testr_words.specs.Suites.{RunOptions, run_options}
+use Rattle.testr_words.specs.Suites.{ListOptions, RunOptions, list_options, run_options}
 use Rattle.testr_words.specs.declared.command.Verb.{Verb}
 use Rattle.testr_words.specs.declared.command.Verb.TheVariants as verb
 use Rattle.testr_words.specs.declared.command.Command.{Command}
 use Rattle.testr_words.specs.declared.command.Question.{Question}
-use Rattle.testr_words.specs.declared.command.Question.TheVariants.{Last, Failing, Slowest, Stats}
+use Rattle.testr_words.specs.declared.command.Question.TheVariants.{Last, Skips, Failing, Slowest, Stats}
 use Rattle.testr_words.specs.declared.drawing.Drawing.{Drawing}
 
 -- what is done for a command
@@ -17,32 +17,77 @@ pub data Task : Type 0 where
   load : Bool → List (List ℕ) → Task
   -- a question is answered of the runs
   ask : Question → Task
-  -- the ids of the project's tests that have one of these patterns are printed
-  list : List (List ℕ) → Task
+  -- the ids of the project's tests that are wanted are printed
+  list : ListOptions → Task
   -- tests of the project are run
   run : RunOptions → Task
   -- made-up workers are run in memory, and summed up
   selftest : Drawing → Task
 
--- what is done for a command of this verb
-abbrev pub task_with : Verb → Command → Option Task
-task_with verb.Init command = Some init
-task_with verb.Load command = if nat_le (length command.names) 64 then Some (load command.partial command.names) else None
-task_with verb.Run command = Some (run (run_options command))
-task_with verb.Last command = Some (ask (Last command.subunit))
-task_with verb.Failing command = Some (ask (Failing command.list))
-task_with verb.Slowest command = Some (ask (Slowest command.all))
-task_with verb.Stats command = Some (ask Stats)
-task_with verb.ListTests command = Some (list command.names)
-task_with verb.SelfTest command = option_map selftest (drawing_of command)
+-- What `last` asks: for the run's bytes, where these are wanted, or else for its report, with why tests were skipped or
+-- without.
+abbrev pub last_question : Command → Question
+last_question command = if command.subunit then Last true else (if command.skips then Skips else Last false)
+
+-- what is done for a command of this verb, for a project in the folder of this path
+abbrev pub task_with : List ℕ → Verb → Command → Option Task
+task_with folder verb.Init command = Some init
+task_with folder verb.Load command = if nat_le (length command.names) 64 then Some (load command.partial command.names) else None
+task_with folder verb.Run command = Some (run (run_options folder command))
+task_with folder verb.Last command = Some (ask (last_question command))
+task_with folder verb.Failing command = Some (ask (Failing command.list))
+task_with folder verb.Slowest command = Some (ask (Slowest command.all))
+task_with folder verb.Stats command = Some (ask Stats)
+task_with folder verb.ListTests command = Some (list (list_options folder command))
+task_with folder verb.SelfTest command = option_map selftest (drawing_of command)
 
 -- what is done for a command; none where it is not one of those that are done
-abbrev pub task_of : Command → Option Task
-task_of command = task_with command.verb command
+abbrev pub task_of : List ℕ → Command → Option Task
+task_of folder command = task_with folder command.verb command
 
 -- what is done of it where no program and no thread can be started
 abbrev pub quiet_of : Option Task → Option Task
-quiet_of (Some (list patterns)) = None
+quiet_of (Some (list options)) = None
 quiet_of (Some (run options)) = None
 quiet_of (Some (selftest drawing)) = None
 quiet_of asked = asked
+
+-- Whether a repository is made first where there is none, as `--force-init` asks: only for a task that keeps a run.
+abbrev pub forces_for : Bool → Option Task → Bool
+forces_for force (Some (load partial names)) = force
+forces_for force (Some (run options)) = force
+forces_for force asked = false
+
+-- whether it is made first for the command; the folder of the project decides nothing
+abbrev pub forces : List ℕ → Command → Bool
+forces folder command = forces_for command.force_init (task_of folder command)
+
+-- the same where no program and no thread can be started
+abbrev pub forces_quiet : List ℕ → Command → Bool
+forces_quiet folder command = forces_for command.force_init (quiet_of (task_of folder command))
+
+-- Whether no report is printed, as `--quiet` asks: only of a task that prints one, with what stands behind it. The bytes of
+-- the last run are none.
+abbrev pub hides_for : Bool → Option Task → Bool
+hides_for hide (Some (load partial names)) = hide
+hides_for hide (Some (run options)) = hide
+hides_for hide (Some (ask (Last false))) = hide
+hides_for hide (Some (ask Skips)) = hide
+hides_for hide asked = false
+
+-- whether no report is printed for the command; the folder of the project decides nothing
+abbrev pub hides : List ℕ → Command → Bool
+hides folder command = hides_for command.no_report (task_of folder command)
+
+-- the same where no program and no thread can be started
+abbrev pub hides_quiet : List ℕ → Command → Bool
+hides_quiet folder command = hides_for command.no_report (quiet_of (task_of folder command))
+
+-- Whether a line tells, before anything is done, that there are not so many workers: only of a run.
+abbrev pub warns_for : Bool → Option Task → Bool
+warns_for too_many (Some (run options)) = too_many
+warns_for too_many asked = false
+
+-- whether it is told for the command; the folder of the project decides nothing
+abbrev pub warns : List ℕ → Command → Bool
+warns folder command = warns_for command.too_many (task_of folder command)

@@ -1,6 +1,17 @@
 //! What words may ask for.
 
+use crate::words::MOST_FILES;
+use std::alloc::Global;
 use sub_number::{IdList, Text};
+
+/// By which name the program was called.
+#[derive(Clone, Copy, Debug, PartialEq, Eq)]
+pub enum Face {
+    /// `testr`.
+    Testr,
+    /// `stestr`, whose words ask for some things by default.
+    Stestr,
+}
 
 /// Which command it is.
 #[derive(Clone, Copy, Debug, PartialEq, Eq)]
@@ -25,19 +36,55 @@ pub enum Verb {
     SelfTest,
 }
 
-/// What the words behind `testr` ask for. A field that the verb does not use is false, 0, none or empty.
+/// What words say of a project: what stands in place of its configuration's values, and behind its commands.
+#[derive(Drop)]
+pub struct ProjectWords {
+    /// The path of the tests.
+    pub test_path: Option<Text>,
+    /// The path from which modules are named.
+    pub top_dir: Option<Text>,
+    /// The pattern by which tests are grouped.
+    pub group_regex: Option<Text>,
+    /// The words that stand behind the command of each job that runs tests, in their order.
+    pub arguments: IdList,
+}
+
+impl ProjectWords {
+    ghost use Rattle.std.specs.Prelude.{◌≡◌};
+    ghost use Rattle.testr_words.specs.Words.{no_project_words};
+
+    /// Nothing is said.
+    pub fn none(alloc: Global) -> Self
+        ensures { result ≡ no_project_words }
+    {
+        ProjectWords {
+            test_path: None,
+            top_dir: None,
+            group_regex: None,
+            arguments: IdList::new(alloc),
+        }
+    }
+}
+
+/// What the words behind the program's name ask for. A field that the verb does not use is false, 0, none or empty.
 #[derive(Drop)]
 pub struct Command {
+    /// By which name it was asked for.
+    pub face: Face,
     /// Which command it is.
     pub verb: Verb,
     /// The run tells of a part of the tests alone.
     pub partial: bool,
+    /// A repository is made first, where there is none.
+    pub force_init: bool,
     /// Only the tests that fail are wanted.
     pub failing: bool,
     /// The tests run side by side.
     pub parallel: bool,
-    /// How many workers run them; 0 where the words do not say it.
+    /// How many workers run them, 64 at most; 0 where the words do not say it.
     pub concurrency: u32,
+    /// More than 64 workers were asked for.
+    pub too_many: bool,
     /// The tests that make others fail are looked for.
     pub find_causes: bool,
     /// The file of the ids that are wanted.
@@ -48,14 +95,115 @@ pub struct Command {
     pub all: bool,
     /// The run's bytes are printed, and not its report.
     pub subunit: bool,
+    /// Why tests were skipped is printed behind the report.
+    pub skips: bool,
+    /// The report is not printed, nor anything behind it.
+    pub no_report: bool,
     /// The files or patterns, in their order.
     pub names: IdList,
+    /// The patterns of the ids that are left out, in their order.
+    pub excluded: IdList,
+    /// The file of further patterns of the ids that are wanted.
+    pub include_list: Option<Text>,
+    /// The file of further patterns of the ids that are left out.
+    pub exclude_list: Option<Text>,
+    /// What is said of the project.
+    pub project: ProjectWords,
     /// The seed of generated outputs.
     pub seed: u32,
     /// How many of them there are.
     pub lanes: u32,
     /// How many tests each of them has.
     pub tests: u32,
+}
+
+impl Command {
+    ghost use Rattle.std.specs.Prelude.{◌≡◌, List, ℕ};
+    ghost use Rattle.testr_words.specs.Tasks.{last_question, forces as is_forced, forces_quiet as is_forced_quietly, hides as is_hidden, hides_quiet as is_hidden_quietly, warns as is_warned};
+    ghost use Rattle.testr_words.specs.Suites.{wanted_of, is_choosing};
+    ghost use Rattle.testr_words.specs.Words.{with_project};
+
+    /// What is asked of the last run by `last`: its bytes, where these are wanted; else its report, with why tests were
+    /// skipped or without.
+    pub fn last_question(&self) -> Question
+        ensures { result ≡ last_question self.now }
+    {
+        if self.subunit {
+            Question::Last { subunit: true }
+        } else if self.skips {
+            Question::Skips
+        } else {
+            Question::Last { subunit: false }
+        }
+    }
+
+    /// Whether a repository is made first where there is none: only of a command that keeps a run.
+    pub fn forces(&self) -> bool
+        ensures { (folder : List ℕ) → result ≡ is_forced folder self.now }
+    {
+        match self.verb {
+            Verb::Run => self.force_init,
+            _ => self.forces_quietly(),
+        }
+    }
+
+    /// The same where no program and no thread can be started.
+    pub fn forces_quietly(&self) -> bool
+        ensures { (folder : List ℕ) → result ≡ is_forced_quietly folder self.now }
+    {
+        match self.verb {
+            Verb::Load => self.force_init && self.names.list().len() <= MOST_FILES,
+            _ => false,
+        }
+    }
+
+    /// Whether no report is printed: only of a command that else prints one.
+    pub fn hides_report(&self) -> bool
+        ensures { (folder : List ℕ) → result ≡ is_hidden folder self.now }
+    {
+        match self.verb {
+            Verb::Run => self.no_report,
+            _ => self.hides_report_quietly(),
+        }
+    }
+
+    /// The same where no program and no thread can be started.
+    pub fn hides_report_quietly(&self) -> bool
+        ensures { (folder : List ℕ) → result ≡ is_hidden_quietly folder self.now }
+    {
+        match self.verb {
+            Verb::Load => self.no_report && self.names.list().len() <= MOST_FILES,
+            Verb::Last => self.no_report && !self.subunit,
+            _ => false,
+        }
+    }
+
+    /// Whether a line tells first that there are not so many workers: only of a command that has workers.
+    pub fn warns(&self) -> bool
+        ensures { (folder : List ℕ) → result ≡ is_warned folder self.now }
+    {
+        match self.verb {
+            Verb::Run => self.too_many,
+            _ => false,
+        }
+    }
+
+    /// The command, which says this of the project.
+    pub(crate) fn with_project(self, project: ProjectWords) -> Self
+        ensures { result ≡ with_project project self }
+    {
+        Command { project, ..self }
+    }
+
+    /// Whether it says by a pattern, or a file of patterns, which tests are wanted.
+    pub fn is_choosing(&self) -> bool
+        ensures { result ≡ is_choosing (wanted_of self.now) }
+    {
+        !self.names.list().is_empty()
+            || !self.excluded.list().is_empty()
+            || self.include_list.is_some()
+            || self.exclude_list.is_some()
+    }
 }
 
 /// What is asked of a repository.
@@ -66,6 +214,8 @@ pub enum Question {
         /// Its bytes are wanted, and not its report.
         subunit: bool,
     },
+    /// The last run, and why tests were skipped in it.
+    Skips,
     /// The tests that fail by all runs.
     Failing {
         /// Their ids alone are wanted.
@@ -89,7 +239,7 @@ impl Question {
         ensures { IsTrue result ↔ OfLastRun self }
     {
         match self {
-            Question::Last { .. } | Question::Slowest { .. } => true,
+            Question::Last { .. } | Question::Skips | Question::Slowest { .. } => true,
             Question::Failing { .. } | Question::Stats => false,
         }
     }

@@ -1,6 +1,6 @@
 //! Which words are a command.
 //!
-//! The words behind `testr` are read into a `Command`, by docs/COMMANDS.md, "Words". This room knows the name, the options
+//! The words behind `testr` or `stestr` are read into a `Command`, by docs/COMMANDS.md, "Words". This room knows the name, the options
 //! and the names of each command, and what it asks for as a whole; it knows nothing of folders, files or programs, and
 //! does nothing.
 //!
@@ -8,7 +8,9 @@
 //!
 //! - `command`: what words may ask for
 //! - `words`: the options and names of each verb
+//! - `letters`: options of one letter
 //! - `values`: options with a value
+//! - `project`: what is said of the project, and the words behind `--`
 //! - `drawing`: the numbers of `selftest`
 //!
 //! Of a command its specs say the task: what is asked, as one sum.
@@ -16,10 +18,12 @@
 
 mod command;
 mod drawing;
+mod letters;
+mod project;
 mod values;
 mod words;
 
-pub use command::{Command, Question, Verb};
+pub use command::{Command, Face, ProjectWords, Question, Verb};
 pub use drawing::{Drawing, drawing_of};
 pub use values::MOST_WORKERS;
-pub use words::{MOST_FILES, is_testr, reads};
+pub use words::{MOST_FILES, called_as, reads, reads_as};

@@ -1,5 +1,6 @@
 //! Lines, details and chunks of as many bytes as they may have, and of one more.
 
+use crate::lines::line_of;
 use packet_codec::Event;
 use std::alloc::Global;
 use trial_events::repeated;
@@ -30,15 +31,6 @@ fn piece_sizes(reader: &mut V1Reader, piece: &[u8], last: bool) -> Option<Sizes>
         return None;
     }
     Some(sizes_of(&reader.long(piece, last).ok()?))
-}
-
-// The front, so many bytes `a`, and the end, as one line.
-fn line_of(alloc: Global, front: &[u8], count: usize, end: &[u8]) -> Option<Vec<u8>> {
-    let mut line = Vec::new(alloc);
-    line.extend_from_slice(front).ok()?;
-    line.extend_from_slice(&repeated(alloc, b"a", count)?).ok()?;
-    line.extend_from_slice(end).ok()?;
-    Some(line)
 }
 
 // What a line of so many bytes `a` and this end gives.

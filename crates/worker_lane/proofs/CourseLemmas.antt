@@ -1,14 +1,17 @@
 -- The course of a lane, step by step.
-use Rattle.std.proofs.Common.{◌≡◌, ℕ, ◌<◌, ◌≤◌, Bool, true, false, List, [], ◌∷◌, ◌++◌, length, map, refl, inl, inr, sym, ap, ◌∙◌, arith}
+use Rattle.std.proofs.Common.{◌≡◌, ℕ, ◌<◌, ◌≤◌, Bool, true, false, List, [], ◌∷◌, ◌++◌, length, map, drop, refl, inl, inr, sym, subst, ap, ◌∙◌, arith}
 use Rattle.std.specs.Prelude.{Option, Some, None, IfSome, IfNone, Result, Ok, Err, IfOk, OnErr, All}
 use Rattle.std.specs.Option.{option_to_list}
 use Rattle.std.proofs.lemmas.List.{length-append}
+use Rattle.std.proofs.Math.Seq.{drop-append_seam}
 use Rattle.std.proofs.lemmas.List.Elements.{All-nil, All-cons, All-head, All-tail}
 use Rattle.packet_codec.specs.declared.event.Event.{Event}
 use Rattle.packet_codec.specs.Grammar.{AreBytes}
 use Rattle.packet_codec.specs.Canonical.{canonical, IsEvent, Fits}
 use Rattle.packet_codec.specs.Halves.{first_half, second_half}
+use Rattle.packet_codec.specs.Packet.{SpellsEvent}
 use Rattle.packet_codec.specs.Routing.{under}
+use Rattle.packet_codec.proofs.SpellingLemmas.{canonical_spells}
 use Rattle.edge_io.specs.declared.child.Finish.{Finish}
 use Rattle.stream_reader.specs.declared.note.Note.{Note}
 use Rattle.stream_reader.specs.declared.note.Note.TheVariants as note
@@ -21,13 +24,16 @@ use Rattle.worker_lane.specs.Waiting.{IsShortNote}
 use Rattle.worker_lane.specs.Scribing.{Scribing, holding, TakesNote, IsAsBefore, GivesEvent, GivesPacket, HasNone}
 use Rattle.worker_lane.specs.Endings.{ending_of, ending_events, IsPacketOf}
 use Rattle.edge_io.specs.Children.{Output}
-use Rattle.worker_lane.specs.Rest.{AppendsNext, Coursing, lots_to_give, events_left, lots, IsEventOf, IsSoundScribe, IsAtStage, IsMarked}
+use Rattle.worker_lane.specs.Courses.{GivesHeard, HasNoneHeard, GivesLost, HasNoneLost}
+use Rattle.worker_lane.specs.Lost.{lost_ids, lost_under, lost_events, IsLostPacket}
+use Rattle.worker_lane.specs.Rest.{AppendsNext, Coursing, lots_to_give, lots_left, events_left, lots, IsEventOf, IsSoundScribe, IsAtStage, IsMarked}
 use Rattle.worker_lane.specs.declared.lot.Ending.{Ending}
 use Rattle.worker_lane.specs.declared.lot.Lot.TheVariants.{Packet, End}
 use Rattle.worker_lane.specs.declared.stage.Stage.{Stage}
 use Rattle.worker_lane.specs.declared.stage.Stage.TheVariants.{Reading, Closing}
 use Rattle.worker_lane.proofs.NoteLemmas.{HavePackets, note_is_short, each_way, event_has_packets, foreign_has_packet}
 use Rattle.worker_lane.proofs.RecordingLemmas.{as_before_lane, as_before_ended, given_lane, given_ended}
+use Rattle.worker_lane.proofs.LostLemmas.{in_turn, none_recorded, RecordsEach}
 use Rattle.worker_lane.proofs.RestLemmas.{given_left, fed_left, none_left, few_held}
 
 -- ---- what is recorded of a note is under the lane
@@ -141,14 +147,16 @@ into_stays (Err e) before after old new gives without refused = stays_as_before 
 
 -- ---- the lots
 
-packet_first : (lane other : ℕ) (event : Event) (events : List Event) (packet : List ℕ) (how : Ending) → other ≡ lane → packet ≡ canonical event → lots_to_give lane (event ∷ events) how ≡ Packet packet ∷ lots_to_give other events how
-packet_first lane other event events packet how same made =
-    ap (λ (p : List ℕ). Packet p ∷ lots_to_give lane events how) (sym made) ∙ ap (λ (n : ℕ). Packet packet ∷ lots_to_give n events how) (sym same)
+packet_first : (lane other : ℕ) (ids : List (List ℕ)) (event : Event) (events : List Event) (packet : List ℕ) (how : Ending) → other ≡ lane → packet ≡ canonical event → lots_to_give lane ids (event ∷ events) how ≡ Packet packet ∷ lots_to_give other (lost_ids ids (event ∷ [])) events how
+packet_first lane other ids event events packet how same made =
+    ap (λ (l : List (List ℕ)). Packet (canonical event) ∷ (map Packet (map canonical (events ++ (lost_events lane how l ++ ending_events lane how))) ++ End how ∷ [])) (in_turn ids (event ∷ []) events)
+    ∙ ap (λ (p : List ℕ). Packet p ∷ lots_to_give lane (lost_ids ids (event ∷ [])) events how) (sym made)
+    ∙ ap (λ (n : ℕ). Packet packet ∷ lots_to_give n (lost_ids ids (event ∷ [])) events how) (sym same)
 
-pub given_lots : (before after : Scribing) (packet more : List ℕ) (how : Ending) → GivesPacket before [] after packet → IsSoundScribe before → AreBytes more → (before.held.ended ≡ true → more ≡ []) → lots_to_give before.lane (events_left before more) how ≡ Packet packet ∷ lots_to_give after.lane (events_left after more) how
-given_lots before after packet more how g s are none =
-    ap (λ (events : List Event). lots_to_give before.lane events how) (given_left before after g.event more g.given s.are_bytes are none)
-    ∙ packet_first before.lane after.lane g.event (events_left after more) packet how (given_lane before after g.event g.given) g.new_is
+given_lots : (before after : Scribing) (ids : List (List ℕ)) (packet more : List ℕ) (how : Ending) → (g : GivesPacket before [] after packet) → IsSoundScribe before → AreBytes more → (before.held.ended ≡ true → more ≡ []) → lots_to_give before.lane ids (events_left before more) how ≡ Packet packet ∷ lots_to_give after.lane (lost_ids ids (g.event ∷ [])) (events_left after more) how
+given_lots before after ids packet more how g s are none =
+    ap (λ (events : List Event). lots_to_give before.lane ids events how) (given_left before after g.event more g.given s.are_bytes are none)
+    ∙ packet_first before.lane after.lane ids g.event (events_left after more) packet how (given_lane before after g.event g.given) g.new_is
 
 not_ended : (ended : Bool) (more : List ℕ) → ended ≡ false → ended ≡ true → more ≡ []
 not_ended ended more going_on is = absurd (let clash : false ≡ true = sym going_on ∙ is in grind (arith, clash))
@@ -160,58 +168,103 @@ at_reading stage ended failed is stands = rw is at stands
 pub at_closing : (stage : Stage) (how : Ending) (ended failed : Bool) → stage ≡ Closing how → IsAtStage stage ended failed → (ended ≡ true) × IsMarked how failed
 at_closing stage how ended failed is stands = rw is at stands
 
-module _ {E : Type 0} where
-  pub next_gives : (result : Result (Option (List ℕ)) E) (before after : Scribing) (stage : Stage) (failed : Bool) → stage ≡ Reading → IsSoundScribe before → before.held.ended ≡ false → IfOk result (λ answer. IfSome answer (λ packet. GivesPacket before [] after packet))
-      → IfOk result (λ answer. IfSome answer (λ packet. (output : Output) → AreBytes output.bytes → lots (record { scribe = before; stage = stage; failed = failed }) output ≡ Packet packet ∷ lots (record { scribe = after; stage = stage; failed = failed }) output))
-  next_gives (Ok (Some packet)) before after stage failed is s going_on gives = rw is (λ output are. given_lots before after packet output.bytes (ending_of output.finish) gives s are (not_ended before.held.ended output.bytes going_on))
-  next_gives (Ok None) before after stage failed is s going_on gives = tt
-  next_gives (Err refused) before after stage failed is s going_on gives = tt
+-- the packet of an event that was given spells it
+pub given_spelled : (before after : Scribing) (packet : List ℕ) → IsSoundScribe before → (g : GivesPacket before [] after packet) → SpellsEvent packet g.event
+given_spelled before after packet s g =
+    let first : IsEventOf after.lane g.event = (sound_given before after g.event g.given s).first in
+    subst (λ (p : List ℕ). SpellsEvent p g.event) (sym g.new_is) (canonical_spells g.event first.is_event first.fits)
 
-  pub next_none : (result : Result (Option (List ℕ)) E) (before after : Scribing) (stage : Stage) (failed : Bool) → before.held.ended ≡ false → IfOk result (λ answer. IfNone answer (HasNone before × (after ≡ before)))
-      → IfOk result (λ answer. IfNone answer ((◌≡◌ {A = Coursing} (record { scribe = after; stage = stage; failed = failed }) (record { scribe = before; stage = stage; failed = failed })) × (length before.held.bytes ≤ most_held)))
-  next_none (Ok (Some packet)) before after stage failed going_on without = tt
-  next_none (Ok None) before after stage failed going_on without = (ap (λ (s : Scribing). record { scribe = s; stage = stage; failed = failed }) without.1, few_held before going_on without.0)
-  next_none (Err refused) before after stage failed going_on without = tt
+given_under : (before after : Scribing) (packet : List ℕ) → IsSoundScribe before → GivesPacket before [] after packet → IsPacketOf before.lane packet
+given_under before after packet s g = rw (given_lane before after g.event g.given) at (packet_of after.lane g.event packet (sound_given before after g.event g.given s).first g.new_is)
 
--- a packet was appended, while the child is read
-pub into_appends : (given : Bool) (before after : Scribing) (stage : Stage) (failed : Bool) (old new : List ℕ) → stage ≡ Reading → IsSoundScribe before → before.held.ended ≡ false → (given ≡ true → GivesPacket before old after new)
-    → given ≡ true → AppendsNext (record { scribe = before; stage = stage; failed = failed }) old (record { scribe = after; stage = stage; failed = failed }) new
-into_appends given before after stage failed old new is s going_on gives so =
-    let g : GivesPacket before old after new = gives so in
-    let alone : GivesPacket before [] after (canonical g.event) = record { event = g.event; given = g.given; new_is = refl } in
+-- what the ids are once the packet was heard
+abbrev pub Hears : (ids : List (List ℕ)) → (packet : List ℕ) → (now : List (List ℕ)) → Type 0
+Hears ids packet now = (e : Event) → SpellsEvent packet e → now ≡ lost_ids ids (e ∷ [])
+
+pub gives_heard : (before after : Scribing) (ids now : List (List ℕ)) (stage : Stage) (failed : Bool) (packet : List ℕ) → GivesPacket before [] after packet → Hears ids packet now → IsSoundScribe before → IsAtStage stage before.held.ended failed
+    → GivesHeard (record { scribe = before; ids = ids; stage = stage; failed = failed }) packet (record { scribe = after; ids = now; stage = stage; failed = failed })
+gives_heard before after ids now stage failed packet g hears s stands =
+    let heard : now ≡ lost_ids ids (g.event ∷ []) = hears g.event (given_spelled before after packet s g) in
     record {
-      packet = canonical g.event;
-      appended = g.new_is;
-      under = rw (given_lane before after g.event g.given) at (packet_of after.lane g.event (canonical g.event) (sound_given before after g.event g.given s).first refl);
-      left = rw is (λ output are. given_lots before after (canonical g.event) output.bytes (ending_of output.finish) alone s are (not_ended before.held.ended output.bytes going_on));
+      under = given_under before after packet s g;
+      reading = λ reading output are.
+          ap (λ (at : Stage). lots_left before ids at output) reading
+          ∙ given_lots before after ids packet output.bytes (ending_of output.finish) g s are (not_ended before.held.ended output.bytes (at_reading stage before.held.ended failed reading stands))
+          ∙ ap (λ (l : List (List ℕ)). Packet packet ∷ lots_to_give after.lane l (events_left after output.bytes) (ending_of output.finish)) (sym heard)
+          ∙ ap (λ (at : Stage). Packet packet ∷ lots_left after now at output) (sym reading);
+      closing = λ how closing output other.
+          ap (λ (at : Stage). lots_left before ids at output) closing
+          ∙ given_lots before after ids packet [] how g s (All-nil (λ byte. byte < 256)) (λ ended. refl)
+          ∙ ap (λ (l : List (List ℕ)). Packet packet ∷ lots_to_give after.lane l (events_left after []) how) (sym heard)
+          ∙ ap (λ (at : Stage). Packet packet ∷ lots_left after now at other) (sym closing);
     }
 
--- nothing has changed
-pub into_none : (given : Bool) (before after : Scribing) (stage : Stage) (failed : Bool) (old new : List ℕ) → (given ≡ false → HasNone before × (after ≡ before) × (new ≡ old))
-    → given ≡ false → (◌≡◌ {A = Coursing} (record { scribe = after; stage = stage; failed = failed }) (record { scribe = before; stage = stage; failed = failed })) × (new ≡ old)
-into_none given before after stage failed old new without so = (ap (λ (s : Scribing). record { scribe = s; stage = stage; failed = failed }) (without so).1, (without so).2)
+pub none_heard : (scribe : Scribing) (ids : List (List ℕ)) (stage : Stage) (failed : Bool) → HasNone scribe → IsAtStage stage scribe.held.ended failed → HasNoneHeard (record { scribe = scribe; ids = ids; stage = stage; failed = failed })
+none_heard scribe ids stage failed none stands = record {
+  reading = λ reading. few_held scribe (at_reading stage scribe.held.ended failed reading stands) none;
+  closing = λ how closing. none_left scribe (at_closing stage how scribe.held.ended failed closing stands).0 none;
+}
 
-pub feed_left : (before after : Scribing) (piece : List ℕ) (stage : Stage) (failed : Bool) → stage ≡ Reading → after ≡ holding before (before.held.bytes ++ piece) false
-    → (more : List ℕ) (finish : Finish) → lots (record { scribe = before; stage = stage; failed = failed }) (record { bytes = piece ++ more; finish = finish }) ≡ lots (record { scribe = after; stage = stage; failed = failed }) (record { bytes = more; finish = finish })
-feed_left before after piece stage failed reading is = rw reading (λ more finish.
-    ap (λ (events : List Event). lots_to_give before.lane events (ending_of finish)) (fed_left before piece more false) ∙ ap (λ (s : Scribing). lots_to_give s.lane (events_left s more) (ending_of finish)) (sym is))
+-- what was appended is the event's packet
+pub appended_packet : (before after : Scribing) (old new packet : List ℕ) → (g : GivesPacket before old after new) → packet ≡ drop (length old) new → packet ≡ canonical g.event
+appended_packet before after old new packet g is = is ∙ ap (drop (length old)) g.new_is ∙ drop-append_seam old (canonical g.event)
 
--- once the child is not read any more
-pub closing_packet : (before after : Scribing) (packet : List ℕ) (how : Ending) → GivesPacket before [] after packet → IsSoundScribe before → lots_to_give before.lane (events_left before []) how ≡ Packet packet ∷ lots_to_give after.lane (events_left after []) how
-closing_packet before after packet how g s = given_lots before after packet [] how g s (All-nil (λ byte. byte < 256)) (λ ended. refl)
+pub appended_spelled : (before after : Scribing) (old new packet : List ℕ) → IsSoundScribe before → (g : GivesPacket before old after new) → packet ≡ canonical g.event → SpellsEvent packet g.event
+appended_spelled before after old new packet s g made = given_spelled before after packet s (record { event = g.event; given = g.given; new_is = made })
 
-pub closing_ending : (scribe : Scribing) (how : Ending) (answer : Option (List ℕ)) → scribe.held.ended ≡ true → HasNone scribe → option_to_list answer ≡ map canonical (ending_events scribe.lane how) → lots_to_give scribe.lane (events_left scribe []) how ≡ map Packet (option_to_list answer) ++ End how ∷ []
-closing_ending scribe how answer ended without is =
-    ap (λ (events : List Event). lots_to_give scribe.lane events how) (none_left scribe ended without)
+-- a packet was appended, while the child is read
+pub into_appends : (before after : Scribing) (ids now : List (List ℕ)) (stage : Stage) (failed : Bool) (old new packet : List ℕ) → stage ≡ Reading → IsSoundScribe before → before.held.ended ≡ false → IsAtStage stage before.held.ended failed → (g : GivesPacket before old after new) → packet ≡ canonical g.event → Hears ids packet now
+    → AppendsNext (record { scribe = before; ids = ids; stage = stage; failed = failed }) old (record { scribe = after; ids = now; stage = stage; failed = failed }) new
+into_appends before after ids now stage failed old new packet is s going_on stands g made hears =
+    let alone : GivesPacket before [] after packet = record { event = g.event; given = g.given; new_is = made } in
+    let heard = gives_heard before after ids now stage failed packet alone hears s stands in
+    record {
+      packet = packet;
+      appended = g.new_is ∙ ap (λ (p : List ℕ). old ++ p) (sym made);
+      under = heard.under;
+      left = heard.reading is;
+    }
+
+pub feed_left : (before after : Scribing) (piece : List ℕ) (ids : List (List ℕ)) (stage : Stage) (failed : Bool) → stage ≡ Reading → after ≡ holding before (before.held.bytes ++ piece) false
+    → (more : List ℕ) (finish : Finish) → lots (record { scribe = before; ids = ids; stage = stage; failed = failed }) (record { bytes = piece ++ more; finish = finish }) ≡ lots (record { scribe = after; ids = ids; stage = stage; failed = failed }) (record { bytes = more; finish = finish })
+feed_left before after piece ids stage failed reading is = rw reading (λ more finish.
+    ap (λ (events : List Event). lots_to_give before.lane ids events (ending_of finish)) (fed_left before piece more false) ∙ ap (λ (s : Scribing). lots_to_give s.lane ids (events_left s more) (ending_of finish)) (sym is))
+
+-- ---- once the child is not read any more
+
+-- the first id that was lost is told of
+pub gives_lost : (scribe : Scribing) (ids rest : List (List ℕ)) (stage : Stage) (failed : Bool) (how : Ending) (id packet : List ℕ) → stage ≡ Closing how → ids ≡ id ∷ rest → RecordsEach scribe.lane how → IsLostPacket scribe.lane id packet
+    → GivesLost (record { scribe = scribe; ids = ids; stage = stage; failed = failed }) how packet (record { scribe = scribe; ids = rest; stage = stage; failed = failed })
+gives_lost scribe ids rest stage failed how id packet closing taken each lost = record {
+  under = lost.under;
+  left = λ none output other.
+      ap (λ (at : Stage). lots_left scribe ids at output) closing
+      ∙ ap (λ (events : List Event). lots_to_give scribe.lane ids events how) none
+      ∙ ap (λ (l : List (List ℕ)). lots_to_give scribe.lane l [] how) taken
+      ∙ ap (λ (l : List Event). map Packet (map canonical ((l ++ lost_events scribe.lane how (lost_ids rest [])) ++ ending_events scribe.lane how)) ++ End how ∷ []) (each id)
+      ∙ ap (λ (p : List ℕ). Packet p ∷ lots_to_give scribe.lane rest [] how) (sym lost.packet_is)
+      ∙ ap (λ (events : List Event). Packet packet ∷ lots_to_give scribe.lane rest events how) (sym none)
+      ∙ ap (λ (at : Stage). Packet packet ∷ lots_left scribe rest at other) (sym closing);
+}
+
+none_left_lost : (scribe : Scribing) (ids : List (List ℕ)) (stage : Stage) (failed : Bool) (how : Ending) → stage ≡ Closing how → lost_events scribe.lane how (lost_ids ids []) ≡ [] → HasNoneLost (record { scribe = scribe; ids = ids; stage = stage; failed = failed }) how
+none_left_lost scribe ids stage failed how closing nothing none output =
+    ap (λ (at : Stage). lots_left scribe ids at output) closing
+    ∙ ap (λ (events : List Event). lots_to_give scribe.lane ids events how) none
+    ∙ ap (λ (l : List Event). map Packet (map canonical (l ++ ending_events scribe.lane how)) ++ End how ∷ []) nothing
+
+-- nothing is recorded of those of this ending
+pub loses_none : (scribe : Scribing) (ids : List (List ℕ)) (stage : Stage) (failed : Bool) (how : Ending) → stage ≡ Closing how → ((lane : ℕ) (id : List ℕ) → lost_under lane how id ≡ []) → HasNoneLost (record { scribe = scribe; ids = ids; stage = stage; failed = failed }) how
+loses_none scribe ids stage failed how closing each = none_left_lost scribe ids stage failed how closing (none_recorded scribe.lane how (lost_ids ids []) (each scribe.lane))
+
+-- none is left
+pub lost_all : (scribe : Scribing) (ids : List (List ℕ)) (stage : Stage) (failed : Bool) (how : Ending) → stage ≡ Closing how → ids ≡ [] → HasNoneLost (record { scribe = scribe; ids = ids; stage = stage; failed = failed }) how
+lost_all scribe ids stage failed how closing empty = none_left_lost scribe ids stage failed how closing (ap (λ (l : List (List ℕ)). lost_events scribe.lane how (lost_ids l [])) empty)
+
+-- only the end is left
+pub closing_last : (before : Coursing) (lane : ℕ) (how : Ending) (answer : Option (List ℕ)) → before.stage ≡ Closing how → HasNoneHeard before → HasNoneLost before how → lane ≡ before.scribe.lane → option_to_list answer ≡ map canonical (ending_events lane how)
+    → (output : Output) → lots before output ≡ map Packet (option_to_list answer) ++ End how ∷ []
+closing_last before lane how answer closing heard lost same is output =
+    lost (heard.closing how closing) output
+    ∙ ap (λ (n : ℕ). map Packet (map canonical (ending_events n how)) ++ End how ∷ []) (sym same)
     ∙ ap (λ (packets : List (List ℕ)). map Packet packets ++ End how ∷ []) (sym is)
-
-pub closing_gives : (before after : Scribing) (stage : Stage) (failed : Bool) (how : Ending) (packet : List ℕ) → stage ≡ Closing how → IsSoundScribe before → GivesPacket before [] after packet
-    → (output other : Output) → lots (record { scribe = before; stage = stage; failed = failed }) output ≡ Packet packet ∷ lots (record { scribe = after; stage = stage; failed = failed }) other
-closing_gives before after stage failed how packet closing s g = rw closing (λ output other. closing_packet before after packet how g s)
-
-pub closing_last : (scribe after : Scribing) (stage : Stage) (failed : Bool) (how : Ending) (found answer : Option (List ℕ)) → stage ≡ Closing how → IsAtStage stage scribe.held.ended failed → found ≡ None → IfNone found (HasNone scribe × (after ≡ scribe))
-    → option_to_list answer ≡ map canonical (ending_events after.lane how) → (output : Output) → lots (record { scribe = scribe; stage = stage; failed = failed }) output ≡ map Packet (option_to_list answer) ++ End how ∷ []
-closing_last scribe after stage failed how found answer closing stands empty without is =
-    let none = rw empty at without in
-    let ended = (at_closing stage how scribe.held.ended failed closing stands).0 in
-    rw closing (λ output. closing_ending scribe how answer ended none.0 (is ∙ ap (λ (s : Scribing). map canonical (ending_events s.lane how)) none.1))

@@ -9,7 +9,7 @@ use Rattle.edge_io.specs.Steps.{Goes, Stays}
 use Rattle.edge_io.specs.declared.child.Finish.{Finish}
 use Rattle.edge_io.proofs.CausesLemmas.{rose_after, rose_before}
 use Rattle.worker_lane.specs.Endings.{ending_of, EndsSo}
-use Rattle.worker_lane.specs.Rest.{Coursing, lots, lots_for, new_course, Gives, IsOver}
+use Rattle.worker_lane.specs.Rest.{Coursing, lots, lots_asked, new_course, Gives, IsOver}
 use Rattle.worker_lane.specs.Courses.{EndsCourse}
 use Rattle.worker_lane.specs.Lanes.{course_rest, KeepsNumber}
 use Rattle.worker_lane.specs.declared.lot.Ending.{Ending}
@@ -20,8 +20,8 @@ use Rattle.worker_lane.specs.declared.stage.Stage.TheVariants.{Over}
 
 -- ---- a new lane
 
-pub new_rest : (course : Coursing) (lane : ℕ) (told : Option Output) → course ≡ new_course lane → course_rest course told ≡ option_map (lots_for lane) told
-new_rest course lane told is = rw is refl
+pub new_rest : (course : Coursing) (lane : ℕ) (ids : List (List ℕ)) (told : Option Output) → course ≡ new_course lane ids → course_rest course told ≡ option_map (lots_asked lane ids) told
+new_rest course lane ids told is = rw is refl
 
 -- ---- what is kept
 

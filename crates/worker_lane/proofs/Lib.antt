@@ -5,6 +5,9 @@ pub mod NoteLemmas
 pub mod RecordingLemmas
 pub mod WaitingLemmas
 pub mod EndingLemmas
+pub mod LostLemmas
+pub mod SoughtLemmas
+pub mod LostEventLemmas
 pub mod RestLemmas
 pub mod CourseLemmas
 pub mod LaneLemmas

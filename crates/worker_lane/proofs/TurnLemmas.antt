@@ -11,8 +11,9 @@ use Rattle.edge_io.specs.declared.child.Finish.{Finish}
 use Rattle.edge_io.specs.declared.child.Finish.TheVariants as finish
 use Rattle.stream_reader.specs.declared.note.Note.{Note}
 use Rattle.worker_lane.specs.Recorded.{HasRecorded, recorded_events}
-use Rattle.worker_lane.specs.Endings.{ending_of, ending_events}
-use Rattle.worker_lane.specs.Rest.{notes_of_stream, Gives, IsOver, lots_to_give, lots_for}
+use Rattle.worker_lane.specs.Endings.{ending_of}
+use Rattle.worker_lane.specs.Lost.{named_ids}
+use Rattle.worker_lane.specs.Rest.{notes_of_stream, Gives, IsOver, last_events, lots_to_give, lots_asked}
 use Rattle.worker_lane.specs.declared.lot.Ending.{Ending}
 use Rattle.worker_lane.specs.declared.lot.Ending.TheVariants.{Exit, Fault, NoMemory}
 use Rattle.worker_lane.specs.declared.lot.Lot.{Lot}
@@ -44,10 +45,10 @@ unfolding told_or
 gives_whole lots given None h over = absurd (grind (arith, h))
 gives_whole lots given (Some others) h over = sym (ap (told_or lots) h ∙ ap (λ (l : List Lot). given ++ l) over ∙ append-nil given)
 
-pub lots_recorded : (lane : ℕ) (output : Output) (events : List Event) → AreBytes output.bytes → HasRecorded lane output.bytes events → lots_for lane output ≡ lots_to_give lane events (ending_of output.finish)
-lots_recorded lane output events are h =
-    ap (λ (notes : List Note). lots_to_give lane (recorded_events lane notes) (ending_of output.finish)) (the_notes output.bytes h.notes are h.are_notes)
-    ∙ ap (λ (es : List Event). lots_to_give lane es (ending_of output.finish)) (sym h.made)
+pub lots_recorded : (lane : ℕ) (ids : List (List ℕ)) (output : Output) (events : List Event) → AreBytes output.bytes → HasRecorded lane output.bytes events → lots_asked lane ids output ≡ lots_to_give lane (named_ids ids) events (ending_of output.finish)
+lots_recorded lane ids output events are h =
+    ap (λ (notes : List Note). lots_to_give lane (named_ids ids) (recorded_events lane notes) (ending_of output.finish)) (the_notes output.bytes h.notes are h.are_notes)
+    ∙ ap (λ (es : List Event). lots_to_give lane (named_ids ids) es (ending_of output.finish)) (sym h.made)
 
 end_of : Ending → Lot → Ending
 end_of other (Packet packet) = other
@@ -60,8 +61,10 @@ one_end [] (lot ∷ given) others last how h = absurd (omega (arith, ap length h
 one_end (packet ∷ packets) [] others last how h = absurd (let first : Packet packet ≡ End how = ap (λ (l : List Lot). get_or l 0 (End how)) h in grind (arith, first))
 one_end (packet ∷ packets) (lot ∷ given) others last how h = one_end packets given others last how (ap (drop 1) h)
 
-pub ending_last : (lane : ℕ) (output : Output) (given others : List Lot) (how : Ending) → lots_for lane output ≡ given ++ End how ∷ others → (how ≡ ending_of output.finish) × (others ≡ [])
-ending_last lane output given others how h = one_end (map canonical (recorded_events lane (notes_of_stream output.bytes) ++ ending_events lane (ending_of output.finish))) given others (ending_of output.finish) how h
+pub ending_last : (lane : ℕ) (ids : List (List ℕ)) (output : Output) (given others : List Lot) (how : Ending) → lots_asked lane ids output ≡ given ++ End how ∷ others → (how ≡ ending_of output.finish) × (others ≡ [])
+ending_last lane ids output given others how h =
+    let events = recorded_events lane (notes_of_stream output.bytes) in
+    one_end (map canonical (events ++ last_events lane (named_ids ids) events (ending_of output.finish))) given others (ending_of output.finish) how h
 
 pub fault_exactly : (f : Finish) → (ending_of f ≡ Fault) ↔ ((f ≡ finish.ReadFault) ⊎ (f ≡ finish.WaitFault))
 fault_exactly (finish.Exit status) = (λ same. absurd (grind (arith, same)), never)

@@ -1,4 +1,6 @@
 pub mod Endings
+pub mod Lost
+pub mod Sought
 pub mod Recorded
 pub mod Scribing
 pub mod Waiting

@@ -13,6 +13,7 @@ use Rattle.stream_reader.proofs.ExistLemmas.{some_notes}
 use Rattle.worker_lane.specs.Recorded.{recorded_events}
 use Rattle.worker_lane.specs.Scribing.{Scribing}
 use Rattle.worker_lane.specs.Endings.{ending_of, ending_events, IsPacketOf}
+use Rattle.worker_lane.specs.Lost.{named_ids, lost_ids, lost_events}
 use Rattle.worker_lane.specs.declared.stage.Stage.{Stage}
 use Rattle.worker_lane.specs.declared.stage.Stage.TheVariants.{Reading, Closing, Last, Over}
 use Rattle.worker_lane.specs.declared.lot.Ending.{Ending}
@@ -28,38 +29,48 @@ pub notes_are : (bytes : List ℕ) → HasNotes bytes (notes_of_stream bytes)
 unfolding notes_of_stream
 notes_are bytes = (some_notes bytes).1
 
--- the lots of these events: each as its packet, then the packet that tells of the end, where there is one, and the end
-abbrev pub lots_to_give : (lane : ℕ) → List Event → Ending → List Lot
-lots_to_give lane events how = map Packet (map canonical (events ++ ending_events lane how)) ++ End how ∷ []
+-- what is recorded behind these events: of those of the ids that none of them says more of, and then of the end
+abbrev pub last_events : (lane : ℕ) → (ids : List (List ℕ)) → List Event → Ending → List Event
+last_events lane ids events how = lost_events lane how (lost_ids ids events) ++ ending_events lane how
 
--- the lots of a whole output under a lane
+-- the lots of these events: each as its packet, then the packets of what is recorded behind them, and the end
+abbrev pub lots_to_give : (lane : ℕ) → (ids : List (List ℕ)) → List Event → Ending → List Lot
+lots_to_give lane ids events how = map Packet (map canonical (events ++ last_events lane ids events how)) ++ End how ∷ []
+
+-- the lots of a whole output under a lane whose job names these ids
+abbrev pub lots_asked : (lane : ℕ) → (ids : List (List ℕ)) → Output → List Lot
+lots_asked lane ids output = lots_to_give lane (named_ids ids) (recorded_events lane (notes_of_stream output.bytes)) (ending_of output.finish)
+
+-- the same of a job that names none
 abbrev pub lots_for : (lane : ℕ) → Output → List Lot
-lots_for lane output = lots_to_give lane (recorded_events lane (notes_of_stream output.bytes)) (ending_of output.finish)
+lots_for lane output = lots_asked lane [] output
 
 -- the events that a scribe has still to give where these bytes are fed to it, and then the stream ends
 abbrev pub events_left : Scribing → (more : List ℕ) → List Event
 events_left scribe more = scribe.waiting ++ recorded_events scribe.lane (notes_of_stream (scribe.held.bytes ++ more))
 
 -- The lots that are left. While the child is read they hang on what it tells, and after that on what the scribe holds.
-abbrev pub lots_left : Scribing → Stage → Output → List Lot
-lots_left scribe Reading output = lots_to_give scribe.lane (events_left scribe output.bytes) (ending_of output.finish)
-lots_left scribe (Closing how) output = lots_to_give scribe.lane (events_left scribe []) how
-lots_left scribe (Last how) output = End how ∷ []
-lots_left scribe Over output = []
+abbrev pub lots_left : Scribing → (ids : List (List ℕ)) → Stage → Output → List Lot
+lots_left scribe ids Reading output = lots_to_give scribe.lane ids (events_left scribe output.bytes) (ending_of output.finish)
+lots_left scribe ids (Closing how) output = lots_to_give scribe.lane ids (events_left scribe []) how
+lots_left scribe ids (Last how) output = End how ∷ []
+lots_left scribe ids Over output = []
 
--- what is kept of a lane beside its child: whether a read of the child or the wait for it failed is the mark
+-- What is kept of a lane beside its child. The ids are those of its job that none of the events that were given says more
+-- of. Whether a read of the child or the wait for it failed is the mark.
 pub record Coursing : Type 0 where
   pub scribe : Scribing
+  pub ids : List (List ℕ)
   pub stage : Stage
   pub failed : Bool
 
 -- the lots that the lane has still to give, where its child has still this output
 abbrev pub lots : Coursing → Output → List Lot
-lots course = lots_left course.scribe course.stage
+lots course = lots_left course.scribe course.ids course.stage
 
--- the course of a new lane
-abbrev pub new_course : (lane : ℕ) → Coursing
-new_course lane = record { scribe = record { lane = lane; waiting = []; held = record { bytes = []; ended = false } }; stage = Reading; failed = false }
+-- the course of a new lane whose job names these ids
+abbrev pub new_course : (lane : ℕ) → (ids : List (List ℕ)) → Coursing
+new_course lane ids = record { scribe = record { lane = lane; waiting = []; held = record { bytes = []; ended = false } }; ids = named_ids ids; stage = Reading; failed = false }
 
 -- a packet of the lane stood at the front of what is left, and was appended
 pub record AppendsNext (before : Coursing) (old : List ℕ) (after : Coursing) (new : List ℕ) : Type 0 where

@@ -7,10 +7,11 @@ use crate::lot::{Ending, Lot};
 use crate::process::{stop, wait_for};
 use edge_io::{Child, Failed, PIECE};
 use std::alloc::Global;
-use sub_number::{Bytes, NoMemory};
+use sub_number::{Bytes, NoMemory, Text};
 
 /// One worker process, read under a number. It gives what is recorded of the process's output, packet by packet, then
-/// the packet that tells of its end, where there is one, and then its end (docs/FORMATS.md, "What a lane gives").
+/// the packets of the tests of its job that were lost, then the packet that tells of its end, where there is one, and then
+/// its end (docs/FORMATS.md, "What a lane gives").
 ///
 /// Contracts see its number, and its *rest*, that is the list of lots that it has still to give, where its child tells.
 /// They see a mark, too, whether a read of the child or the wait for it failed. `lots_in_turn` says what the clauses
@@ -27,26 +28,27 @@ impl<C: Child> Lane<C> {
     ghost use Rattle.std.specs.Prelude.{◌⊎◌, ◌≤◌, ◌<◌, ◌↔◌, true, false, None, Some, OnOk, OnErr, IfErr, IfSome, IfNone, map};
     ghost use Rattle.std.specs.Option.{option_map, option_to_list};
     ghost use Rattle.worker_lane.specs.Endings.{IsPacketOf, IsLotOf};
-    ghost use Rattle.worker_lane.specs.Rest.{Gives, IsOver, lots_for, IsMarkedLot, IsEnd};
+    ghost use Rattle.worker_lane.specs.Rest.{Gives, IsOver, lots_asked, IsMarkedLot, IsEnd};
     ghost use Rattle.stream_reader.specs.Room.{room, most_held};
     ghost use Rattle.worker_lane.specs.Lanes.{rest, lane_number, lane_failed, lane_faults, lane_held, IsPast, AppendsPacket, KeepsLane};
     ghost use Rattle.worker_lane.specs.declared.lot.Lot.TheVariants.{Packet, End};
     ghost use Rattle.worker_lane.specs.declared.lot.Ending.TheVariants.{Fault, NoMemory as without_memory};
     ghost use Rattle.worker_lane.specs.declared.stage.Stage.TheVariants.{Reading, Over};
 
-    /// A lane over this child. The number is below 64. The child is handed back for want of memory alone.
-    pub fn new(alloc: Global, number: u32, child: C) -> Result<Self, C>
+    /// A lane over this child, whose job names these ids. The number is below 64. The child is handed back for want of
+    /// memory alone.
+    pub fn new(alloc: Global, number: u32, child: C, ids: &[Text]) -> Result<Self, C>
     where
         C: Drop,
         requires { number < 64 }
         ensures number { IfOk result (λ lane. lane_number lane ≡ number) }
-        ensures rest { IfOk result (λ lane. rest C.seen lane ≡ option_map (lots_for number) (C.seen child).told) }
+        ensures rest { IfOk result (λ lane. rest C.seen lane ≡ option_map (lots_asked number ids.now) (C.seen child).told) }
         ensures fresh { IfOk result (λ lane. IsPast lane → ⊥) }
         ensures mark { IfOk result (λ lane. lane_failed lane ≡ false) }
         ensures count { IfOk result (λ lane. lane_faults C.seen lane ≡ (C.seen child).faults) }
         ensures back { IfErr result (λ same. same ≡ child) }
     {
-        let Ok(course) = Course::new(alloc, number) else {
+        let Ok(course) = Course::new(alloc, number, ids) else {
             return Err(child);
         };
         let Ok(buffer) = read_buffer(alloc) else {

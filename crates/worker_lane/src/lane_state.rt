@@ -1,29 +1,33 @@
 //! What is kept of a lane beside its child.
 
-ghost use Rattle.std.specs.Prelude.{◌≡◌, ◌⊎◌, ◌<◌, ◌≤◌, ◌+◌, ◌++◌, ◌∷◌, ◌↔◌, IsTrue, ℕ, List, [], true, false, None, IfOk, OnErr, IfSome, IfNone, length};
+ghost use Rattle.std.specs.Prelude.{◌≡◌, ◌⊎◌, ◌<◌, ◌≤◌, ◌+◌, ◌++◌, ◌∷◌, ◌↔◌, IsTrue, ℕ, List, [], true, false, None, IfOk, OnErr, IfSome, IfNone, length, drop};
 ghost use Rattle.std.specs.Option.{option_to_list};
 ghost use Rattle.packet_codec.specs.Grammar.{AreBytes};
 ghost use Rattle.edge_io.specs.declared.child.Finish.{Finish};
 ghost use Rattle.worker_lane.specs.Endings.{ending_of, IsPacketOf, IsLotOf};
+ghost use Rattle.worker_lane.specs.Lost.{lost_under, lost_event};
+ghost use Rattle.packet_codec.specs.Routing.{under};
 ghost use Rattle.edge_io.specs.Children.{Output};
 ghost use Rattle.stream_reader.specs.Room.{room, most_held};
 ghost use Rattle.worker_lane.specs.Rest.{lots, new_course, AppendsNext, IsMarkedLot, IsEnd};
-ghost use Rattle.worker_lane.specs.Courses.{KeepsCourse, KeepsLaneAndMark, EndsCourse};
+ghost use Rattle.worker_lane.specs.Courses.{KeepsCourse, KeepsLaneAndMark, EndsCourse, GivesHeard, HasNoneHeard, GivesLost, HasNoneLost};
 ghost use Rattle.worker_lane.specs.declared.lot.Lot.TheVariants.{Packet};
 ghost use Rattle.worker_lane.specs.declared.lot.Ending.TheVariants.{Fault, NoMemory as without_memory};
 ghost use Rattle.worker_lane.specs.declared.stage.Stage.TheVariants.{Reading, Closing, Over};
 
 use crate::lot::{Ending, Lot};
 use crate::scribe::Scribe;
+use crate::sought::Sought;
 use crate::stage::Stage;
 use std::alloc::Global;
 use std::marker::Model;
-use sub_number::{Bytes, NoMemory};
+use sub_number::{Bytes, NoMemory, Text};
 
 /// What is kept of a lane beside its child.
 #[derive(Drop)]
 pub(crate) struct Course {
     scribe: Scribe,
+    sought: Sought,
     stage: Stage,
     // A read of the child or the wait for it failed.
     failed: bool,
@@ -34,19 +38,20 @@ impl Model for Course {
 
     ghost Value = { Coursing };
 
-    ghost view = { λ c. record { scribe = c.scribe; stage = c.stage; failed = c.failed } };
+    ghost view = { λ c. record { scribe = c.scribe; ids = c.sought; stage = c.stage; failed = c.failed } };
 
     ghost invariant = { λ c. IsSoundScribe c.scribe × IsAtStage c.stage c.scribe.held.ended c.failed };
 }
 
 impl Course {
-    /// The course of a new lane. The number is below 64.
-    pub(crate) fn new(alloc: Global, number: u32) -> Result<Self, NoMemory>
+    /// The course of a new lane, whose job names these ids. The number is below 64.
+    pub(crate) fn new(alloc: Global, number: u32, ids: &[Text]) -> Result<Self, NoMemory>
         requires { number < 64 }
-        ensures { IfOk result (λ course. course ≡ new_course number) }
+        ensures { IfOk result (λ course. course ≡ new_course number ids.now) }
     {
         Ok(Course {
             scribe: Scribe::new(alloc, number)?,
+            sought: Sought::new(alloc, ids)?,
             stage: Stage::Reading,
             failed: false,
         })
@@ -75,7 +80,7 @@ impl Course {
         ensures under { IfOk result (λ answer. IfSome answer (IsPacketOf self.old.scribe.lane)) }
         ensures none { IfOk result (λ answer. IfNone answer ((self.new ≡ self.old) × (length self.old.scribe.held.bytes ≤ most_held))) }
     {
-        self.scribe.next()
+        self.next_heard()
     }
 
     /// Appends the next packet, while the child is read. False where more bytes are needed, or memory for it, and then
@@ -86,9 +91,13 @@ impl Course {
         ensures appends { result ≡ true → AppendsNext self.old out.old.items self.new out.new.items }
         ensures none { result ≡ false → (self.new ≡ self.old) × (out.new.items ≡ out.old.items) }
     {
+        let start = out.len();
         let Ok(given) = self.scribe.next_into(out) else {
             return false;
         };
+        if given {
+            self.sought.hear(behind(out, start));
+        }
         given
     }
 
@@ -149,7 +158,10 @@ impl Course {
         ensures marked { IfOk result (λ lot. IsMarkedLot lot self.new.failed) }
         ensures over { IfOk result (λ lot. IsEnd lot ↔ (self.new.stage ≡ Over)) }
     {
-        if let Some(packet) = self.scribe.next()? {
+        if let Some(packet) = self.next_heard()? {
+            return Ok(Lot::Packet(packet));
+        }
+        if let Some(packet) = self.next_lost(ending)? {
             return Ok(Lot::Packet(packet));
         }
         if let Some(packet) = self.scribe.ending(&ending)? {
@@ -158,6 +170,36 @@ impl Course {
         }
         self.stage = Stage::Over;
         Ok(Lot::End(ending))
+    }
+
+    // The next packet of what is recorded of the bytes that were fed.
+    fn next_heard(&mut self) -> Result<Option<Bytes>, NoMemory>
+        ensures keeps { KeepsCourse self.old self.new }
+        ensures gives { IfOk result (λ answer. IfSome answer (λ packet. GivesHeard self.old packet self.new)) }
+        ensures same { IfOk result (λ answer. IfNone answer (self.new ≡ self.old)) }
+        ensures none { IfOk result (λ answer. IfNone answer (HasNoneHeard self.old)) }
+    {
+        let Some(packet) = self.scribe.next()? else {
+            return Ok(None);
+        };
+        self.sought.hear(packet.bytes());
+        Ok(Some(packet))
+    }
+
+    // The packet of the next test that was lost. None where none is left, or none is recorded of this ending.
+    fn next_lost(&mut self, ending: Ending) -> Result<Option<Bytes>, NoMemory>
+        requires { self.old.stage ≡ Closing ending }
+        ensures keeps { KeepsCourse self.old self.new }
+        ensures gives { IfOk result (λ answer. IfSome answer (λ packet. GivesLost self.old ending packet self.new)) }
+        ensures none { IfOk result (λ answer. IfNone answer (HasNoneLost self.old ending)) }
+    {
+        if loses_none(ending) {
+            return Ok(None);
+        }
+        let Some(id) = self.sought.pop()? else {
+            return Ok(None);
+        };
+        Ok(Some(self.scribe.lost(id)?))
     }
 
     /// Nothing more is given. The mark is set where a wait failed.
@@ -170,4 +212,20 @@ impl Course {
         self.failed |= failed;
         self.stage = Stage::Over;
     }
+}
+
+// What stands behind the first bytes, of which there are so many.
+fn behind(bytes: &[u8], start: usize) -> &[u8]
+    requires { start ≤ length bytes.now }
+    ensures { result.now ≡ drop start bytes.now }
+{
+    &bytes[start..]
+}
+
+// Whether no test of a lane with this ending is lost.
+fn loses_none(ending: Ending) -> bool
+    ensures yes { result ≡ true → (lane : ℕ) (id : List ℕ) → lost_under lane ending id ≡ [] }
+    ensures no { result ≡ false → (lane : ℕ) (id : List ℕ) → lost_under lane ending id ≡ under lane (lost_event id) ∷ [] }
+{
+    matches!(ending, Ending::Exit(0) | Ending::NoMemory)
 }

@@ -1,7 +1,7 @@
 //! Laws of what is recorded.
 
-ghost use Rattle.std.specs.Prelude.{◌≡◌, ◌<◌, ℕ, List, [], ◌++◌, All, true, false, Option, Some, ◌⊎◌, ◌↔◌, ◌∷◌};
-ghost use Rattle.std.specs.List.{flat_map};
+ghost use Rattle.std.specs.Prelude.{◌≡◌, ◌<◌, ℕ, List, [], ◌++◌, All, true, false, Option, Some, ◌⊎◌, ◌↔◌, ◌∷◌, pos};
+ghost use Rattle.std.specs.List.{flat_map, list_any, AllByRecursion};
 ghost use Rattle.packet_codec.specs.declared.event.Event.{Event};
 ghost use Rattle.packet_codec.specs.Grammar.{AreBytes};
 ghost use Rattle.packet_codec.specs.Canonical.{IsEvent, Fits, canonical};
@@ -10,10 +10,11 @@ ghost use Rattle.edge_io.specs.Children.{Output};
 ghost use Rattle.edge_io.specs.declared.child.Finish.{Finish};
 ghost use Rattle.edge_io.specs.declared.child.Finish.TheVariants.{ReadFault, WaitFault};
 ghost use Rattle.worker_lane.specs.Endings.{ending_of};
-ghost use Rattle.worker_lane.specs.Rest.{Coursing, Gives, IsOver, lots_to_give, lots_for};
+ghost use Rattle.worker_lane.specs.Rest.{Coursing, Gives, IsOver, lots_to_give, lots_asked, last_events};
+ghost use Rattle.worker_lane.specs.Lost.{names, named_ids, lost_ids};
 ghost use Rattle.worker_lane.specs.Lanes.{KeepsNumber};
 ghost use Rattle.worker_lane.specs.declared.lot.Ending.{Ending};
-ghost use Rattle.worker_lane.specs.declared.lot.Ending.TheVariants.{Fault, NoMemory};
+ghost use Rattle.worker_lane.specs.declared.lot.Ending.TheVariants.{Exit, Fault, NoMemory};
 ghost use Rattle.worker_lane.specs.declared.lot.Lot.{Lot};
 ghost use Rattle.worker_lane.specs.declared.lot.Lot.TheVariants.{End};
 ghost use Rattle.worker_lane.specs.Recorded.{pieces_of, HasRecorded, IsRecorded};
@@ -57,13 +58,21 @@ pub fn lots_in_turn()
     // What was given so far comes first.
     ensures front { (lots given : List Lot) (left : Option (List Lot)) → Gives (Some lots) given left → (others : List Lot) × (lots ≡ given ++ others) }
     // The lots of an output are those of the events that are recorded of it.
-    ensures recorded { (lane : ℕ) (output : Output) (events : List Event) → AreBytes output.bytes → HasRecorded lane output.bytes events → lots_for lane output ≡ lots_to_give lane events (ending_of output.finish) }
+    ensures recorded { (lane : ℕ) (ids : List (List ℕ)) (output : Output) (events : List Event) → AreBytes output.bytes → HasRecorded lane output.bytes events → lots_asked lane ids output ≡ lots_to_give lane (named_ids ids) events (ending_of output.finish) }
     // Its one end comes last, and tells how the child finished.
-    ensures ending { (lane : ℕ) (output : Output) (given others : List Lot) (how : Ending) → lots_for lane output ≡ given ++ End how ∷ others → (how ≡ ending_of output.finish) × (others ≡ []) }
+    ensures ending { (lane : ℕ) (ids : List (List ℕ)) (output : Output) (given others : List Lot) (how : Ending) → lots_asked lane ids output ≡ given ++ End how ∷ others → (how ≡ ending_of output.finish) × (others ≡ []) }
     // A fault is the ending exactly where the reads or the wait fail, and want of memory never is.
     ensures fault { (finish : Finish) → (ending_of finish ≡ Fault) ↔ ((finish ≡ ReadFault) ⊎ (finish ≡ WaitFault)) }
     ensures memory { (finish : Finish) → ending_of finish ≡ NoMemory → ⊥ }
     // The number stays, and a mark comes only where the count of faults rose, in one step or another.
     ensures keeps_none { (course : Coursing) (count : ℕ) → KeepsNumber course course count count }
     ensures keeps_more { (a b c : Coursing) (k l m : ℕ) → KeepsNumber a b k l → KeepsNumber b c l m → KeepsNumber a c k m }
+{}
+
+/// Laws of the tests of a lane's job that were lost.
+pub fn tests_that_are_lost()
+    // What is lost behind more events is what those leave of what was lost before.
+    ensures in_turn { (ids : List (List ℕ)) (front more : List Event) → lost_ids ids (front ++ more) ≡ lost_ids (lost_ids ids front) more }
+    // Where the child did not end with 0, the events, with those behind them, name each of the ids.
+    ensures named { (lane : ℕ) (ids : List (List ℕ)) (events : List Event) (how : Ending) → (how ≡ Exit (pos 0) → ⊥) → (how ≡ NoMemory → ⊥) → AllByRecursion (λ id. list_any (names id) (events ++ last_events lane ids events how) ≡ true) ids }
 {}

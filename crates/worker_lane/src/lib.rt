@@ -14,7 +14,8 @@
 //! - `lane_laws`: what holds of several streams that are recorded, each under its lane
 //! - `lane`: one worker process, read under its number
 //! - `lane_state`, `stage`, `process`: what is kept of a lane beside its child, how far it has come, and the child's end
-//! - `lot`, `ending`: what a lane gives, and the packet that tells of its end
+//! - `sought`: the ids of a lane's job of which nothing was heard yet
+//! - `lot`, `ending`, `lost`: what a lane gives, the packet that tells of its end, and the event of a test that was lost
 #![tactic(auto)]
 
 mod ending;
@@ -22,9 +23,11 @@ mod lane;
 mod lane_laws;
 mod lane_state;
 mod laws;
+mod lost;
 mod lot;
 mod process;
 mod scribe;
+mod sought;
 mod stage;
 mod stdout;
 mod waiting_note;
@@ -32,7 +35,8 @@ mod whole_stream;
 
 pub use lane::Lane;
 pub use lane_laws::recorded_lanes;
-pub use laws::{lots_in_turn, recorded_streams, recording_in_turn};
+pub use laws::{lots_in_turn, recorded_streams, recording_in_turn, tests_that_are_lost};
 pub use lot::{Ending, Lot};
 pub use scribe::Scribe;
+pub use sought::LONGEST_ID;
 pub use whole_stream::{recorded_of_pieces, take_packets};

@@ -7,11 +7,13 @@ ghost use Rattle.stream_reader.specs.First.{FirstIs, IsCandidate, IsForeignAtFro
 ghost use Rattle.stream_reader.specs.Room.{room};
 ghost use Rattle.stream_reader.specs.declared.first.First.TheVariants.{Packet as APacket, Nothing as NoNote};
 ghost use Rattle.worker_lane.specs.Endings.{ending_events, IsPacketOf};
+ghost use Rattle.worker_lane.specs.Lost.{longest_id, IsLostPacket};
 ghost use Rattle.worker_lane.specs.declared.lot.Ending.TheVariants.{Exit, NoMemory as without_memory};
 ghost use Rattle.worker_lane.specs.Scribing.{holding, GivesOne, GivesPacket, HasNone, most_left, Recording};
 ghost use Rattle.worker_lane.specs.Waiting.{PutsNote};
 
 use crate::ending::{ending_text, returncode_event};
+use crate::lost::lost_event;
 use crate::lot::Ending;
 use crate::stdout::put_stdout;
 use crate::waiting_note::{Waiting, is_nothing, put_first, put_packet};
@@ -19,7 +21,7 @@ use packet_codec::{Header, are_bytes, encode};
 use std::alloc::Global;
 use std::marker::Model;
 use stream_reader::{First, Reader, Seen};
-use sub_number::{Bytes, NoMemory};
+use sub_number::{Bytes, NoMemory, Text};
 
 /// What a stream becomes when it is recorded under a lane: for each note of the stream, packets under the lane's route.
 /// Contracts see the lane, the events that are given before the next note is taken, and the bytes fed of which no note
@@ -133,6 +135,17 @@ impl Scribe {
         let mut packet = Vec::new(self.alloc);
         encode(&event, &mut packet)?;
         Ok(Some(Bytes::from_vec(packet)))
+    }
+
+    /// The packet of the event of a test that was lost. The id has 65,536 bytes at most.
+    pub(crate) fn lost(&self, id: Text) -> Result<Bytes, NoMemory>
+        requires { length id ≤ longest_id }
+        ensures { IfOk result (λ packet. IsLostPacket self.now.lane id packet) }
+    {
+        let event = lost_event(self.alloc, self.lane, id)?;
+        let mut packet = Vec::new(self.alloc);
+        encode(&event, &mut packet)?;
+        Ok(Bytes::from_vec(packet))
     }
 }
 

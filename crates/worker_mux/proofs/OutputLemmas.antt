@@ -20,14 +20,17 @@ use Rattle.packet_codec.specs.Lanes.{IsMerge, IsMergeOfTold}
 use Rattle.packet_codec.proofs.MergeLemmas.{merge_of_told}
 use Rattle.worker_lane.specs.Endings.{ending_of, ending_events, returncode_under, returncode_text, fault_text}
 use Rattle.worker_lane.specs.Recorded.{recorded_events}
-use Rattle.worker_lane.specs.Rest.{notes_of_stream, notes_are, lots_for}
+use Rattle.worker_lane.specs.Lost.{AreTexts, named_ids, lost_ids, lost_events}
+use Rattle.worker_lane.specs.Rest.{notes_of_stream, notes_are, lots_asked}
 use Rattle.worker_lane.specs.declared.lot.Ending.{Ending}
 use Rattle.worker_lane.specs.declared.lot.Lot.{Lot}
 use Rattle.worker_lane.specs.declared.lot.Lot.TheVariants.{Packet, End}
+use Rattle.sub_number.specs.Texts.{IsShortText}
 use Rattle.worker_lane.proofs.EndingLemmas.{ending_is_event, ending_fits}
+use Rattle.worker_lane.proofs.LostEventLemmas.{lost_have_packets}
 use Rattle.worker_lane.proofs.NoteLemmas.{HavePackets}
 use Rattle.worker_lane.proofs.RecordedLaneLemmas.{have_packets}
-use Rattle.worker_mux.specs.Outputs.{events_for, lots_from, events_from, lists_from, AddsTold, AddsOutputs}
+use Rattle.worker_mux.specs.Outputs.{events_asked, first_ids, other_ids, ids_at, AreAllTexts, lots_asked_from, lots_from, events_from, lists_asked, lists_from, AddsTold, AddsOutputs}
 use Rattle.worker_mux.specs.Runs.{packets_of, ArePacketsOf, AreEventsOf, HaveEvents, AddsMerge}
 
 -- ---- the event that tells of an end
@@ -88,84 +91,111 @@ packets_of_packets : (packets : List (List ℕ)) (how : Ending) → packets_of (
 packets_of_packets [] how = refl
 packets_of_packets (packet ∷ packets) how = ap (λ l. packet ∷ l) (packets_of_packets packets how)
 
-are_packets : (lane : ℕ) (output : Output) → lane < 64 → IsOutput output → ArePacketsOf (lots_for lane output) (events_for lane output)
-are_packets lane output small is =
+are_packets : (lane : ℕ) (ids : List (List ℕ)) (output : Output) → lane < 64 → AreTexts ids → IsOutput output → ArePacketsOf (lots_asked lane ids output) (events_asked lane ids output)
+are_packets lane ids output small texts is =
+    let how : Ending = ending_of output.finish in
     let notes : List Event = recorded_events lane (notes_of_stream output.bytes) in
-    let ending : List Event = ending_events lane (ending_of output.finish) in
+    let lost : List Event = lost_events lane how (lost_ids (named_ids ids) notes) in
+    let ending : List Event = ending_events lane how in
     let first : HavePackets notes = have_packets lane output.bytes notes small is.bytes (record { notes = notes_of_stream output.bytes; are_notes = notes_are output.bytes; made = refl }) in
+    let next : HavePackets lost = lost_have_packets lane how ids notes small texts in
     let last : HavePackets ending = end_has_packet lane output.finish small is.finish in
     record {
-      packets = packets_of_packets (map canonical (notes ++ ending)) (ending_of output.finish);
-      are_events = All-append IsEvent notes ending first.are_events last.are_events;
-      fit = All-append Fits notes ending first.fit last.fit;
+      packets = packets_of_packets (map canonical (notes ++ (lost ++ ending))) how;
+      are_events = All-append IsEvent notes (lost ++ ending) first.are_events (All-append IsEvent lost ending next.are_events last.are_events);
+      fit = All-append Fits notes (lost ++ ending) first.fit (All-append Fits lost ending next.fit last.fit);
     }
 
-told_are_events : (lane : ℕ) (told : Option Output) → lane < 64 → IfSome told IsOutput → AreEventsOf (option_map (lots_for lane) told) (option_map (events_for lane) told)
-told_are_events lane None small is = tt
-told_are_events lane (Some output) small is = are_packets lane output small is
+told_are_events : (lane : ℕ) (ids : List (List ℕ)) (told : Option Output) → lane < 64 → AreTexts ids → IfSome told IsOutput → AreEventsOf (option_map (lots_asked lane ids) told) (option_map (events_asked lane ids) told)
+told_are_events lane ids None small texts is = tt
+told_are_events lane ids (Some output) small texts is = are_packets lane ids output small texts is
 
 -- ---- of all lanes
 
 abbrev AreOutputs : List (Option Output) → Type 0
 AreOutputs told = AllByRecursion (λ t. IfSome t IsOutput) told
 
-length_lots : (lane : ℕ) (told : List (Option Output)) → length (lots_from lane told) ≡ length told
-length_lots lane [] = refl
-length_lots lane (t ∷ told) = ap suc (length_lots (suc lane) told)
+first_texts : (asked : List (List (List ℕ))) → AreAllTexts asked → AreTexts (first_ids asked)
+first_texts [] texts = All-nil IsShortText
+first_texts (ids ∷ others) texts = texts.0
 
-length_events : (lane : ℕ) (told : List (Option Output)) → length (events_from lane told) ≡ length told
-length_events lane [] = refl
-length_events lane (t ∷ told) = ap suc (length_events (suc lane) told)
+other_texts : (asked : List (List (List ℕ))) → AreAllTexts asked → AreAllTexts (other_ids asked)
+other_texts [] texts = tt
+other_texts (ids ∷ others) texts = texts.1
 
-each_has_events : (lane : ℕ) (told : List (Option Output)) → lane + length told ≤ 64 → AreOutputs told → (i : ℕ) → i < length told → AreEventsOf (slice_index_or (lots_from lane told) i None) (slice_index_or (events_from lane told) i None)
-each_has_events lane [] few are i below = absurd (omega (arith, below))
-each_has_events lane (t ∷ told) few are zero below = told_are_events lane t (omega (arith, few)) are.0
-each_has_events lane (t ∷ told) few are (suc i) below = each_has_events (suc lane) told (omega (arith, few)) are.1 i (omega (arith, below))
+length_lots : (lane : ℕ) (asked : List (List (List ℕ))) (told : List (Option Output)) → length (lots_asked_from lane asked told) ≡ length told
+length_lots lane asked [] = refl
+length_lots lane asked (t ∷ told) = ap suc (length_lots (suc lane) (other_ids asked) told)
 
-have_events : (told : List (Option Output)) → length told ≤ 64 → AreOutputs told → HaveEvents (lots_from 0 told) (events_from 0 told)
-have_events told few are = record {
-  count = length_events 0 told ∙ sym (length_lots 0 told);
-  each = λ lane below. each_has_events 0 told (omega (arith, few)) are lane (omega (arith, below, length_lots 0 told));
+length_events : (lane : ℕ) (asked : List (List (List ℕ))) (told : List (Option Output)) → length (events_from lane asked told) ≡ length told
+length_events lane asked [] = refl
+length_events lane asked (t ∷ told) = ap suc (length_events (suc lane) (other_ids asked) told)
+
+each_has_events : (lane : ℕ) (asked : List (List (List ℕ))) (told : List (Option Output)) → lane + length told ≤ 64 → AreAllTexts asked → AreOutputs told → (i : ℕ) → i < length told → AreEventsOf (slice_index_or (lots_asked_from lane asked told) i None) (slice_index_or (events_from lane asked told) i None)
+each_has_events lane asked [] few texts are i below = absurd (omega (arith, below))
+each_has_events lane asked (t ∷ told) few texts are zero below = told_are_events lane (first_ids asked) t (omega (arith, few)) (first_texts asked texts) are.0
+each_has_events lane asked (t ∷ told) few texts are (suc i) below = each_has_events (suc lane) (other_ids asked) told (omega (arith, few)) (other_texts asked texts) are.1 i (omega (arith, below))
+
+have_events : (asked : List (List (List ℕ))) (told : List (Option Output)) → length told ≤ 64 → AreAllTexts asked → AreOutputs told → HaveEvents (lots_asked_from 0 asked told) (events_from 0 asked told)
+have_events asked told few texts are = record {
+  count = length_events 0 asked told ∙ sym (length_lots 0 asked told);
+  each = λ lane below. each_has_events 0 asked told (omega (arith, few)) texts are lane (omega (arith, below, length_lots 0 asked told));
 }
 
-pub adds_told : (rests : List (Option (List Lot))) (told : List (Option Output)) (old new : Option Folder) → length told ≤ 64 → AreOutputs told → rests ≡ lots_from 0 told → AddsMerge rests old new → AddsTold told old new
-adds_told rests told old new few are same adds =
-    let all : AddsMerge (lots_from 0 told) old new = subst (λ (l : List (Option (List Lot))). AddsMerge l old new) same adds in
-    record { events = all.events; added = all.added; are_events = all.are_events; fit = all.fit; merge = all.merged (events_from 0 told) (have_events told few are) }
+pub adds_told : (rests : List (Option (List Lot))) (asked : List (List (List ℕ))) (told : List (Option Output)) (old new : Option Folder) → length told ≤ 64 → AreAllTexts asked → AreOutputs told → rests ≡ lots_asked_from 0 asked told → AddsMerge rests old new → AddsTold asked told old new
+adds_told rests asked told old new few texts are same adds =
+    let all : AddsMerge (lots_asked_from 0 asked told) old new = subst (λ (l : List (Option (List Lot))). AddsMerge l old new) same adds in
+    record { events = all.events; added = all.added; are_events = all.are_events; fit = all.fit; merge = all.merged (events_from 0 asked told) (have_events asked told few texts are) }
 
 -- ---- where all are told
 
-lists_told : (lane : ℕ) (outputs : List Output) → events_from lane (map Some outputs) ≡ map Some (lists_from lane outputs)
-lists_told lane [] = refl
-lists_told lane (output ∷ outputs) = ap (λ l. Some (events_for lane output) ∷ l) (lists_told (suc lane) outputs)
+lists_told : (lane : ℕ) (asked : List (List (List ℕ))) (outputs : List Output) → events_from lane asked (map Some outputs) ≡ map Some (lists_asked lane asked outputs)
+lists_told lane asked [] = refl
+lists_told lane asked (output ∷ outputs) = ap (λ l. Some (events_asked lane (first_ids asked) output) ∷ l) (lists_told (suc lane) (other_ids asked) outputs)
 
 are_told : (outputs : List Output) → AllByRecursion IsOutput outputs → AreOutputs (map Some outputs)
 are_told [] are = tt
 are_told (output ∷ outputs) are = (are.0, are_told outputs are.1)
 
-pub adds_outputs : (rests : List (Option (List Lot))) (outputs : List Output) (old new : Option Folder) → length outputs ≤ 64 → AllByRecursion IsOutput outputs → rests ≡ lots_from 0 (map Some outputs) → AddsMerge rests old new → AddsOutputs outputs old new
-adds_outputs rests outputs old new few are same adds =
-    let told : AddsTold (map Some outputs) old new = adds_told rests (map Some outputs) old new (omega (arith, few, length-map outputs Some)) (are_told outputs are) same adds in
+pub adds_outputs : (rests : List (Option (List Lot))) (asked : List (List (List ℕ))) (outputs : List Output) (old new : Option Folder) → length outputs ≤ 64 → AreAllTexts asked → AllByRecursion IsOutput outputs → rests ≡ lots_asked_from 0 asked (map Some outputs) → AddsMerge rests old new → AddsOutputs asked outputs old new
+adds_outputs rests asked outputs old new few texts are same adds =
+    let told : AddsTold asked (map Some outputs) old new = adds_told rests asked (map Some outputs) old new (omega (arith, few, length-map outputs Some)) texts (are_told outputs are) same adds in
     record {
       events = told.events;
       added = told.added;
       are_events = told.are_events;
       fit = told.fit;
-      merge = merge_of_told told.events (lists_from 0 outputs) (subst (IsMergeOfTold told.events) (lists_told 0 outputs) told.merge);
+      merge = merge_of_told told.events (lists_asked 0 asked outputs) (subst (IsMergeOfTold told.events) (lists_told 0 asked outputs) told.merge);
     }
 
 -- the events that were added are themselves a merge of those of the outputs
-pub merge_of_outputs : (rests : List (Option (List Lot))) (outputs : List Output) (old new : Option Folder) → length outputs ≤ 64 → rests ≡ lots_from 0 (map Some outputs) → (adds : AddsMerge rests old new) → AllByRecursion IsOutput outputs → IsMerge adds.events (lists_from 0 outputs)
-merge_of_outputs rests outputs old new few same adds are =
+pub merge_of_asked : (rests : List (Option (List Lot))) (asked : List (List (List ℕ))) (outputs : List Output) (old new : Option Folder) → length outputs ≤ 64 → AreAllTexts asked → rests ≡ lots_asked_from 0 asked (map Some outputs) → (adds : AddsMerge rests old new) → AllByRecursion IsOutput outputs → IsMerge adds.events (lists_asked 0 asked outputs)
+merge_of_asked rests asked outputs old new few texts same adds are =
     let told : List (Option Output) = map Some outputs in
-    let have : HaveEvents (lots_from 0 told) (events_from 0 told) = have_events told (omega (arith, few, length-map outputs Some)) (are_told outputs are) in
-    let merged : IsMergeOfTold adds.events (events_from 0 told) = adds.merged (events_from 0 told) (subst (λ (l : List (Option (List Lot))). HaveEvents l (events_from 0 told)) (sym same) have) in
-    merge_of_told adds.events (lists_from 0 outputs) (subst (IsMergeOfTold adds.events) (lists_told 0 outputs) merged)
+    let have : HaveEvents (lots_asked_from 0 asked told) (events_from 0 asked told) = have_events asked told (omega (arith, few, length-map outputs Some)) texts (are_told outputs are) in
+    let merged : IsMergeOfTold adds.events (events_from 0 asked told) = adds.merged (events_from 0 asked told) (subst (λ (l : List (Option (List Lot))). HaveEvents l (events_from 0 asked told)) (sym same) have) in
+    merge_of_told adds.events (lists_asked 0 asked outputs) (subst (IsMergeOfTold adds.events) (lists_told 0 asked outputs) merged)
+
+-- the same of jobs that name no ids
+pub merge_of_outputs : (rests : List (Option (List Lot))) (outputs : List Output) (old new : Option Folder) → length outputs ≤ 64 → rests ≡ lots_from 0 (map Some outputs) → (adds : AddsMerge rests old new) → AllByRecursion IsOutput outputs → IsMerge adds.events (lists_from 0 outputs)
+merge_of_outputs rests outputs old new few same adds are = merge_of_asked rests [] outputs old new few tt same adds are
 
 -- ---- one lane more
 
-pub one_lane_more : (lane : ℕ) (told : List (Option Output)) (t : Option Output) → lots_from lane (told ++ t ∷ []) ≡ lots_from lane told ++ option_map (lots_for (lane + length told)) t ∷ []
-one_lane_more lane [] t = ap (λ (n : ℕ). option_map (lots_for n) t ∷ []) (omega arith)
-one_lane_more lane (first ∷ told) t =
+ids_here : (asked : List (List (List ℕ))) → first_ids asked ≡ ids_at asked 0
+ids_here [] = refl
+ids_here (ids ∷ others) = refl
+
+ids_next : (asked : List (List (List ℕ))) (place : ℕ) → ids_at (other_ids asked) place ≡ ids_at asked (suc place)
+ids_next [] place = refl
+ids_next (ids ∷ others) place = refl
+
+pub one_lane_more : (lane : ℕ) (asked : List (List (List ℕ))) (told : List (Option Output)) (t : Option Output) → lots_asked_from lane asked (told ++ t ∷ []) ≡ lots_asked_from lane asked told ++ option_map (lots_asked (lane + length told) (ids_at asked (length told))) t ∷ []
+one_lane_more lane asked [] t =
+    ap (λ (ids : List (List ℕ)). option_map (lots_asked lane ids) t ∷ []) (ids_here asked)
+    ∙ ap (λ (n : ℕ). option_map (lots_asked n (ids_at asked 0)) t ∷ []) (omega arith)
+one_lane_more lane asked (first ∷ told) t =
     let same : suc lane + length told ≡ lane + suc (length told) = omega arith in
-    ap (λ l. option_map (lots_for lane) first ∷ l) (one_lane_more (suc lane) told t ∙ ap (λ (n : ℕ). lots_from (suc lane) told ++ option_map (lots_for n) t ∷ []) same)
+    ap (λ l. option_map (lots_asked lane (first_ids asked)) first ∷ l) (one_lane_more (suc lane) (other_ids asked) told t
+    ∙ ap (λ (n : ℕ). lots_asked_from (suc lane) (other_ids asked) told ++ option_map (lots_asked n (ids_at (other_ids asked) (length told))) t ∷ []) same
+    ∙ ap (λ (ids : List (List ℕ)). lots_asked_from (suc lane) (other_ids asked) told ++ option_map (lots_asked (lane + suc (length told)) ids) t ∷ []) (ids_next asked (length told)))

@@ -7,9 +7,9 @@ ghost use mathlib.Core.Option.{some};
 ghost use lib.ListN.{get_elem?};
 ghost use Rattle.edge_io.specs.Children.{Output, IsOutput};
 ghost use Rattle.edge_io.specs.Disk.{Folder};
-ghost use Rattle.worker_lane.specs.Rest.{lots_for};
+ghost use Rattle.worker_lane.specs.Rest.{lots_asked};
 ghost use Rattle.worker_lane.specs.declared.lot.Lot.{Lot};
-ghost use Rattle.worker_mux.specs.Outputs.{lots_from, AddsTold, AddsOutputs};
+ghost use Rattle.worker_mux.specs.Outputs.{AreAllTexts, ids_at, lots_asked_from, AddsTold, AddsOutputs};
 ghost use Rattle.worker_mux.specs.Runs.{AddsMerge};
 ghost use Rattle.worker_mux.specs.declared.knowledge.Knowledge.{Knowledge};
 ghost use Rattle.worker_mux.specs.declared.knowledge.Knowledge.TheVariants.{Lane, Taker};
@@ -34,13 +34,13 @@ pub fn lanes_stay_whole()
 {}
 
 /// Laws of what `run_lanes` adds over children of which some or all tell their output: bytes, and a status of 32 bits. What
-/// the lanes have to give, as `Lane::new` says it of each, is `lots_from 0`, where the first lane is number 0, the next one
-/// number 1, and so on.
+/// the lanes have to give, as `Lane::new` says it of each, is `lots_asked_from 0`, where the first lane is number 0, the
+/// next one number 1, and so on. The ids that their jobs name are texts.
 pub fn outputs_are_merged()
     // The run has grown by the packets of events, and of each lane whose child tells they are those of its output.
-    ensures told { (rests : List (Option (List Lot))) (told : List (Option Output)) (old new : Option Folder) → length told ≤ 64 → AllByRecursion (λ t. IfSome t IsOutput) told → rests ≡ lots_from 0 told → AddsMerge rests old new → AddsTold told old new }
+    ensures told { (rests : List (Option (List Lot))) (asked : List (List (List ℕ))) (told : List (Option Output)) (old new : Option Folder) → length told ≤ 64 → AreAllTexts asked → AllByRecursion (λ t. IfSome t IsOutput) told → rests ≡ lots_asked_from 0 asked told → AddsMerge rests old new → AddsTold asked told old new }
     // Where all children tell, the events are a merge of those of their outputs, and no others.
-    ensures all_told { (rests : List (Option (List Lot))) (outputs : List Output) (old new : Option Folder) → length outputs ≤ 64 → AllByRecursion IsOutput outputs → rests ≡ lots_from 0 (map Some outputs) → AddsMerge rests old new → AddsOutputs outputs old new }
+    ensures all_told { (rests : List (Option (List Lot))) (asked : List (List (List ℕ))) (outputs : List Output) (old new : Option Folder) → length outputs ≤ 64 → AreAllTexts asked → AllByRecursion IsOutput outputs → rests ≡ lots_asked_from 0 asked (map Some outputs) → AddsMerge rests old new → AddsOutputs asked outputs old new }
     // One lane more, of the next number.
-    ensures one_more { (lane : ℕ) (told : List (Option Output)) (t : Option Output) → lots_from lane (told ++ t ∷ []) ≡ lots_from lane told ++ option_map (lots_for (lane + length told)) t ∷ [] }
+    ensures one_more { (lane : ℕ) (asked : List (List (List ℕ))) (told : List (Option Output)) (t : Option Output) → lots_asked_from lane asked (told ++ t ∷ []) ≡ lots_asked_from lane asked told ++ option_map (lots_asked (lane + length told) (ids_at asked (length told))) t ∷ [] }
 {}

@@ -1,10 +1,13 @@
 use Rattle.std.proofs.Common.{false}
-use Rattle.testr_words.specs.declared.command.Question.TheVariants.{Last, Failing, Slowest, Stats}
+use Rattle.testr_words.specs.declared.command.Question.TheVariants.{Last, Skips, Failing, Slowest, Stats}
 use Rattle.command_steps.proofs.TellLemmas.{answers_so, answers_where, is_report}
 use Rattle.command_steps.proofs.told.answer_of.Goals as goal
 
 pub returns-in-Last-clause-told : goal.returns-in-Last-clause-told
 returns-in-Last-clause-told g c = answers_so (Last false) c.args.question _ _ c.tell_report.result (is_report c.args.question c.in-Last.subunit c.in-Last.is c.requires.text) (c.requires.fits c.requires.open) c.tell_report.ensures.told
+
+pub returns-in-Skips-clause-told : goal.returns-in-Skips-clause-told
+returns-in-Skips-clause-told g c = answers_so Skips c.args.question _ _ c.tell_skips.result (c.in-Skips.is) (c.requires.fits c.requires.open) c.tell_skips.ensures.told
 
 pub returns-in-Failing-clause-told : goal.returns-in-Failing-clause-told
 returns-in-Failing-clause-told g c = answers_where (Failing c.in-Failing.list) c.args.question _ _ c.tell_failing.result (c.in-Failing.is) (c.requires.fits c.requires.open) c.tell_failing.ensures.told

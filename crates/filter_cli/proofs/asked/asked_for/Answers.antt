@@ -2,6 +2,7 @@ use Rattle.std.proofs.Common.{Some, map, sym, ap, ◌∙◌}
 use Rattle.command_words.specs.Code.{shown}
 use Rattle.filter_cli.specs.declared.ls.Listing.{Listing}
 use Rattle.filter_cli.specs.declared.selection.Selection.{Selection}
+use Rattle.filter_cli.specs.declared.stats.Counting.{Counting}
 use Rattle.filter_cli.specs.declared.tool.Tool.{Tool}
 use Rattle.filter_cli.specs.declared.asked.Asked.TheVariants as wanted
 use Rattle.filter_cli.specs.Words.{asked_for}
@@ -23,7 +24,9 @@ returns-in_ok-csv_selection_of-in-ToCsv c =
     ∙ ap (λ (t : Tool). asked_for t (map shown c.args.items.now)) (sym c.in-ToCsv.is)
 
 pub returns-in-Stats : goal.returns-in-Stats
-returns-in-Stats c = ap (λ (t : Tool). asked_for t (map shown c.args.items.now)) (sym c.in-Stats.is)
+returns-in-Stats c =
+    ap (λ (n : Counting). Some (wanted.Stats n)) c.counting_of.ensures
+    ∙ ap (λ (t : Tool). asked_for t (map shown c.args.items.now)) (sym c.in-Stats.is)
 
 pub returns-in-FromTap : goal.returns-in-FromTap
 returns-in-FromTap c = ap (λ (t : Tool). asked_for t (map shown c.args.items.now)) (sym c.in-FromTap.is)

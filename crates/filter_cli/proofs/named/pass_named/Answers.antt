@@ -13,13 +13,13 @@ pub returns-in-Ls : goal.returns-in-Ls
 returns-in-Ls g c input = named_as _ _ _ _ _ _ (sym c.in-Ls.is) (c.list_named.ensures input)
 
 pub returns-in-Stats : goal.returns-in-Stats
-returns-in-Stats g c input = named_as _ _ _ _ _ _ (sym c.in-Stats.is) (checked_named wanted.Stats _ _ _ _ none_given (c.notes_named.ensures input))
+returns-in-Stats g c input = named_as _ _ _ _ _ _ (sym c.in-Stats.is) (c.count_named.ensures input)
 
 pub returns-in-FromTap : goal.returns-in-FromTap
 returns-in-FromTap g c input = named_as _ _ _ _ _ _ (sym c.in-FromTap.is) (c.tap_named.ensures input)
 
 pub returns-in-ToTap : goal.returns-in-ToTap
-returns-in-ToTap g c input = named_as _ _ _ _ _ _ (sym c.in-ToTap.is) (checked_named wanted.ToTap _ _ _ _ none_given (c.notes_named-in-ToTap.ensures input))
+returns-in-ToTap g c input = named_as _ _ _ _ _ _ (sym c.in-ToTap.is) (checked_named wanted.ToTap _ _ _ _ none_given (c.notes_named.ensures input))
 
 pub returns-in-ToCsv : goal.returns-in-ToCsv
 returns-in-ToCsv g c input = named_as _ _ _ _ _ _ (sym c.in-ToCsv.is) (c.export_named.ensures input)

@@ -1,9 +1,9 @@
-use Rattle.std.proofs.Common.{◌≡◌, ◌∙◌, ◌+◌, ◌-◌, None, Some, true, false, ap, subst, arith, length, ℕ, Bool, IfSome}
+use Rattle.std.proofs.Common.{◌≡◌, ◌∙◌, ◌+◌, ◌-◌, None, Some, true, false, ap, sym, subst, arith, length, ℕ, Bool, IfSome}
 use Rattle.std.specs.Prelude.{slice_get}
 use Rattle.run_shelf.specs.Stores.{store_kinds, store_fault}
-use Rattle.run_ledger.specs.SoFar.{FailsTo}
+use Rattle.run_ledger.specs.SoFar.{FailsTo, CountsUpTo}
 use Rattle.run_ledger.proofs.CachedLemmas.{SparesFailing, sound_failing_says}
-use Rattle.run_ledger.proofs.RefreshLemmas.{begun_before, full_alone, partial_behind, two_for_failing}
+use Rattle.run_ledger.proofs.RefreshLemmas.{begun_before, counts_before, full_alone, partial_behind, two_for_failing}
 use Rattle.run_ledger.proofs.fresh_caches.failing_behind.Goals as goal
 
 pub returns-in_err-earlier-clause-spares : goal.returns-in_err-earlier-clause-spares
@@ -45,7 +45,7 @@ returns-in_ok-add_partial-clause-ids g c filter_tags rows sums at sound =
     let last_is : c.runs-last.result - 1 ≡ last = ap (λ (n : ℕ). n - 1) c.runs-last.ensures in
     let kind : slice_get kinds last ≡ Some true = subst (λ (n : ℕ). slice_get kinds n ≡ Some c.partial.result) last_is c.partial.ensures ∙ ap (λ (b : Bool). Some b) c.if-partial.true in
     partial_behind state kinds last count rows (c.requires.fits c.requires.open) at kind c.in_ok-earlier.earlier c.in_ok-add_partial.field-0
-    (subst (λ (n : ℕ). IfSome state (FailsTo kinds n c.in_ok-earlier.earlier)) last_is (c.in_ok-earlier.ensures.ids (sound_failing_says state (c.runs-last.result - 1) sound))) (c.in_ok-add_partial.ensures filter_tags rows sums)
+    (subst (λ (n : ℕ). IfSome state (FailsTo kinds n c.in_ok-earlier.earlier)) last_is (c.in_ok-earlier.ensures.ids (sound_failing_says state (c.runs-last.result - 1) sound) (subst (λ (n : ℕ). IfSome state (CountsUpTo n)) (sym last_is) (counts_before state last rows at)))) (c.in_ok-add_partial.ensures filter_tags rows sums)
 
 pub returns-in_ok-failing_ids-clause-ids : goal.returns-in_ok-failing_ids-clause-ids
 returns-in_ok-failing_ids-clause-ids g c filter_tags rows sums at sound =

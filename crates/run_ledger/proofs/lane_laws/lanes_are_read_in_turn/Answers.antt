@@ -7,7 +7,7 @@ pub returns-clause-rows : goal.returns-clause-rows
 returns-clause-rows c = rows_in_turn
 
 pub returns-clause-failing : goal.returns-clause-failing
-returns-clause-failing c = λ entries partial events lists few merge. ap failing_after (entries_in_turn entries partial events lists few merge)
+returns-clause-failing c = λ base entries partial events lists few merge. ap (failing_after base) (entries_in_turn entries partial events lists few merge)
 
 pub returns-clause-times : goal.returns-clause-times
 returns-clause-times c = λ entries partial events lists few merge. ap times_after (entries_in_turn entries partial events lists few merge)

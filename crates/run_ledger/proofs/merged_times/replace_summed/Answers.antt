@@ -5,7 +5,6 @@ use Rattle.outcome_fold.specs.declared.summary.Timed.{Timed}
 use Rattle.outcome_fold.specs.Answers.{times_of}
 use Rattle.outcome_fold.specs.Order.{text_cmp}
 use Rattle.outcome_fold.specs.Summed.{shown_time, times_kept}
-use Rattle.run_ledger.specs.Cuts.{AreTimeEntries}
 use Rattle.run_ledger.specs.Ledger.{replaced}
 use Rattle.run_ledger.proofs.EntryLemmas.{same_times}
 use Rattle.run_ledger.proofs.MergeLemmas.{summed_replaced, timed_each}

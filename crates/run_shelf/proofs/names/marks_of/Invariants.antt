@@ -3,4 +3,4 @@ use Rattle.run_shelf.specs.Marks.{AreMarksOf}
 use Rattle.run_shelf.proofs.names.marks_of.Given as goal
 
 abbrev pub invariant-loop-name : goal.invariant-loop-name
-invariant-loop-name l = AreMarksOf (take l.name-index l.names) l.marks.items
+invariant-loop-name l = AreMarksOf (take l.name-index l.names) l.old l.marks.items

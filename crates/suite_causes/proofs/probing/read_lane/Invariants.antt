@@ -1,7 +1,7 @@
-use Rattle.std.proofs.Common.{◌≡◌, Some}
+use Rattle.std.proofs.Common.{◌≡◌, Some, [], ◌∷◌}
 use Rattle.edge_io.specs.Children.{Output}
 use Rattle.worker_lane.specs.Lanes.{rest, lane_number}
-use Rattle.worker_lane.specs.Rest.{lots_for}
+use Rattle.worker_lane.specs.Rest.{lots_asked}
 use Rattle.suite_causes.proofs.ProbeLemmas.{IsHeard}
 use Rattle.suite_causes.proofs.probing.read_lane.Given as goal
 
@@ -9,5 +9,5 @@ use Rattle.suite_causes.proofs.probing.read_lane.Given as goal
 abbrev pub invariant-loop : goal.invariant-loop
 invariant-loop g l = record {
   number : lane_number l.lane ≡ 0;
-  heard : (output : Output) → rest g.C.Child.seen l.initial.lane ≡ Some (lots_for 0 output) → IsHeard output (rest g.C.Child.seen l.lane) l.summing;
+  heard : (output : Output) → rest g.C.Child.seen l.initial.lane ≡ Some (lots_asked 0 (l.test ∷ []) output) → IsHeard (l.test ∷ []) output (rest g.C.Child.seen l.lane) l.summing;
 }

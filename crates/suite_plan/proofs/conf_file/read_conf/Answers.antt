@@ -1,35 +1,30 @@
-use Rattle.std.proofs.Common.{◌≡◌, ◌≤◌, length, Some, IfSome, sym, subst}
-use Rattle.std.specs.Option.{option_map}
-use Rattle.edge_io.specs.Files.{IsFileOf}
-use Rattle.suite_plan.specs.Texts.{most_text}
-use Rattle.suite_plan.specs.ConfFile.{conf_name}
-use Rattle.suite_plan.proofs.ConfLemmas.{conf_read, conf_refused_by}
+use Rattle.std.proofs.Common.{◌≡◌, Option, Some, None, Ok, IfOk, subst, ◌∙◌}
+use Rattle.suite_plan.specs.ConfFile.{files_say, settings_of, ReadsSaid}
+use Rattle.testr_conf.specs.Settings.{Settings}
+use Rattle.suite_plan.proofs.ConfLemmas.{project_end, project_absent, project_refuses}
 use Rattle.suite_plan.proofs.conf_file.read_conf.Goals as goal
 
-pub returns-in_err-read : goal.returns-in_err-read
-returns-in_err-read g c =
-    let items = c.in-Some.text.items in
-    let text_is : items ≡ c.deref.result.now = sym c.deref.ensures.value in
-    let there : IsFileOf (g.F.Site.seen c.args.site.now).told conf_name (Some items) =
-    subst (λ o. IsFileOf (g.F.Site.seen c.args.site.now).told conf_name (option_map (λ bytes. bytes.items) o)) c.in-Some.is c.in_ok-text.ensures.file in
-    let short : length items ≤ most_text = subst (λ o. IfSome o (λ bytes. length bytes.items ≤ most_text)) c.in-Some.is c.in_ok-text.ensures.fits in
+pub returns-in-Ok-Some : goal.returns-in-Ok-Some
+returns-in-Ok-Some g c =
+    let path = c.in-Ok.ensures.ok ∙ c.folder.ensures.path in
     record {
-      step = conf_refused_by _ _ c.in_ok-text.ensures.same c.in_ok-text.ensures.count c.deref.result.now
-          (subst (λ l. IsFileOf (g.F.Site.seen c.args.site.now).told conf_name (Some l)) text_is there)
-          (subst (λ l. length l ≤ most_text) text_is short)
-          c.from_residual-in_err-read.result c.in_err-read.field-0.0 c.from_residual-in_err-read.ensures.1 c.in_err-read.ensures.refused;
+      step = project_end (record { folder = g.F.Site.folder c.args.site.now; face = c.args.face; words = c.args.words.now }) (files_say c.args.face c.args.words.now)
+          (g.F.Site.seen c.args.site.now) (g.F.Site.seen c.read_files.new.site) c.in-Ok-Some.conf
+          (subst (λ (o : Option Settings). ReadsSaid (files_say c.args.face c.args.words.now) (g.F.Site.seen c.args.site.now) (g.F.Site.seen c.read_files.new.site) (Ok o)) c.in-Ok-Some.field-0-is c.in-Ok-Some.ensures.step)
+          c.of_project.result
+          (subst (λ l. IfOk c.of_project.result (λ (s : Settings). s ≡ settings_of l c.args.words.now c.in-Ok-Some.conf)) path c.of_project.ensures.settings)
+          c.of_project.ensures.memory;
     }
 
-pub returns : goal.returns
-returns g c =
-    let items = c.in-Some.text.items in
-    let text_is : items ≡ c.deref.result.now = sym c.deref.ensures.value in
-    let there : IsFileOf (g.F.Site.seen c.args.site.now).told conf_name (Some items) =
-    subst (λ o. IsFileOf (g.F.Site.seen c.args.site.now).told conf_name (option_map (λ bytes. bytes.items) o)) c.in-Some.is c.in_ok-text.ensures.file in
-    let short : length items ≤ most_text = subst (λ o. IfSome o (λ bytes. length bytes.items ≤ most_text)) c.in-Some.is c.in_ok-text.ensures.fits in
-    record {
-      step = conf_read _ _ c.in_ok-text.ensures.same c.in_ok-text.ensures.count c.deref.result.now c.in_ok-read.field-0
-          (subst (λ l. IsFileOf (g.F.Site.seen c.args.site.now).told conf_name (Some l)) text_is there)
-          (subst (λ l. length l ≤ most_text) text_is short)
-          c.in_ok-read.ensures.read;
-    }
+pub returns-in-Ok-None : goal.returns-in-Ok-None
+returns-in-Ok-None g c = record {
+  step = project_absent (record { folder = g.F.Site.folder c.args.site.now; face = c.args.face; words = c.args.words.now }) (files_say c.args.face c.args.words.now)
+      (g.F.Site.seen c.args.site.now) (g.F.Site.seen c.read_files.new.site)
+      (subst (λ (o : Option Settings). ReadsSaid (files_say c.args.face c.args.words.now) (g.F.Site.seen c.args.site.now) (g.F.Site.seen c.read_files.new.site) (Ok o)) c.in-Ok-None.field-0-is c.in-Ok-None.ensures.step);
+}
+
+pub returns-in-Err : goal.returns-in-Err
+returns-in-Err g c = record {
+  step = project_refuses (record { folder = g.F.Site.folder c.args.site.now; face = c.args.face; words = c.args.words.now }) (files_say c.args.face c.args.words.now)
+      (g.F.Site.seen c.args.site.now) (g.F.Site.seen c.read_files.new.site) c.in-Err.refusal c.in-Err.ensures.step;
+}

@@ -60,10 +60,10 @@ pub returns-in_err-have_run-clause-spares : goal.returns-in_err-have_run-clause-
 returns-in_err-have_run-clause-spares g c = λ list is. opens_spare _ _ _ c.in_ok-found.ensures.time
 
 pub returns-in_err-copy_last-clause-spares : goal.returns-in_err-copy_last-clause-spares
-returns-in_err-copy_last-clause-spares g c = bytes_spare 6 c.args.question _ _ _ (of_bytes _ _ c.is_of_bytes.ensures c.if-is_of_bytes.true)
+returns-in_err-copy_last-clause-spares g c = bytes_spare _ c.args.question _ _ _ (of_bytes _ _ c.is_of_bytes.ensures c.if-is_of_bytes.true)
 
 pub returns-then-is_of_bytes-clause-spares : goal.returns-then-is_of_bytes-clause-spares
-returns-then-is_of_bytes-clause-spares g c = bytes_spare 6 c.args.question _ _ _ (of_bytes _ _ c.is_of_bytes.ensures c.if-is_of_bytes.true)
+returns-then-is_of_bytes-clause-spares g c = bytes_spare _ c.args.question _ _ _ (of_bytes _ _ c.is_of_bytes.ensures c.if-is_of_bytes.true)
 
 pub returns-in_err-told-clause-spares : goal.returns-in_err-told-clause-spares
 returns-in_err-told-clause-spares g c = λ list is. opened_spare _ _ _ _ _ _ c.in_ok-found.ensures.step.found c.in_ok-found.ensures.time (c.in_err-told.ensures.spares list is)

@@ -11,6 +11,9 @@ returns-clause-no_repository c = exact.no_repository
 pub returns-clause-unknown_format : goal.returns-clause-unknown_format
 returns-clause-unknown_format c = exact.unknown_format
 
+pub returns-clause-bad_base : goal.returns-clause-bad_base
+returns-clause-bad_base c = exact.bad_base
+
 pub returns-clause-missing_run : goal.returns-clause-missing_run
 returns-clause-missing_run c = exact.missing_run
 

@@ -3,30 +3,39 @@ use Rattle.command_steps.proofs.StepLemmas.{part_done, part_stops, still_done, s
 use Rattle.testr_commands.proofs.list.list.Goals as goal
 
 pub returns-in_err-compiled : goal.returns-in_err-compiled
-returns-in_err-compiled g c = λ folder site input. still_stops _ c.from_residual.ensures.1 c.in_err-compiled.ensures refl
+returns-in_err-compiled g c = λ folder input. still_stops _ c.from_residual.ensures.1 c.in_err-compiled.ensures refl
+
+pub returns-in_err-further : goal.returns-in_err-further
+returns-in_err-further g c = λ folder input.
+    still_done _ c.in_ok-compiled.ensures
+    (part_stops _ c.from_residual-in_err-further.ensures.1 c.in_err-further.ensures refl)
 
 pub returns-in_err-ids : goal.returns-in_err-ids
-returns-in_err-ids g c = λ folder site input.
+returns-in_err-ids g c = λ folder input.
     still_done _ c.in_ok-compiled.ensures
-    (part_stops _ c.from_residual-in_err-ids.ensures.1 c.in_err-ids.ensures.step refl)
+    (part_done _ _ c.in_ok-further.ensures
+    (part_stops _ c.from_residual-in_err-ids.ensures.1 c.in_err-ids.ensures.step refl))
 
 pub returns-in_err-text : goal.returns-in_err-text
-returns-in_err-text g c = λ folder site input.
+returns-in_err-text g c = λ folder input.
     still_done _ c.in_ok-compiled.ensures
+    (part_done _ _ c.in_ok-further.ensures
     (part_done _ _ c.in_ok-ids.ensures.step
-    (still_stops _ c.from_residual-in_err-text.ensures.1 (record { lines = tt }) refl))
+    (still_stops _ c.from_residual-in_err-text.ensures.1 (record { lines = tt }) refl)))
 
 pub returns-in_err-print : goal.returns-in_err-print
-returns-in_err-print g c = λ folder site input.
+returns-in_err-print g c = λ folder input.
     still_done _ c.in_ok-compiled.ensures
+    (part_done _ _ c.in_ok-further.ensures
     (part_done _ _ c.in_ok-ids.ensures.step
-    (still_done c.in_ok-text.text.items (record { lines = rw c.in_ok-compiled.ensures.filters at c.in_ok-text.ensures })
-    (part_stops _ c.from_residual-in_err-print.ensures.1 (prints_as c.deref.ensures.value c.in_err-print.ensures) refl)))
+    (still_done c.in_ok-text.text.items (record { lines = rw c.in_ok-compiled.ensures.picks at c.in_ok-text.ensures })
+    (part_stops _ c.from_residual-in_err-print.ensures.1 (prints_as c.deref.ensures.value c.in_err-print.ensures) refl))))
 
 pub returns : goal.returns
-returns g c = λ folder site input.
+returns g c = λ folder input.
     still_done _ c.in_ok-compiled.ensures
+    (part_done _ _ c.in_ok-further.ensures
     (part_done _ _ c.in_ok-ids.ensures.step
-    (still_done c.in_ok-text.text.items (record { lines = rw c.in_ok-compiled.ensures.filters at c.in_ok-text.ensures })
+    (still_done c.in_ok-text.text.items (record { lines = rw c.in_ok-compiled.ensures.picks at c.in_ok-text.ensures })
     (part_done _ _ (prints_as c.deref.ensures.value c.in_ok-print.ensures)
-    gives)))
+    gives))))

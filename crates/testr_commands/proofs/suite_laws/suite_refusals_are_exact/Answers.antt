@@ -1,12 +1,6 @@
 use Rattle.testr_commands.proofs.ExactSuite as exact
 use Rattle.testr_commands.proofs.suite_laws.suite_refusals_are_exact.Goals as goal
 
-pub returns-clause-no_conf : goal.returns-clause-no_conf
-returns-clause-no_conf c = exact.no_conf
-
-pub returns-clause-conf_too_long : goal.returns-clause-conf_too_long
-returns-clause-conf_too_long c = exact.conf_too_long
-
 pub returns-clause-bad_conf : goal.returns-clause-bad_conf
 returns-clause-bad_conf c = exact.bad_conf
 
@@ -31,6 +25,9 @@ returns-clause-no_list_option c = exact.no_list_option
 pub returns-clause-listing_failed : goal.returns-clause-listing_failed
 returns-clause-listing_failed c = exact.listing_failed
 
+pub returns-clause-long_id : goal.returns-clause-long_id
+returns-clause-long_id c = exact.long_id
+
 pub returns-clause-no_option : goal.returns-clause-no_option
 returns-clause-no_option c = exact.no_option
 
@@ -45,3 +42,15 @@ returns-clause-no_id_option c = exact.no_id_option
 
 pub returns-clause-probe_broken : goal.returns-clause-probe_broken
 returns-clause-probe_broken c = exact.probe_broken
+
+pub returns-clause-no_patterns : goal.returns-clause-no_patterns
+returns-clause-no_patterns c = exact.no_patterns
+
+pub returns-clause-patterns_too_long : goal.returns-clause-patterns_too_long
+returns-clause-patterns_too_long c = exact.patterns_too_long
+
+pub returns-clause-no_text : goal.returns-clause-no_text
+returns-clause-no_text c = exact.no_text
+
+pub returns-clause-bad_line : goal.returns-clause-bad_line
+returns-clause-bad_line c = exact.bad_line

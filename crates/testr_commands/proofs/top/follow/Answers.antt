@@ -1,35 +1,17 @@
-use Rattle.std.proofs.Common.{sym, ap}
-use Rattle.testr_words.specs.Tasks.{task_with}
-use Rattle.testr_commands.proofs.CallLemmas.{of_asked, of_other, lists_not, draws_not}
-use Rattle.testr_commands.proofs.Performing.{all_done}
-use Rattle.testr_commands.proofs.PromiseLemmas.{asked_as}
-use Rattle.testr_commands.proofs.SparingLemmas.{silent_spare}
+use Rattle.std.proofs.Common.{sym, ◌∙◌}
+use Rattle.testr_commands.proofs.WholeLemmas.{told_most, not_warned, warned}
 use Rattle.testr_commands.proofs.top.follow.Goals as goal
 
-pub returns-in-Run : goal.returns-in-Run
-returns-in-Run g c = record {
-  answers = asked_as (sym (ap (λ v. task_with v c.args.command.now) c.in-Run.is)) _ _ _ (c.run_suite.ensures.answers _);
-  spares = silent_spare c.args.command.now.verb c.args.command.now _ _ _ c.in-Run.is tt;
-  spares_run = of_asked (sym (ap (λ v. task_with v c.args.command.now) c.in-Run.is)) _ _ _ _ _ c.run_suite.ensures.spares_run;
+pub returns-then-not-warns : goal.returns-then-not-warns
+returns-then-not-warns g c = record {
+  promises = not_warned _ _ _ _ _ _ _ (sym (c.warns.ensures (g.F.Site.folder c.args.site.now)) ∙ c.if-not-warns.true) c.follow_warned.ensures.promises;
+  spares = c.follow_warned.ensures.spares;
+  spares_run = c.follow_warned.ensures.spares_run;
 }
 
-pub returns-in-ListTests : goal.returns-in-ListTests
-returns-in-ListTests g c = record {
-  answers = asked_as (sym (ap (λ v. task_with v c.args.command.now) c.in-ListTests.is)) _ _ _ (c.list_suite.ensures _ _);
-  spares = silent_spare c.args.command.now.verb c.args.command.now _ _ _ c.in-ListTests.is tt;
-  spares_run = of_other c.args.command.now.verb c.args.command.now _ _ _ _ _ (lists_not c.args.command.now.verb c.in-ListTests.is);
-}
-
-pub returns-in-SelfTest : goal.returns-in-SelfTest
-returns-in-SelfTest g c = record {
-  answers = asked_as (sym (ap (λ v. task_with v c.args.command.now) c.in-SelfTest.is)) _ _ _ (c.test_itself.ensures _ _ _ _);
-  spares = silent_spare c.args.command.now.verb c.args.command.now _ _ _ c.in-SelfTest.is tt;
-  spares_run = of_other c.args.command.now.verb c.args.command.now _ _ _ _ _ (draws_not c.args.command.now.verb c.in-SelfTest.is);
-}
-
-pub returns-in_default : goal.returns-in_default
-returns-in_default g c = record {
-  answers = asked_as (all_done c.args.command.now.verb c.args.command.now c.in_default.not-Run c.in_default.not-ListTests c.in_default.not-SelfTest) _ _ _ (c.quiet.ensures.promises _).answers;
-  spares = c.quiet.ensures.spares;
-  spares_run = of_other c.args.command.now.verb c.args.command.now _ _ _ _ _ c.in_default.not-Run;
+pub returns : goal.returns
+returns g c = record {
+  promises = warned _ _ _ _ _ _ _ (sym (c.warns.ensures (g.F.Site.folder c.args.site.now)) ∙ c.if-not-warns.false) _ (told_most _ _ _ c.tell_most_workers.ensures.prefix c.tell_most_workers.ensures.whole c.tell_most_workers.ensures.cause) c.follow_warned-2.ensures.promises;
+  spares = c.follow_warned-2.ensures.spares;
+  spares_run = c.follow_warned-2.ensures.spares_run;
 }

@@ -6,7 +6,7 @@ use Rattle.testr_commands.proofs.top.list_suite.Goals as goal
 pub returns-in-Ok : goal.returns-in-Ok
 returns-in-Ok g c = λ folder input. record {
   outcome = c.list-outcome.result;
-  done = inl (part_done _ _ c.in-Ok.ensures.step (c.list-outcome.ensures folder _ input));
+  done = inl (part_done _ _ c.in-Ok.ensures.step (c.list-outcome.ensures folder input));
   told = c.answer.ensures;
 }
 

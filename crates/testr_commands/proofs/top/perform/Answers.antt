@@ -1,46 +1,46 @@
-use Rattle.std.proofs.Common.{sym, ap, refl, ◌∙◌}
-use Rattle.testr_words.specs.Tasks.{task_with, quiet_of}
+use Rattle.std.proofs.Common.{Some, sym, ap, refl, ◌∙◌}
+use Rattle.testr_words.specs.Tasks.{ask, task_with, quiet_of}
 use Rattle.testr_commands.proofs.Performing.{performs, refuses, not_done, quiet_load}
 use Rattle.testr_commands.proofs.SparingLemmas.{none_spare, other_spare, silent_spare}
 use Rattle.testr_commands.proofs.top.perform.Goals as goal
 
 pub returns-in-Init-clause-step : goal.returns-in-Init-clause-step
-returns-in-Init-clause-step g c = λ spawner. performs _ _ _ (sym (ap (λ v. quiet_of (task_with v c.args.command.now)) c.in-Init.is)) (record { at = c.init.ensures; rest = refl })
+returns-in-Init-clause-step g c = λ spawner. performs _ _ _ (sym (ap (λ v. quiet_of (task_with (g.F.Site.folder c.args.site.now) v c.args.command.now)) c.in-Init.is)) (record { at = c.init.ensures; rest = refl })
 
 pub returns-in-Load-clause-step : goal.returns-in-Load-clause-step
-returns-in-Load-clause-step g c = λ spawner. performs _ _ _ (sym (quiet_load c.args.command.now) ∙ sym (ap (λ v. quiet_of (task_with v c.args.command.now)) c.in-Load.is)) (c.load_named.ensures spawner)
+returns-in-Load-clause-step g c = λ spawner. performs _ _ _ (sym (quiet_load (g.F.Site.folder c.args.site.now) c.args.command.now) ∙ sym (ap (λ v. quiet_of (task_with (g.F.Site.folder c.args.site.now) v c.args.command.now)) c.in-Load.is)) (c.load_named.ensures spawner)
 
 pub returns-in-Last-clause-step : goal.returns-in-Last-clause-step
-returns-in-Last-clause-step g c = λ spawner. performs _ _ _ (sym (ap (λ v. quiet_of (task_with v c.args.command.now)) c.in-Last.is)) (record { at = c.ask.ensures.step; rest = refl })
+returns-in-Last-clause-step g c = λ spawner. performs _ _ _ (ap (λ q. Some (ask q)) c.last_question.ensures ∙ sym (ap (λ v. quiet_of (task_with (g.F.Site.folder c.args.site.now) v c.args.command.now)) c.in-Last.is)) (record { at = c.ask.ensures.step; rest = refl })
 
 pub returns-in-Failing-clause-step : goal.returns-in-Failing-clause-step
-returns-in-Failing-clause-step g c = λ spawner. performs _ _ _ (sym (ap (λ v. quiet_of (task_with v c.args.command.now)) c.in-Failing.is)) (record { at = c.ask-in-Failing.ensures.step; rest = refl })
+returns-in-Failing-clause-step g c = λ spawner. performs _ _ _ (sym (ap (λ v. quiet_of (task_with (g.F.Site.folder c.args.site.now) v c.args.command.now)) c.in-Failing.is)) (record { at = c.ask-in-Failing.ensures.step; rest = refl })
 
 pub returns-in-Slowest-clause-step : goal.returns-in-Slowest-clause-step
-returns-in-Slowest-clause-step g c = λ spawner. performs _ _ _ (sym (ap (λ v. quiet_of (task_with v c.args.command.now)) c.in-Slowest.is)) (record { at = c.ask-in-Slowest.ensures.step; rest = refl })
+returns-in-Slowest-clause-step g c = λ spawner. performs _ _ _ (sym (ap (λ v. quiet_of (task_with (g.F.Site.folder c.args.site.now) v c.args.command.now)) c.in-Slowest.is)) (record { at = c.ask-in-Slowest.ensures.step; rest = refl })
 
 pub returns-in-Stats-clause-step : goal.returns-in-Stats-clause-step
-returns-in-Stats-clause-step g c = λ spawner. performs _ _ _ (sym (ap (λ v. quiet_of (task_with v c.args.command.now)) c.in-Stats.is)) (record { at = c.ask-in-Stats.ensures.step; rest = refl })
+returns-in-Stats-clause-step g c = λ spawner. performs _ _ _ (sym (ap (λ v. quiet_of (task_with (g.F.Site.folder c.args.site.now) v c.args.command.now)) c.in-Stats.is)) (record { at = c.ask-in-Stats.ensures.step; rest = refl })
 
 pub returns-in-Run-clause-step : goal.returns-in-Run-clause-step
-returns-in-Run-clause-step g c = λ spawner. refuses _ (not_done c.args.command.now.verb c.args.command.now c.in-Run.is)
+returns-in-Run-clause-step g c = λ spawner. refuses _ (not_done (g.F.Site.folder c.args.site.now) c.args.command.now.verb c.args.command.now c.in-Run.is)
 
 -- ---- how many calls there were
 
 pub returns-in-Init-clause-spares : goal.returns-in-Init-clause-spares
-returns-in-Init-clause-spares g c = silent_spare c.args.command.now.verb c.args.command.now _ _ _ c.in-Init.is tt
+returns-in-Init-clause-spares g c = silent_spare (g.F.Site.folder c.args.site.now) c.args.command.now.verb c.args.command.now _ _ _ c.in-Init.is tt
 
 pub returns-in-Load-clause-spares : goal.returns-in-Load-clause-spares
-returns-in-Load-clause-spares g c = silent_spare c.args.command.now.verb c.args.command.now _ _ _ c.in-Load.is tt
+returns-in-Load-clause-spares g c = silent_spare (g.F.Site.folder c.args.site.now) c.args.command.now.verb c.args.command.now _ _ _ c.in-Load.is tt
 
 pub returns-in-Last-clause-spares : goal.returns-in-Last-clause-spares
-returns-in-Last-clause-spares g c = other_spare c.args.command.now.verb c.args.command.now _ _ _ c.in-Last.is tt c.ask.ensures.looks
+returns-in-Last-clause-spares g c = other_spare (g.F.Site.folder c.args.site.now) c.args.command.now.verb c.args.command.now _ _ _ c.in-Last.is tt c.ask.ensures.looks
 
 pub returns-in-Slowest-clause-spares : goal.returns-in-Slowest-clause-spares
-returns-in-Slowest-clause-spares g c = other_spare c.args.command.now.verb c.args.command.now _ _ _ c.in-Slowest.is tt c.ask-in-Slowest.ensures.looks
+returns-in-Slowest-clause-spares g c = other_spare (g.F.Site.folder c.args.site.now) c.args.command.now.verb c.args.command.now _ _ _ c.in-Slowest.is tt c.ask-in-Slowest.ensures.looks
 
 pub returns-in-Stats-clause-spares : goal.returns-in-Stats-clause-spares
-returns-in-Stats-clause-spares g c = other_spare c.args.command.now.verb c.args.command.now _ _ _ c.in-Stats.is tt c.ask-in-Stats.ensures.looks
+returns-in-Stats-clause-spares g c = other_spare (g.F.Site.folder c.args.site.now) c.args.command.now.verb c.args.command.now _ _ _ c.in-Stats.is tt c.ask-in-Stats.ensures.looks
 
 pub returns-in-Failing-clause-spares : goal.returns-in-Failing-clause-spares
 returns-in-Failing-clause-spares g c = record {

@@ -1,0 +1,52 @@
+-- The base of a folder that another program began: how many runs it had then, and which tests failed (docs/DISK.md,
+-- "Files of a store").
+use Rattle.std.specs.Prelude.{ℕ, ◌≤◌, List, [], ◌∷◌, ◌==◌, codes, if◌then◌else◌}
+use Rattle.std.specs.Str.Parse.{digits_value}
+use Rattle.run_shelf.specs.IdFiles.{IsIdFile}
+
+-- the first `count` runs are those from before, after which these ids failed
+pub record Base : Type 0 where
+  pub count : ℕ
+  pub ids : List (List ℕ)
+
+abbrev pub no_base : Base
+no_base = record { count = 0; ids = [] }
+
+abbrev pub base_name : List ℕ
+base_name = codes "base.set"
+
+abbrev pub base_title : List ℕ
+base_title = codes "subunit-base 1"
+
+-- the bytes hold this base
+pub record IsBase (bytes : List ℕ) (base : Base) : Type 0 where
+  pub file : IsIdFile base_title bytes base.count base.ids
+  pub few : base.count ≤ 1000000
+
+-- ---- the base, told by the bytes
+
+-- what stands before the first newline, and behind it
+abbrev pub first_line : List ℕ → List ℕ
+first_line [] = []
+first_line (byte ∷ bytes) = if byte == 10 then [] else byte ∷ first_line bytes
+
+abbrev pub behind_line : List ℕ → List ℕ
+behind_line [] = []
+behind_line (byte ∷ bytes) = if byte == 10 then bytes else behind_line bytes
+
+-- a byte more before the first piece, where there is one
+abbrev pub onto_first : ℕ → List (List ℕ) → List (List ℕ)
+onto_first byte [] = []
+onto_first byte (piece ∷ pieces) = (byte ∷ piece) ∷ pieces
+
+-- the pieces that a zero byte ends, each without it
+abbrev pub pieces : List ℕ → List (List ℕ)
+pieces [] = []
+pieces (byte ∷ bytes) = if byte == 0 then [] ∷ pieces bytes else onto_first byte (pieces bytes)
+
+unfoldable pub base_in : List ℕ → Base
+base_in bytes = record { count = digits_value 10 (first_line (behind_line bytes)); ids = pieces (behind_line (behind_line bytes)) }
+
+-- the bytes hold a base, which is the one that they tell
+abbrev pub HoldsBase : List ℕ → Type 0
+HoldsBase bytes = IsBase bytes (base_in bytes)

@@ -1,0 +1,8 @@
+//! Why tests were skipped, and how many for each reason.
+//!
+//! What is printed is defined in docs/COMMANDS.md under "last".
+#![tactic(auto)]
+
+mod skips;
+
+pub use skips::skips_text;

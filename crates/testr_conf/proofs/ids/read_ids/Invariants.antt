@@ -1,5 +1,0 @@
-use Rattle.testr_conf.proofs.IdLemmas.{Listed}
-use Rattle.testr_conf.proofs.ids.read_ids.Given as goal
-
-abbrev pub invariant-loop-line : goal.invariant-loop-line
-invariant-loop-line l = Listed l.fn.text l.lines l.number l.ids
