@@ -2,9 +2,10 @@
 //! program uses it.
 //!
 //! They use the public names of the program alone, and stand above it, so that the proofs of its crate are not made once
-//! more for them. `runs` has what some of them are made with.
+//! more for them. `folders` and `runs` have what some of them are made with.
 #![tactic(auto)]
 
+pub mod folders;
 pub mod runs;
 #[cfg(test)]
 mod tests_ask;

@@ -1,13 +1,13 @@
 //! `testr load --force-init`: a repository is made where there is none, and then all goes on.
 
+use crate::folders::{empty, of_format};
 use edge_io::{MemShelf, Shelf};
-use std::alloc::Global;
 use std::process::Abort;
 use std::sync::Wait;
 use std::test::Fail;
 use std::thread::Threads;
 use trial_calls::{
-    FOO, FOO_KEPT, NOTHING, PASSED_AS_0, PASSED_AS_1, SHELF_FAULT, has_file, loads, put,
+    FOO, FOO_KEPT, NOTHING, PASSED_AS_0, PASSED_AS_1, SHELF_FAULT, has_file, loads,
     tells_and_leaves,
 };
 
@@ -16,11 +16,6 @@ const NO_STORE: &[u8] = b"testr: no repository here\n";
 const FORMAT: &[u8] = b"subunit-store 1\n";
 
 const FORCED: &[&str] = &["testr", "load", "--force-init"];
-
-// A folder without files, which fails at these calls.
-fn empty(alloc: Global, fails: &[u64]) -> Result<MemShelf, Fail> {
-    Ok(MemShelf::new(alloc, fails.to_vec(alloc)?))
-}
 
 // Whether a load that makes a repository where there is none tells this of `FOO`, and leaves so many bytes of it.
 fn forced<R: Threads + Wait + Sync + AllocGlobal>(
@@ -50,13 +45,6 @@ fn a_repository_is_made_on_the_way(rt: HostRuntime) -> Result<(), Fail> {
     let mut shelf = empty(rt.alloc(), &[])?;
     assert!(rt; loads(&rt, &mut shelf, FOO, (3, NOTHING, NO_STORE))?);
     is_made_on_the_way(&rt, &mut shelf)
-}
-
-// A folder of this `format`.
-fn of_format(alloc: Global, bytes: &[u8]) -> Result<MemShelf, Fail> {
-    let mut shelf = empty(alloc, &[])?;
-    put(alloc, &mut shelf, b"format", bytes)?;
-    Ok(shelf)
 }
 
 #[test]

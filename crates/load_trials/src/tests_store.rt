@@ -1,5 +1,6 @@
 //! The folder of `init` and `load`: what it must have, what it gets, and what a fault or a stop leaves of it.
 
+use crate::folders::{empty, of_format};
 use edge_io::{Failed, Finish, MemShelf, Shelf};
 use itoa::Buffer;
 use std::alloc::Global;
@@ -70,7 +71,7 @@ fn takes_two_runs<R: Threads + Wait + Sync + AllocGlobal + Abort>(
 
 #[test]
 fn a_repository_is_made_once(rt: HostRuntime) -> Result<(), Fail> {
-    let mut shelf = MemShelf::new(rt.alloc(), Vec::new(rt.alloc()));
+    let mut shelf = empty(rt.alloc(), &[])?;
     is_made_once(&rt, &mut shelf)?;
     takes_two_runs(&rt, &mut shelf)
 }
@@ -90,12 +91,6 @@ fn refuses_load<R: Threads + Wait + Sync + AllocGlobal>(
 }
 
 const OTHER_FORMATS: [&[u8]; 4] = [b"1\n", NOTHING, b"subunit-store 1", b"subunit-store 1\n\n"];
-
-fn of_format(alloc: Global, bytes: &[u8]) -> Result<MemShelf, Fail> {
-    let mut shelf = MemShelf::new(alloc, Vec::new(alloc));
-    put(alloc, &mut shelf, b"format", bytes)?;
-    Ok(shelf)
-}
 
 #[test]
 fn another_format_is_refused(rt: HostRuntime) -> Result<(), Fail> {
@@ -379,7 +374,7 @@ fn init_fails<R: Threads + Wait + Sync + AllocGlobal>(
 fn each_call_of_the_folder_may_fail_at_an_init(rt: HostRuntime) -> Result<(), Fail> {
     // The barrier, the format's length, the draft, its bytes, its sync, the publish, the barrier.
     for call in 0..7 {
-        let mut shelf = MemShelf::new(rt.alloc(), [call].to_vec(rt.alloc())?);
+        let mut shelf = empty(rt.alloc(), &[call])?;
         let wanted = if call == 6 {
             (0, PASSED_AS_0, NOTHING)
         } else {
@@ -392,7 +387,7 @@ fn each_call_of_the_folder_may_fail_at_an_init(rt: HostRuntime) -> Result<(), Fa
 
 #[test]
 fn an_init_takes_seven_calls(rt: HostRuntime) -> Result<(), Fail> {
-    let mut shelf = MemShelf::new(rt.alloc(), [7].to_vec(rt.alloc())?);
+    let mut shelf = empty(rt.alloc(), &[7])?;
     assert!(rt; inits(&rt, &mut shelf, 0, NOTHING)?);
     Ok(())
 }
