@@ -19,12 +19,18 @@ pub fn text(alloc: Global, bytes: &[u8]) -> Option<Text> {
     Text::new(alloc, bytes).ok()
 }
 
-/// Tags of one byte each. None where a byte is no text.
-pub fn tags_of(alloc: Global, names: &[u8]) -> Option<Tags> {
-    let mut tags = Tags::new(alloc);
+// Loops own nothing, so that an early end drops nothing.
+fn push_tags(alloc: Global, tags: &mut Tags, names: &[u8]) -> Option<()> {
     for name in names {
         tags.push(text(alloc, &[*name])?).ok()?;
     }
+    Some(())
+}
+
+/// Tags of one byte each. None where a byte is no text.
+pub fn tags_of(alloc: Global, names: &[u8]) -> Option<Tags> {
+    let mut tags = Tags::new(alloc);
+    push_tags(alloc, &mut tags, names)?;
     Some(tags)
 }
 
@@ -37,12 +43,17 @@ pub fn are(texts: &[Text], names: &[u8]) -> bool {
             .all(|(text, name)| text.bytes() == [*name].as_slice())
 }
 
-/// The part, so many times.
-pub fn repeated(alloc: Global, part: &[u8], times: usize) -> Option<Vec<u8>> {
-    let mut bytes = Vec::new(alloc);
+fn push_repeated(bytes: &mut Vec<u8>, part: &[u8], times: usize) -> Option<()> {
     for _ in 0..times {
         bytes.extend_from_slice(part).ok()?;
     }
+    Some(())
+}
+
+/// The part, so many times.
+pub fn repeated(alloc: Global, part: &[u8], times: usize) -> Option<Vec<u8>> {
+    let mut bytes = Vec::new(alloc);
+    push_repeated(&mut bytes, part, times)?;
     Some(bytes)
 }
 
