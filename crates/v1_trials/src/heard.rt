@@ -28,13 +28,21 @@ fn hear_all(reader: &mut V1Reader, stream: &[u8], events: &mut Vec<Event>) -> Op
     Some(())
 }
 
+// Appends what is told at the end.
+fn close_into(reader: V1Reader, events: &mut Vec<Event>) -> Option<()> {
+    let mut last = reader.close().ok()?;
+    events.append(&mut last).ok()
+}
+
+fn hear_stream(alloc: Global, stream: &[u8], events: &mut Vec<Event>) -> Option<()> {
+    let mut reader = V1Reader::new(alloc);
+    hear_all(&mut reader, stream, events)?;
+    close_into(reader, events)
+}
+
 /// The events of a stream whose lines are short enough.
 pub(crate) fn events_of(alloc: Global, stream: &[u8]) -> Option<Vec<Event>> {
-    let mut reader = V1Reader::new(alloc);
     let mut events = Vec::new(alloc);
-    hear_all(&mut reader, stream, &mut events)?;
-    for event in reader.close().ok()? {
-        events.push(event).ok()?;
-    }
+    hear_stream(alloc, stream, &mut events)?;
     Some(events)
 }

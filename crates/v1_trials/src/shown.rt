@@ -2,6 +2,7 @@
 
 use instants::put_instant;
 use packet_codec::{Event, FilePart, Stamp, Status, Tags};
+use sub_number::Text;
 
 fn word(status: Status) -> &'static [u8] {
     match status {
@@ -22,11 +23,15 @@ fn show_stamp(stamp: Stamp, text: &mut Vec<u8>) -> Option<()> {
     put_instant(stamp.instant(), text).ok()
 }
 
+fn show_tag(tag: &Text, text: &mut Vec<u8>) -> Option<()> {
+    text.extend_from_slice(b" #").ok()?;
+    text.extend_from_slice(tag.bytes()).ok()
+}
+
 /// Appends the tags, each behind a `#`.
 pub(crate) fn show_tags(tags: &Tags, text: &mut Vec<u8>) -> Option<()> {
     for tag in tags.list() {
-        text.extend_from_slice(b" #").ok()?;
-        text.extend_from_slice(tag.bytes()).ok()?;
+        show_tag(tag, text)?;
     }
     Some(())
 }

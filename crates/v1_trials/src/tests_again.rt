@@ -36,47 +36,76 @@ fn show_row(row: &Row, shown: &mut Vec<u8>) -> Option<()> {
     shown.push(b'\n').ok()
 }
 
-fn show_completed(fold: &mut Fold, events: &[Event], shown: &mut Vec<u8>) -> Option<()> {
-    for event in events {
-        if let Some(row) = fold.add(event).ok()? {
-            show_row(&row, shown)?;
-        }
-    }
-    Some(())
-}
-
-fn show_open(fold: Fold, shown: &mut Vec<u8>) -> Option<()> {
-    for row in fold.close().ok()?.as_slice() {
+fn show_each(rows: &[Row], shown: &mut Vec<u8>) -> Option<()> {
+    for row in rows {
         show_row(row, shown)?;
     }
     Some(())
 }
 
+// The row that the event completes, if it completes one.
+fn show_completed(fold: &mut Fold, event: &Event, shown: &mut Vec<u8>) -> Option<()> {
+    match fold.add(event).ok()? {
+        Some(row) => show_row(&row, shown),
+        None => Some(()),
+    }
+}
+
+fn show_all_completed(fold: &mut Fold, events: &[Event], shown: &mut Vec<u8>) -> Option<()> {
+    for event in events {
+        show_completed(fold, event, shown)?;
+    }
+    Some(())
+}
+
+fn show_open(fold: Fold, shown: &mut Vec<u8>) -> Option<()> {
+    let open = fold.close().ok()?;
+    show_each(&open, shown)
+}
+
 // The rows of the events in the order in which they are written.
-fn rows(alloc: Global, events: &[Event]) -> Option<Vec<u8>> {
+fn show_rows(alloc: Global, events: &[Event], shown: &mut Vec<u8>) -> Option<()> {
     let mut fold = Fold::new(alloc);
+    show_all_completed(&mut fold, events, shown)?;
+    show_open(fold, shown)
+}
+
+fn rows(alloc: Global, events: &[Event]) -> Option<Vec<u8>> {
     let mut shown = Vec::new(alloc);
-    show_completed(&mut fold, events, &mut shown)?;
-    show_open(fold, &mut shown)?;
+    show_rows(alloc, events, &mut shown)?;
     Some(shown)
+}
+
+fn write_each(writer: &mut V1Writer, events: &[Event], lines: &mut Vec<u8>) -> Option<()> {
+    for event in events {
+        writer.add(event, lines).ok()?;
+    }
+    Some(())
+}
+
+fn write_lines(alloc: Global, events: &[Event], lines: &mut Vec<u8>) -> Option<()> {
+    let mut writer = V1Writer::new(alloc);
+    write_each(&mut writer, events, lines)?;
+    writer.close(lines).ok()
 }
 
 // The lines of the events.
 fn lines(alloc: Global, events: &[Event]) -> Option<Vec<u8>> {
-    let mut writer = V1Writer::new(alloc);
     let mut lines = Vec::new(alloc);
-    for event in events {
-        writer.add(event, &mut lines).ok()?;
-    }
-    writer.close(&mut lines).ok()?;
+    write_lines(alloc, events, &mut lines)?;
     Some(lines)
 }
 
-// The rows of the events that are read where these were written.
-fn rows_again(alloc: Global, events: &[Event]) -> Option<Vec<u8>> {
+// The events that are read where these were written.
+fn read_again(alloc: Global, events: &[Event]) -> Option<Vec<Event>> {
     let lines = lines(alloc, events)?;
-    let events = events_of(alloc, &lines)?;
-    rows(alloc, &events)
+    events_of(alloc, &lines)
+}
+
+// The rows of those.
+fn rows_again(alloc: Global, events: &[Event]) -> Option<Vec<u8>> {
+    let again = read_again(alloc, events)?;
+    rows(alloc, &again)
 }
 
 const TOLD: [Told; 12] = [
@@ -98,17 +127,33 @@ const TOLD: [Told; 12] = [
 const ROWS: &[u8] =
     b"success a #w #x\nfail a\nskip b [ #y\nuxsuccess c [ multipart #a #b\nxfail  ]\nsuccess a\nfail o #z\nfail p\nfail o\n";
 
+fn push_event(alloc: Global, events: &mut Vec<Event>, told: &Told) -> Option<()> {
+    let event = event_of(alloc, told)?;
+    events.push(event).ok()
+}
+
+fn push_told(alloc: Global, events: &mut Vec<Event>) -> Option<()> {
+    for told in &TOLD {
+        push_event(alloc, events, told)?;
+    }
+    Some(())
+}
+
 fn told_events(alloc: Global) -> Option<Vec<Event>> {
     let mut events = Vec::new(alloc);
-    for told in &TOLD {
-        events.push(event_of(alloc, told)?).ok()?;
-    }
+    push_told(alloc, &mut events)?;
     Some(events)
+}
+
+// Whether these are the rows of the events that are written and read again.
+fn are_rows_again(alloc: Global, events: &[Event], wanted: &[u8]) -> Option<bool> {
+    let again = rows_again(alloc, events)?;
+    Some(again.as_slice() == wanted)
 }
 
 fn told_rows_again(alloc: Global) -> Option<bool> {
     let events = told_events(alloc)?;
-    Some(rows_again(alloc, &events)?.as_slice() == ROWS)
+    are_rows_again(alloc, &events, ROWS)
 }
 
 #[test]
@@ -161,42 +206,66 @@ fn fourth(draws: &mut Draws) -> usize
     (draws.next() % 4) as usize
 }
 
-fn with_text(alloc: Global, mut event: Event, bytes: &[u8]) -> Option<Event> {
-    event.mime = Some(text(alloc, b"text/plain")?);
-    event.file = Some(FilePart {
-        name: text(alloc, b"log")?,
-        bytes: Bytes::new(alloc, bytes).ok()?,
-    });
-    Some(event)
+fn file_of(alloc: Global, bytes: &[u8]) -> Option<FilePart> {
+    let name = text(alloc, b"log")?;
+    let bytes = Bytes::new(alloc, bytes).ok()?;
+    Some(FilePart { name, bytes })
 }
 
-// An event of a drawn test, at a drawn time, with a drawn text now and then.
-fn drawn_event(alloc: Global, draws: &mut Draws) -> Option<Event> {
+// The bytes as a file of text. Without memory for it the event stays without a file.
+fn give_text(alloc: Global, event: &mut Event, bytes: &[u8]) {
+    event.mime = text(alloc, b"text/plain");
+    event.file = file_of(alloc, bytes);
+}
+
+// An event of a drawn test, at a drawn time.
+fn drawn_test(alloc: Global, draws: &mut Draws) -> Option<Event> {
     let route = ROUTES[fourth(draws)];
     let id = IDS[eighth(draws)];
     let status = STATUSES[eighth(draws)];
     let tags = TAGS[fourth(draws)];
+    let seconds = draws.next();
     let event = event_of(alloc, &(route, id, status, tags))?;
-    let event = at(event, draws.next(), 0);
-    if fourth(draws) > 0 {
-        return Some(event);
+    Some(at(event, seconds, 0))
+}
+
+// The same, with a drawn text now and then.
+fn drawn_event(alloc: Global, draws: &mut Draws) -> Option<Event> {
+    let mut event = drawn_test(alloc, draws)?;
+    if fourth(draws) == 0 {
+        give_text(alloc, &mut event, TEXTS[fourth(draws)]);
     }
-    with_text(alloc, event, TEXTS[fourth(draws)])
+    Some(event)
+}
+
+fn push_one(alloc: Global, draws: &mut Draws, events: &mut Vec<Event>) -> Option<()> {
+    let event = drawn_event(alloc, draws)?;
+    events.push(event).ok()
+}
+
+fn push_drawn(alloc: Global, draws: &mut Draws, count: u32, events: &mut Vec<Event>) -> Option<()> {
+    for _ in 0..count {
+        push_one(alloc, draws, events)?;
+    }
+    Some(())
 }
 
 fn drawn_events(alloc: Global, seed: u32, count: u32) -> Option<Vec<Event>> {
     let mut draws = Draws::new(seed);
     let mut events = Vec::new(alloc);
-    for _ in 0..count {
-        events.push(drawn_event(alloc, &mut draws)?).ok()?;
-    }
+    push_drawn(alloc, &mut draws, count, &mut events)?;
     Some(events)
+}
+
+fn are_their_rows_again(alloc: Global, events: &[Event]) -> Option<bool> {
+    let rows = rows(alloc, events)?;
+    are_rows_again(alloc, events, &rows)
 }
 
 // Whether the drawn events have the same rows where they are written and read again.
 fn are_same_again(alloc: Global, seed: u32, count: u32) -> Option<bool> {
     let events = drawn_events(alloc, seed, count)?;
-    Some(rows_again(alloc, &events)?.as_slice() == rows(alloc, &events)?.as_slice())
+    are_their_rows_again(alloc, &events)
 }
 
 #[test]

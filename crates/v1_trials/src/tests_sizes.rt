@@ -23,14 +23,16 @@ fn line_sizes(reader: &mut V1Reader, line: &[u8]) -> Option<Sizes> {
     if !is_short(line) {
         return None;
     }
-    Some(sizes_of(&reader.line(line).ok()?))
+    let events = reader.line(line).ok()?;
+    Some(sizes_of(&events))
 }
 
 fn piece_sizes(reader: &mut V1Reader, piece: &[u8], last: bool) -> Option<Sizes> {
     if !is_short(piece) {
         return None;
     }
-    Some(sizes_of(&reader.long(piece, last).ok()?))
+    let events = reader.long(piece, last).ok()?;
+    Some(sizes_of(&events))
 }
 
 // What a line of so many bytes `a` and this end gives.
@@ -56,12 +58,17 @@ fn a_line_has_as_many_bytes_as_it_may(rt: HostRuntime) {
     assert_eq!(rt; alone(alloc, 65_536, b"\r\n"), None);
 }
 
+// What 65,536 bytes `a` give that are no whole line, and the piece behind them, which ends it.
+fn both_pieces(alloc: Global, reader: &mut V1Reader, last: &[u8]) -> Option<[Sizes; 2]> {
+    let piece = repeated(alloc, b"a", 65_536)?;
+    let first = piece_sizes(reader, &piece, false)?;
+    let second = piece_sizes(reader, last, true)?;
+    Some([first, second])
+}
+
 fn long_line(alloc: Global, last: &[u8]) -> Option<[Sizes; 2]> {
     let mut reader = V1Reader::new(alloc);
-    let piece = repeated(alloc, b"a", 65_536)?;
-    let first = piece_sizes(&mut reader, &piece, false)?;
-    let second = piece_sizes(&mut reader, last, true)?;
-    Some([first, second])
+    both_pieces(alloc, &mut reader, last)
 }
 
 #[test]
@@ -81,13 +88,17 @@ fn lead(reader: &mut V1Reader, lines: &[&'static [u8]]) -> Option<()> {
 
 const DETAILS: [&[u8]; 2] = [b"test: a\n", b"failure: a [\n"];
 
+fn details_in(alloc: Global, reader: &mut V1Reader, count: usize) -> Option<[Sizes; 2]> {
+    lead(reader, &DETAILS)?;
+    let line = of_letters(reader, alloc, count, b"\n")?;
+    let bracket = line_sizes(reader, b"]\n")?;
+    Some([line, bracket])
+}
+
 // What a line of details of so many bytes gives, and the bracket behind it.
 fn details(alloc: Global, count: usize) -> Option<[Sizes; 2]> {
     let mut reader = V1Reader::new(alloc);
-    lead(&mut reader, &DETAILS)?;
-    let line = of_letters(&mut reader, alloc, count, b"\n")?;
-    let bracket = line_sizes(&mut reader, b"]\n")?;
-    Some([line, bracket])
+    details_in(alloc, &mut reader, count)
 }
 
 #[test]
@@ -98,15 +109,17 @@ fn details_are_given_in_full_pieces(rt: HostRuntime) {
     assert_eq!(rt; details(alloc, 65_536), Some([(1, 65_536), (1, 1)]));
 }
 
+fn long_details_in(alloc: Global, reader: &mut V1Reader) -> Option<[Sizes; 3]> {
+    lead(reader, &DETAILS)?;
+    let [first, second] = both_pieces(alloc, reader, b"]\n")?;
+    let bracket = line_sizes(reader, b"]\n")?;
+    Some([first, second, bracket])
+}
+
 // The same of a line of 65,537 bytes, whose second piece is a bracket.
 fn long_details(alloc: Global) -> Option<[Sizes; 3]> {
     let mut reader = V1Reader::new(alloc);
-    lead(&mut reader, &DETAILS)?;
-    let piece = repeated(alloc, b"a", 65_536)?;
-    let first = piece_sizes(&mut reader, &piece, false)?;
-    let second = piece_sizes(&mut reader, b"]\n", true)?;
-    let bracket = line_sizes(&mut reader, b"]\n")?;
-    Some([first, second, bracket])
+    long_details_in(alloc, &mut reader)
 }
 
 #[test]
@@ -125,25 +138,31 @@ const CHUNK: [&[u8]; 5] = [
     b"10001\r\n",
 ];
 
+fn chunk_in(alloc: Global, reader: &mut V1Reader) -> Option<[Sizes; 3]> {
+    lead(reader, &CHUNK)?;
+    let [first, second] = both_pieces(alloc, reader, b"a0\r\n")?;
+    let third = piece_sizes(reader, b"", true)?;
+    Some([first, second, third])
+}
+
 // A chunk of 65,537 bytes in one line, and the size behind it.
 fn chunk_in_a_line(alloc: Global) -> Option<[Sizes; 3]> {
     let mut reader = V1Reader::new(alloc);
-    lead(&mut reader, &CHUNK)?;
-    let piece = repeated(alloc, b"a", 65_536)?;
-    let first = piece_sizes(&mut reader, &piece, false)?;
-    let second = piece_sizes(&mut reader, b"a0\r\n", true)?;
-    let third = piece_sizes(&mut reader, b"", true)?;
+    chunk_in(alloc, &mut reader)
+}
+
+fn chunk_in_three(alloc: Global, reader: &mut V1Reader) -> Option<[Sizes; 3]> {
+    lead(reader, &CHUNK)?;
+    let first = of_letters(reader, alloc, 32_767, b"\n")?;
+    let second = of_letters(reader, alloc, 32_767, b"\n")?;
+    let third = line_sizes(reader, b"a0\r\n")?;
     Some([first, second, third])
 }
 
 // The same in three lines.
 fn chunk_of_lines(alloc: Global) -> Option<[Sizes; 3]> {
     let mut reader = V1Reader::new(alloc);
-    lead(&mut reader, &CHUNK)?;
-    let first = of_letters(&mut reader, alloc, 32_767, b"\n")?;
-    let second = of_letters(&mut reader, alloc, 32_767, b"\n")?;
-    let third = line_sizes(&mut reader, b"a0\r\n")?;
-    Some([first, second, third])
+    chunk_in_three(alloc, &mut reader)
 }
 
 #[test]
@@ -153,12 +172,17 @@ fn a_chunk_is_given_in_full_pieces(rt: HostRuntime) {
     assert_eq!(rt; chunk_of_lines(alloc), Some([(0, 0), (1, 65_536), (1, 1)]));
 }
 
-// What a line of tags gives whose one tag has so many bytes, behind one of 7 bytes.
+// What a line of tags gives whose one tag has so many bytes.
+fn tag_line(alloc: Global, reader: &mut V1Reader, count: usize) -> Option<Sizes> {
+    let line = line_of(alloc, b"tags: ", count, b"\n")?;
+    line_sizes(reader, &line)
+}
+
+// The same behind a tag of 7 bytes.
 fn tags_given(alloc: Global, count: usize) -> Option<Sizes> {
     let mut reader = V1Reader::new(alloc);
     lead(&mut reader, &[b"tags: worker0\n"])?;
-    let line = line_of(alloc, b"tags: ", count, b"\n")?;
-    line_sizes(&mut reader, &line)
+    tag_line(alloc, &mut reader, count)
 }
 
 #[test]

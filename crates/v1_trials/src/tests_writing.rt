@@ -8,45 +8,50 @@ use v1_bridge::V1Writer;
 // An event of the test a: its status, the seconds of its stamp, its tag and the bytes of its file.
 type Row = (Status, Option<u32>, Option<&'static [u8]>, &'static [u8]);
 
-fn tags(alloc: Global, tag: &[u8]) -> Option<Tags> {
+fn tag_list(alloc: Global, tag: &[u8]) -> Option<Tags> {
+    let tag = Text::new(alloc, tag).ok()?;
     let mut tags = Tags::new(alloc);
-    tags.push(Text::new(alloc, tag).ok()?).ok()?;
+    tags.push(tag).ok()?;
     Some(tags)
 }
 
 fn file(alloc: Global, bytes: &[u8]) -> Option<FilePart> {
-    Some(FilePart {
-        name: Text::new(alloc, b"log").ok()?,
-        bytes: Bytes::new(alloc, bytes).ok()?,
-    })
+    let name = Text::new(alloc, b"log").ok()?;
+    let bytes = Bytes::new(alloc, bytes).ok()?;
+    Some(FilePart { name, bytes })
 }
 
-fn bare(alloc: Global, id: &[u8], status: Status, seconds: Option<u32>) -> Option<Event> {
-    Some(Event {
-        stamp: seconds.map(|seconds| Stamp {
-            seconds,
-            nanos: 500_000_000,
-        }),
-        id: Some(Text::new(alloc, id).ok()?),
+fn stamp(seconds: u32) -> Stamp {
+    Stamp {
+        seconds,
+        nanos: 500_000_000,
+    }
+}
+
+// An event of the test. Without memory for its texts it has none, and then another text is written.
+fn bare(alloc: Global, id: &[u8], status: Status, seconds: Option<u32>) -> Event {
+    Event {
+        stamp: seconds.map(stamp),
+        id: Text::new(alloc, id).ok(),
         tags: None,
         runnable: true,
         status,
-        mime: Some(Text::new(alloc, b"text/plain").ok()?),
+        mime: Text::new(alloc, b"text/plain").ok(),
         file: None,
         eof: false,
         route: None,
-    })
+    }
 }
 
-fn event(alloc: Global, id: &[u8], row: &Row) -> Option<Event> {
-    let mut event = bare(alloc, id, row.0, row.1)?;
+fn event(alloc: Global, id: &[u8], row: &Row) -> Event {
+    let mut event = bare(alloc, id, row.0, row.1);
     if let Some(tag) = row.2 {
-        event.tags = Some(tags(alloc, tag)?);
+        event.tags = tag_list(alloc, tag);
     }
     if !row.3.is_empty() {
-        event.file = Some(file(alloc, row.3)?);
+        event.file = file(alloc, row.3);
     }
-    Some(event)
+    event
 }
 
 fn write(
@@ -56,7 +61,7 @@ fn write(
     row: &Row,
     out: &mut Vec<u8>,
 ) -> Option<()> {
-    let event = event(alloc, id, row)?;
+    let event = event(alloc, id, row);
     writer.add(&event, out).ok()
 }
 
@@ -73,26 +78,28 @@ fn write_all(
     Some(())
 }
 
-fn write_stream(
+fn write_all_behind(
     alloc: Global,
-    front: &[u8],
-    id: &[u8],
-    rows: &[Row],
+    writer: &mut V1Writer,
+    told: &Told,
     out: &mut Vec<u8>,
 ) -> Option<()> {
+    writer.foreign(told.0, out).ok()?;
+    write_all(alloc, writer, told.1, told.2, out)
+}
+
+fn write_stream(alloc: Global, told: &Told, out: &mut Vec<u8>) -> Option<()> {
     let mut writer = V1Writer::new(alloc);
-    writer.foreign(front, out).ok()?;
-    write_all(alloc, &mut writer, id, rows, out)?;
+    write_all_behind(alloc, &mut writer, told, out)?;
     writer.close(out).ok()
 }
 
 // The foreign bytes in front, the id, its events, and the text.
 type Told = (&'static [u8], &'static [u8], &'static [Row], &'static [u8]);
 
-fn writes(alloc: Global, told: &Told) -> Option<bool> {
+fn writes(alloc: Global, told: &Told) -> bool {
     let mut out = Vec::new(alloc);
-    write_stream(alloc, told.0, told.1, told.2, &mut out)?;
-    Some(out.as_slice() == told.3)
+    write_stream(alloc, told, &mut out).is_some() && out.as_slice() == told.3
 }
 
 const TEXTS: [Told; 8] = [
@@ -158,17 +165,15 @@ const TEXTS: [Told; 8] = [
 #[test]
 fn events_give_lines(rt: HostRuntime) {
     for (place, told) in TEXTS.iter().enumerate() {
-        assert_eq!(rt; writes(rt.alloc(), told), Some(true), "row {place}");
+        assert!(rt; writes(rt.alloc(), told), "row {place}");
     }
 }
 
-// The events of two routes and of two ids, of which none ends.
-fn write_open(alloc: Global, out: &mut Vec<u8>) -> Option<()> {
-    let mut writer = V1Writer::new(alloc);
-    for (route, id) in [(b"1", b"a"), (b"0", b"b"), (b"0", b"a")] {
-        write_routed(alloc, &mut writer, route, id, out)?;
-    }
-    writer.close(out).ok()
+fn routed(alloc: Global, route: &[u8], id: &[u8]) -> Event {
+    let mut event = bare(alloc, id, Status::InProgress, None);
+    event.route = Text::new(alloc, route).ok();
+    event.tags = tag_list(alloc, route);
+    event
 }
 
 fn write_routed(
@@ -178,55 +183,71 @@ fn write_routed(
     id: &[u8],
     out: &mut Vec<u8>,
 ) -> Option<()> {
-    let mut event = bare(alloc, id, Status::InProgress, None)?;
-    event.route = Some(Text::new(alloc, route).ok()?);
-    event.tags = Some(tags(alloc, route)?);
+    let event = routed(alloc, route, id);
     writer.add(&event, out).ok()
 }
 
-fn open_text(alloc: Global) -> Option<Vec<u8>> {
+// The events of two routes and of two ids, of which none ends.
+const OPEN: [(&[u8], &[u8]); 3] = [(b"1", b"a"), (b"0", b"b"), (b"0", b"a")];
+
+fn write_each_routed(alloc: Global, writer: &mut V1Writer, out: &mut Vec<u8>) -> Option<()> {
+    for (route, id) in &OPEN {
+        write_routed(alloc, writer, route, id, out)?;
+    }
+    Some(())
+}
+
+fn write_open(alloc: Global, out: &mut Vec<u8>) -> Option<()> {
+    let mut writer = V1Writer::new(alloc);
+    write_each_routed(alloc, &mut writer, out)?;
+    writer.close(out).ok()
+}
+
+fn writes_open(alloc: Global, wanted: &[u8]) -> bool {
     let mut out = Vec::new(alloc);
-    write_open(alloc, &mut out)?;
-    Some(out)
+    write_open(alloc, &mut out).is_some() && out.as_slice() == wanted
 }
 
 #[test]
 fn open_tests_are_written_by_route_and_id(rt: HostRuntime) {
     let wanted =
         b"test: a\ntags: 0\nerror: a [\nnot completed\n]\ntest: b\ntags: 0\nerror: b [\nnot completed\n]\ntest: a\ntags: 1\nerror: a [\nnot completed\n]\n";
-    assert_eq!(rt;
-        open_text(rt.alloc()).map(|text| text.as_slice() == wanted.as_slice()),
-        Some(true)
-    );
+    assert!(rt; writes_open(rt.alloc(), wanted));
 }
+
+fn of_no_test(alloc: Global, bytes: &[u8]) -> Event {
+    let mut event = bare(alloc, b"", Status::Unset, None);
+    event.id = None;
+    event.file = file(alloc, bytes);
+    event
+}
+
+fn write_of_no_test(
+    alloc: Global,
+    writer: &mut V1Writer,
+    bytes: &[u8],
+    out: &mut Vec<u8>,
+) -> Option<()> {
+    let event = of_no_test(alloc, bytes);
+    writer.add(&event, out).ok()
+}
+
+const PASSED: Row = (Status::Success, None, None, b"");
 
 // An event without an id, whose file is these bytes, and a test behind it.
 fn write_file(alloc: Global, bytes: &[u8], out: &mut Vec<u8>) -> Option<()> {
     let mut writer = V1Writer::new(alloc);
-    let mut event = bare(alloc, b"", Status::Unset, None)?;
-    event.id = None;
-    event.file = Some(file(alloc, bytes)?);
-    writer.add(&event, out).ok()?;
-    write(
-        alloc,
-        &mut writer,
-        b"a",
-        &(Status::Success, None, None, b""),
-        out,
-    )
+    write_of_no_test(alloc, &mut writer, bytes, out)?;
+    write(alloc, &mut writer, b"a", &PASSED, out)
 }
 
-fn file_text(alloc: Global) -> Option<Vec<u8>> {
+fn writes_file(alloc: Global, bytes: &[u8], wanted: &[u8]) -> bool {
     let mut out = Vec::new(alloc);
-    write_file(alloc, b"said", &mut out)?;
-    Some(out)
+    write_file(alloc, bytes, &mut out).is_some() && out.as_slice() == wanted
 }
 
 #[test]
 fn the_file_of_no_test_is_written_where_it_comes(rt: HostRuntime) {
     let wanted = b"said\ntest: a\nsuccess: a\n";
-    assert_eq!(rt;
-        file_text(rt.alloc()).map(|text| text.as_slice() == wanted.as_slice()),
-        Some(true)
-    );
+    assert!(rt; writes_file(rt.alloc(), b"said", wanted));
 }
