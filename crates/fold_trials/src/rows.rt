@@ -12,13 +12,15 @@ pub fn row(alloc: Global, id: &[u8], ended: Ended, nanos: Option<u64>, text: &[u
     ensures told { IfSome result (λ row. (row.id ≡ id.now) × (row.ended ≡ ended) × (row.nanos ≡ nanos) × (row.text ≡ text.now)) }
     ensures bare { IfSome result (λ row. (row.route ≡ None) × (row.tags ≡ []) × (row.reason ≡ [])) }
 {
+    let id = Text::new(alloc, id).ok()?;
+    let text = Bytes::new(alloc, text).ok()?;
     Some(Row {
-        id: Text::new(alloc, id).ok()?,
+        id,
         route: None,
         ended,
         tags: Tags::new(alloc),
         nanos,
-        text: Bytes::new(alloc, text).ok()?,
+        text,
         reason: Bytes::from_vec(Vec::new(alloc)),
     })
 }

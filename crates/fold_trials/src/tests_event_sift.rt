@@ -101,11 +101,17 @@ fn ids_go_by_patterns(rt: HostRuntime) -> Result<(), Fail> {
     Ok(())
 }
 
+fn is_told(event: &Event, wanted: &[u8; 2]) -> bool {
+    first(&event.route) == wanted[0] && first(&event.id) == wanted[1]
+}
+
 // Whether these are the events, each told by the first bytes of its route and of its id.
 fn are(events: &[Event], wanted: &[[u8; 2]]) -> bool {
-    events.len() == wanted.len()
-        && events.iter().zip(wanted.iter()).all(|(event, wanted)| first(&event.route) == wanted[0]
-            && first(&event.id) == wanted[1])
+    let mut same = events.len() == wanted.len();
+    for (event, wanted) in events.iter().zip(wanted.iter()) {
+        same = same && is_told(event, wanted);
+    }
+    same
 }
 
 fn first(text: &Option<Text>) -> u8 {
@@ -155,22 +161,20 @@ fn a_test_is_released_whole_where_it_ends(rt: HostRuntime) -> Result<(), Fail> {
 fn taken(removed: bool, tags: &Option<Tags>, wanted: &[u8]) -> bool {
     match tags {
         None => removed,
-        Some(tags) => {
-            let list = tags.list();
-            !removed
-                && list.len() == wanted.len()
-                && list
-                    .iter()
-                    .zip(wanted.iter())
-                    .all(|(tag, name)| tag.bytes() == [*name].as_slice())
-        }
+        Some(tags) => !removed && trial_events::are(tags.list(), wanted),
+    }
+}
+
+fn tagger_with(alloc: Global, add: Tags, remove: Option<Tags>) -> Option<Tagger> {
+    match remove {
+        Some(remove) => Some(Tagger::new(alloc, add, remove)),
+        None => None,
     }
 }
 
 fn tagger_of(alloc: Global, add: &[u8], remove: &[u8]) -> Option<Tagger> {
     let add = tags_of(alloc, add)?;
-    let remove = tags_of(alloc, remove)?;
-    Some(Tagger::new(alloc, add, remove))
+    tagger_with(alloc, add, tags_of(alloc, remove))
 }
 
 fn event_with(alloc: Global, tags: Tags) -> Event {
@@ -245,8 +249,7 @@ fn one_tag(alloc: Global, name: &[u8]) -> Option<Tags> {
 // By this one bar becomes foo.
 fn foo_for_bar(alloc: Global) -> Option<Tagger> {
     let add = one_tag(alloc, b"foo")?;
-    let remove = one_tag(alloc, b"bar")?;
-    Some(Tagger::new(alloc, add, remove))
+    tagger_with(alloc, add, one_tag(alloc, b"bar"))
 }
 
 // Whether the event is tagged, and this is its packet.

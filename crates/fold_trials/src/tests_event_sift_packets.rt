@@ -109,11 +109,16 @@ fn append(alloc: Global, all: &mut Vec<u8>, told: &Told) -> Option<()> {
     all.extend_from_slice(&packet).ok()
 }
 
+fn append_all(alloc: Global, all: &mut Vec<u8>, told: &[Told]) -> Option<()> {
+    for one in told {
+        append(alloc, all, one)?;
+    }
+    Some(())
+}
+
 fn joined(alloc: Global, told: &[Told]) -> Option<Vec<u8>> {
     let mut all = Vec::new(alloc);
-    for one in told {
-        append(alloc, &mut all, one)?;
-    }
+    append_all(alloc, &mut all, told)?;
     Some(all)
 }
 

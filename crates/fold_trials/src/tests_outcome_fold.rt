@@ -5,7 +5,7 @@ use packet_codec::{Event, FilePart, Status, Tags};
 use std::alloc::Global;
 use std::test::Fail;
 use sub_number::{Bytes, IdList, TimeMap};
-use trial_events::{Told, are, at, event_of, says, tagged, tags_of, text};
+use trial_events::{Told, are, at, event_of, says, tags_of, text};
 
 // A file of so many bytes.
 fn file_of(alloc: Global, count: usize) -> Option<FilePart> {
@@ -14,18 +14,33 @@ fn file_of(alloc: Global, count: usize) -> Option<FilePart> {
     Some(FilePart { name, bytes })
 }
 
-// The event with that file.
-fn with_file(alloc: Global, mut event: Event, mime: &[u8], count: usize) -> Option<Event> {
-    event.mime = text(alloc, mime);
-    event.file = Some(file_of(alloc, count)?);
-    Some(event)
+// What an event of a test says, and its second and its nanoseconds, where it has a time.
+type Timely = (Told, Option<(u32, u32)>);
+
+fn event_at(alloc: Global, told: &Timely) -> Option<Event> {
+    let event = event_of(alloc, &told.0)?;
+    Some(match told.1 {
+        Some((seconds, nanos)) => at(event, seconds, nanos),
+        None => event,
+    })
 }
 
-fn rows_of(alloc: Global, events: &[Event]) -> Option<Rows> {
-    let mut outcomes = Outcomes::new(alloc);
-    for event in events {
-        outcomes.add(event).ok()?;
+fn add(alloc: Global, outcomes: &mut Outcomes, told: &Timely) -> Option<()> {
+    let event = event_at(alloc, told)?;
+    outcomes.add(&event).ok()
+}
+
+// A loop that owns nothing, so that an early end drops nothing.
+fn add_all(alloc: Global, outcomes: &mut Outcomes, all: &[Timely]) -> Option<()> {
+    for told in all {
+        add(alloc, outcomes, told)?;
     }
+    Some(())
+}
+
+fn rows_of(alloc: Global, all: &[Timely]) -> Option<Rows> {
+    let mut outcomes = Outcomes::new(alloc);
+    add_all(alloc, &mut outcomes, all)?;
     outcomes.close().ok()
 }
 
@@ -44,30 +59,25 @@ fn ids_are(ids: Option<IdList>, names: &[u8]) -> bool {
     }
 }
 
-// What the one row of the events says.
-fn time_of_one(alloc: Global, events: &[Event]) -> Option<Option<u64>> {
-    match rows_of(alloc, events)?.list() {
+fn time_in(rows: &[Row]) -> Option<Option<u64>> {
+    match rows {
         [row] => Some(row.nanos),
         _ => None,
     }
 }
 
-fn text_len_of_one(alloc: Global, events: &[Event]) -> Option<usize> {
-    match rows_of(alloc, events)?.list() {
-        [row] => Some(row.text.bytes().len()),
-        _ => None,
-    }
+// The time of the one row of the events.
+fn time_of_one(alloc: Global, all: &[Timely]) -> Option<Option<u64>> {
+    let rows = rows_of(alloc, all)?;
+    time_in(rows.list())
 }
 
-// Rows of two routes, of which one stays open.
-fn rows_of_routes(alloc: Global) -> Option<Rows> {
-    let events = [
-        says(alloc, b"1", b"b", Status::Success),
-        says(alloc, b"0", b"a", Status::Fail),
-        says(alloc, b"0", b"c", Status::InProgress),
-    ];
-    rows_of(alloc, &events)
-}
+// Two routes, and a test that stays open.
+const OF_ROUTES: [Timely; 3] = [
+    ((b"1", b"b", Status::Success, None), None),
+    ((b"0", b"a", Status::Fail, None), None),
+    ((b"0", b"c", Status::InProgress, None), None),
+];
 
 fn stand_by_route(rows: &[Row]) -> bool {
     match rows {
@@ -80,28 +90,27 @@ fn stand_by_route(rows: &[Row]) -> bool {
     }
 }
 
+fn fail(alloc: Global, rows: &Rows, names: &[u8]) -> bool {
+    ids_are(rows.failing_ids(alloc).ok(), names)
+}
+
+fn pass(alloc: Global, rows: &Rows, names: &[u8]) -> bool {
+    ids_are(rows.passed_ids(alloc).ok(), names)
+}
+
+fn are_by_route(alloc: Global, rows: &Rows) -> bool {
+    stand_by_route(rows.list()) && fail(alloc, rows, b"ac") && pass(alloc, rows, b"b")
+}
+
 fn by_route(alloc: Global) -> Option<bool> {
-    let rows = rows_of_routes(alloc)?;
-    Some(
-        stand_by_route(rows.list())
-            && ids_are(rows.failing_ids(alloc).ok(), b"ac")
-            && ids_are(rows.passed_ids(alloc).ok(), b"b"),
-    )
+    let rows = rows_of(alloc, &OF_ROUTES)?;
+    Some(are_by_route(alloc, &rows))
 }
 
 #[test]
 fn rows_stand_by_route_and_open_ones_behind(rt: HostRuntime) -> Result<(), Fail> {
     assert_eq!(rt; by_route(rt.alloc()), Some(true));
     Ok(())
-}
-
-// Rows of a test that fails under the first route, and passes under the second.
-fn rows_of_both(alloc: Global, first: &[u8], second: &[u8]) -> Option<Rows> {
-    let events = [
-        says(alloc, first, b"f", Status::Fail),
-        says(alloc, second, b"f", Status::Success),
-    ];
-    rows_of(alloc, &events)
 }
 
 fn are_both(rows: &[Row], first: &[u8], second: &[u8]) -> bool {
@@ -113,12 +122,15 @@ fn are_both(rows: &[Row], first: &[u8], second: &[u8]) -> bool {
     }
 }
 
-fn twice(alloc: Global, first: &[u8], second: &[u8]) -> Option<bool> {
-    let rows = rows_of_both(alloc, first, second)?;
+// Whether a test has two rows that fails under the first route, and passes under the second.
+fn twice(alloc: Global, first: &'static [u8], second: &'static [u8]) -> Option<bool> {
+    let both: [Timely; 2] = [
+        ((first, b"f", Status::Fail, None), None),
+        ((second, b"f", Status::Success, None), None),
+    ];
+    let rows = rows_of(alloc, &both)?;
     Some(
-        are_both(rows.list(), first, second)
-            && ids_are(rows.failing_ids(alloc).ok(), b"f")
-            && ids_are(rows.passed_ids(alloc).ok(), b""),
+        are_both(rows.list(), first, second) && fail(alloc, &rows, b"f") && pass(alloc, &rows, b""),
     )
 }
 
@@ -127,19 +139,55 @@ const ROUTES: [(&[u8], &[u8]); 3] = [(b"", b""), (b"0", b"0"), (b"0", b"1")];
 
 #[test]
 fn a_test_that_runs_twice_has_two_rows(rt: HostRuntime) -> Result<(), Fail> {
-    for (first, second) in &ROUTES {
+    for &(first, second) in &ROUTES {
         assert_eq!(rt; twice(rt.alloc(), first, second), Some(true));
     }
     Ok(())
 }
 
-// An open test with two files, and then the test's end.
+// An event of that file.
+fn file_event(alloc: Global, status: Status, mime: &[u8], count: usize) -> Option<Event> {
+    let file = file_of(alloc, count)?;
+    let mut event = says(alloc, b"0", b"a", status);
+    event.mime = text(alloc, mime);
+    event.file = Some(file);
+    Some(event)
+}
+
+fn add_file(
+    alloc: Global,
+    outcomes: &mut Outcomes,
+    status: Status,
+    mime: &[u8],
+    count: usize,
+) -> Option<()> {
+    let event = file_event(alloc, status, mime, count)?;
+    outcomes.add(&event).ok()
+}
+
+// A test with two files, of which the second one comes with its end.
+fn add_files(alloc: Global, outcomes: &mut Outcomes, mime: &[u8], end: Status) -> Option<()> {
+    add_file(alloc, outcomes, Status::Unset, mime, 65_535)?;
+    add_file(alloc, outcomes, end, mime, 2)
+}
+
+fn rows_of_files(alloc: Global, mime: &[u8], end: Status) -> Option<Rows> {
+    let mut outcomes = Outcomes::new(alloc);
+    add_files(alloc, &mut outcomes, mime, end)?;
+    outcomes.close().ok()
+}
+
+fn text_len_in(rows: &[Row]) -> Option<usize> {
+    match rows {
+        [row] => Some(row.text.bytes().len()),
+        _ => None,
+    }
+}
+
+// How many bytes of text its row has.
 fn text_len(alloc: Global, mime: &[u8], end: Status) -> Option<usize> {
-    let events = [
-        with_file(alloc, says(alloc, b"0", b"a", Status::Unset), mime, 65_535)?,
-        with_file(alloc, says(alloc, b"0", b"a", end), mime, 2)?,
-    ];
-    text_len_of_one(alloc, &events)
+    let rows = rows_of_files(alloc, mime, end)?;
+    text_len_in(rows.list())
 }
 
 #[test]
@@ -153,45 +201,41 @@ fn the_text_of_a_failure_is_kept_to_its_limit(rt: HostRuntime) -> Result<(), Fai
 }
 
 fn time(alloc: Global, start: u32, end: u32) -> Option<Option<u64>> {
-    let events = [
-        at(says(alloc, b"0", b"a", Status::InProgress), start, 0),
-        says(alloc, b"0", b"a", Status::Unset),
-        at(says(alloc, b"0", b"a", Status::Success), end, 500_000),
+    let all: [Timely; 3] = [
+        ((b"0", b"a", Status::InProgress, None), Some((start, 0))),
+        ((b"0", b"a", Status::Unset, None), None),
+        ((b"0", b"a", Status::Success, None), Some((end, 500_000))),
     ];
-    time_of_one(alloc, &events)
+    time_of_one(alloc, &all)
 }
 
-// The time of a test of one event with a time, and of one without.
-fn time_at_once(alloc: Global) -> Option<Option<u64>> {
-    let one = [at(says(alloc, b"", b"a", Status::Success), 7, 7)];
-    time_of_one(alloc, &one)
-}
+// A test of one event, with a time and without.
+const AT_ONCE: [Timely; 1] = [((b"", b"a", Status::Success, None), Some((7, 7)))];
 
-fn time_of_none(alloc: Global) -> Option<Option<u64>> {
-    let none = [says(alloc, b"", b"a", Status::Success)];
-    time_of_one(alloc, &none)
-}
+const WITHOUT_TIME: [Timely; 1] = [((b"", b"a", Status::Success, None), None)];
 
 #[test]
 fn a_time_is_what_lies_between_the_first_event_and_the_last(rt: HostRuntime) -> Result<(), Fail> {
     let alloc = rt.alloc();
     assert_eq!(rt; time(alloc, 100, 101), Some(Some(1_000_500_000)));
     assert_eq!(rt; time(alloc, 102, 101), Some(None));
-    assert_eq!(rt; time_at_once(alloc), Some(Some(0)));
-    assert_eq!(rt; time_of_none(alloc), Some(None));
+    assert_eq!(rt; time_of_one(alloc, &AT_ONCE), Some(Some(0)));
+    assert_eq!(rt; time_of_one(alloc, &WITHOUT_TIME), Some(None));
     Ok(())
 }
 
+const TIMES_OF_A: [Timely; 6] = [
+    ((b"0", b"a", Status::InProgress, None), Some((1, 0))),
+    ((b"0", b"a", Status::Success, None), Some((6, 0))),
+    ((b"0", b"a", Status::InProgress, None), Some((10, 0))),
+    ((b"0", b"a", Status::Fail, None), Some((12, 0))),
+    ((b"0", b"a", Status::InProgress, None), Some((20, 0))),
+    ((b"0", b"a", Status::Exists, None), Some((90, 0))),
+];
+
 fn times_of_a(alloc: Global) -> Option<TimeMap> {
-    let events = [
-        at(says(alloc, b"0", b"a", Status::InProgress), 1, 0),
-        at(says(alloc, b"0", b"a", Status::Success), 6, 0),
-        at(says(alloc, b"0", b"a", Status::InProgress), 10, 0),
-        at(says(alloc, b"0", b"a", Status::Fail), 12, 0),
-        at(says(alloc, b"0", b"a", Status::InProgress), 20, 0),
-        at(says(alloc, b"0", b"a", Status::Exists), 90, 0),
-    ];
-    rows_of(alloc, &events)?.times(alloc).ok()
+    let rows = rows_of(alloc, &TIMES_OF_A)?;
+    rows.times(alloc).ok()
 }
 
 fn longest(alloc: Global) -> Option<Option<u64>> {
@@ -206,17 +250,22 @@ fn the_longest_time_of_an_id_is_its_time(rt: HostRuntime) -> Result<(), Fail> {
     Ok(())
 }
 
-// Whether these are the tags of a test whose last event with tags has those.
-fn last_tags(alloc: Global, last: &[u8], names: &[u8]) -> Option<bool> {
-    let events = [
-        tagged(alloc, says(alloc, b"0", b"a", Status::InProgress), b"x")?,
-        tagged(alloc, says(alloc, b"0", b"a", Status::Unset), last)?,
-        says(alloc, b"0", b"a", Status::Success),
-    ];
-    match rows_of(alloc, &events)?.list() {
-        [row] => Some(are(row.tags.list(), names)),
-        _ => None,
+fn has_tags(rows: &[Row], names: &[u8]) -> bool {
+    match rows {
+        [row] => are(row.tags.list(), names),
+        _ => false,
     }
+}
+
+// Whether these are the tags of a test whose last event with tags has those.
+fn last_tags(alloc: Global, last: &'static [u8], names: &[u8]) -> Option<bool> {
+    let all: [Timely; 3] = [
+        ((b"0", b"a", Status::InProgress, Some(b"x")), None),
+        ((b"0", b"a", Status::Unset, Some(last)), None),
+        ((b"0", b"a", Status::Success, None), None),
+    ];
+    let rows = rows_of(alloc, &all)?;
+    Some(has_tags(rows.list(), names))
 }
 
 // The last tags, and those of the row.
@@ -231,20 +280,19 @@ const LAST: [(&[u8], &[u8]); 6] = [
 
 #[test]
 fn the_last_tags_stand_in_order_and_once(rt: HostRuntime) -> Result<(), Fail> {
-    for (last, names) in &LAST {
+    for &(last, names) in &LAST {
         assert_eq!(rt; last_tags(rt.alloc(), last, names), Some(true));
     }
     Ok(())
 }
 
-// What is left of b, a, c and a without c.
-fn set_left(alloc: Global) -> Option<TextSet> {
+// Puts b, a, c and a into it, and takes c out.
+fn put_and_take(alloc: Global, texts: &mut TextSet) -> Option<()> {
     let named = tags_of(alloc, b"baca")?;
     let c = text(alloc, b"c")?;
-    let mut texts = TextSet::new(alloc);
     texts.insert_all(named.list()).ok()?;
     texts.remove(&c);
-    Some(texts)
+    Some(())
 }
 
 fn is_in(alloc: Global, texts: &TextSet, name: &[u8]) -> Option<bool> {
@@ -252,60 +300,41 @@ fn is_in(alloc: Global, texts: &TextSet, name: &[u8]) -> Option<bool> {
     Some(texts.contains(&name))
 }
 
-// Whether a and b are left, and whether a and c are there.
-fn texts_left(alloc: Global) -> Option<(bool, bool, bool)> {
-    let texts = set_left(alloc)?;
-    let has_a = is_in(alloc, &texts, b"a")?;
-    let has_c = is_in(alloc, &texts, b"c")?;
-    Some((ids_are(texts.into_ids(alloc).ok(), b"ab"), has_a, has_c))
+// Whether a is there, and c is not.
+fn has_a_alone(alloc: Global, texts: &TextSet) -> bool {
+    is_in(alloc, texts, b"a") == Some(true) && is_in(alloc, texts, b"c") == Some(false)
+}
+
+// Whether a and b are left.
+fn texts_left(alloc: Global) -> Option<bool> {
+    let mut texts = TextSet::new(alloc);
+    put_and_take(alloc, &mut texts)?;
+    Some(has_a_alone(alloc, &texts) && ids_are(texts.into_ids(alloc).ok(), b"ab"))
 }
 
 #[test]
 fn a_set_has_each_text_once_and_in_order(rt: HostRuntime) -> Result<(), Fail> {
-    assert_eq!(rt; texts_left(rt.alloc()), Some((true, true, false)));
+    assert_eq!(rt; texts_left(rt.alloc()), Some(true));
     Ok(())
 }
 
-// Events, and the nanoseconds of their time, where they have one.
-const COUNTED: [(Told, Option<u32>); 6] = [
+const COUNTED: [Timely; 6] = [
     ((b"", b"t", Status::Success, Some(b"b")), None),
     ((b"", b"u", Status::Fail, Some(b"a")), None),
     ((b"", b"v", Status::Skip, None), None),
-    ((b"", b"w", Status::InProgress, None), Some(0)),
-    ((b"", b"w", Status::UxSuccess, Some(b"b")), Some(9)),
+    ((b"", b"w", Status::InProgress, None), Some((1, 0))),
+    ((b"", b"w", Status::UxSuccess, Some(b"b")), Some((1, 9))),
     ((b"", b"x", Status::Exists, Some(b"c")), None),
 ];
 
-fn add(alloc: Global, outcomes: &mut Outcomes, told: &Told, nanos: Option<u32>) -> Option<()> {
-    let event = event_of(alloc, told)?;
-    let event = match nanos {
-        Some(nanos) => at(event, 1, nanos),
-        None => event,
-    };
-    outcomes.add(&event).ok()
-}
-
-fn add_counted(alloc: Global, outcomes: &mut Outcomes) -> Option<()> {
-    for row in &COUNTED {
-        add(alloc, outcomes, &row.0, row.1)?;
-    }
-    Some(())
-}
-
-fn counted_rows(alloc: Global) -> Option<Rows> {
-    let mut outcomes = Outcomes::new(alloc);
-    add_counted(alloc, &mut outcomes)?;
-    outcomes.close().ok()
-}
-
 fn counts(alloc: Global, filter_tags: &[u8]) -> Option<Counts> {
-    let rows = counted_rows(alloc)?;
     let filter = tags_of(alloc, filter_tags)?;
+    let rows = rows_of(alloc, &COUNTED)?;
     Some(rows.counts(&filter))
 }
 
 fn sees_tags(alloc: Global) -> Option<bool> {
-    let rows = counted_rows(alloc)?;
+    let rows = rows_of(alloc, &COUNTED)?;
     let tags = rows.seen_tags(alloc).ok()?;
     Some(are(tags.list(), b"ab"))
 }
@@ -334,10 +363,14 @@ fn counts_leave_out_what_is_filtered_and_what_did_not_run(rt: HostRuntime) -> Re
     Ok(())
 }
 
-fn nothing(alloc: Global) -> Option<bool> {
+// Whether an event without an id is added.
+fn adds_nameless(alloc: Global, outcomes: &mut Outcomes) -> bool {
     let mut without_id = says(alloc, b"0", b"", Status::Fail);
     without_id.id = None;
-    let rows = rows_of(alloc, &[without_id])?;
+    outcomes.add(&without_id).is_ok()
+}
+
+fn is_nothing(alloc: Global, rows: &Rows) -> bool {
     let none = Counts {
         total: 0,
         passed: 0,
@@ -345,7 +378,14 @@ fn nothing(alloc: Global) -> Option<bool> {
         skipped: 0,
         nanos: None,
     };
-    Some(rows.list().is_empty() && rows.counts(&Tags::new(alloc)) == none)
+    rows.list().is_empty() && rows.counts(&Tags::new(alloc)) == none
+}
+
+fn nothing(alloc: Global) -> Option<bool> {
+    let mut outcomes = Outcomes::new(alloc);
+    let added = adds_nameless(alloc, &mut outcomes);
+    let rows = outcomes.close().ok()?;
+    Some(added && is_nothing(alloc, &rows))
 }
 
 #[test]

@@ -36,11 +36,11 @@ fn heard(fold: &mut Fold, bytes: &[u8]) -> Option<Option<Row>> {
 }
 
 fn same_texts(texts: &[Text], others: &[Text]) -> bool {
-    texts.len() == others.len()
-        && texts
-            .iter()
-            .zip(others.iter())
-            .all(|(text, other)| text == other)
+    let mut same = texts.len() == others.len();
+    for (text, other) in texts.iter().zip(others.iter()) {
+        same = same && text == other;
+    }
+    same
 }
 
 fn same_row(row: &Row, other: &Row) -> bool {
@@ -54,11 +54,11 @@ fn same_row(row: &Row, other: &Row) -> bool {
 }
 
 fn same_rows(rows: &[Row], others: &[Row]) -> bool {
-    rows.len() == others.len()
-        && rows
-            .iter()
-            .zip(others.iter())
-            .all(|(row, other)| same_row(row, other))
+    let mut same = rows.len() == others.len();
+    for (row, other) in rows.iter().zip(others.iter()) {
+        same = same && same_row(row, other);
+    }
+    same
 }
 
 fn same_answer(row: &Option<Option<Row>>, other: &Option<Option<Row>>) -> bool {
@@ -117,10 +117,14 @@ fn hear_packet(outcomes: &mut Outcomes, bytes: &[u8]) -> Option<()> {
     }
 }
 
+fn hear(alloc: Global, outcomes: &mut Outcomes, told: &Told) -> Option<()> {
+    let bytes = packet_at(alloc, told, 0)?;
+    hear_packet(outcomes, &bytes)
+}
+
 fn hear_all(alloc: Global, outcomes: &mut Outcomes, all: &[Told]) -> Option<()> {
     for told in all {
-        let bytes = packet_at(alloc, told, 0)?;
-        hear_packet(outcomes, &bytes)?;
+        hear(alloc, outcomes, told)?;
     }
     Some(())
 }

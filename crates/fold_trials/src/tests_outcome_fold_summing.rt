@@ -33,10 +33,14 @@ fn packet_of(alloc: Global, told: &Timely) -> Option<Vec<u8>> {
     spelled(alloc, &event)
 }
 
+fn hear(alloc: Global, summing: &mut Summing, told: &Timely) -> Option<()> {
+    let bytes = packet_of(alloc, told)?;
+    hear_packet(summing, &bytes)
+}
+
 fn hear_all(alloc: Global, summing: &mut Summing, all: &[Timely]) -> Option<()> {
     for told in all {
-        let bytes = packet_of(alloc, told)?;
-        hear_packet(summing, &bytes)?;
+        hear(alloc, summing, told)?;
     }
     Some(())
 }
@@ -158,20 +162,29 @@ fn the_longest_times_stand_in_order(rt: HostRuntime) -> Result<(), Fail> {
     Ok(())
 }
 
+fn put_id(alloc: Global, failed: &mut TextSet, id: u8) -> Option<()> {
+    let id = text(alloc, &[id])?;
+    failed.put(id).ok()
+}
+
 // The failing ids before the run.
-fn failed_before(alloc: Global) -> Option<TextSet> {
-    let mut failed = TextSet::new(alloc);
-    for id in [b'f', b'e', b'd', b'c', b'b'] {
-        failed.put(text(alloc, &[id])?).ok()?;
+fn put_failed(alloc: Global, failed: &mut TextSet) -> Option<()> {
+    for id in b"fedcb" {
+        put_id(alloc, failed, *id)?;
     }
-    Some(failed)
+    Some(())
 }
 
 // What the run makes of them.
-fn changed(alloc: Global) -> Option<IdList> {
+fn change(alloc: Global, failed: &mut TextSet) -> Option<()> {
+    put_failed(alloc, failed)?;
     let summary = summary_of(alloc, b"")?;
-    let mut failed = failed_before(alloc)?;
-    summary.change_failing(alloc, &mut failed).ok()?;
+    summary.change_failing(alloc, failed).ok()
+}
+
+fn changed(alloc: Global) -> Option<IdList> {
+    let mut failed = TextSet::new(alloc);
+    change(alloc, &mut failed)?;
     failed.into_ids(alloc).ok()
 }
 

@@ -7,12 +7,23 @@ use trial_events::says;
 
 // ---- events from words
 
+fn push_word(alloc: Global, owned: &mut Vec<String>, word: &str) -> Option<()> {
+    let word = word.to_string(alloc).ok()?;
+    owned.push(word).ok()
+}
+
+// A loop that owns nothing, so that an early end drops nothing.
+fn push_words(alloc: Global, owned: &mut Vec<String>, words: &[&str]) -> Option<()> {
+    for word in words {
+        push_word(alloc, owned, word)?;
+    }
+    Some(())
+}
+
 // Words as a program is given them.
 fn owned(alloc: Global, words: &[&str]) -> Option<Vec<String>> {
     let mut owned = Vec::new(alloc);
-    for word in words {
-        owned.push(word.to_string(alloc).ok()?).ok()?;
-    }
+    push_words(alloc, &mut owned, words)?;
     Some(owned)
 }
 
@@ -39,12 +50,16 @@ fn put_last(job: &OutputJob, packets: &mut Vec<u8>) -> Option<()> {
     encode(&event, packets).ok()
 }
 
+fn put_packets(job: &OutputJob, piece: &[u8], packets: &mut Vec<u8>) -> Option<()> {
+    put_piece(job, piece, packets)?;
+    put_last(job, packets)
+}
+
 // The packets of the job of these words, of whose file these bytes are all.
 fn packets(alloc: Global, words: &[&str], piece: &[u8]) -> Option<Vec<u8>> {
     let job = job(alloc, words)?;
     let mut packets = Vec::new(alloc);
-    put_piece(&job, piece, &mut packets)?;
-    put_last(&job, &mut packets)?;
+    put_packets(&job, piece, &mut packets)?;
     Some(packets)
 }
 
@@ -191,12 +206,17 @@ fn stamped(alloc: Global, id: &[u8], told: &Told) -> Event {
     event
 }
 
-// The events of a test, which are these.
-fn part_of(alloc: Global, id: &[u8], told: &[Told]) -> Option<Vec<Event>> {
-    let mut part = Vec::new(alloc);
+fn push_stamped(alloc: Global, part: &mut Vec<Event>, id: &[u8], told: &[Told]) -> Option<()> {
     for one in told {
         part.push(stamped(alloc, id, one)).ok()?;
     }
+    Some(())
+}
+
+// The events of a test, which are these.
+fn part_of(alloc: Global, id: &[u8], told: &[Told]) -> Option<Vec<Event>> {
+    let mut part = Vec::new(alloc);
+    push_stamped(alloc, &mut part, id, told)?;
     Some(part)
 }
 
