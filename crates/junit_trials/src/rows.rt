@@ -32,13 +32,16 @@ pub fn row(alloc: Global, told: &Told) -> Option<Row>
     ensures other { (told.now.1 ≡ Skip → ⊥) → IfSome result (λ row. (row.text ≡ told.now.3.now) × (row.reason ≡ [])) }
     ensures bare { IfSome result (λ row. (row.route ≡ None) × (row.tags ≡ [])) }
 {
+    let id = Text::new(alloc, told.0).ok()?;
+    let text = Bytes::new(alloc, text_of(told)).ok()?;
+    let reason = Bytes::new(alloc, reason_of(told)).ok()?;
     Some(Row {
-        id: Text::new(alloc, told.0).ok()?,
+        id,
         route: None,
         ended: told.1,
         tags: Tags::new(alloc),
         nanos: told.2,
-        text: Bytes::new(alloc, text_of(told)).ok()?,
-        reason: Bytes::new(alloc, reason_of(told)).ok()?,
+        text,
+        reason,
     })
 }

@@ -126,9 +126,14 @@ const DOCUMENT: &[u8] =
 const NO_ROWS: &[u8] =
     b"<?xml version=\"1.0\" encoding=\"utf-8\"?>\n<testsuite name=\"\" tests=\"0\" failures=\"0\" errors=\"0\" skipped=\"0\" time=\"0.000\">\n</testsuite>\n";
 
+fn push(alloc: Global, told: &Told, rows: &mut Vec<Row>) -> Option<()> {
+    let row = row(alloc, told)?;
+    rows.push(row).ok()
+}
+
 fn push_all(alloc: Global, told: &[Told], rows: &mut Vec<Row>) -> Option<()> {
     for told in told {
-        rows.push(row(alloc, told)?).ok()?;
+        push(alloc, told, rows)?;
     }
     Some(())
 }
