@@ -1,3 +1,4 @@
 pub mod WordsLemmas
+pub mod ShardLemmas
 pub mod ValueLemmas
 pub mod ProjectLemmas

@@ -1,4 +1,5 @@
 pub mod Questions
+pub mod Shards
 pub mod Suites
 pub mod Drawings
 pub mod Letters

@@ -1,10 +1,11 @@
 -- What `run` and `list-tests` ask for.
-use Rattle.std.specs.Prelude.{Bool, not, ◌||◌, nat_eq, Option, Some, None, List, ℕ, length, is_some}
+use Rattle.std.specs.Prelude.{Bool, not, ◌||◌, nat_eq, Option, List, ℕ, length, is_some}
 use Rattle.testr_words.specs.declared.command.Command.{Command}
 use Rattle.testr_words.specs.declared.command.Face.{Face}
+use Rattle.testr_words.specs.Shards.{Part}
 use Rattle.testr_words.specs.declared.command.ProjectWords.{ProjectWords}
 
--- which tests are wanted, by patterns
+-- which tests are wanted, by patterns and a shard
 pub record Wanted : Type 0 where
   -- the patterns of the ids that are wanted, in their order
   pub patterns : List (List ℕ)
@@ -14,10 +15,12 @@ pub record Wanted : Type 0 where
   pub include_list : Option (List ℕ)
   -- the file of further patterns of the ids that are left out
   pub exclude_list : Option (List ℕ)
+  -- the shard of those that are wanted
+  pub shard : Option Part
 
 -- something is said of it
 abbrev pub is_choosing : Wanted → Bool
-is_choosing wanted = not (nat_eq (length wanted.patterns) 0) || (not (nat_eq (length wanted.excluded) 0) || (is_some wanted.include_list || is_some wanted.exclude_list))
+is_choosing wanted = not (nat_eq (length wanted.patterns) 0) || (not (nat_eq (length wanted.excluded) 0) || (is_some wanted.include_list || (is_some wanted.exclude_list || is_some wanted.shard)))
 
 -- what is said of it by the command
 abbrev pub wanted_of : Command → Wanted
@@ -26,6 +29,7 @@ wanted_of command = record {
   excluded = command.excluded;
   include_list = command.include_list;
   exclude_list = command.exclude_list;
+  shard = command.shard;
 }
 
 -- the project whose tests are run, and what the words say of it
@@ -68,11 +72,11 @@ pub record RunOptions : Type 0 where
   pub concurrency : ℕ
   -- the file of the ids that are wanted
   pub load_list : Option (List ℕ)
-  -- which tests are wanted, by patterns
+  -- which tests are wanted, by patterns and a shard
   pub wanted : Wanted
 
--- A run is partial exactly where it is called so, or its tests are chosen: by the failing set, a load list, a pattern or a
--- file of patterns.
+-- A run is partial exactly where it is called so, or its tests are chosen: by the failing set, a load list, a pattern, a file
+-- of patterns or a shard.
 abbrev pub is_part : (called failing : Bool) → (load_list : Option (List ℕ)) → Wanted → Bool
 is_part called failing load_list wanted = called || (failing || (is_some load_list || is_choosing wanted))
 

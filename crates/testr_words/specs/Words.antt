@@ -1,8 +1,8 @@
 -- Which words are a command (docs/COMMANDS.md, "Words").
-use Rattle.std.specs.Prelude.{Bool, true, false, not, ◌&&◌, ◌||◌, nat_le, nat_lt, nat_eq, ◌==◌, min, Option, Some, None, List, [], ◌∷◌, ℕ, length, codes, if◌then◌else◌, ◌+◌, take, drop}
+use Rattle.std.specs.Prelude.{Bool, true, false, not, ◌&&◌, ◌||◌, nat_le, nat_lt, nat_eq, ◌==◌, min, is_some, Option, Some, None, List, [], ◌∷◌, ℕ, length, codes, if◌then◌else◌, ◌+◌, take, drop}
 use Rattle.std.specs.Char.{is_ascii_digit}
 use Rattle.std.specs.Fmt.{decimal}
-use Rattle.std.specs.List.{list_all, list_any, flat_map, fold}
+use Rattle.std.specs.List.{list_all, list_any, flat_map, fold, before_first, after_first, position_or_len}
 use Rattle.std.specs.Option.{option_map, option_to_list}
 use Rattle.std.specs.Str.{bytes_eq}
 use Rattle.std.specs.Str.Parse.{digits_value}
@@ -18,6 +18,8 @@ use Rattle.testr_words.specs.declared.command.Face.{Face}
 use Rattle.testr_words.specs.declared.command.Face.TheVariants.{Testr, Stestr}
 use Rattle.testr_words.specs.Drawings.{if_few}
 use Rattle.testr_words.specs.Letters.{long_words}
+use Rattle.testr_words.specs.Shards.{Part, part_of, slash}
+use Rattle.testr_words.specs.declared.shard.TheConstants.{MOST_SHARDS}
 use Rattle.testr_words.specs.declared.drawing.Drawing.{Drawing}
 use Rattle.testr_words.specs.Tasks.{Task, task_of, forces, hides, warns}
 
@@ -74,6 +76,10 @@ top_dir_word = codes "--top-dir"
 abbrev pub group_regex_word : List ℕ
 group_regex_word = codes "--group-regex"
 
+-- the option that tells which shard of the tests is wanted
+abbrev pub shard_word : List ℕ
+shard_word = codes "--shard"
+
 -- the word that ends the options of a run
 abbrev pub end_word : List ℕ
 end_word = codes "--"
@@ -122,9 +128,9 @@ abbrev pub is_face_flag : Face → List ℕ → Bool
 is_face_flag Testr word = false
 is_face_flag Stestr word = bytes_eq word (codes "--serial")
 
--- the options that choose tests by patterns
+-- the options that choose tests by patterns or a shard
 abbrev pub choosing_kind : List ℕ → Option Kind
-choosing_kind word = if bytes_eq word exclude_word || (bytes_eq word exclude_list_word || bytes_eq word include_list_word) then Some Valued else None
+choosing_kind word = if bytes_eq word exclude_word || (bytes_eq word exclude_list_word || (bytes_eq word include_list_word || bytes_eq word shard_word)) then Some Valued else None
 
 -- the options of `list-tests`
 abbrev pub list_kind : List ℕ → Option Kind
@@ -243,6 +249,25 @@ are_too_many (Some value) = is_too_many value
 abbrev pub too_many_in : List Item → Bool
 too_many_in items = are_too_many (last_of (values_in concurrency_word items))
 
+-- the shard that its number and the count of all tell
+abbrev pub shard_between : (number count : List ℕ) → Option Part
+shard_between number count =
+    and_then (number_of MOST_SHARDS number) (λ number.
+    and_then (number_of MOST_SHARDS count) (λ count.
+    part_of number count))
+
+-- the shard that the value tells: a number, a slash, and how many there are
+abbrev pub shard_of : List ℕ → Option Part
+shard_of value = if nat_lt (position_or_len slash value) (length value) then shard_between (before_first slash value) (after_first slash value) else None
+
+-- the value tells one
+abbrev pub is_shard : List ℕ → Bool
+is_shard value = is_some (shard_of value)
+
+-- the shard that is wanted, where each value that tells one does so; of several the last one stands
+abbrev pub shard_in : List Item → Option (Option Part)
+shard_in items = if list_all is_shard (values_in shard_word items) then Some (and_then (last_of (values_in shard_word items)) shard_of) else None
+
 -- a name that may be missing, where it is a text
 abbrev pub if_text : Option (List ℕ) → Option (Option (List ℕ))
 if_text None = Some None
@@ -359,6 +384,7 @@ command_of_drawing face drawing = record {
   excluded = [];
   include_list = None;
   exclude_list = None;
+  shard = None;
   project = no_project_words;
   seed = drawing.seed;
   lanes = drawing.lanes;
@@ -378,9 +404,9 @@ made_first_by Stestr Load items = true
 made_first_by Stestr Run items = true
 made_first_by face verb items = has_flag (codes "--force-init") items
 
--- the command of these items, names, workers, load list, patterns and files of patterns, where the names are no more than the verb has
-abbrev pub command_with : Face → Verb → List Item → (names : List (List ℕ)) → (workers : ℕ) → (load_list : Option (List ℕ)) → (excluded : List (List ℕ)) → (include_list exclude_list : Option (List ℕ)) → Option Command
-command_with face verb items names workers load_list excluded include_list exclude_list = if may_have (most_names verb) (length names) then Some (record {
+-- the command of these items, names, workers, load list, patterns, files of patterns and shard, where the names are no more than the verb has
+abbrev pub command_with : Face → Verb → List Item → (names : List (List ℕ)) → (workers : ℕ) → (load_list : Option (List ℕ)) → (excluded : List (List ℕ)) → (include_list exclude_list : Option (List ℕ)) → (shard : Option Part) → Option Command
+command_with face verb items names workers load_list excluded include_list exclude_list shard = if may_have (most_names verb) (length names) then Some (record {
   face = face;
   verb = verb;
   partial = has_flag (codes "--partial") items;
@@ -400,6 +426,7 @@ command_with face verb items names workers load_list excluded include_list exclu
   excluded = excluded;
   include_list = include_list;
   exclude_list = exclude_list;
+  shard = shard;
   project = no_project_words;
   seed = 0;
   lanes = 0;
@@ -415,7 +442,8 @@ command_of_names face verb items =
     and_then (texts_in exclude_word items) (λ excluded.
     and_then (file_in include_list_word items) (λ include_list.
     and_then (file_in exclude_list_word items) (λ exclude_list.
-    command_with face verb items names workers load_list excluded include_list exclude_list))))))
+    and_then (shard_in items) (λ shard.
+    command_with face verb items names workers load_list excluded include_list exclude_list shard)))))))
 
 -- the command of this verb that the items ask for
 abbrev pub command_of_items : Face → Verb → List Item → Option Command

@@ -1,5 +1,6 @@
 //! What words may ask for.
 
+use crate::shard::Shard;
 use crate::words::MOST_FILES;
 use std::alloc::Global;
 use sub_number::{IdList, Text};
@@ -107,6 +108,8 @@ pub struct Command {
     pub include_list: Option<Text>,
     /// The file of further patterns of the ids that are left out.
     pub exclude_list: Option<Text>,
+    /// The shard of the tests that is wanted.
+    pub shard: Option<Shard>,
     /// What is said of the project.
     pub project: ProjectWords,
     /// The seed of generated outputs.
@@ -195,7 +198,7 @@ impl Command {
         Command { project, ..self }
     }
 
-    /// Whether it says by a pattern, or a file of patterns, which tests are wanted.
+    /// Whether it says by a pattern, a file of patterns or a shard which tests are wanted.
     pub fn is_choosing(&self) -> bool
         ensures { result ≡ is_choosing (wanted_of self.now) }
     {
@@ -203,6 +206,7 @@ impl Command {
             || !self.excluded.list().is_empty()
             || self.include_list.is_some()
             || self.exclude_list.is_some()
+            || self.shard.is_some()
     }
 }
 

@@ -12,6 +12,7 @@
 //! - `values`: options with a value
 //! - `project`: what is said of the project, and the words behind `--`
 //! - `drawing`: the numbers of `selftest`
+//! - `shard`: which shard of the tests is wanted
 //!
 //! Of a command its specs say the task: what is asked, as one sum.
 #![tactic(auto)]
@@ -20,10 +21,12 @@ mod command;
 mod drawing;
 mod letters;
 mod project;
+mod shard;
 mod values;
 mod words;
 
 pub use command::{Command, Face, ProjectWords, Question, Verb};
 pub use drawing::{Drawing, drawing_of};
+pub use shard::{MOST_SHARDS, Shard};
 pub use values::MOST_WORKERS;
 pub use words::{MOST_FILES, called_as, reads, reads_as};

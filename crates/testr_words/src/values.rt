@@ -106,8 +106,8 @@ pub(crate) fn push_text(alloc: Global, word: &str, texts: &mut IdList) -> Result
     }
 }
 
-// The value of the last of these options. None comes exactly where there is none.
-fn last_value<'a>(items: &[Item<'a>], key: &str) -> Option<&'a str>
+/// The value of the last of these options. None comes exactly where there is none.
+pub(crate) fn last_value<'a>(items: &[Item<'a>], key: &str) -> Option<&'a str>
     ensures { option_map (λ value. value.now) result ≡ words.last_of (words.values_in key.now (map shown items.now)) }
 {
     let mut last = None;

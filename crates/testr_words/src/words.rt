@@ -11,6 +11,7 @@ use crate::command::{Command, Face, ProjectWords, Verb};
 use crate::drawing::drawing_in;
 use crate::letters::long_words;
 use crate::project::{parted, project_in};
+use crate::shard::shard_in;
 use crate::values::{are_too_many_in, file_in, push_text, texts_in, workers_in};
 use command_words::{Item, Kind, OptionTable, has_flag, read_items};
 use std::alloc::Global;
@@ -213,12 +214,14 @@ fn is_face_flag(face: Face, name: &str) -> bool
     }
 }
 
-// The option is one of those that choose tests by patterns, or none.
+// The option is one of those that choose tests by patterns or a shard, or none.
 fn choosing_option(name: &str) -> Option<Kind>
     ensures { result ≡ choosing_kind name.now }
 {
     match name {
-        "--exclude-regex" | "--exclude-list" | "--include-list" => Some(Kind::Valued),
+        "--exclude-regex" | "--exclude-list" | "--include-list" | "--shard" => {
+            Some(Kind::Valued)
+        }
         _ => None,
     }
 }
@@ -300,6 +303,7 @@ fn drawing_command(alloc: Global, face: Face, items: &[Item<'_>]) -> Option<Comm
         excluded: IdList::new(alloc),
         include_list: None,
         exclude_list: None,
+        shard: None,
         project: ProjectWords::none(alloc),
         seed: drawing.seed,
         lanes: drawing.lanes,
@@ -376,6 +380,9 @@ fn command_of_names(
     let Some(exclude_list) = file_in(alloc, items, "--exclude-list")? else {
         return Ok(None);
     };
+    let Some(shard) = shard_in(items) else {
+        return Ok(None);
+    };
     if !may_have(verb, names.list().len()) {
         return Ok(None);
     }
@@ -399,6 +406,7 @@ fn command_of_names(
         excluded,
         include_list,
         exclude_list,
+        shard,
         project: ProjectWords::none(alloc),
         seed: 0,
         lanes: 0,

@@ -1,6 +1,6 @@
 use Rattle.std.proofs.Common.{◌≡◌, map, drop}
 use Rattle.command_words.specs.Code.{shown}
-use Rattle.testr_words.specs.Words.{values_in, texts_in, if_texts}
+use Rattle.testr_words.specs.Words.{values_in, texts_in}
 use Rattle.testr_words.proofs.WordsLemmas.{behind}
 use Rattle.testr_words.proofs.values.texts_in.Given as goal
 
