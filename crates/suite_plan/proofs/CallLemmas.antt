@@ -1,6 +1,6 @@
 -- The number that a child tells.
 use Rattle.std.proofs.Common.{◌≡◌, ℕ, List, inl, inr, sym, ap, ◌∙◌}
-use Rattle.std.specs.Prelude.{◌⊎◌, Option, Some, None, IfSome, IfOk, Result, Ok, Err, ℤ, pos}
+use Rattle.std.specs.Prelude.{Option, Some, None, IfSome, Ok, Err, ℤ, pos}
 use Rattle.edge_io.specs.Children.{Output}
 use Rattle.edge_io.specs.declared.child.Finish.TheVariants.{Exit}
 use Rattle.suite_plan.specs.Calling.{called}

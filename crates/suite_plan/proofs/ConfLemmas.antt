@@ -15,7 +15,7 @@ use Rattle.stestr_conf.specs.declared.command.SettleFault.TheVariants as settle
 use Rattle.stestr_conf.specs.declared.table.TableFault.{TableFault}
 use Rattle.stestr_conf.specs.declared.table.TableFault.TheVariants as table
 use Rattle.suite_plan.specs.Texts.{most_text}
-use Rattle.suite_plan.specs.ConfFile.{file_name, file_by, file_says, text_says, lines_say, stestr_says, table_says, values_say, settings_say, or_next, required, settings_of, said_of, conf_failed, unread_conf, refused_lines, refused_values, refused_table, HasConfCause, ReadsSaid}
+use Rattle.suite_plan.specs.ConfFile.{file_name, file_by, file_says, text_says, lines_say, stestr_says, table_says, values_say, settings_say, or_next, required, settings_of, said_of, conf_failed, unread_conf, refused_lines, HasConfCause, ReadsSaid}
 use Rattle.suite_plan.specs.declared.conf_file.BadConf.TheVariants.{TooLong}
 use Rattle.suite_plan.specs.declared.conf_file.ConfFile.{ConfFile}
 use Rattle.suite_plan.specs.declared.conf_file.ConfFile.TheVariants.{TestrConf, StestrConf, PyProject}

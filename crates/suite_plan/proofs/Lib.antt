@@ -13,3 +13,4 @@ pub mod CallLemmas
 pub mod ChoosingLemmas
 pub mod JobLemmas
 pub mod ShareLemmas
+pub mod ShardLemmas

@@ -1,12 +1,11 @@
 -- What the files of events say, gathered as the events come.
 use Rattle.std.proofs.Common.{◌≡◌, ℕ, List, [], ◌∷◌, ◌++◌, Result, Option, Some, None, Ok, Err, IfOk, OnOk, refl, sym, ap, ◌∙◌, subst}
-use Rattle.std.specs.List.{filter_map, cons_option, fold}
+use Rattle.std.specs.List.{filter_map, cons_option}
 use Rattle.std.proofs.lemmas.List.{append-nil}
 use Rattle.std.proofs.lemmas.List.Elements.{filter_map-append}
 use Rattle.std.proofs.lemmas.List.Sums.{fold-append}
 use Rattle.packet_codec.specs.Grammar.{AreBytes}
 use Rattle.packet_codec.specs.declared.event.Event.{Event}
-use Rattle.packet_codec.specs.declared.event.FilePart.{FilePart}
 use Rattle.stream_reader.specs.Notes.{stdout_event}
 use Rattle.suite_plan.specs.FirstIds.{HasFirsts}
 use Rattle.suite_plan.specs.Listed.{HasSaying, HasListed, HasListedAll}

@@ -1,15 +1,14 @@
 -- The last bytes of a text, which comes piece by piece.
-use Rattle.std.proofs.Common.{◌≡◌, ℕ, ◌+◌, ◌-◌, ◌<◌, ◌≤◌, ◌⊎◌, inl, inr, Bool, true, false, List, [], ◌∷◌, ◌++◌, length, take, drop, Result, IfOk, Ok, Err, arith, nat_le, nat_eq, refl, sym, ap, ◌∙◌, length-append, length-drop}
+use Rattle.std.proofs.Common.{◌≡◌, ℕ, ◌+◌, ◌-◌, ◌<◌, ◌≤◌, ◌⊎◌, inl, inr, Bool, true, false, List, [], ◌++◌, length, take, drop, Result, IfOk, Ok, Err, arith, nat_le, nat_eq, refl, sym, ap, ◌∙◌, length-append, length-drop}
 use Rattle.std.specs.Prelude.{codes, ◌==◌, if◌then◌else◌}
 use Rattle.std.specs.Cmp.Lexicographic.{pointwise}
 use Rattle.std.specs.List.{ends_with, copy_within}
 use Rattle.std.proofs.lemmas.List.{append_assoc, append_cancel_left, take-append-drop, length-take}
-use Rattle.std.proofs.lemmas.Bool.{cases_lt}
 use Rattle.std.proofs.lemmas.Bool.Decides.{nat_tests}
 use Rattle.std.proofs.Math.Seq.{drop-append-add}
 use Rattle.stream_reader.proofs.BufferLemmas.{moved_is}
 use Rattle.sub_text.specs.Texts.{newline, whole_lines}
-use Rattle.suite_plan.specs.Saying.{most_said, last_said, name_line}
+use Rattle.suite_plan.specs.Saying.{last_said, name_line}
 use Rattle.suite_plan.specs.Tails.{IsTailOf}
 use Rattle.suite_plan.specs.declared.tail.Tail.{Tail}
 

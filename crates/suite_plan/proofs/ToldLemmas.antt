@@ -1,5 +1,5 @@
 -- What is told of every output.
-use Rattle.std.proofs.Common.{◌≡◌, ℕ, ◌+◌, ◌≤◌, true, false, List, [], ◌∷◌, ◌++◌, length, map, inl, inr, arith, nat_le, ◌-◌, refl, sym, ap, ◌∙◌, length-append, length-drop}
+use Rattle.std.proofs.Common.{◌≡◌, ℕ, ◌≤◌, true, false, List, [], ◌∷◌, ◌++◌, length, map, inl, inr, arith, nat_le, ◌-◌, sym, ap, ◌∙◌, length-drop}
 use Rattle.std.specs.List.{concat, fold}
 use Rattle.std.proofs.lemmas.List.{append_assoc, append-nil}
 use Rattle.std.proofs.lemmas.Bool.{cases_lt}
@@ -10,7 +10,7 @@ use Rattle.stream_reader.specs.declared.note.Note.TheVariants as note
 use Rattle.stream_reader.specs.Notes.{HasEvents, events_of}
 use Rattle.stream_reader.proofs.TurnLemmas.{one_notes}
 use Rattle.sub_text.specs.Texts.{whole_lines}
-use Rattle.suite_plan.specs.Saying.{Saying, Says, with_event, said_by, plain_name, last_said, told_of, listing_text}
+use Rattle.suite_plan.specs.Saying.{Says, with_event, plain_name, last_said, told_of, listing_text}
 
 -- ---- one text
 

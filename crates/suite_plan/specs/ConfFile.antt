@@ -12,7 +12,6 @@ use Rattle.stestr_conf.specs.declared.command.SettleFault.TheVariants as settle
 use Rattle.stestr_conf.specs.declared.table.TableFault.{TableFault}
 use Rattle.stestr_conf.specs.declared.table.TableFault.TheVariants as table
 use Rattle.suite_plan.specs.Texts.{most_text}
-use Rattle.suite_plan.specs.declared.conf_file.BadConf.{BadConf}
 use Rattle.suite_plan.specs.declared.conf_file.BadConf.TheVariants.{TooLong, BadLine, NoSection, Repeated, NotKnown, NoCommand, NoTestPath, NotToml, NotTable, BadValue}
 use Rattle.suite_plan.specs.declared.conf_file.ConfFile.{ConfFile}
 use Rattle.suite_plan.specs.declared.conf_file.ConfFile.TheVariants.{TestrConf, StestrConf, PyProject}

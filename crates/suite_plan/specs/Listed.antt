@@ -1,5 +1,5 @@
 -- What the events of a listing tell, while they come one by one.
-use Rattle.std.specs.Prelude.{◌≡◌, ℕ, Option, List}
+use Rattle.std.specs.Prelude.{◌≡◌, ℕ, List}
 use Rattle.std.specs.List.{filter_map}
 use Rattle.std.specs.Option.{unwrap_or}
 use Rattle.packet_codec.specs.declared.event.Event.{Event}

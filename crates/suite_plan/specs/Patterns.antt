@@ -1,5 +1,5 @@
 -- The patterns of a run and its `group_regex`, and what is told of a bad one (docs/FORMATS.md, "Patterns" and "Groups").
-use Rattle.std.specs.Prelude.{◌≡◌, ◌⊎◌, ⊤, ℕ, All, List, [], ◌++◌, Option, IfSome, IsSomeAnd, Result, Ok, Err}
+use Rattle.std.specs.Prelude.{◌≡◌, ◌⊎◌, ⊤, ℕ, All, List, ◌++◌, Option, IfSome, IsSomeAnd, Result, Ok, Err}
 use Rattle.partition_times.specs.Patterns.{IsPattern, IsBadPattern}
 pub use Rattle.partition_times.specs.Patterns.{IsFirstBadText}
 use Rattle.suite_plan.specs.declared.patterns.Compiled.{Compiled}

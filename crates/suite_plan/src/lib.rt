@@ -15,8 +15,8 @@
 //! - `listing`, `calling`, `count`: the tests that the project's listing tells of, and the number of workers that it calls out
 //! - `listed`, `first_ids`, `said`, `tail`: the ids that a listing tells, each once, and what is told of a program that failed
 //! - `patterns`, `picks`, `choice`: which of the tests run
-//! - `sharing`, `lane_jobs`: which worker runs which of them, and the job of each worker
-//! - `laws`: what is told of every output
+//! - `sharing`, `lane_jobs`: which shard has which of them, which worker runs which of them, and the job of each worker
+//! - `laws`: what is told of every output, and how shards share the ids
 #![tactic(auto)]
 
 mod calling;
@@ -46,11 +46,11 @@ pub use choice::{choose, chosen, in_both};
 pub use conf_file::{BadConf, ConfFile, ConfRefusal, read_conf};
 pub use first_ids::firsts;
 pub use lane_jobs::jobs_of_lanes;
-pub use laws::outputs_tell_one_text;
+pub use laws::{outputs_tell_one_text, shards_are_shares};
 pub use listing::{ListingRefusal, list_tests};
 pub use load_list::{ListRefusal, read_load_list};
 pub use pattern_list::{BadLine, PatternListRefusal, read_pattern_list};
 pub use patterns::{Compiled, PatternRefusal, compile};
 pub use picks::{FurtherPicks, Picks};
 pub use processors::{TableRefusal, count_processors};
-pub use sharing::{MOST_WORKERS, share_out};
+pub use sharing::{MOST_WORKERS, keep_shard, share_out};

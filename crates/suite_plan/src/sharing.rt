@@ -4,11 +4,12 @@ ghost use Rattle.std.specs.Prelude.{◌≡◌, ◌≤◌, [], ◌∷◌, length,
 ghost use Rattle.std.specs.List.{filter};
 ghost use Rattle.std.specs.FinMap as fin;
 ghost use Rattle.suite_plan.specs.declared.sharing.TheConstants.{MOST_WORKERS};
-ghost use Rattle.suite_plan.specs.Sharing.{has_ids, dealt_among, shares_for};
+ghost use Rattle.suite_plan.specs.Sharing.{has_ids, dealt_among, ids_of_shard, shares_for};
 
 use partition_times::{Groups, partition};
 use std::alloc::Global;
 use sub_number::{IdList, NoMemory, TimeMap};
+use testr_words::Shard;
 
 /// How many workers a run has at most.
 pub const MOST_WORKERS: u32 = 64;
@@ -32,6 +33,27 @@ pub fn share_out(
 {
     let shares = deal(alloc, ids, times, groups, workers)?;
     without_empty(alloc, shares)
+}
+
+/// The ids of the shard, in the order in which they came to it. Where no shard is wanted they are all ids, in their order.
+///
+/// The shards are the shares of so many workers, as docs/FORMATS.md says under "Shards".
+pub fn keep_shard(
+    alloc: Global,
+    ids: IdList,
+    times: &TimeMap,
+    groups: &Groups,
+    shard: Option<Shard>,
+) -> Result<IdList, NoMemory>
+    ensures { IfOk result (λ kept. kept ≡ ids_of_shard (fin.get times.now) groups.now shard ids) }
+{
+    match shard {
+        Some(shard) => {
+            let mut shares = deal(alloc, ids, times, groups, shard.count())?;
+            Ok(shares.swap_remove(shard.place()))
+        }
+        None => Ok(ids),
+    }
 }
 
 // A share for each of the workers, which may be empty.

@@ -1,4 +1,4 @@
-use Rattle.std.proofs.Common.{◌≡◌, Option, Some, None, Ok, IfOk, subst, ◌∙◌}
+use Rattle.std.proofs.Common.{◌≡◌, Option, Ok, IfOk, subst, ◌∙◌}
 use Rattle.suite_plan.specs.ConfFile.{files_say, settings_of, ReadsSaid}
 use Rattle.testr_conf.specs.Settings.{Settings}
 use Rattle.suite_plan.proofs.ConfLemmas.{project_end, project_absent, project_refuses}

@@ -1,7 +1,6 @@
 use Rattle.std.proofs.Common.{Option, Some, None, Ok, Err, subst}
 use Rattle.suite_plan.specs.ConfFile.{first_file, file_says, later_say, ReadsSaid}
 use Rattle.suite_plan.specs.declared.conf_file.ConfFile.{ConfFile}
-use Rattle.suite_plan.specs.declared.conf_file.ConfFile.TheVariants.{PyProject}
 use Rattle.testr_conf.specs.Settings.{Settings}
 use Rattle.suite_plan.proofs.ConfLemmas.{first_says, first_refuses, next_says}
 use Rattle.suite_plan.proofs.conf_file.read_files.Goals as goal

@@ -1,5 +1,5 @@
 use Rattle.std.proofs.Common.{Option, Some, None, Ok, Err, subst}
-use Rattle.suite_plan.specs.ConfFile.{second_file, file_says, later_say, ReadsSaid}
+use Rattle.suite_plan.specs.ConfFile.{second_file, file_says, ReadsSaid}
 use Rattle.suite_plan.specs.declared.conf_file.ConfFile.{ConfFile}
 use Rattle.suite_plan.specs.declared.conf_file.ConfFile.TheVariants.{PyProject}
 use Rattle.testr_conf.specs.Settings.{Settings}
