@@ -23,7 +23,7 @@ use Rattle.suite_plan.specs.Listing.{ListsTests}
 use Rattle.suite_plan.specs.LoadList.{ReadsLoadList}
 use Rattle.suite_plan.specs.PatternList.{ReadsPatternList}
 use Rattle.suite_plan.specs.Processors.{CountsProcessors}
-use Rattle.suite_plan.specs.Sharing.{shares_for}
+use Rattle.suite_plan.specs.Sharing.{ids_of_shard, shares_for}
 use Rattle.suite_plan.specs.declared.pattern_list.PatternListRefusal.{PatternListRefusal}
 use Rattle.suite_plan.specs.declared.pattern_list.PatternListRefusal.TheVariants as pattern_list
 use Rattle.suite_plan.specs.declared.picks.FurtherPicks.{FurtherPicks}
@@ -74,7 +74,7 @@ ReadsFurther wanted =
     Then (λ refusal. refusal) (Perhaps wanted.exclude_list ReadsPatternList) (λ excluding.
     Gives (record { including = including; excluding = excluding })))
 
--- ids are given neither by the failing set nor by a file, and are wanted by a pattern, by a list of patterns or by several workers
+-- ids are given neither by the failing set nor by a file, and are wanted by a pattern, by a list of patterns, for a shard or by several workers
 abbrev pub needs_listing : RunOptions → (workers : ℕ) → Bool
 needs_listing options workers = not options.failing && not (is_some options.load_list) && (is_choosing options.wanted || nat_lt 1 workers)
 
@@ -91,7 +91,7 @@ Selects settings options =
     Then (λ refusal. refusal) (CountsWorkers settings options.parallel options.concurrency) (λ workers.
     Then Listing (At work_spawner (Perhaps (when (needs_listing options workers)) (λ _. ListsTests settings))) (λ listing.
     Then Memory (Still (Chooses (with_further (picks_of options.wanted) further) failing listed listing)) (λ ids.
-    Gives (record { workers = workers; ids = ids })))))))
+    Gives (record { workers = workers; ids = ids; shard = options.wanted.shard })))))))
 
 -- ---- what each worker is started with
 
@@ -99,9 +99,18 @@ Selects settings options =
 abbrev pub Times : Type 0
 Times = FinMap text_cmp ℕ
 
--- the shares of the ids, where ids are given; times count where there are several workers
+-- times count for a shard, and where there are several workers
+abbrev pub wants_times : Selected → Bool
+wants_times selected = is_some selected.shard || nat_lt 1 selected.workers
+
+-- of the ids those of the shard, and of these the shares
+abbrev pub shares_in_shard : (groups : Option (List ℕ)) → Option Times → Selected → Ids → List Ids
+shares_in_shard groups times selected ids =
+    shares_for (fin.get (unwrap_or times fin.empty)) groups (ids_of_shard (fin.get (unwrap_or times fin.empty)) groups selected.shard ids) selected.workers
+
+-- the shares of the ids, where ids are given
 abbrev pub shares_of_ids : (groups : Option (List ℕ)) → Option Times → Selected → Option (List Ids)
-shares_of_ids groups times selected = option_map (λ ids. shares_for (fin.get (unwrap_or times fin.empty)) groups ids selected.workers) selected.ids
+shares_of_ids groups times selected = option_map (shares_in_shard groups times selected) selected.ids
 
 -- the share of each worker, where the tests are known
 pub record Divides (groups : Option (List ℕ)) (times : Option Times) (selected : Selected) (result : Result (Option (List Ids)) NoMemory) : Type 0 where
@@ -142,7 +151,7 @@ planned_in (Err fault) = Err fault
 -- the steps that make the job of each worker, and ask for that of a probe where causes are looked for
 abbrev pub Plans : Settings → (find_causes : Bool) → Selected → Step Work Planned Refusal
 Plans settings find_causes selected =
-    Then Tell (At work_folder (Perhaps (when (nat_lt 1 selected.workers)) (λ _. FindsTimes))) (λ times.
+    Then Tell (At work_folder (Perhaps (when (wants_times selected)) (λ _. FindsTimes))) (λ times.
     Then Memory (Still (Divides settings.group_regex times selected)) (λ shares.
     Then TooLong (Still (NamesIds shares)) (λ _.
     Then JobRefused (Still (MakesJobs settings shares)) (λ jobs.

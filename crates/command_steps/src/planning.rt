@@ -15,7 +15,7 @@ ghost use Rattle.command_steps.specs.SuiteTexts.{long_id_text};
 ghost use Rattle.command_steps.specs.Telling.{line_text};
 ghost use Rattle.suite_run.specs.NoneLost.{AreAllShort};
 ghost use Rattle.worker_lane.specs.Sought.{AreShort};
-ghost use Rattle.command_steps.specs.Selecting.{HandsIds, NamesIds, Plans, asked_of, planned_in, shares_of_ids};
+ghost use Rattle.command_steps.specs.Selecting.{HandsIds, NamesIds, Plans, asked_of, planned_in, shares_of_ids, wants_times as are_times_wanted};
 ghost use Rattle.command_steps.specs.Calls.{AsksByFew};
 
 use crate::Refusal;
@@ -29,7 +29,7 @@ use run_shelf::Found;
 use std::alloc::Global;
 use sub_number::{IdList, NoMemory, Text, TimeMap};
 use suite_causes::can_hand_ids;
-use suite_plan::{jobs_of_lanes, share_out};
+use suite_plan::{jobs_of_lanes, keep_shard, share_out};
 use testr_conf::{Conf, JobFault};
 use worker_lane::LONGEST_ID;
 
@@ -79,7 +79,7 @@ pub fn plan<H: Shelf>(
     ensures fits { OnOk result (FitsWhereTold (kinds_of found.now) (H.seen shelf.new).told) }
     ensures calls { AsksByFew (length (kinds_of found.now)) 2 (H.seen shelf.old).told (H.seen shelf.new).told (H.clock shelf.old) (H.clock shelf.new) }
 {
-    let times = known_times(alloc, selected.workers > 1, shelf, found)?;
+    let times = known_times(alloc, wants_times(&selected), shelf, found)?;
     let shares = divide(alloc, groups, &times, selected)?;
     name_ids(&shares)?;
     let jobs = jobs_of(alloc, conf, &shares)?;
@@ -159,6 +159,13 @@ fn jobs_of(alloc: Global, conf: &Conf, shares: &Option<Vec<IdList>>) -> Result<V
     }
 }
 
+// Whether times count: for a shard, and where there are several workers.
+fn wants_times(selected: &Selected) -> bool
+    ensures { result ≡ are_times_wanted selected.now }
+{
+    selected.shard.is_some() || selected.workers > 1
+}
+
 // The times of the ids in all runs, where they are wanted.
 fn known_times<H: Shelf>(
     alloc: Global,
@@ -177,7 +184,7 @@ fn known_times<H: Shelf>(
     Ok(Some(find_times(alloc, shelf, found)?))
 }
 
-// The shares of the ids, where ids are given. Without times all are unknown.
+// The shares of the ids, or of those of the shard, where ids are given. Without times all are unknown.
 fn divide(
     alloc: Global,
     groups: &Groups,
@@ -188,7 +195,11 @@ fn divide(
     ensures shares { IfOk result (λ shares. option_map (λ list. list.items) shares ≡ shares_of_ids groups.now times.now selected) }
     ensures few { IfOk result (λ shares. IfSome shares (λ list. length list.items ≤ MOST_WORKERS)) }
 {
-    let Selected { workers, ids } = selected;
+    let Selected {
+        workers,
+        ids,
+        shard,
+    } = selected;
     let Some(ids) = ids else {
         return Ok(None);
     };
@@ -197,6 +208,7 @@ fn divide(
         Some(times) => times,
         None => &none,
     };
+    let ids = keep_shard(alloc, ids, times, groups, shard)?;
     let shares = share_out(alloc, ids, times, groups, workers)?;
     Ok(Some(shares))
 }

@@ -30,7 +30,7 @@ use suite_plan::{
     chosen, count_processors, list_tests, read_load_list, read_pattern_list,
 };
 use testr_conf::Conf;
-use testr_words::Command;
+use testr_words::{Command, Shard};
 
 // Words may ask for as many workers as a run may have.
 const _: () = prove!(testr_words::MOST_WORKERS == MOST_WORKERS);
@@ -42,6 +42,8 @@ pub struct Selected {
     pub workers: u32,
     /// The ids of the tests, in their order, each once.
     pub ids: Option<IdList>,
+    /// The shard of these that is wanted.
+    pub shard: Option<Shard>,
 }
 
 /// Selects the tests of a run and the number of its workers, in two calls of the folder at most where both caches cover the
@@ -79,7 +81,11 @@ pub fn select<'a, H: Shelf, S: Spawner, F: Site>(
     )?;
     let listing = listing(alloc, needs_listing(command, workers), conf, spawner)?;
     let ids = chosen(alloc, failing, listed, listing, picks, &further)?;
-    Ok(Selected { workers, ids })
+    Ok(Selected {
+        workers,
+        ids,
+        shard: command.shard,
+    })
 }
 
 // The ids of the file of this name, where one is named.
@@ -174,7 +180,7 @@ fn count_workers<S: Spawner, F: Site>(
 }
 
 // Whether a listing is needed: ids are given neither by the failing set nor by a file, and are wanted by a pattern, by a
-// list of patterns or by several workers.
+// list of patterns, for a shard or by several workers.
 fn needs_listing(command: &Command, workers: u32) -> bool
     ensures { result ≡ is_listing_needed (run_options [] command.now) workers }
 {

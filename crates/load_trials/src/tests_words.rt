@@ -230,6 +230,49 @@ fn a_value_that_is_no_number_is_refused_wherever_it_stands(rt: HostRuntime) {
     }
 }
 
+const NO_SHARDS: [&str; 14] = [
+    "",
+    "1",
+    "/",
+    "1/",
+    "/1",
+    "0/1",
+    "2/1",
+    "1/1025",
+    "1025/1025",
+    "01/2",
+    "1/02",
+    "1/2/3",
+    " 1/2",
+    "+1/2",
+];
+
+#[test]
+fn a_shard_is_one_of_so_many(rt: HostRuntime) {
+    let alloc = rt.alloc();
+    for (row, value) in NO_SHARDS.iter().enumerate() {
+        assert!(rt;
+            is_no_command(alloc, &["run", "--shard", *value]),
+            "row {row}"
+        );
+    }
+}
+
+const WRONG_SHARDS: [&[&str]; 4] = [
+    &["run", "--shard=x", "--shard=1/2"],
+    &["run", "--shard=1/2", "--shard=2/1"],
+    &["list-tests", "--shard=3/2"],
+    &["load", "--shard=1/2"],
+];
+
+#[test]
+fn a_value_that_is_no_shard_is_refused_wherever_it_stands(rt: HostRuntime) {
+    let alloc = rt.alloc();
+    for (row, words) in WRONG_SHARDS.iter().enumerate() {
+        assert!(rt; is_no_command(alloc, words), "row {row}");
+    }
+}
+
 const FILES: [(&[&str], &str); 8] = [
     (&["run", "--load-list=ids"], "ids"),
     (&["run", "--load-list", "ids"], "ids"),

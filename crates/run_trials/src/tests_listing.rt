@@ -32,12 +32,15 @@ fn lists<R: Threads + Wait + Sync + AllocGlobal>(
     Ok(shows(rt, words, shelf, &mut project, wanted)? && has_started(&project, jobs))
 }
 
-const PRINTED: [(&[u8], &[&str], &[u8]); 6] = [
+const PRINTED: [(&[u8], &[&str], &[u8]); 9] = [
     (CONF, LIST, b"a\nb\n"),
     (BAD_GROUPS, LIST, b"a\nb\n"),
     (CONF, &["testr", "list-tests", "^b", "c"], b"b\n"),
     (CONF, &["testr", "list-tests", "ab"], NOTHING),
     (CONF, &["testr", "list-tests", "--exclude-regex=^b"], b"a\n"),
+    (CONF, &["testr", "list-tests", "--shard=1/2"], b"a\n"),
+    (CONF, &["testr", "list-tests", "--shard", "2/2"], b"b\n"),
+    (CONF, &["testr", "list-tests", "--shard=1/2", "b"], b"b\n"),
     (
         CONF,
         &[
@@ -235,7 +238,7 @@ fn each_refusal_of_a_configuration_has_its_line(rt: HostRuntime) -> Result<(), F
 }
 
 // Configurations whose listing does not start, patterns, and the status and the line.
-const NOT_STARTED: [(&[u8], &str, u8, &[u8]); 4] = [
+const NOT_STARTED: [(&[u8], &str, u8, &[u8]); 5] = [
     (
         b"[DEFAULT]\ntest_command=run\n",
         "(",
@@ -249,6 +252,7 @@ const NOT_STARTED: [(&[u8], &str, u8, &[u8]); 4] = [
         b"testr: bad pattern: a(?<=b)\ntestr: look-around is not known; --exclude-regex leaves tests out\n",
     ),
     (CONF, "--exclude-list=n", 3, b"testr: no file n\n"),
+    (BAD_GROUPS, "--shard=1/2", 3, b"testr: bad pattern: (\n"),
     (CONF, "a", 4, b"testr: fault starting a program\n"),
 ];
 

@@ -382,6 +382,49 @@ fn the_tests_are_shared_by_their_times_and_groups(rt: HostRuntime) -> Result<(),
     Ok(())
 }
 
+// Shards, and their ids behind a run of which the times are known.
+const SHARDS: [(&str, &[u8]); 3] = [
+    ("--shard=1/2", b"a\nd\ne\n"),
+    ("--shard=2/2", b"b\nc\n"),
+    ("--shard=1/1", b"a\nb\nc\nd\ne\n"),
+];
+
+fn is_shard<R: Threads + Wait + Sync + AllocGlobal>(
+    rt: &R,
+    shard: &str,
+    ids: &[u8],
+) -> Result<bool, Fail> {
+    let outputs = [(NOTHING, ENDED)];
+    let mut project = project_beside(rt.alloc(), CONF, &outputs, b"l", b"a\nb\nc\nd\ne\n")?;
+    let mut shelf = loaded(rt, TIMED)?;
+    let words = ["testr", "run", "--load-list=l", shard];
+    let run = (words.as_slice(), 0, NO_TESTS_AS_1, "1.part", NOTHING);
+    let jobs: [[&[u8]; 3]; 1] = [[b"run ", b".testr-ids.0", ids]];
+    is_run(rt, &mut shelf, &mut project, run, &jobs)
+}
+
+#[test]
+fn shards_are_partial_runs_of_their_tests(rt: HostRuntime) -> Result<(), Fail> {
+    for (row, (shard, ids)) in SHARDS.iter().enumerate() {
+        assert!(rt; is_shard(&rt, shard, ids)?, "row {row}");
+    }
+    Ok(())
+}
+
+#[test]
+fn for_a_shard_the_tests_are_listed(rt: HostRuntime) -> Result<(), Fail> {
+    let run = (
+        ["testr", "run", "--shard=2/2"].as_slice(),
+        0,
+        NO_TESTS,
+        "0.part",
+        NOTHING,
+    );
+    let jobs: [[&[u8]; 3]; 2] = [LISTED, [b"run ", b".testr-ids.0", b"b\n"]];
+    assert!(rt; is_first_run(&rt, CONF, &[(A_AND_B, ENDED), (NOTHING, ENDED)], run, &jobs)?);
+    Ok(())
+}
+
 // Words, and the ids of the tests that they choose where `a` and `b` failed.
 const CHOSEN: [(&[&str], &[u8]); 8] = [
     (&["testr", "run", "--failing"], b"a\nb\n"),

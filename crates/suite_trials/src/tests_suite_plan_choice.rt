@@ -11,9 +11,11 @@ use std::alloc::Global;
 use std::test::Fail;
 use sub_number::{IdList, Text, TimeMap};
 use suite_plan::{
-    FurtherPicks, PatternRefusal, Picks, chosen, compile, firsts, jobs_of_lanes, share_out,
+    FurtherPicks, PatternRefusal, Picks, chosen, compile, firsts, jobs_of_lanes, keep_shard,
+    share_out,
 };
 use testr_conf::{Conf, JobFault, Key};
+use testr_words::Shard;
 
 const WHOLE: &[u8] =
     b"[DEFAULT]\ntest_command=OS_STDOUT_CAPTURE=${OS_STDOUT_CAPTURE:-1} \\\n             ${PYTHON:-python} -m subunit.run discover -t ./ . $LISTOPT $IDOPTION\ntest_id_option=--load-list $IDFILE\ntest_list_option=--list\n";
@@ -203,6 +205,46 @@ fn shares_by_times_by_groups_and_none_that_is_empty(rt: HostRuntime) -> Result<(
     assert!(rt; shares_are(alloc, "a.x a.y b.x", &[], "^[^.]+", 2, &["a.x a.y", "b.x"]));
     assert!(rt; shares_are(alloc, "c a b", &[], "", 64, &["a", "b", "c"]));
     assert!(rt; shares_are(alloc, "c a b", &TIMES, "", 1, &["c a b"]));
+    Ok(())
+}
+
+// Whether the shard of this number of so many has these ids.
+fn shard_is(
+    alloc: Global,
+    ids: &str,
+    times: &[(&str, u64)],
+    regex: &str,
+    part: (u32, u32),
+    wanted: &str,
+) -> bool {
+    match shard_of(alloc, ids, times, regex, part) {
+        Some(kept) => are_ids(&kept, wanted),
+        None => false,
+    }
+}
+
+fn shard_of(
+    alloc: Global,
+    ids: &str,
+    times: &[(&str, u64)],
+    regex: &str,
+    part: (u32, u32),
+) -> Option<IdList> {
+    let shard = Shard::new(part.0, part.1)?;
+    let ids = ids_of(alloc, ids)?;
+    let times = times_of(alloc, times)?;
+    let groups = groups_of(alloc, regex)?;
+    keep_shard(alloc, ids, &times, &groups, Some(shard)).ok()
+}
+
+#[test]
+fn shards_are_the_shares_in_their_order(rt: HostRuntime) -> Result<(), Fail> {
+    let alloc = rt.alloc();
+    assert!(rt; shard_is(alloc, "a b c d e", &TIMES, "", (1, 2), "a d e"));
+    assert!(rt; shard_is(alloc, "a b c d e", &TIMES, "", (2, 2), "b c"));
+    assert!(rt; shard_is(alloc, "e d c b a", &TIMES, "", (1, 1), "e d c b a"));
+    assert!(rt; shard_is(alloc, "a.x b.x a.y", &[], "^[^.]+", (1, 2), "a.x a.y"));
+    assert!(rt; shard_is(alloc, "b a", &[], "", (1024, 1024), ""));
     Ok(())
 }
 

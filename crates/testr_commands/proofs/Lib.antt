@@ -23,6 +23,7 @@ pub mod CauseLaws
 pub mod SuiteCauses
 pub mod FurtherLaws
 pub mod ListCauses
+pub mod ListLemmas
 pub mod ProbeCauses
 pub mod LeftIds
 pub mod SuiteNever

@@ -1,5 +1,5 @@
 -- Why `list-tests` does not give up without a cause.
-use Rattle.std.proofs.Common.{◌≡◌, Option, None, IsSomeAnd, IsOk, All, Err, ◌++◌, sym, subst, ◌∙◌, arith}
+use Rattle.std.proofs.Common.{◌≡◌, Option, IfSome, IsSomeAnd, IsOk, All, Err, ◌++◌, sym, subst, ◌∙◌, arith}
 use Rattle.edge_io.specs.Spawners.{Spawning}
 use Rattle.partition_times.specs.Patterns.{IsPattern}
 use Rattle.testr_conf.specs.Jobs.{list_job_of}
@@ -11,7 +11,7 @@ use Rattle.command_steps.specs.declared.answer.Refusal.{Refusal}
 use Rattle.command_steps.specs.declared.answer.Refusal.TheVariants as refusal
 use Rattle.testr_words.specs.Suites.{ListOptions, Wanted}
 use Rattle.testr_commands.specs.Further.{CanReadFurther}
-use Rattle.testr_commands.specs.RunSuite.{ListsBy, ListsSuite}
+use Rattle.testr_commands.specs.RunSuite.{ListsBy, ListsSuite, groups_for}
 use Rattle.testr_commands.specs.SuiteProgram.{EndsWell, CanList}
 use Rattle.testr_commands.proofs.ChainLemmas.{gives_not}
 use Rattle.testr_commands.proofs.FurtherLaws.{further_never}
@@ -20,12 +20,13 @@ use Rattle.testr_commands.proofs.SuiteCauses.{NoCause, same_cause, conf_never, s
 -- what the steps behind the configuration need
 record CanListBy (wanted : Wanted) (settings : Settings) (w : Work) : Type 0 where
   good : All IsPattern (wanted.patterns ++ wanted.excluded)
+  good_regex : IfSome (groups_for wanted.shard settings) IsPattern
   lists : CanReadFurther wanted w.site.told
   job : IsOk (list_job_of settings)
   ends : IsSomeAnd w.spawner.told (EndsWell 0)
 
 list_by_never : (wanted : Wanted) (settings : Settings) (a b : Work) (r : Refusal) → ListsBy wanted settings a b (Err r) → CanListBy wanted settings a → NoCause r
-list_by_never wanted settings a b r (stops fault is step) can = same_cause (refusal.Pattern fault) r is (pattern_never wanted.patterns wanted.excluded None fault can.good tt step.says)
+list_by_never wanted settings a b r (stops fault is step) can = same_cause (refusal.Pattern fault) r is (pattern_never wanted.patterns wanted.excluded (groups_for wanted.shard settings) fault can.good can.good_regex step.says)
 list_by_never wanted settings a b r (goes_on _ m compiled (stops fault is step)) can =
     let same : a.site.told ≡ m.site.told = sym (λ i. (compiled.same i).site.told) in
     same_cause (list_refusal fault) r is (further_never wanted m.site b.site fault (subst (CanReadFurther wanted) same can.lists) step.at)
@@ -43,6 +44,7 @@ list_never options a b r (goes_on settings m read next) can =
     let spawner : a.spawner.told ≡ m.spawner.told = sym (λ i. (read.rest i).spawner.told) in
     list_by_never options.wanted settings m b r next (record {
       good = can.good;
+      good_regex = subst (λ (s : Settings). IfSome (groups_for options.wanted.shard s) IsPattern) same can.good_regex;
       lists = subst (CanReadFurther options.wanted) (sym read.at.same) can.lists;
       job = subst (λ (s : Settings). IsOk (list_job_of s)) same can.job;
       ends = subst (λ (o : Option Spawning). IsSomeAnd o (EndsWell 0)) spawner can.ends;

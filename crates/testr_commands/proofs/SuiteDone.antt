@@ -1,5 +1,5 @@
 -- What `list-tests` and `run` have done, from their chains.
-use Rattle.std.proofs.Common.{◌≡◌, ℕ, zero, suc, ◌≤◌, nat_lt, Bool, true, false, Option, None, Some, IfSome, Result, Ok, Err, List, ◌++◌, length, All, refl, sym, ap, subst, ◌∙◌}
+use Rattle.std.proofs.Common.{◌≡◌, ℕ, zero, suc, ◌≤◌, Bool, true, false, Option, None, Some, IfSome, Result, Ok, Err, List, ◌++◌, length, All, refl, sym, ap, subst, ◌∙◌}
 use Rattle.std.specs.Prelude.{⊤}
 use Rattle.std.specs.Io.KnownBytes.{Appends}
 use Rattle.std.proofs.KnownBytes.{Appends-trans}
@@ -33,7 +33,7 @@ use Rattle.command_steps.specs.Reporting.{Report, IsReport}
 use Rattle.testr_commands.specs.RunSuite.{ListsSuite, RunsSuite, TellsRun}
 use Rattle.command_steps.specs.Working.{Works}
 use Rattle.command_steps.specs.Runs.{run_bytes, KeepsFiles, AddsRun}
-use Rattle.command_steps.specs.Selecting.{UsesCalled, CountsWorkers, Selects, Planned, Plans}
+use Rattle.command_steps.specs.Selecting.{UsesCalled, CountsWorkers, Selects, Planned, Plans, wants_times}
 use Rattle.command_steps.specs.Steps.{Step, Then, Gives, At}
 use Rattle.testr_commands.specs.Searches.{SearchesAll}
 use Rattle.testr_commands.specs.SuiteProgram.{ListsAll, RunsAll}
@@ -212,7 +212,7 @@ plan_leaves settings asked selected a b plan plans =
     let named = then_did plan divided.next in
     let made = then_did plan named.next in
     let handed = then_did plan made.next in
-    let to_timed = leaves_folder a timed.between timed.done.rest (perhaps_same FindsTimes (when (nat_lt 1 selected.workers)) a.folder timed.between.folder (Ok timed.value) (λ answer found. found.same) timed.done.at) in
+    let to_timed = leaves_folder a timed.between timed.done.rest (perhaps_same FindsTimes (when (wants_times selected)) a.folder timed.between.folder (Ok timed.value) (λ answer found. found.same) timed.done.at) in
     leaves_then a timed.between b to_timed (leaves_same timed.between b (handed.next.same ∙ handed.done.same ∙ made.done.same ∙ named.done.same ∙ divided.done.same))
 
 -- ---- the workers

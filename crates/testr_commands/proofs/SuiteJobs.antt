@@ -12,7 +12,7 @@ use Rattle.partition_times.specs.Shares.{Ids, Times, given, given_to_least, give
 use Rattle.partition_times.proofs.ShareLemmas.{length-given, length-to_least}
 use Rattle.suite_plan.specs.LaneJobs.{job_before, jobs_from, lane_jobs}
 use Rattle.suite_plan.specs.Processors.{IsInRange}
-use Rattle.suite_plan.specs.Sharing.{dealt_among, shares_for}
+use Rattle.suite_plan.specs.Sharing.{dealt_among, ids_of_shard, shares_for}
 use Rattle.suite_plan.specs.declared.sharing.TheConstants.{MOST_WORKERS}
 use Rattle.suite_plan.proofs.ShareLemmas.{few_kept}
 use Rattle.command_steps.specs.Outside.{Work}
@@ -55,9 +55,9 @@ few_shares times groups ids workers some =
 few_by_ids : (groups : Option (List ℕ)) (times : Option KnownTimes) (selected : Selected) → IsInRange selected.workers → IfSome (shares_of_ids groups times selected) (λ shares. length shares ≤ 64)
 few_by_ids groups times selected range = by selected.ids
   where
-    by : (ids : Option Ids) → IfSome (shares_of_ids groups times (record { workers = selected.workers; ids = ids })) (λ shares. length shares ≤ 64)
+    by : (ids : Option Ids) → IfSome (shares_of_ids groups times (record { workers = selected.workers; ids = ids; shard = selected.shard })) (λ shares. length shares ≤ 64)
     by None = tt
-    by (Some ids) = omega (arith, range.1, few_shares (fin.get (unwrap_or times fin.empty)) groups ids selected.workers range.0)
+    by (Some ids) = omega (arith, range.1, few_shares (fin.get (unwrap_or times fin.empty)) groups (ids_of_shard (fin.get (unwrap_or times fin.empty)) groups selected.shard ids) selected.workers range.0)
 
 -- ---- jobs
 

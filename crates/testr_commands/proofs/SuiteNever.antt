@@ -19,6 +19,7 @@ use Rattle.packet_codec.specs.declared.event.Event.{Event}
 use Rattle.run_shelf.specs.Holds.{kinds_of}
 use Rattle.run_shelf.specs.Repository.{most_runs, run_of}
 use Rattle.partition_times.specs.Patterns.{IsPattern}
+use Rattle.partition_times.specs.Shares.{Times as KnownTimes}
 use Rattle.suite_causes.specs.Searching.{CanHandIds, probe_job}
 use Rattle.suite_plan.specs.Calling.{TellsNumber, TellsNone, StartsCounting, HasCallCause, CallsOut, called}
 use Rattle.suite_plan.specs.Children.{IsBroken}
@@ -26,7 +27,7 @@ use Rattle.suite_plan.specs.Choosing.{Ids}
 use Rattle.suite_plan.specs.LaneJobs.{job_before, jobs_from, lane_jobs}
 use Rattle.suite_plan.specs.LoadList.{IsLoadList, HasListCause, ReadsLoadList}
 use Rattle.suite_plan.specs.Processors.{IsInRange, HasTableCause, CountsProcessors, table_name}
-use Rattle.suite_plan.specs.Sharing.{shares_for}
+use Rattle.suite_plan.specs.Sharing.{ids_of_shard, shares_for}
 use Rattle.suite_plan.specs.Texts.{most_text}
 use Rattle.suite_plan.specs.declared.calling.CallRefusal.{CallRefusal}
 use Rattle.suite_plan.specs.declared.calling.CallRefusal.TheVariants as call
@@ -68,6 +69,7 @@ use Rattle.testr_commands.proofs.ChainLemmas.{then_did, gives_not}
 use Rattle.testr_commands.specs.Further.{CanReadFurther}
 use Rattle.testr_commands.proofs.FurtherLaws.{further_told, further_never}
 use Rattle.testr_commands.proofs.FindLemmas.{TellsEvents, tells_behind}
+use Rattle.suite_plan.proofs.ShardLemmas.{no_part}
 use Rattle.testr_commands.proofs.LeftIds.{no_shares}
 use Rattle.testr_commands.proofs.ProbeCauses.{causes_never, probes_behind}
 use Rattle.command_steps.proofs.Resting.{Rests, goes_ends}
@@ -345,10 +347,15 @@ job_never settings shares fault handed makes = ((λ three. by makes.refused thre
 handed_shares : (settings : Settings) (times : Option Times) (selected : Selected) → IsInRange selected.workers → IfSome selected.ids (CanHand settings) → HandsShares settings (shares_of_ids settings.group_regex times selected)
 handed_shares settings times selected range handed = by selected.ids handed
   where
-    by : (ids : Option Ids) → IfSome ids (CanHand settings) → HandsShares settings (shares_of_ids settings.group_regex times (record { workers = selected.workers; ids = ids }))
+    known : KnownTimes
+    known = fin.get (unwrap_or times fin.empty)
+
+    by : (ids : Option Ids) → IfSome ids (CanHand settings) → HandsShares settings (shares_of_ids settings.group_regex times (record { workers = selected.workers; ids = ids; shard = selected.shard }))
     by None handed = tt
     by (Some ids) handed = λ some. handed (λ none.
-        some (ap (λ (l : Ids). shares_for (fin.get (unwrap_or times fin.empty)) settings.group_regex l selected.workers) none ∙ no_shares (fin.get (unwrap_or times fin.empty)) settings.group_regex selected.workers (omega (arith, range.0))))
+        some (ap (λ (l : Ids). shares_for known settings.group_regex (ids_of_shard known settings.group_regex selected.shard l) selected.workers) none
+        ∙ ap (λ (l : Ids). shares_for known settings.group_regex l selected.workers) (no_part known settings.group_regex selected.shard)
+        ∙ no_shares known settings.group_regex selected.workers (omega (arith, range.0))))
 
 -- ids can be handed to a probe, where that is asked
 hands_never : (settings : Settings) (asked : Bool) (fault : JobFault) → (asked ≡ true → CanHandIds settings) → HandsIds asked settings (Err fault) → NoCause (refusal.Job fault)

@@ -7,7 +7,7 @@ use Rattle.packet_codec.specs.Grammar.{AreBytes}
 use Rattle.packet_codec.specs.declared.event.Event.{Event}
 use Rattle.run_shelf.specs.Repository.{Run, Shows}
 use Rattle.sub_text.specs.Texts.{report_of, summary_of}
-use Rattle.suite_plan.specs.Choosing.{Ids, with_further, chosen_of}
+use Rattle.suite_plan.specs.Choosing.{Ids}
 use Rattle.suite_plan.specs.ConfFile.{GivesSettings}
 use Rattle.suite_plan.specs.Listing.{ListsSo}
 use Rattle.suite_plan.specs.declared.picks.FurtherPicks.{FurtherPicks}
@@ -16,7 +16,6 @@ use Rattle.testr_conf.specs.Settings.{Settings}
 use Rattle.command_steps.specs.Files.{AreSources, HasRecordedInTurn}
 use Rattle.command_steps.specs.Outside.{Work}
 use Rattle.command_steps.specs.Says.{SaysOfFolder}
-use Rattle.command_steps.specs.Selecting.{picks_of}
 use Rattle.testr_commands.specs.Further.{GivesFurther}
 use Rattle.testr_commands.specs.SelfTest.{rows_in_turn}
 use Rattle.testr_words.specs.Suites.{ListOptions}
@@ -24,6 +23,7 @@ use Rattle.testr_words.specs.Tasks.{Task, load, ask, list, run, selftest}
 use Rattle.testr_commands.specs.Workers.{PrintsFirst}
 use Rattle.command_steps.specs.declared.answer.Verdict.{Verdict}
 use Rattle.testr_words.specs.declared.command.Question.{Question}
+use Rattle.testr_commands.specs.RunSuite.{listed_ids}
 
 -- the output took a first part of the report of the run that is recorded of these sources
 pub record PrintsOfLoad (names : List (List ℕ)) (before after : Work) : Type 0 where
@@ -49,7 +49,7 @@ pub record PrintsOfListing (options : ListOptions) (before after : Work) : Type 
   pub lists : GivesFurther options.wanted further before.site.told
   pub ids : Ids
   pub listed : Goes before.spawner.told after.spawner.told (ListsSo settings ids)
-  pub printed : AppendsPrefix before.out.told after.out.told (id_lines (chosen_of (with_further (picks_of options.wanted) further) ids))
+  pub printed : AppendsPrefix before.out.told after.out.told (id_lines (listed_ids options.wanted settings further ids))
 
 -- so it is of each task; where it is no task, or `init`, nothing is printed
 abbrev pub PrintsPart : Option Task → Work → Work → Type 0

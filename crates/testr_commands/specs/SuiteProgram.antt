@@ -14,7 +14,7 @@ use Rattle.run_shelf.specs.Repository.{Run, Shows, most_runs}
 use Rattle.sub_text.specs.Texts.{report_of}
 use Rattle.suite_causes.specs.Searching.{CanHandIds}
 use Rattle.suite_plan.specs.Calling.{TellsNumber}
-use Rattle.suite_plan.specs.Choosing.{Ids, with_further, chosen_of}
+use Rattle.suite_plan.specs.Choosing.{Ids}
 use Rattle.suite_plan.specs.ConfFile.{GivesSettings}
 use Rattle.suite_plan.specs.Listing.{ListsSo}
 use Rattle.suite_plan.specs.LoadList.{IsLoadList}
@@ -29,15 +29,16 @@ use Rattle.command_steps.specs.Runs.{HasRuns, AddsRun}
 use Rattle.testr_commands.specs.Further.{GivesFurther, CanReadFurther}
 use Rattle.testr_commands.specs.Searches.{ProbesEnd, SearchesAll}
 use Rattle.testr_commands.specs.Prospects.{MayCount, MaySelect, MayPlan}
-use Rattle.command_steps.specs.Selecting.{picks_of, needs_listing, Times, asked_of, shares_of_ids, Planned}
+use Rattle.testr_commands.specs.RunSuite.{groups_for, listed_ids}
+use Rattle.command_steps.specs.Selecting.{needs_listing, Times, asked_of, shares_of_ids, Planned}
 use Rattle.testr_words.specs.Suites.{ListOptions, RunOptions, is_partial}
 use Rattle.testr_commands.specs.Workers.{RunsWorkers}
 use Rattle.command_steps.specs.declared.selecting.Selected.{Selected}
 
 -- ---- `list-tests`
 
--- The listing of the project's own configuration gave these ids, those that are wanted were printed, each on a line, and
--- nothing else happened.
+-- The listing of the project's own configuration gave these ids, those that are wanted were printed, of a shard its own, each
+-- on a line, and nothing else happened.
 pub record ListsAll (options : ListOptions) (before after : Work) (answer : ℕ) : Type 0 where
   pub settings : Settings
   pub conf : IfSome before.site.told (GivesSettings options.project settings)
@@ -45,7 +46,7 @@ pub record ListsAll (options : ListOptions) (before after : Work) (answer : ℕ)
   pub lists : GivesFurther options.wanted further before.site.told
   pub ids : Ids
   pub listed : Goes before.spawner.told after.spawner.told (ListsSo settings ids)
-  pub printed : Appends before.out.told after.out.told (id_lines (chosen_of (with_further (picks_of options.wanted) further) ids))
+  pub printed : Appends before.out.told after.out.told (id_lines (listed_ids options.wanted settings further ids))
   pub status : answer ≡ 0
   pub folder : after.folder ≡ before.folder
   pub input : after.input ≡ before.input
@@ -99,11 +100,13 @@ CallsOutNone (Some job) s = (output : Output) × (later : List Output) × (s.out
 abbrev pub CanHand : Settings → Ids → Type 0
 CanHand settings ids = (ids ≡ [] → ⊥) → (share : Ids) (lane : ℕ) → IsOk (run_job_of settings (Some share) lane)
 
--- the configuration is there, the patterns are good and their lists can be read, it has a listing, and the listing ends with 0
+-- The configuration is there, the patterns are good and their lists can be read, it has a listing, and the listing ends with 0.
+-- For a shard the pattern of the groups is good, too.
 pub record CanList (options : ListOptions) (before : Work) : Type 0 where
   pub settings : Settings
   pub conf : IsSomeAnd before.site.told (GivesSettings options.project settings)
   pub good : All IsPattern (options.wanted.patterns ++ options.wanted.excluded)
+  pub good_regex : IfSome (groups_for options.wanted.shard settings) IsPattern
   pub lists : CanReadFurther options.wanted before.site.told
   pub job : IsOk (list_job_of settings)
   pub ends : IsSomeAnd before.spawner.told (EndsWell 0)

@@ -8,23 +8,27 @@ ghost use Rattle.edge_io.specs.Seen.{Seen};
 ghost use Rattle.suite_plan.specs.Choosing.{with_further, chosen_of};
 ghost use Rattle.testr_conf.specs.Jobs.{id_lines};
 ghost use Rattle.command_steps.specs.Outside.{work};
-ghost use Rattle.testr_commands.specs.RunSuite.{ListsBy};
+ghost use Rattle.testr_commands.specs.RunSuite.{ListsBy, groups_for, no_times};
+ghost use Rattle.suite_plan.specs.Patterns.{Compiles};
+ghost use Rattle.suite_plan.specs.Sharing.{ids_of_shard};
+ghost use Rattle.std.specs.FinMap as fin;
 ghost use Rattle.testr_words.specs.Suites.{wanted_of};
 
 use crate::{Refusal, Verdict};
 use command_steps::{further_picks, print};
 use edge_io::{Sink, Site, Spawner};
 use std::alloc::Global;
-use sub_number::{IdList, NoMemory};
-use suite_plan::{FurtherPicks, Picks, choose, compile, list_tests};
+use sub_number::{IdList, NoMemory, TimeMap};
+use suite_plan::{Compiled, FurtherPicks, PatternRefusal, choose, compile, keep_shard, list_tests};
 use testr_conf::{Conf, id_lines};
-use testr_words::Command;
+use testr_words::{Command, Shard};
 
-/// Prints the ids that the project's own listing tells of, those that the command wants, each once and on a line.
+/// Prints the ids that the project's own listing tells of, those that the command wants, of a shard its own, each once and on
+/// a line.
 pub fn list<'a, S: Spawner, F: Site, O: Sink>(
     alloc: Global,
     command: &'a Command,
-    conf: &Conf,
+    conf: &'a Conf,
     spawner: &mut S,
     site: &mut F,
     out: &mut O,
@@ -34,24 +38,42 @@ pub fn list<'a, S: Spawner, F: Site, O: Sink>(
         (work folder (F.seen site.new) (S.seen spawner.new) input (O.seen out.new))
         result }
 {
-    let compiled = compile(alloc, &command.names, &command.excluded, None)?;
+    let compiled = compiled(alloc, command, conf)?;
     let further = further_picks(alloc, command, site)?;
     let ids = list_tests(alloc, conf, spawner)?;
-    let text = wanted_lines(alloc, ids, &compiled.picks, &further)?;
+    let text = wanted_lines(alloc, ids, &compiled, &further, command.shard)?;
     print(out, &text)?;
     Ok(Verdict::Passed)
 }
 
-// The ids, of which each stands once, that are wanted by these patterns and the further ones, each on a line.
+// The patterns of the words, and that of the groups, which count for a shard alone.
+fn compiled<'a>(
+    alloc: Global,
+    command: &'a Command,
+    conf: &'a Conf,
+) -> Result<Compiled, PatternRefusal<'a>>
+    ensures { Compiles command.now.names command.now.excluded (groups_for command.now.shard conf.now) result }
+{
+    match command.shard {
+        Some(_) => compile(alloc, &command.names, &command.excluded, conf.group_regex()),
+        None => compile(alloc, &command.names, &command.excluded, None),
+    }
+}
+
+// The ids, of which each stands once, that are wanted by these patterns and the further ones, of a shard its own, each on a
+// line. No time is known.
 fn wanted_lines(
     alloc: Global,
     ids: IdList,
-    picks: &Picks,
+    compiled: &Compiled,
     further: &FurtherPicks,
+    shard: Option<Shard>,
 ) -> Result<Vec<u8>, NoMemory>
     requires { IsDistinct bytes_eq ids }
-    ensures { IfOk result (λ lines. lines.items ≡ id_lines (chosen_of (with_further picks.now further.now) ids)) }
+    ensures { IfOk result (λ lines. lines.items ≡ id_lines (ids_of_shard (fin.get no_times) compiled.now.groups shard (chosen_of (with_further compiled.now.picks further.now) ids))) }
 {
-    let wanted = choose(alloc, ids, picks, further)?;
-    id_lines(alloc, wanted.list())
+    let wanted = choose(alloc, ids, &compiled.picks, further)?;
+    let none = TimeMap::new(alloc);
+    let kept = keep_shard(alloc, wanted, &none, &compiled.groups, shard)?;
+    id_lines(alloc, kept.list())
 }

@@ -1,5 +1,6 @@
 use Rattle.std.proofs.Common.{refl}
 use Rattle.command_steps.proofs.StepLemmas.{part_done, part_stops, still_done, still_stops, prints_as, gives}
+use Rattle.testr_commands.proofs.ListLemmas.{writes_as}
 use Rattle.testr_commands.proofs.list.list.Goals as goal
 
 pub returns-in_err-compiled : goal.returns-in_err-compiled
@@ -28,7 +29,7 @@ returns-in_err-print g c = λ folder input.
     still_done _ c.in_ok-compiled.ensures
     (part_done _ _ c.in_ok-further.ensures
     (part_done _ _ c.in_ok-ids.ensures.step
-    (still_done c.in_ok-text.text.items (record { lines = rw c.in_ok-compiled.ensures.picks at c.in_ok-text.ensures })
+    (still_done c.in_ok-text.text.items (writes_as _ _ _ _ c.in_ok-compiled.compiled c.in_ok-text.text.items c.in_ok-compiled.ensures c.in_ok-text.ensures)
     (part_stops _ c.from_residual-in_err-print.ensures.1 (prints_as c.deref.ensures.value c.in_err-print.ensures) refl))))
 
 pub returns : goal.returns
@@ -36,6 +37,6 @@ returns g c = λ folder input.
     still_done _ c.in_ok-compiled.ensures
     (part_done _ _ c.in_ok-further.ensures
     (part_done _ _ c.in_ok-ids.ensures.step
-    (still_done c.in_ok-text.text.items (record { lines = rw c.in_ok-compiled.ensures.picks at c.in_ok-text.ensures })
+    (still_done c.in_ok-text.text.items (writes_as _ _ _ _ c.in_ok-compiled.compiled c.in_ok-text.text.items c.in_ok-compiled.ensures c.in_ok-text.ensures)
     (part_done _ _ (prints_as c.deref.ensures.value c.in_ok-print.ensures)
     gives))))
