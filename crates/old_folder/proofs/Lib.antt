@@ -1,0 +1,5 @@
+pub mod DigitLemmas
+pub mod CountLemmas
+pub mod LayoutLemmas
+pub mod BaseFileLemmas
+pub mod OldLemmas

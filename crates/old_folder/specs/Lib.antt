@@ -1,0 +1,3 @@
+pub mod Olds
+pub mod Looking
+pub mod Converting
