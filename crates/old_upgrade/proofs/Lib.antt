@@ -1,0 +1,5 @@
+pub mod FileLemmas
+pub mod RunLemmas
+pub mod FailingLemmas
+pub mod WholeLemmas
+pub mod SoundLemmas
