@@ -5,7 +5,7 @@ ghost use Rattle.std.specs.Io.{ReadsAtMost};
 use crate::cause::{Cause, told};
 use crate::identity::is_at;
 use crate::lock::{FOLDER, Lock, Sharing};
-use crate::published_files::{PublishedFile, is_stranger, length_of, publish};
+use crate::published_files::{PublishedFile, Replaces, is_stranger, length_of, publish};
 use std::alloc::Global;
 use std::collections::BTreeSet;
 use std::fs::{DirEntry, File, Files};
@@ -36,6 +36,7 @@ pub struct Folder<'r, R> {
     draft: Option<BufWriter<File>>,
     read: Option<PublishedFile>,
     is_settled: bool,
+    replaces: Replaces,
 }
 
 impl<'r, R: Files<File = File>> Folder<'r, R> {
@@ -49,6 +50,15 @@ impl<'r, R: Files<File = File>> Folder<'r, R> {
             draft: None,
             read: None,
             is_settled: false,
+            replaces: Replaces::Sets,
+        }
+    }
+
+    /// The same, where a folder of the original tool is taken over: partial runs and the format may be put anew, too.
+    pub fn taking_over(self) -> Self {
+        Folder {
+            replaces: Replaces::Converted,
+            ..self
         }
     }
 
@@ -140,13 +150,13 @@ impl<'r, R: Files<File = File>> Folder<'r, R> {
         outcome
     }
 
-    /// Makes the draft the file of this name: a cache in place of an older one, and any other file only where the name is
-    /// free. There is no draft afterwards.
+    /// Makes the draft the file of this name: one that may be replaced in place of an older one, and any other file only
+    /// where the name is free. There is no draft afterwards.
     pub fn publish(&mut self, name: &str) -> Result<(), Cause> {
         let Some(mut draft) = self.draft.take() else {
             return Err(no_draft());
         };
-        // A cache that is open may be replaced.
+        // The file that is open may be replaced.
         self.read = None;
         let outcome = self.place(&mut draft, name);
         self.discard(draft.get_ref());
@@ -180,7 +190,7 @@ impl<'r, R: Files<File = File>> Folder<'r, R> {
         told("write", DRAFT, draft.flush())?;
         self.lock.confirm(self.rt)?;
         let path = self.path_of(name)?;
-        match publish(self.rt, draft.get_ref(), DRAFT, &path) {
+        match publish(self.rt, draft.get_ref(), DRAFT, &path, self.replaces) {
             Ok(()) => Ok(()),
             Err(error) => Err(Cause::of_path("make", path, error)),
         }

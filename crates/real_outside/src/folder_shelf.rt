@@ -30,6 +30,16 @@ impl<'r, R: Files<File = File>> FolderShelf<'r, R> {
         }
     }
 
+    /// The same, where a folder of the original tool is taken over: partial runs and `format` may be put in place of older
+    /// ones, too.
+    pub fn taking_over(self) -> Self {
+        FolderShelf {
+            folder: self.folder.taking_over(),
+            calls: self.calls,
+            faults: self.faults,
+        }
+    }
+
     /// Removes a draft that was not published.
     pub fn give_up(&mut self) {
         self.folder.give_up();
@@ -91,8 +101,8 @@ impl<R: Files<File = File> + AllocGlobal + Clone + Drop> Shelf for FolderShelf<'
         self.faults.counted(result)
     }
 
-    /// Writes what waits, and gives the file this name. A cache is put in place of an older one. No other name is given
-    /// twice: it fails where a file has it.
+    /// Writes what waits, and gives the file this name. A cache is put in place of an older one, and so is the base; where a
+    /// folder is taken over, partial runs and `format` are, too. No other name is given twice: it fails where a file has it.
     fn publish(&mut self, name: &str) -> Result<(), Failed> {
         self.calls = self.calls.saturating_add(1);
         let result = self.folder.publish(name);

@@ -10,8 +10,36 @@ use std::os::unix::fs::FileExt;
 use std::path::Path;
 use std::{fs, io};
 
-// What the name of a cache ends in. No run's name does, nor does `format`.
-const CACHE: &str = ".set";
+// What the name of a cache ends in, and that of the base. No run's name does, nor does `format`.
+const SET: &str = ".set";
+
+// What the name of a partial run ends in, as a converted one is.
+const PART: &str = ".part";
+
+// How the path of the file ends that tells the format.
+const FORMAT: &str = "/format";
+
+/// Which published files a draft may take the place of. All others are put once, and stay.
+#[derive(Clone, Copy, Debug, PartialEq, Eq)]
+pub enum Replaces {
+    /// The caches, and the base.
+    Sets,
+    /// These, partial runs, and the format: where a folder of the original tool is taken over. There the format is another
+    /// tool's, and an upgrade that was stopped may have left runs that it had converted.
+    Converted,
+}
+
+impl Replaces {
+    // Whether the file of this path may be replaced.
+    fn takes(self, path: &str) -> bool {
+        match self {
+            Replaces::Sets => path.ends_with(SET),
+            Replaces::Converted => {
+                path.ends_with(SET) || path.ends_with(PART) || path.ends_with(FORMAT)
+            }
+        }
+    }
+}
 
 /// Whether a name is no published file's, since what it leads to is no regular file. A name that leads nowhere, or that
 /// can't be followed, is none such.
@@ -80,13 +108,20 @@ impl PublishedFile {
     }
 }
 
-/// Gives the file, which has the path `draft`, this path: that of a cache in place of whatever file had it, and any other
-/// only where it is free. At `Ok` the path leads to this file. Where `draft` is not this file's any more, the call fails.
-pub fn publish<R: Files>(rt: &R, file: &File, draft: &str, path: &str) -> io::Result<()> {
+/// Gives the file, which has the path `draft`, this path: one that may be replaced in place of whatever file had it, and any
+/// other only where it is free. At `Ok` the path leads to this file. Where `draft` is not this file's any more, the call
+/// fails.
+pub fn publish<R: Files>(
+    rt: &R,
+    file: &File,
+    draft: &str,
+    path: &str,
+    replaces: Replaces,
+) -> io::Result<()> {
     if !is_at(rt, file, draft)? {
         return Err(replaced());
     }
-    if path.ends_with(CACHE) {
+    if replaces.takes(path) {
         // One call of the system, so at each moment the path leads to the old file or to this one.
         fs::rename(rt, draft, path)?;
     } else {
