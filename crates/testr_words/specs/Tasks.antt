@@ -23,6 +23,8 @@ pub data Task : Type 0 where
   run : RunOptions → Task
   -- made-up workers are run in memory, and summed up
   selftest : Drawing → Task
+  -- a folder of the original tool becomes a repository
+  upgrade : Task
 
 -- What `last` asks: for the run's bytes, where these are wanted, or else for its report, with why tests were skipped or
 -- without.
@@ -40,6 +42,7 @@ task_with folder verb.Slowest command = Some (ask (Slowest command.all))
 task_with folder verb.Stats command = Some (ask Stats)
 task_with folder verb.ListTests command = Some (list (list_options folder command))
 task_with folder verb.SelfTest command = option_map selftest (drawing_of command)
+task_with folder verb.Upgrade command = Some upgrade
 
 -- what is done for a command; none where it is not one of those that are done
 abbrev pub task_of : List ℕ → Command → Option Task

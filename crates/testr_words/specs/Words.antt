@@ -11,7 +11,7 @@ use Rattle.command_words.specs.declared.table.Kind.TheVariants.{Flag, Valued}
 use Rattle.command_words.specs.Items.{Item, flag, valued, name, is_text, has_flag, items_of}
 use Rattle.testr_words.specs.declared.values.TheConstants.{MOST_WORKERS}
 use Rattle.testr_words.specs.declared.command.Verb.{Verb}
-use Rattle.testr_words.specs.declared.command.Verb.TheVariants.{Init, Load, Run, Last, Failing, Slowest, Stats, ListTests, SelfTest}
+use Rattle.testr_words.specs.declared.command.Verb.TheVariants.{Init, Load, Run, Last, Failing, Slowest, Stats, ListTests, SelfTest, Upgrade}
 use Rattle.testr_words.specs.declared.command.Command.{Command}
 use Rattle.testr_words.specs.declared.command.ProjectWords.{ProjectWords}
 use Rattle.testr_words.specs.declared.command.Face.{Face}
@@ -96,7 +96,8 @@ verb_of word =
     else (if bytes_eq word (codes "stats") then Some Stats
     else (if bytes_eq word (codes "list-tests") then Some ListTests
     else (if bytes_eq word (codes "selftest") then Some SelfTest
-    else None))))))))
+    else (if bytes_eq word (codes "upgrade") then Some Upgrade
+    else None)))))))))
 
 -- the verb that a word is to this face
 abbrev pub verb_by : Face → List ℕ → Option Verb

@@ -35,6 +35,8 @@ pub enum Verb {
     ListTests,
     /// Run generated outputs.
     SelfTest,
+    /// Make a folder of the original tool a repository.
+    Upgrade,
 }
 
 /// What words say of a project: what stands in place of its configuration's values, and behind its commands.

@@ -88,6 +88,7 @@ fn named_verb(word: &str) -> Option<Verb>
         "stats" => Some(Verb::Stats),
         "list-tests" => Some(Verb::ListTests),
         "selftest" => Some(Verb::SelfTest),
+        "upgrade" => Some(Verb::Upgrade),
         _ => None,
     }
 }
@@ -110,7 +111,7 @@ impl OptionTable for Options {
             Verb::Failing => flag(name, "--list"),
             Verb::Slowest => flag(name, "--all"),
             Verb::ListTests => list_option(name),
-            Verb::Init | Verb::Stats | Verb::SelfTest => None,
+            Verb::Init | Verb::Stats | Verb::SelfTest | Verb::Upgrade => None,
         }
     }
 }
@@ -318,8 +319,13 @@ fn most(verb: Verb) -> Option<usize>
     match verb {
         Verb::Load => Some(MOST_FILES),
         Verb::Run | Verb::ListTests => None,
-        Verb::Init | Verb::Last | Verb::Failing | Verb::Slowest | Verb::Stats | Verb::SelfTest =>
-            Some(0),
+        Verb::Init
+        | Verb::Last
+        | Verb::Failing
+        | Verb::Slowest
+        | Verb::Stats
+        | Verb::SelfTest
+        | Verb::Upgrade => Some(0),
     }
 }
 
