@@ -16,6 +16,7 @@ pub mod Asking
 pub mod Refreshing
 pub mod Telling
 pub mod SuiteTexts
+pub mod Upgrading
 pub mod Refusals
 pub mod Selecting
 pub mod Causes

@@ -21,9 +21,11 @@ use Rattle.suite_run.specs.declared.recording.LanesRefusal.TheVariants as lanes
 use Rattle.suite_run.specs.declared.starting.StartRefusal.TheVariants as start
 use Rattle.command_steps.specs.declared.recording.RecordFault.TheVariants as record_fault
 use Rattle.command_steps.specs.declared.told.TellFault.TheVariants as tell_fault
+use Rattle.old_upgrade.specs.declared.faults.UpgradeFault.TheVariants as upgrade_fault
+use Rattle.command_steps.specs.Upgrading.{upgrade_code, upgrade_text}
 use Rattle.command_steps.specs.declared.answer.Verdict.{Verdict}
 use Rattle.command_steps.specs.declared.answer.Refusal.{Refusal}
-use Rattle.command_steps.specs.declared.answer.Refusal.TheVariants.{Usage, Init, Open, Runs, Record, Memory, Keep, Refresh, Tell, Print, Conf, Pattern, LoadList, PatternLine, Call, Table, Listing, Job, Start, Lanes, Report, Suspects, Ran, Search, LongId}
+use Rattle.command_steps.specs.declared.answer.Refusal.TheVariants.{Usage, Init, Open, Runs, Record, Memory, Keep, Refresh, Tell, Print, Conf, Pattern, LoadList, PatternLine, Call, Table, Listing, Job, Start, Lanes, Report, Suspects, Ran, Search, LongId, Upgrade}
 
 -- the status of a refusal
 abbrev pub refusal_code : Refusal → ℕ
@@ -52,6 +54,7 @@ refusal_code (Report fault) = 5
 refusal_code (Suspects fault) = 5
 refusal_code (Ran fault) = tell_code fault
 refusal_code (Search fault) = search_code fault
+refusal_code (Upgrade fault) = upgrade_code fault
 
 -- the line where the words are no command
 abbrev pub usage_text : UsageFault → List ℕ
@@ -84,6 +87,7 @@ refusal_line (Report fault) = memory_text
 refusal_line (Suspects fault) = memory_text
 refusal_line (Ran fault) = tell_text fault
 refusal_line (Search fault) = search_text fault
+refusal_line (Upgrade fault) = upgrade_text fault
 
 -- what the program said that a refusal is of, where it failed
 abbrev pub refusal_said : Refusal → List ℕ
@@ -115,6 +119,7 @@ place_of (Start start.Spawn) = Some in_spawner
 place_of (Lanes (lanes.Shelf which)) = Some in_folder
 place_of (Ran tell_fault.Shelf) = Some in_folder
 place_of (Search search_fault.Spawn) = Some in_spawner
+place_of (Upgrade (upgrade_fault.Shelf call)) = Some in_folder
 place_of refusal = None
 
 -- the status of an outcome

@@ -14,6 +14,7 @@ use crate::suite_refusals::{
 use crate::telling::{Line, Refuses};
 use crate::told::TellFault;
 use crate::usage::UsageFault;
+use old_upgrade::UpgradeFault;
 use run_shelf::{InitFault, OpenFault};
 use sub_number::NoMemory;
 use suite_causes::SearchFault;
@@ -100,6 +101,8 @@ pub enum Refusal<'a> {
     Ran(TellFault),
     /// The search for a cause came to no verdict. The run is kept, and its report was printed.
     Search(SearchFault),
+    /// The folder was not upgraded.
+    Upgrade(UpgradeFault),
 }
 
 impl<'a> From<InitFault> for Refusal<'a> {
@@ -308,6 +311,16 @@ impl<'a> From<LanesRefusal> for Refusal<'a> {
     }
 }
 
+impl<'a> From<UpgradeFault> for Refusal<'a> {
+    ghost use Rattle.command_steps.specs.declared.answer.Refusal.TheVariants.{Upgrade};
+
+    ghost from_gives = { λ fault refusal. refusal ≡ Upgrade fault };
+
+    fn from(fault: UpgradeFault) -> Self {
+        Refusal::Upgrade(fault)
+    }
+}
+
 impl<'a> Refusal<'a> {
     ghost use Rattle.command_steps.specs.Refusals.{refusal_code, refusal_said, refusal_line};
 
@@ -334,6 +347,7 @@ impl<'a> Refusal<'a> {
             Refusal::Start(refusal) => (*refusal).code(),
             Refusal::Lanes(refusal) => (*refusal).code(),
             Refusal::Search(fault) => (*fault).code(),
+            Refusal::Upgrade(fault) => (*fault).code(),
         }
     }
 
@@ -379,6 +393,7 @@ impl<'a> Refusal<'a> {
             Refusal::Start(refusal) => return (*refusal).line(),
             Refusal::Lanes(refusal) => return (*refusal).line(),
             Refusal::Search(fault) => return (*fault).line(),
+            Refusal::Upgrade(fault) => return (*fault).line(),
         }
     }
 }

@@ -11,6 +11,7 @@
 //! - `told`, `asking`, `copying`: what is told of the runs, and a run's bytes
 //! - `reporting`, `printing`: the report of a run, made and printed
 //! - `selecting`, `planning`, `working`: which tests run, what each worker is started with, and the workers themselves
+//! - `upgrading`: a folder of the original tool, made a repository
 //! - `causes`: which test makes another one fail
 //! - `answer`, `usage`, `suite_refusals`: the verdict of a command, and the refusals by step
 //! - `telling`: the lines that tell of them
@@ -33,6 +34,7 @@ mod store;
 mod suite_refusals;
 mod telling;
 mod told;
+mod upgrading;
 mod usage;
 mod working;
 
@@ -51,5 +53,6 @@ pub use store::{
 };
 pub use telling::{Line, Part, tell};
 pub use told::{TellFault, Told, find};
+pub use upgrading::{print_upgraded, upgrade_folder};
 pub use usage::UsageFault;
 pub use working::{Kept, run_workers};
