@@ -28,7 +28,7 @@ version_word = codes "--version"
 abbrev pub commands : List (List ℕ)
 commands =
     codes "init" ∷ codes "load" ∷ codes "run" ∷ codes "list-tests" ∷ codes "last" ∷ codes "failing" ∷ codes "slowest"
-    ∷ codes "stats" ∷ codes "selftest" ∷ []
+    ∷ codes "stats" ∷ codes "selftest" ∷ codes "upgrade" ∷ []
 
 -- the filters, each of which has a text
 abbrev pub filters : List (List ℕ)

@@ -90,6 +90,7 @@ fn of_command(word: &str) -> Option<&'static str>
         "slowest" => Some(SLOWEST),
         "stats" => Some(STATS),
         "selftest" => Some(SELFTEST),
+        "upgrade" => Some(UPGRADE),
         _ => None,
     }
 }
@@ -112,6 +113,7 @@ Keeps test results as numbered runs in the folder .testrepository of the current
   testr failing [--list]    prints the tests that fail by all runs, or their ids alone
   testr slowest [--all]     prints the slowest ten tests of the last run, or all
   testr stats               prints how many runs there are
+  testr upgrade             makes a folder of the original testr a repository of its runs
   testr selftest SEED LANES TESTS
                             runs made-up workers in memory, and prints the summary of their run
 
@@ -202,6 +204,14 @@ const STATS: &str = "\
 usage: testr stats
 Prints how many runs there are. Status 0.
 Example: testr stats
+";
+
+const UPGRADE: &str = "\
+usage: testr upgrade
+Makes the folder .testrepository, which the original testr made, a repository of its runs and of the tests that failed last,
+and prints how many runs there are. The old files stay; until it is done the original testr goes on with them. Status 0; 3
+where there is nothing to upgrade, or a file is damaged.
+Example: testr upgrade
 ";
 
 const SELFTEST: &str = "\

@@ -35,6 +35,7 @@ pub mod SuiteLeaves
 pub mod SuiteLaws
 pub mod SelfTestLaws
 pub mod PrintedLaws
+pub mod UpgradeLaws
 pub mod PromiseLemmas
 pub mod ForceLemmas
 pub mod WholeLemmas

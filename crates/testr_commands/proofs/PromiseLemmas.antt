@@ -10,11 +10,15 @@ use Rattle.testr_commands.specs.Answer.{may_have_kept, IsChildFault}
 use Rattle.command_steps.specs.Refusals.{refusal_code, code_of, place_in}
 use Rattle.command_steps.specs.Outside.{Outside, Work, work_of, shown, work_out, Place, SomeRose, SameCounts, RisesAt}
 use Rattle.testr_commands.specs.Printed.{PrintsInPart}
-use Rattle.testr_commands.specs.Program.{Performs, Does, CanPerform, Leaves, Keeps, StartsPrograms, SomeFailed, IsPerformed, GivesUp, Answers, Promises, AnswersQuestion}
+use Rattle.run_ledger.proofs.SoundLemmas.{sound_without}
+use Rattle.old_upgrade.specs.Upgrading.{PassesUpgrade, StaysOrNot, IsEither}
+use Rattle.testr_commands.specs.Upgrade.{DidUpgrade, KeepsWithoutCaches}
+use Rattle.testr_commands.proofs.UpgradeLaws.{upgrade_refuses, upgrade_counts, upgrade_moments, upgrade_sound, upgrade_repository, upgrade_keeps, upgrade_prints, upgrade_did, upgrade_never}
+use Rattle.testr_commands.specs.Program.{Performs, Does, CanPerform, Leaves, Keeps, KeepsSoundFor, StartsPrograms, SomeFailed, IsPerformed, GivesUp, Answers, Promises, AnswersQuestion}
 use Rattle.command_steps.specs.Runs.{KeepsFiles, KeepsRepository, KeepsRuns}
 use Rattle.testr_commands.specs.Stops.{PassesTask, PassesLoad, HasLoadedRun}
 use Rattle.testr_commands.specs.SuiteStops.{PassesSuiteRun}
-use Rattle.testr_words.specs.Tasks.{Task, init, load, ask, list, run, selftest}
+use Rattle.testr_words.specs.Tasks.{Task, init, load, ask, list, run, selftest, upgrade}
 use Rattle.command_steps.specs.Verdicts.{verdict_code}
 use Rattle.command_steps.specs.declared.answer.Verdict.{Verdict}
 use Rattle.command_steps.specs.declared.answer.Verdict.TheVariants.{Passed, Failed}
@@ -76,11 +80,18 @@ module _ (a b : Work) (same : b.folder ≡ a.folder) where
   same_sound : Goes a.folder.told b.folder.told KeepsSound
   same_sound = goes_weaker a.folder.told b.folder.told Rests KeepsSound same_quiet rests_sound
 
+  same_sound_for : (asked : Option Task) → Goes a.folder.told b.folder.told (KeepsSoundFor asked)
+  same_sound_for (Some upgrade) =
+      goes_weaker a.folder.told b.folder.told KeepsSound KeepsWithoutCaches same_sound
+      (λ s t keeps lacks. keeps (λ image left. let none = lacks image left in sound_without image none.failing none.times))
+  same_sound_for asked = same_sound
+
   same_repository : Goes a.folder.told b.folder.told KeepsRepository
   same_repository = goes_weaker a.folder.told b.folder.told Rests KeepsRepository same_quiet rests_repository
 
   same_keeps : (asked : Option Task) → Goes a.folder.told b.folder.told (Keeps asked)
   same_keeps (Some init) = goes_weaker a.folder.told b.folder.told Rests KeepsRuns same_quiet keeps_runs
+  same_keeps (Some upgrade) = goes_weaker a.folder.told b.folder.told Rests StaysOrNot same_quiet (λ s t rests. inl rests.files)
   same_keeps asked = goes_weaker a.folder.told b.folder.told Rests KeepsFiles same_quiet (λ s t rests. rests.files)
 
   same_moments : (asked : Option Task) → Goes a.folder.told b.folder.told (PassesTask asked a b)
@@ -88,6 +99,7 @@ module _ (a b : Work) (same : b.folder ≡ a.folder) where
   same_moments (Some (load partial names)) = goes_weaker a.folder.told b.folder.told (Moves (HasLoadedRun partial names a.site.told a.input.told)) (PassesLoad partial names a.site.told a.input.told) (quiet_moves (HasLoadedRun partial names a.site.told a.input.told) a.folder.told b.folder.told same_quiet) (λ s t moves. moves.stops)
   same_moments (Some (ask question)) = goes_weaker a.folder.told b.folder.told Rests PassesOld same_quiet (λ s t rests. rests.old)
   same_moments (Some (run options)) = goes_weaker a.folder.told b.folder.told Rests (PassesSuiteRun options a b) same_quiet (λ s t rests. inl rests.old)
+  same_moments (Some upgrade) = goes_weaker a.folder.told b.folder.told Rests PassesUpgrade same_quiet (λ s t rests. passes_weaker (IsImage s.disk) (λ image. IsImage s.disk image ⊎ IsEither s.disk.published image) (λ image left. inl left) s t rests.old)
   same_moments asked = stays a.folder.told b.folder.told (λ i. (same i).told)
 
 -- ---- from the chains: a line for each task
@@ -100,6 +112,7 @@ module _ (a b : Work) where
   refused (list options) r done = list_refused options a b r done
   refused (run options) r done = run_refused options a b r done
   refused (selftest drawing) r done = selftest_refused drawing a b r done
+  refused upgrade r done = subst (λ (w : Work). IsRefused ⊥ r a w) (sym done.rest) (upgrade_refuses a.site a.spawner a.input (shown a.folder a.out) (shown b.folder b.out) r done.at)
 
   counted : (task : Task) (v : Verdict) → Performs (Some task) a b (Ok v) → SameCounts a b
   counted init v done = subst (SameCounts a) (sym done.rest) (init_counts a.site a.spawner a.input a.out a.folder b.folder v done.at)
@@ -108,6 +121,7 @@ module _ (a b : Work) where
   counted (list options) v done = list_counted options a b v done
   counted (run options) v done = run_counted options a b v done
   counted (selftest drawing) v done = selftest_counted drawing a b v done
+  counted upgrade v done = subst (SameCounts a) (sym done.rest) (upgrade_counts a.site a.spawner a.input (shown a.folder a.out) (shown b.folder b.out) v done.at)
 
   failed : (task : Task) (r : Refusal) → Performs (Some task) a b (Err r) → refusal_code r ≡ 4 → SomeFailed (Some task) a b ⊎ (StartsPrograms (Some task) × IsChildFault (Err r))
   failed (selftest drawing) r done four = inl (selftest_failed drawing a b r done four)
@@ -127,8 +141,9 @@ module _ (a b : Work) where
   moments_of (Some (list options)) outcome done = same_moments a b (list_same options a b outcome done) (Some (list options))
   moments_of (Some (run options)) outcome done = goes_weaker a.folder.told b.folder.told (RunsMoves options a b) (PassesSuiteRun options a b) (run_suite_moves options a b outcome done) (λ s t moves. moves.stops)
   moments_of (Some (selftest drawing)) outcome done = same_moments a b (λ i. (tested drawing outcome done i).folder) (Some (selftest drawing))
+  moments_of (Some upgrade) outcome done = upgrade_moments (shown a.folder a.out) (shown b.folder b.out) outcome done.at
 
-  sound_of : (asked : Option Task) (outcome : Result Verdict Refusal) → Performs asked a b outcome → Goes a.folder.told b.folder.told KeepsSound
+  sound_of : (asked : Option Task) (outcome : Result Verdict Refusal) → Performs asked a b outcome → Goes a.folder.told b.folder.told (KeepsSoundFor asked)
   sound_of None outcome done = same_sound a b (λ i. (done.same i).folder)
   sound_of (Some init) outcome done = init_sound a.folder b.folder outcome done.at
   sound_of (Some (load partial names)) outcome done = goes_weaker a.folder.told b.folder.told (Moves (HasLoadedRun partial names a.site.told a.input.told)) KeepsSound (load_moves partial names a b outcome done) (λ s t moves. moves.sound)
@@ -136,6 +151,7 @@ module _ (a b : Work) where
   sound_of (Some (list options)) outcome done = same_sound a b (list_same options a b outcome done)
   sound_of (Some (run options)) outcome done = goes_weaker a.folder.told b.folder.told (RunsMoves options a b) KeepsSound (run_suite_moves options a b outcome done) (λ s t moves. moves.sound)
   sound_of (Some (selftest drawing)) outcome done = same_sound a b (λ i. (tested drawing outcome done i).folder)
+  sound_of (Some upgrade) outcome done = upgrade_sound (shown a.folder a.out) (shown b.folder b.out) outcome done.at
 
   repository_of : (asked : Option Task) (outcome : Result Verdict Refusal) → Performs asked a b outcome → Goes a.folder.told b.folder.told KeepsRepository
   repository_of None outcome done = same_repository a b (λ i. (done.same i).folder)
@@ -145,6 +161,7 @@ module _ (a b : Work) where
   repository_of (Some (list options)) outcome done = same_repository a b (list_same options a b outcome done)
   repository_of (Some (run options)) outcome done = goes_weaker a.folder.told b.folder.told (RunsMoves options a b) KeepsRepository (run_suite_moves options a b outcome done) (λ s t moves. moves.repository)
   repository_of (Some (selftest drawing)) outcome done = same_repository a b (λ i. (tested drawing outcome done i).folder)
+  repository_of (Some upgrade) outcome done = upgrade_repository (shown a.folder a.out) (shown b.folder b.out) outcome done.at
 
   kept_of : (asked : Option Task) (outcome : Result Verdict Refusal) → Performs asked a b outcome → may_have_kept asked outcome ≡ false → Goes a.folder.told b.folder.told (Keeps asked)
   kept_of None outcome done not = same_keeps a b (λ i. (done.same i).folder) None
@@ -156,6 +173,7 @@ module _ (a b : Work) where
   kept_of (Some (run options)) (Ok v) done not = cc
   kept_of (Some (run options)) (Err r) done not = run_keeps options a b r done not
   kept_of (Some (selftest drawing)) outcome done not = same_keeps a b (λ i. (tested drawing outcome done i).folder) (Some (selftest drawing))
+  kept_of (Some upgrade) outcome done not = upgrade_keeps (shown a.folder a.out) (shown b.folder b.out) outcome done.at not
 
   did_of : (task : Task) (v : Verdict) → Performs (Some task) a b (Ok v) → Does (Some task) a b (verdict_code v)
   did_of init v done = (init_made a.folder b.folder v done.at, init_passed a.folder b.folder v done.at)
@@ -164,6 +182,7 @@ module _ (a b : Work) where
   did_of (list options) v done = list_did options a b v done
   did_of (run options) v done = run_did options a b v done
   did_of (selftest drawing) v done = selftest_did drawing a b v done
+  did_of upgrade v done = upgrade_did a b v done.at
 
   printed_of : (asked : Option Task) (outcome : Result Verdict Refusal) → Performs asked a b outcome → PrintsInPart asked a b
   printed_of None outcome done = inl (λ i. (done.same i).out.told)
@@ -173,6 +192,7 @@ module _ (a b : Work) where
   printed_of (Some (list options)) outcome done = list_prints options a b outcome done
   printed_of (Some (run options)) outcome done = (run_leaves options a b outcome done).printed
   printed_of (Some (selftest drawing)) outcome done = selftest_prints drawing a b outcome done
+  printed_of (Some upgrade) outcome done = upgrade_prints a b outcome done.at
 
   -- a task that starts no program has no fault of one
   no_child : (task : Task) (r : Refusal) → (StartsPrograms (Some task) → ⊥) → Performs (Some task) a b (Err r) → IsChildFault (Err r) → ⊥
@@ -186,6 +206,7 @@ module _ (a b : Work) where
   never_of (ask question) r done can = (ask_never question a.site a.spawner a.input (shown a.folder a.out) (shown b.folder b.out) r done.at can, no_child (ask question) r (λ starts. starts) done)
   never_of (list options) r done can = list_never options a b r done can
   never_of (run options) r done can = run_never options a b r done can
+  never_of upgrade r done can = (upgrade_never a b r done.at can, no_child upgrade r (λ starts. starts) done)
   never_of (selftest drawing) r done can = (selftest_never drawing a b r done, no_child (selftest drawing) r (λ starts. starts) done)
 
   -- ---- from these: once for all
@@ -237,6 +258,7 @@ leaves_of before after (Some (load partial names)) outcome done = load_beside pa
 leaves_of before after (Some (ask question)) outcome done = λ i. (done.rest i).spawner
 leaves_of before after (Some (list options)) outcome done = tt
 leaves_of before after (Some (run options)) outcome done = run_leaves options (work_of before) (work_of after) outcome done
+leaves_of before after (Some upgrade) outcome done = λ i. (done.rest i).spawner
 leaves_of before after (Some (selftest drawing)) outcome done =
     let same = tested (work_of before) (work_of after) drawing outcome done in
     record { folder = λ i. (same i).folder; site = λ i. (same i).site; spawner = λ i. (same i).spawner; input = λ i. (same i).input }
@@ -292,7 +314,7 @@ module _ (reading : Bool) (asked : Option Task) (before after : Outside) (answer
         kept = λ not. same_keeps a b same asked;
         repository = same_repository a b same;
         any_moment = same_moments a b same asked;
-        sound = same_sound a b same;
+        sound = same_sound_for a b same asked;
         did = λ few. absurd (omega (arith, five, few));
         completeness = λ can none. inr (reads, five);
       }

@@ -37,8 +37,9 @@ use Rattle.command_steps.specs.Refusals.{refusal_code, place_of}
 use Rattle.command_steps.specs.Outside.{Work, Place, in_folder, in_site, in_spawner, in_input, in_out, RisesAt, SomeRose, of_folder, of_site, of_spawner, of_input, of_out}
 use Rattle.command_steps.specs.Told.{fault_fails}
 use Rattle.command_steps.specs.declared.answer.Refusal.{Refusal}
-use Rattle.command_steps.specs.declared.answer.Refusal.TheVariants.{Usage, Init, Open, Record, Keep, Refresh, Tell, Print, Conf, Pattern, LoadList, Call, Table, Listing, Job, Start, Lanes, Ran, Search}
+use Rattle.command_steps.specs.declared.answer.Refusal.TheVariants.{Usage, Init, Open, Record, Keep, Refresh, Tell, Print, Conf, Pattern, LoadList, Call, Table, Listing, Job, Start, Lanes, Ran, Search, Upgrade}
 use Rattle.command_steps.specs.declared.recording.RecordFault.TheVariants as record_fault
+use Rattle.old_upgrade.specs.declared.faults.UpgradeFault.TheVariants as upgrade_fault
 use Rattle.command_steps.specs.declared.told.TellFault.{TellFault}
 use Rattle.command_steps.specs.declared.told.TellFault.TheVariants as tell_fault
 
@@ -70,6 +71,7 @@ codes (Start start.Spawn) named = record { least = omega arith; most = omega ari
 codes (Lanes lanes.NoMemory) named = record { least = omega arith; most = omega arith }
 codes (Ran tell_fault.Shelf) named = record { least = omega arith; most = omega arith }
 codes (Search search_fault.Spawn) named = record { least = omega arith; most = omega arith }
+codes (Upgrade upgrade_fault.NoStore) named = record { least = omega arith; most = omega arith }
 codes refusal named = record { least = omega arith; most = omega arith }
 
 -- a part failed, or a child
@@ -101,6 +103,7 @@ faults (Lanes (lanes.Shelf which)) four = of_part in_folder refl
 faults (Ran tell_fault.Shelf) four = of_part in_folder refl
 faults (Search search_fault.Spawn) four = of_part in_spawner refl
 faults (Search search_fault.Child) four = of_child tt
+faults (Upgrade (upgrade_fault.Shelf call)) four = of_part in_folder refl
 faults refusal four = absurd (omega (arith, four))
 
 pub some_rose : (place : Place) (a b : Work) → RisesAt (Some place) a b → SomeRose a b

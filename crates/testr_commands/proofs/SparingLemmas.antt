@@ -107,6 +107,7 @@ AsksNothing verb.Load = ⊤
 AsksNothing verb.Run = ⊤
 AsksNothing verb.ListTests = ⊤
 AsksNothing verb.SelfTest = ⊤
+AsksNothing verb.Upgrade = ⊤
 AsksNothing question = ⊥
 
 no_question : (few : Bool) (c : Command) (question : Question) → (if few then Some (load c.partial c.names) else None) ≡ Some (ask question) → ⊥
@@ -119,6 +120,7 @@ nothing_asked folder verb.Load c question silent is = no_question (nat_le (lengt
 nothing_asked folder verb.Run c question silent is = cc
 nothing_asked folder verb.ListTests c question silent is = cc
 nothing_asked folder verb.SelfTest c question silent is = no_drawn (drawing_of c) question is
+nothing_asked folder verb.Upgrade c question silent is = cc
 nothing_asked folder asks c question silent is = silent
 
 pub silent_spare : (folder : List ℕ) (v : Verb) {w : Verb} (c : Command) (told : Option Folder) (before now : ℕ) → v ≡ w → AsksNothing w → SparesReads (task_with folder v c) told before now

@@ -2,7 +2,8 @@
 use Rattle.std.specs.Prelude.{⊤, Bool, true, false, Option, Some, Result, Ok, Err}
 use Rattle.run_shelf.specs.declared.faults.ShelfCall.{ShelfCall}
 use Rattle.run_shelf.specs.declared.faults.ShelfCall.TheVariants.{Publish, SyncFolder}
-use Rattle.testr_words.specs.Tasks.{Task, load, run}
+use Rattle.testr_words.specs.Tasks.{Task, load, run, upgrade}
+use Rattle.testr_commands.specs.Upgrade.{upgrade_may_have_kept}
 use Rattle.suite_causes.specs.declared.searching.SearchFault.TheVariants as search_fault
 use Rattle.suite_plan.specs.declared.calling.CallRefusal.TheVariants as call
 use Rattle.suite_plan.specs.declared.listing.ListingRefusal.TheVariants as listing
@@ -34,10 +35,11 @@ run_may_have_kept (Err (Ran fault)) = true
 run_may_have_kept (Err (Search fault)) = true
 run_may_have_kept outcome = load_may_have_kept outcome
 
--- The same of each task. No other than these two shows a run that was not shown before.
+-- The same of each task. No other than these shows a run that was not shown before.
 abbrev pub may_have_kept : Option Task → Result Verdict Refusal → Bool
 may_have_kept (Some (load partial names)) = load_may_have_kept
 may_have_kept (Some (run options)) = run_may_have_kept
+may_have_kept (Some upgrade) = upgrade_may_have_kept
 may_have_kept asked = λ outcome. false
 
 -- the program that lists the tests, the one that tells how many workers there are, or that of a probe was not read to its end

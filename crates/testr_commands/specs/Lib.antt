@@ -1,4 +1,5 @@
 pub mod Workers
+pub mod Upgrade
 pub mod Answer
 pub mod Searches
 pub mod RunSuite

@@ -19,7 +19,8 @@ use Rattle.command_steps.specs.Says.{SaysOfFolder}
 use Rattle.testr_commands.specs.Further.{GivesFurther}
 use Rattle.testr_commands.specs.SelfTest.{rows_in_turn}
 use Rattle.testr_words.specs.Suites.{ListOptions}
-use Rattle.testr_words.specs.Tasks.{Task, load, ask, list, run, selftest}
+use Rattle.testr_words.specs.Tasks.{Task, load, ask, list, run, selftest, upgrade}
+use Rattle.testr_commands.specs.Upgrade.{PrintsOfUpgrade}
 use Rattle.testr_commands.specs.Workers.{PrintsFirst}
 use Rattle.command_steps.specs.declared.answer.Verdict.{Verdict}
 use Rattle.testr_words.specs.declared.command.Question.{Question}
@@ -58,6 +59,7 @@ PrintsPart (Some (ask question)) before after = PrintsOfAnswer question before a
 PrintsPart (Some (list options)) before after = PrintsOfListing options before after
 PrintsPart (Some (run options)) before after = PrintsFirst options before after
 PrintsPart (Some (selftest drawing)) before after = AppendsPrefix before.out.told after.out.told (summary_of (rows_in_turn drawing) 0 [])
+PrintsPart (Some upgrade) before after = PrintsOfUpgrade before after
 PrintsPart asked before after = ⊥
 
 -- nothing was printed, or such a part

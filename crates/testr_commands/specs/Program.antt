@@ -33,7 +33,9 @@ use Rattle.testr_commands.specs.SelfTest.{TestsItself, SumsUpAll}
 use Rattle.command_steps.specs.Steps.{Step, At}
 use Rattle.testr_commands.specs.Stops.{PassesTask}
 use Rattle.testr_commands.specs.SuiteProgram.{ListsAll, RunsAll, CanList, CanRun}
-use Rattle.testr_words.specs.Tasks.{Task, init, load, ask, list, run, selftest}
+use Rattle.testr_words.specs.Tasks.{Task, init, load, ask, list, run, selftest, upgrade}
+use Rattle.old_upgrade.specs.Upgrading.{StaysOrNot}
+use Rattle.testr_commands.specs.Upgrade.{UpgradesAll, DidUpgrade, CanUpgrade, KeepsWithoutCaches}
 use Rattle.command_steps.specs.Verdicts.{verdict_code}
 use Rattle.command_steps.specs.declared.answer.Refusal.{Refusal}
 use Rattle.command_steps.specs.declared.answer.Refusal.TheVariants.{Usage, Memory}
@@ -133,6 +135,7 @@ Performs (Some (ask question)) = At work_shown (Asks question)
 Performs (Some (list options)) = ListsSuite options
 Performs (Some (run options)) = RunsSuite options
 Performs (Some (selftest drawing)) = TestsItself drawing
+Performs (Some upgrade) = At work_shown UpgradesAll
 
 -- what was done, where the status is 0 or 1
 abbrev pub Does : Option Task → Work → Work → ℕ → Type 0
@@ -143,6 +146,7 @@ Does (Some (ask question)) before after answer = AnswersQuestion question before
 Does (Some (list options)) before after answer = ListsAll options before after answer
 Does (Some (run options)) before after answer = RunsAll options before after answer
 Does (Some (selftest drawing)) before after answer = SumsUpAll drawing before after answer
+Does (Some upgrade) before after answer = DidUpgrade before after answer
 
 -- no refusal but a fault or want of memory has a cause
 abbrev pub CanPerform : Option Task → Work → Type 0
@@ -153,6 +157,7 @@ CanPerform (Some (ask question)) before = CanAsk question before
 CanPerform (Some (list options)) before = CanList options before
 CanPerform (Some (run options)) before = CanRun options before
 CanPerform (Some (selftest drawing)) before = ⊤
+CanPerform (Some upgrade) before = CanUpgrade before
 
 -- what stays as it was at every exit; of a run, what it has started and printed by then
 abbrev pub Leaves : Option Task → Outside → Outside → Type 0
@@ -161,10 +166,17 @@ Leaves (Some (run options)) before after = LeavesRun options (work_of before) (w
 Leaves (Some (selftest drawing)) before after = LeavesOutside before after
 Leaves asked before after = after.spawner ≡ before.spawner
 
--- what it keeps of a folder where it keeps no run: the files, and `init`, which may put `format` beside them, the runs
+-- what it keeps of a folder where it keeps no run: the files, and `init`, which may put `format` beside them, the runs;
+-- `upgrade` may have put converted runs beside those of a folder of the original tool, which it still is
 abbrev pub Keeps : Option Task → Folder → Folder → Type 0
 Keeps (Some init) = KeepsRuns
+Keeps (Some upgrade) = StaysOrNot
 Keeps asked = KeepsFiles
+
+-- What is promised of sound files. A folder of the original tool is not spoken of in which a cache stands.
+abbrev pub KeepsSoundFor : Option Task → Folder → Folder → Type 0
+KeepsSoundFor (Some upgrade) = KeepsWithoutCaches
+KeepsSoundFor asked = KeepsSound
 
 -- it starts programs, so a fault may be that of one of them, of which there is no count
 abbrev pub StartsPrograms : Option Task → Type 0
@@ -218,7 +230,7 @@ pub record Promises (reading : Bool) (asked : Option Task) (before after : Outsi
   -- call with all that the task adds
   pub any_moment : Goes before.folder.told after.folder.told (PassesTask asked (work_of before) (work_of after))
   -- where all that a stop before the call might have left is sound, so is what one at each moment of it leaves
-  pub sound : Goes before.folder.told after.folder.told KeepsSound
+  pub sound : Goes before.folder.told after.folder.told (KeepsSoundFor asked)
   pub did : answer ≤ 1 → Does asked (work_of before) (work_of after) answer
   -- it does not give up without a cause
   pub completeness : CanPerform asked (work_of before) → (SomeFailed asked (work_of before) (work_of after) → ⊥) → IsPerformed asked answer ⊎ (IsTrue reading × (answer ≡ 5))

@@ -11,7 +11,8 @@ use Rattle.run_shelf.specs.Images.{PassesOld, PassesFormat}
 use Rattle.command_steps.specs.Runs.{run_bytes, HasRunAndCaches}
 use Rattle.command_steps.specs.Outside.{Work}
 use Rattle.testr_commands.specs.SuiteStops.{PassesSuiteRun}
-use Rattle.testr_words.specs.Tasks.{Task, init, load, ask, run}
+use Rattle.old_upgrade.specs.Upgrading.{PassesUpgrade}
+use Rattle.testr_words.specs.Tasks.{Task, init, load, ask, run, upgrade}
 
 -- The files and one run more, whole: the run of what is recorded of all sources, which are the input's bytes or those of
 -- the files named, where these are told. Of other files only those of the caches may differ.
@@ -35,4 +36,5 @@ PassesTask (Some init) before after = PassesFormat
 PassesTask (Some (load partial names)) before after = PassesLoad partial names before.site.told before.input.told
 PassesTask (Some (ask question)) before after = PassesOld
 PassesTask (Some (run options)) before after = PassesSuiteRun options before after
+PassesTask (Some upgrade) before after = PassesUpgrade
 PassesTask asked before after = Stays

@@ -7,6 +7,7 @@
 //! For want of memory a call refuses so, and for nothing else; what it did outside by then stands, and its status is 5.
 //!
 //! - `init`, `load`, `ask`, `run`, `list`, `selftest`: the commands, each a chain of steps
+//! - `upgrade`: the command that takes over a folder of the original tool
 //! - `top`: `testr` and `quiet`
 //! - `nowhere`: the output of a command that prints no report
 //! - `laws`, `suite_laws`: each named refusal comes exactly where its cause is
@@ -24,6 +25,7 @@ mod run;
 mod selftest;
 mod suite_laws;
 mod top;
+mod upgrade;
 
 pub use command_steps::{
     CopyFault, KeepFault, PrintFault, RecordFault, Refusal, RunsFault, TellFault, UsageFault,

@@ -27,6 +27,7 @@ use crate::load::load;
 use crate::nowhere::Nowhere;
 use crate::run::run;
 use crate::selftest::selftest;
+use crate::upgrade::upgrade;
 use crate::{Refusal, Verdict};
 use command_steps::{UsageFault, make_where_none, tell};
 use edge_io::{Failed, Shelf, Sink, Site, Source, Spawner, write_whole};
@@ -428,6 +429,7 @@ fn perform<'a, H: Shelf, F: Site, I: Source, O: Sink>(
         Verb::Failing => ask(alloc, Question::Failing { list: command.list }, shelf, out),
         Verb::Slowest => ask(alloc, Question::Slowest { all: command.all }, shelf, out),
         Verb::Stats => ask(alloc, Question::Stats, shelf, out),
+        Verb::Upgrade => upgrade(alloc, shelf, out),
         Verb::Run | Verb::ListTests | Verb::SelfTest => { Err(Refusal::Usage(UsageFault::Words)) }
     }
 }

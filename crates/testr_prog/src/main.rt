@@ -158,7 +158,7 @@ fn run_program<R: Threads + Wait + Sync>(
     err: &mut StreamSink<Stderr>,
 ) -> u8 {
     let alloc = rt.alloc();
-    let mut shelf = FolderShelf::new(alloc, rt, sharing(words));
+    let mut shelf = shelf_of(alloc, rt, words);
     let mut input = StreamSource::new(rt.stdin(), "standard input");
     let mut spawner = spawner_of(alloc, rt, errors, words);
     let mut site = RealSite::new(alloc, rt, working_folder(alloc, rt));
@@ -213,6 +213,19 @@ fn tell(alloc: Global, face: &str, cause: Option<&Cause>, err: &mut StreamSink<S
         && let Ok(line) = format!(in alloc; "{face}: cause: {cause}\n")
     {
         let _ = write_whole(err, line.as_bytes());
+    }
+}
+
+// Only an upgrade may put converted runs and the format in place of older ones.
+fn shelf_of<'r>(
+    alloc: Global,
+    rt: &'r HostRuntime,
+    words: &[String],
+) -> FolderShelf<'r, HostRuntime> {
+    let shelf = FolderShelf::new(alloc, rt, sharing(words));
+    match words.get(1) {
+        Some(word) if word.as_str() == "upgrade" => shelf.taking_over(),
+        _ => shelf,
     }
 }
 

@@ -22,6 +22,9 @@ returns-in-Slowest-clause-step g c = λ spawner. performs _ _ _ (sym (ap (λ v. 
 pub returns-in-Stats-clause-step : goal.returns-in-Stats-clause-step
 returns-in-Stats-clause-step g c = λ spawner. performs _ _ _ (sym (ap (λ v. quiet_of (task_with (g.F.Site.folder c.args.site.now) v c.args.command.now)) c.in-Stats.is)) (record { at = c.ask-in-Stats.ensures.step; rest = refl })
 
+pub returns-in-Upgrade-clause-step : goal.returns-in-Upgrade-clause-step
+returns-in-Upgrade-clause-step g c = λ spawner. performs _ _ _ (sym (ap (λ v. quiet_of (task_with (g.F.Site.folder c.args.site.now) v c.args.command.now)) c.in-Upgrade.is)) (record { at = c.upgrade.ensures; rest = refl })
+
 pub returns-in-Run-clause-step : goal.returns-in-Run-clause-step
 returns-in-Run-clause-step g c = λ spawner. refuses _ (not_done (g.F.Site.folder c.args.site.now) c.args.command.now.verb c.args.command.now c.in-Run.is)
 
@@ -29,6 +32,9 @@ returns-in-Run-clause-step g c = λ spawner. refuses _ (not_done (g.F.Site.folde
 
 pub returns-in-Init-clause-spares : goal.returns-in-Init-clause-spares
 returns-in-Init-clause-spares g c = silent_spare (g.F.Site.folder c.args.site.now) c.args.command.now.verb c.args.command.now _ _ _ c.in-Init.is tt
+
+pub returns-in-Upgrade-clause-spares : goal.returns-in-Upgrade-clause-spares
+returns-in-Upgrade-clause-spares g c = silent_spare (g.F.Site.folder c.args.site.now) c.args.command.now.verb c.args.command.now _ _ _ c.in-Upgrade.is tt
 
 pub returns-in-Load-clause-spares : goal.returns-in-Load-clause-spares
 returns-in-Load-clause-spares g c = silent_spare (g.F.Site.folder c.args.site.now) c.args.command.now.verb c.args.command.now _ _ _ c.in-Load.is tt
