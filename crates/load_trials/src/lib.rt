@@ -26,4 +26,6 @@ mod tests_selftest;
 #[cfg(test)]
 mod tests_store;
 #[cfg(test)]
+mod tests_upgrade;
+#[cfg(test)]
 mod tests_words;
