@@ -1,5 +1,5 @@
 -- Rows where an event stands in two halves.
-use Rattle.std.proofs.Common.{◌≡◌, ℕ, ◌/◌, Bool, true, false, cond, List, [], ◌∷◌, ◌++◌, Option, Some, None, length, take, drop, refl, sym, ◌∙◌, ap, append_assoc}
+use Rattle.std.proofs.Common.{◌≡◌, ℕ, ◌/◌, Bool, true, false, cond, List, [], ◌∷◌, ◌++◌, Option, Some, None, length, take, refl, sym, ◌∙◌, ap, append_assoc}
 use Rattle.std.specs.FinMap as fin
 use Rattle.std.specs.FinMap.{FinMap, same_map, get-insert}
 use Rattle.std.specs.Cmp.{eq_by_cmp_equiv}
@@ -18,8 +18,8 @@ use Rattle.outcome_fold.specs.declared.test_key.TestKey.{TestKey}
 use Rattle.outcome_fold.specs.declared.part.Started.{Started}
 use Rattle.outcome_fold.specs.Order.{test_cmp, table}
 use Rattle.outcome_fold.specs.Parts.{test_of, events_of_test, ended_by, instant, elapsed, is_text_type, text_in, text_limit, reason_in, reason_limit, last_part}
-use Rattle.outcome_fold.specs.Rows.{row_of, completed_row, completed_behind, completed_rows, is_part, open_tests, open_rows, by_route, rows_of}
-use Rattle.outcome_fold.specs.Started.{after, fresh, started_of, open_table}
+use Rattle.outcome_fold.specs.Rows.{row_of, completed_row, completed_behind, is_part, open_tests, open_rows, by_route, rows_of}
+use Rattle.outcome_fold.specs.Started.{after, fresh, open_table}
 use Rattle.outcome_fold.specs.Folded.{extended, row_at}
 use Rattle.outcome_fold.specs.Routes.{SaySame}
 use Rattle.outcome_fold.proofs.OrderLemmas.{tests_total, exact_tests}

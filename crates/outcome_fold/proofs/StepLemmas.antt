@@ -1,7 +1,7 @@
 -- What one event does to the table of open tests, and the row that it completes.
-use Rattle.std.proofs.Common.{◌≡◌, ℕ, suc, zero, Bool, true, false, cond, List, [], ◌∷◌, ◌++◌, Option, Some, None, map, take, is_some, refl, sym, ◌∙◌, ap, append_assoc}
+use Rattle.std.proofs.Common.{◌≡◌, ℕ, suc, zero, Bool, true, false, cond, List, [], ◌∷◌, ◌++◌, Option, Some, None, take, is_some, refl, sym, ◌∙◌, ap, append_assoc}
 use Rattle.std.specs.FinMap as fin
-use Rattle.std.specs.FinMap.{same_map, get-insert, get-remove, len-entries, len-empty}
+use Rattle.std.specs.FinMap.{same_map, get-insert, get-remove}
 use Rattle.std.specs.Ordering.{eq_by_cmp}
 use Rattle.std.specs.Option.{option_map, unwrap_or}
 use Rattle.std.specs.List.{list_any, flat_map}
@@ -9,13 +9,13 @@ use Rattle.packet_codec.specs.declared.event.Event.{Event}
 use Rattle.outcome_fold.specs.declared.row.Ended.{Ended}
 use Rattle.outcome_fold.specs.declared.test_key.TestKey.{TestKey}
 use Rattle.outcome_fold.specs.declared.part.Started.{Started}
-use Rattle.outcome_fold.specs.Order.{test_cmp, text_cmp, text_table, in_byte_order}
+use Rattle.outcome_fold.specs.Order.{test_cmp}
 use Rattle.outcome_fold.specs.Parts.{test_of, speaks_of, events_of_test, ended_by, completes, last_part, instant, elapsed, last_tags, text_in, text_limit, reason_in, reason_limit}
 use Rattle.outcome_fold.specs.Rows.{completed_row, row_completing}
 use Rattle.outcome_fold.specs.Started.{started_of, open_table}
 use Rattle.outcome_fold.specs.Folded.{extended, row_at}
 use Rattle.outcome_fold.proofs.OrderLemmas.{tests_total, exact_tests}
-use Rattle.outcome_fold.proofs.TableLemmas.{tied_is, any_push, none_of_length}
+use Rattle.outcome_fold.proofs.TableLemmas.{tied_is, any_push}
 use Rattle.outcome_fold.proofs.FoldLemmas.{filter_push, append_none, last_part_ends, last_part_goes, part_at, said, get-open_table}
 
 pub take_again : (n : ℕ) (xs ys : List ℕ) → take n (take n xs ++ ys) ≡ take n (xs ++ ys)

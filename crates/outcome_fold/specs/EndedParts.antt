@@ -1,5 +1,5 @@
 -- What a part of a test says that has ended, or that is open at the end (docs/FORMATS.md, "The fold").
-use Rattle.std.specs.Prelude.{ℕ, Option, None, Some, List, map}
+use Rattle.std.specs.Prelude.{Option, None, Some, List}
 use Rattle.std.specs.FinMap as fin
 use Rattle.std.specs.Option.{option_map}
 use Rattle.packet_codec.specs.declared.event.Event.{Event}

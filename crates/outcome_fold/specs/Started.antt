@@ -1,5 +1,5 @@
 -- What the events of a part say together, event by event (docs/FORMATS.md, "The fold").
-use Rattle.std.specs.Prelude.{◌≡◌, ℕ, Option, None, Some, List, [], ◌++◌, take}
+use Rattle.std.specs.Prelude.{◌≡◌, List, [], ◌++◌, take}
 use Rattle.std.specs.FinMap.{FinMap}
 use Rattle.std.specs.Option.{option_map, unwrap_or}
 use Rattle.packet_codec.specs.declared.event.Event.{Event}

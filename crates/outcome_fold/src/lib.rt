@@ -11,6 +11,7 @@
 //! - `fold`: the events folded into rows, as they come, and of a whole run
 //! - `rows`: the rows of a run, in their groups, how many there are, and what they say
 //! - `summing`, `summary`, `longest`: what is kept of them where the rows that pass are not
+//! - `row_listener`: who hears each row before it is summed up
 //! - `text_set`: texts in the order of their bytes, each once
 //! - `laws`, `half_laws`: what holds of the rows of all events, and where an event stands in two halves
 #![tactic(auto)]
@@ -21,6 +22,7 @@ mod laws;
 mod longest;
 mod part;
 mod row;
+mod row_listener;
 mod rows;
 mod summary;
 mod summing;
@@ -35,6 +37,7 @@ pub use part::{
     text_heard, text_in,
 };
 pub use row::{Counts, Ended, Row, ended_by};
+pub use row_listener::RowListener;
 pub use rows::{Rows, count_with};
 pub use summary::{Summary, Timed};
 pub use summing::Summing;

@@ -1,11 +1,14 @@
 //! The rows of a run that are summed up as they are completed.
 
 ghost use Rattle.std.specs.Prelude.{◌≡◌, [], ◌∷◌, ◌++◌, ℕ, List, IfOk, OnOk};
+ghost use Rattle.std.specs.Option.{option_to_list};
 ghost use Rattle.packet_codec.specs.Packet.{SpellsEvent};
 ghost use Rattle.packet_codec.specs.declared.event.Event.{Event as AnEvent};
-ghost use Rattle.outcome_fold.specs.Rows.{rows_of};
+ghost use Rattle.outcome_fold.specs.Rows.{rows_of, completed_row, open_rows};
+ghost use Rattle.outcome_fold.specs.declared.row.Row.{Row as ARow};
 
 use crate::fold::Fold;
+use crate::row_listener::{DeafToRows, RowListener, hear_rows};
 use crate::summary::Summary;
 use packet_codec::{Packet, Tags};
 use std::alloc::Global;
@@ -43,8 +46,26 @@ impl Summing {
     pub fn hear(&mut self, packet: &Packet<'_>) -> Result<(), NoMemory>
         ensures { (filter_tags : List (List ℕ)) (seen : List AnEvent) (e : AnEvent) → SpellsEvent packet.now e → HasSummed filter_tags self.old seen → OnOk result (HasSummed filter_tags self.new (seen ++ e ∷ [])) }
     {
+        self.hear_with(packet, &mut DeafToRows)
+    }
+
+    /// The same, and the listener hears the row that the event completes, where it completes one.
+    ///
+    /// `NoMemory` comes as by `hear`, and where the listener answers it. Nothing is known then of what was heard either.
+    #[inline]
+    pub fn hear_with<L: RowListener>(
+        &mut self,
+        packet: &Packet<'_>,
+        listener: &mut L,
+    ) -> Result<(), NoMemory>
+        ensures summed { (filter_tags : List (List ℕ)) (seen : List AnEvent) (e : AnEvent) → SpellsEvent packet.now e → HasSummed filter_tags self.old seen → OnOk result (HasSummed filter_tags self.new (seen ++ e ∷ [])) }
+        ensures heard { (filter_tags : List (List ℕ)) (seen : List AnEvent) (e : AnEvent) (begun : L) (rows : List ARow) → SpellsEvent packet.now e → HasSummed filter_tags self.old seen → L.heard begun listener.old rows → OnOk result (L.heard begun listener.new (rows ++ option_to_list (completed_row seen e))) }
+    {
         match self.fold.hear(packet)? {
-            Some(row) => self.summary.take(&self.filter_tags, row),
+            Some(row) => {
+                listener.hear_row(&row)?;
+                self.summary.take(&self.filter_tags, row)
+            }
             None => Ok(()),
         }
     }
@@ -55,13 +76,25 @@ impl Summing {
     pub fn close(self) -> Result<Summary, NoMemory>
         ensures { (filter_tags : List (List ℕ)) (seen : List AnEvent) → HasSummed filter_tags self seen → IfOk result (Sums filter_tags (rows_of seen)) }
     {
+        self.close_with(&mut DeafToRows)
+    }
+
+    /// The same, and the listener hears the rows of the tests that did not end, by route, no route first, and then by id.
+    ///
+    /// `NoMemory` comes as by `hear_with`.
+    pub fn close_with<L: RowListener>(self, listener: &mut L) -> Result<Summary, NoMemory>
+        ensures summed { (filter_tags : List (List ℕ)) (seen : List AnEvent) → HasSummed filter_tags self seen → IfOk result (Sums filter_tags (rows_of seen)) }
+        ensures heard { (filter_tags : List (List ℕ)) (seen : List AnEvent) (begun : L) (rows : List ARow) → HasSummed filter_tags self seen → L.heard begun listener.old rows → OnOk result (L.heard begun listener.new (rows ++ open_rows seen)) }
+    {
         let Summing {
             alloc,
             filter_tags,
             fold,
             mut summary,
         } = self;
-        summary.take_all(&filter_tags, fold.close()?)?;
+        let open = fold.close()?;
+        hear_rows(&open, listener)?;
+        summary.take_all(&filter_tags, open)?;
         summary.in_order(alloc)
     }
 }

@@ -1,4 +1,4 @@
-use Rattle.std.proofs.Common.{sym, ◌∙◌, Some}
+use Rattle.std.proofs.Common.{sym, ◌∙◌}
 use Rattle.outcome_fold.specs.Folded.{others_in}
 use Rattle.outcome_fold.proofs.EndedLemmas.{no_end}
 use Rattle.outcome_fold.proofs.HeldLemmas.{held_goes_on, held_ends, held_gives, never_gone}

@@ -1,4 +1,4 @@
-use Rattle.std.proofs.Common.{◌≡◌, sym, Some, ap, subst}
+use Rattle.std.proofs.Common.{◌≡◌, sym, Some, subst}
 use Rattle.std.specs.Prelude.{IsSomeAnd}
 use Rattle.outcome_fold.specs.Parts as parts
 use Rattle.outcome_fold.specs.declared.fold.Held.{Held}
