@@ -12,6 +12,7 @@ pub mod Told
 pub mod Trusted
 pub mod Copying
 pub mod Perhaps
+pub mod TimesFile
 pub mod Asking
 pub mod Refreshing
 pub mod Telling

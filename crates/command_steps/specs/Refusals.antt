@@ -9,7 +9,7 @@ use Rattle.command_steps.specs.Store.{init_code, init_text, open_code, open_text
 use Rattle.command_steps.specs.Recording.{record_code, record_text}
 use Rattle.command_steps.specs.Reporting.{memory_text, print_text}
 use Rattle.command_steps.specs.Told.{tell_code, tell_text}
-use Rattle.command_steps.specs.SuiteTexts.{conf_code, conf_text, pattern_code, pattern_text, list_code, list_text, bad_line_text, call_code, call_said, call_text, table_code, table_text, listing_code, listing_said, listing_text, job_code, job_text, start_code, start_text, lanes_code, lanes_text, search_code, search_text, long_id_text}
+use Rattle.command_steps.specs.SuiteTexts.{conf_code, conf_text, pattern_code, pattern_text, list_code, list_text, bad_line_text, times_code, times_text, call_code, call_said, call_text, table_code, table_text, listing_code, listing_said, listing_text, job_code, job_text, start_code, start_text, lanes_code, lanes_text, search_code, search_text, long_id_text}
 use Rattle.command_steps.specs.Verdicts.{verdict_code}
 use Rattle.suite_causes.specs.declared.searching.SearchFault.TheVariants as search_fault
 use Rattle.suite_plan.specs.declared.calling.CallRefusal.TheVariants as call
@@ -20,12 +20,13 @@ use Rattle.suite_plan.specs.declared.processors.TableRefusal.TheVariants as tabl
 use Rattle.suite_run.specs.declared.recording.LanesRefusal.TheVariants as lanes
 use Rattle.suite_run.specs.declared.starting.StartRefusal.TheVariants as start
 use Rattle.command_steps.specs.declared.recording.RecordFault.TheVariants as record_fault
+use Rattle.command_steps.specs.declared.times_file.TimesRefusal.TheVariants as times_file
 use Rattle.command_steps.specs.declared.told.TellFault.TheVariants as tell_fault
 use Rattle.old_upgrade.specs.declared.faults.UpgradeFault.TheVariants as upgrade_fault
 use Rattle.command_steps.specs.Upgrading.{upgrade_code, upgrade_text}
 use Rattle.command_steps.specs.declared.answer.Verdict.{Verdict}
 use Rattle.command_steps.specs.declared.answer.Refusal.{Refusal}
-use Rattle.command_steps.specs.declared.answer.Refusal.TheVariants.{Usage, Init, Open, Runs, Record, Memory, Keep, Refresh, Tell, Print, Conf, Pattern, LoadList, PatternLine, Call, Table, Listing, Job, Start, Lanes, Report, Suspects, Ran, Search, LongId, Upgrade}
+use Rattle.command_steps.specs.declared.answer.Refusal.TheVariants.{Usage, Init, Open, Runs, Record, Memory, Keep, Refresh, Tell, Print, Conf, Pattern, LoadList, PatternLine, TimesFile, Call, Table, Listing, Job, Start, Lanes, Report, Suspects, Ran, Search, LongId, Upgrade}
 
 -- the status of a refusal
 abbrev pub refusal_code : Refusal → ℕ
@@ -43,6 +44,7 @@ refusal_code (Conf fault) = conf_code fault
 refusal_code (Pattern fault) = pattern_code fault
 refusal_code (LoadList fault) = list_code fault
 refusal_code (PatternLine line) = 3
+refusal_code (TimesFile fault) = times_code fault
 refusal_code (Call fault) = call_code fault
 refusal_code (Table fault) = table_code fault
 refusal_code (Listing fault) = listing_code fault
@@ -76,6 +78,7 @@ refusal_line (Conf fault) = conf_text fault
 refusal_line (Pattern fault) = pattern_text fault
 refusal_line (LoadList fault) = list_text fault
 refusal_line (PatternLine line) = bad_line_text line
+refusal_line (TimesFile fault) = times_text fault
 refusal_line (Call fault) = call_text fault
 refusal_line (Table fault) = table_text fault
 refusal_line (Listing fault) = listing_text fault
@@ -112,6 +115,7 @@ place_of (Tell tell_fault.Shelf) = Some in_folder
 place_of (Print fault) = Some in_out
 place_of (Conf conf.Site) = Some in_site
 place_of (LoadList load_list.Site) = Some in_site
+place_of (TimesFile times_file.Site) = Some in_site
 place_of (Call call.Spawn) = Some in_spawner
 place_of (Table table.Site) = Some in_site
 place_of (Listing listing.Spawn) = Some in_spawner

@@ -24,9 +24,7 @@ use Rattle.suite_plan.specs.LoadList.{ReadsLoadList}
 use Rattle.suite_plan.specs.PatternList.{ReadsPatternList}
 use Rattle.suite_plan.specs.Processors.{CountsProcessors}
 use Rattle.suite_plan.specs.Sharing.{ids_of_shard, shares_for}
-use Rattle.suite_plan.specs.declared.pattern_list.PatternListRefusal.{PatternListRefusal}
 use Rattle.suite_plan.specs.declared.pattern_list.PatternListRefusal.TheVariants as pattern_list
-use Rattle.suite_plan.specs.declared.picks.FurtherPicks.{FurtherPicks}
 use Rattle.suite_plan.specs.declared.picks.Picks.{Picks}
 use Rattle.suite_plan.specs.declared.sharing.TheConstants.{MOST_WORKERS}
 use Rattle.command_steps.specs.Asking.{FindsFailing, FindsTimes}
@@ -35,8 +33,12 @@ use Rattle.command_steps.specs.Perhaps.{when, Perhaps}
 use Rattle.command_steps.specs.Steps.{Step, Then, Still, Gives, At}
 use Rattle.testr_words.specs.Suites.{Wanted, RunOptions, is_choosing}
 use Rattle.command_steps.specs.declared.answer.Refusal.{Refusal}
+use Rattle.command_steps.specs.TimesFile.{ReadsTimes}
+use Rattle.command_steps.specs.declared.selecting.Further.{Further}
+use Rattle.command_steps.specs.declared.selecting.FurtherRefusal.{FurtherRefusal}
+use Rattle.command_steps.specs.declared.selecting.FurtherRefusal.TheVariants as further
 use Rattle.command_steps.specs.declared.selecting.Selected.{Selected}
-use Rattle.command_steps.specs.declared.answer.Refusal.TheVariants.{LoadList, PatternLine, Tell, Call, Table, Listing, Memory, Job as JobRefused, LongId as TooLong}
+use Rattle.command_steps.specs.declared.answer.Refusal.TheVariants.{LoadList, PatternLine, TimesFile, Tell, Call, Table, Listing, Memory, Job as JobRefused, LongId as TooLong}
 
 -- ---- the number of workers
 
@@ -62,17 +64,23 @@ CountsWorkers settings true asked = UsesAsked settings asked
 abbrev pub picks_of : Wanted → Picks
 picks_of wanted = record { including = wanted.patterns; excluding = wanted.excluded }
 
--- why a list of patterns was not taken, as a refusal
-abbrev pub list_refusal : PatternListRefusal → Refusal
-list_refusal (pattern_list.List refusal) = LoadList refusal
-list_refusal (pattern_list.Bad line) = PatternLine line
+-- why a file that stands beside the words was not taken, as a refusal
+abbrev pub further_refusal : FurtherRefusal → Refusal
+further_refusal (further.Patterns (pattern_list.List refusal)) = LoadList refusal
+further_refusal (further.Patterns (pattern_list.Bad line)) = PatternLine line
+further_refusal (further.Times refusal) = TimesFile refusal
 
--- the steps that read the lists of further patterns, where they are named
-abbrev pub ReadsFurther : Wanted → Step (Seen Files) FurtherPicks PatternListRefusal
+-- the times as a map
+abbrev pub Times : Type 0
+Times = FinMap text_cmp ℕ
+
+-- the steps that read the lists of further patterns, and the file of times, where they are named
+abbrev pub ReadsFurther : Wanted → Step (Seen Files) Further FurtherRefusal
 ReadsFurther wanted =
-    Then (λ refusal. refusal) (Perhaps wanted.include_list ReadsPatternList) (λ including.
-    Then (λ refusal. refusal) (Perhaps wanted.exclude_list ReadsPatternList) (λ excluding.
-    Gives (record { including = including; excluding = excluding })))
+    Then further.Patterns (Perhaps wanted.include_list ReadsPatternList) (λ including.
+    Then further.Patterns (Perhaps wanted.exclude_list ReadsPatternList) (λ excluding.
+    Then further.Times (Perhaps wanted.times ReadsTimes) (λ times.
+    Gives (record { picks = record { including = including; excluding = excluding }; times = times }))))
 
 -- ids are given neither by the failing set nor by a file, and are wanted by a pattern, by a list of patterns, for a shard or by several workers
 abbrev pub needs_listing : RunOptions → (workers : ℕ) → Bool
@@ -86,27 +94,32 @@ pub record Chooses (picks : Picks) (failing listed listing : Option Ids) (result
 abbrev pub Selects : Settings → RunOptions → Step Work Selected Refusal
 Selects settings options =
     Then LoadList (At work_site (Perhaps options.load_list ReadsLoadList)) (λ listed.
-    Then list_refusal (At work_site (ReadsFurther options.wanted)) (λ further.
+    Then further_refusal (At work_site (ReadsFurther options.wanted)) (λ further.
     Then Tell (At work_folder (Perhaps (when options.failing) (λ _. FindsFailing))) (λ failing.
     Then (λ refusal. refusal) (CountsWorkers settings options.parallel options.concurrency) (λ workers.
     Then Listing (At work_spawner (Perhaps (when (needs_listing options workers)) (λ _. ListsTests settings))) (λ listing.
-    Then Memory (Still (Chooses (with_further (picks_of options.wanted) further) failing listed listing)) (λ ids.
-    Gives (record { workers = workers; ids = ids; shard = options.wanted.shard })))))))
+    Then Memory (Still (Chooses (with_further (picks_of options.wanted) further.picks) failing listed listing)) (λ ids.
+    Gives (record { workers = workers; ids = ids; shard = options.wanted.shard; times = further.times })))))))
 
 -- ---- what each worker is started with
 
--- the times of ids, as a map
-abbrev pub Times : Type 0
-Times = FinMap text_cmp ℕ
-
--- times count for a shard, and where there are several workers
+-- the times of the repository are wanted where there are several workers and no file gives them
 abbrev pub wants_times : Selected → Bool
-wants_times selected = is_some selected.shard || nat_lt 1 selected.workers
+wants_times selected = not (is_some selected.times) && nat_lt 1 selected.workers
+
+-- The times that shards go by: those of the file, or none. Those of a repository are not among them, so runs that come between
+-- change no shard.
+abbrev pub shard_times : (given : Option Times) → Times
+shard_times given = unwrap_or given fin.empty
+
+-- the times that the shares of workers go by: those of the file, or those of the repository, or none
+abbrev pub worker_times : (given known : Option Times) → Times
+worker_times given known = unwrap_or given (unwrap_or known fin.empty)
 
 -- of the ids those of the shard, and of these the shares
 abbrev pub shares_in_shard : (groups : Option (List ℕ)) → Option Times → Selected → Ids → List Ids
 shares_in_shard groups times selected ids =
-    shares_for (fin.get (unwrap_or times fin.empty)) groups (ids_of_shard (fin.get (unwrap_or times fin.empty)) groups selected.shard ids) selected.workers
+    shares_for (fin.get (worker_times selected.times times)) groups (ids_of_shard (fin.get (shard_times selected.times)) groups selected.shard ids) selected.workers
 
 -- the shares of the ids, where ids are given
 abbrev pub shares_of_ids : (groups : Option (List ℕ)) → Option Times → Selected → Option (List Ids)

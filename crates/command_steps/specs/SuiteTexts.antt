@@ -28,6 +28,8 @@ use Rattle.suite_run.specs.declared.recording.LanesRefusal.TheVariants as lanes
 use Rattle.suite_run.specs.declared.starting.StartRefusal.{StartRefusal}
 use Rattle.suite_run.specs.declared.starting.StartRefusal.TheVariants as start
 use Rattle.command_steps.specs.Telling.{place_text, pattern_place_text}
+use Rattle.command_steps.specs.declared.times_file.TimesRefusal.{TimesRefusal}
+use Rattle.command_steps.specs.declared.times_file.TimesRefusal.TheVariants as times_file
 use Rattle.testr_conf.specs.declared.fault.JobFault.{JobFault}
 use Rattle.testr_conf.specs.declared.fault.JobFault.TheVariants as job
 use Rattle.testr_conf.specs.declared.fault.Key.{Key}
@@ -153,6 +155,24 @@ list_text (load_list.TooLong given) = long_text given.now
 list_text (load_list.Absent given) = codes "testr: no file " ++ given.now ++ codes "\n"
 list_text (load_list.NotId given number) = codes "testr: " ++ place_text given.now number ++ codes ": not an id\n"
 list_text load_list.NoMemory = short_text
+
+-- ---- a file of times
+
+-- the status where a file of times is refused
+abbrev pub times_code : TimesRefusal → ℕ
+times_code times_file.Site = 4
+times_code (times_file.TooLong given) = 3
+times_code (times_file.Absent given) = 3
+times_code (times_file.NotTimes given) = 3
+times_code times_file.NoMemory = 5
+
+-- the line where a file of times is refused
+abbrev pub times_text : TimesRefusal → List ℕ
+times_text times_file.Site = file_text
+times_text (times_file.TooLong given) = long_text given.now
+times_text (times_file.Absent given) = codes "testr: no file " ++ given.now ++ codes "\n"
+times_text (times_file.NotTimes given) = codes "testr: " ++ given.now ++ codes " is no times\n"
+times_text times_file.NoMemory = short_text
 
 -- ---- the number of workers
 

@@ -7,11 +7,13 @@ use crate::copying::CopyFault;
 use crate::planning::LongId;
 use crate::recording::RecordFault;
 use crate::reporting::PrintFault;
+use crate::selecting::FurtherRefusal;
 use crate::store::{KeepFault, RunsFault};
 use crate::suite_refusals::{
     call_code, call_line, call_said, listing_code, listing_line, listing_said, pattern_line,
 };
 use crate::telling::{Line, Refuses};
+use crate::times_file::TimesRefusal;
 use crate::told::TellFault;
 use crate::usage::UsageFault;
 use old_upgrade::UpgradeFault;
@@ -79,6 +81,8 @@ pub enum Refusal<'a> {
     LoadList(ListRefusal<'a>),
     /// A line of a list of patterns is none.
     PatternLine(BadLine<'a>),
+    /// A file of times was not taken.
+    TimesFile(TimesRefusal<'a>),
     /// The number of workers was not called out.
     Call(CallRefusal),
     /// The table of processors was not read.
@@ -228,15 +232,18 @@ impl<'a> From<ListRefusal<'a>> for Refusal<'a> {
     }
 }
 
-impl<'a> From<PatternListRefusal<'a>> for Refusal<'a> {
-    ghost use Rattle.command_steps.specs.Selecting.{list_refusal};
+impl<'a> From<FurtherRefusal<'a>> for Refusal<'a> {
+    ghost use Rattle.command_steps.specs.Selecting.{further_refusal};
 
-    ghost from_gives = { λ fault refusal. refusal ≡ list_refusal fault };
+    ghost from_gives = { λ fault refusal. refusal ≡ further_refusal fault };
 
-    fn from(fault: PatternListRefusal<'a>) -> Self {
+    fn from(fault: FurtherRefusal<'a>) -> Self {
         match fault {
-            PatternListRefusal::List(refusal) => Refusal::LoadList(refusal),
-            PatternListRefusal::Bad(line) => Refusal::PatternLine(line),
+            FurtherRefusal::Patterns(PatternListRefusal::List(refusal)) => {
+                Refusal::LoadList(refusal)
+            }
+            FurtherRefusal::Patterns(PatternListRefusal::Bad(line)) => Refusal::PatternLine(line),
+            FurtherRefusal::Times(refusal) => Refusal::TimesFile(refusal),
         }
     }
 }
@@ -340,6 +347,7 @@ impl<'a> Refusal<'a> {
             Refusal::Conf(refusal) => (*refusal).code(),
             Refusal::Pattern(refusal) => (*refusal).code(),
             Refusal::LoadList(refusal) => (*refusal).code(),
+            Refusal::TimesFile(refusal) => (*refusal).code(),
             Refusal::Call(refusal) => call_code(refusal),
             Refusal::Table(refusal) => (*refusal).code(),
             Refusal::Listing(refusal) => listing_code(refusal),
@@ -385,6 +393,7 @@ impl<'a> Refusal<'a> {
             Refusal::Pattern(refusal) => return (*refusal).line(),
             Refusal::LoadList(refusal) => return (*refusal).line(),
             Refusal::PatternLine(line) => return pattern_line(line),
+            Refusal::TimesFile(refusal) => return (*refusal).line(),
             Refusal::Call(refusal) => return call_line(refusal),
             Refusal::Table(refusal) => return (*refusal).line(),
             Refusal::Listing(refusal) => return listing_line(refusal),

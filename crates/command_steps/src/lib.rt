@@ -10,6 +10,7 @@
 //! - `recording`, `files`: what is recorded of the input, or of files
 //! - `told`, `asking`, `copying`: what is told of the runs, and a run's bytes
 //! - `reporting`, `printing`: the report of a run, made and printed
+//! - `times_file`: times that a file holds
 //! - `selecting`, `planning`, `working`: which tests run, what each worker is started with, and the workers themselves
 //! - `upgrading`: a folder of the original tool, made a repository
 //! - `causes`: which test makes another one fail
@@ -33,6 +34,7 @@ mod selecting;
 mod store;
 mod suite_refusals;
 mod telling;
+mod times_file;
 mod told;
 mod upgrading;
 mod usage;
@@ -47,11 +49,12 @@ pub use printing::print_report;
 pub use recording::RecordFault;
 pub use refreshing::refresh;
 pub use reporting::{Ending, PrintFault, end_report, print, verdict_kept};
-pub use selecting::{Selected, further_picks, select};
+pub use selecting::{Further, FurtherRefusal, Selected, read_further, select};
 pub use store::{
     KeepFault, RunsFault, begin, have_run, keep, make, make_where_none, open, take_run,
 };
 pub use telling::{Line, Part, tell};
+pub use times_file::{MOST_TIMES, TimesRefusal};
 pub use told::{TellFault, Told, find};
 pub use upgrading::{print_upgraded, upgrade_folder};
 pub use usage::UsageFault;

@@ -5,7 +5,7 @@ ghost use Rattle.suite_causes.specs.Searching.{CanHandIds};
 ghost use Rattle.suite_plan.specs.LaneJobs.{lane_jobs};
 ghost use Rattle.suite_plan.specs.Processors.{IsInRange};
 ghost use Rattle.suite_plan.specs.declared.sharing.TheConstants.{MOST_WORKERS};
-ghost use Rattle.std.specs.Option.{option_map};
+ghost use Rattle.std.specs.Option.{option_map, unwrap_or};
 ghost use Rattle.edge_io.specs.Seen.{Seen};
 ghost use Rattle.run_shelf.specs.Holds.{kinds_of, FitsWhereTold};
 ghost use Rattle.command_steps.specs.Asking.{FindsTimes};
@@ -159,11 +159,11 @@ fn jobs_of(alloc: Global, conf: &Conf, shares: &Option<Vec<IdList>>) -> Result<V
     }
 }
 
-// Whether times count: for a shard, and where there are several workers.
+// Whether the times of the runs are wanted: where there are several workers, and no file gives them.
 fn wants_times(selected: &Selected) -> bool
     ensures { result ≡ are_times_wanted selected.now }
 {
-    selected.shard.is_some() || selected.workers > 1
+    selected.times.is_none() && selected.workers > 1
 }
 
 // The times of the ids in all runs, where they are wanted.
@@ -184,7 +184,18 @@ fn known_times<H: Shelf>(
     Ok(Some(find_times(alloc, shelf, found)?))
 }
 
-// The shares of the ids, or of those of the shard, where ids are given. Without times all are unknown.
+// These times, or the others where they are none.
+fn times_or<'a>(times: &'a Option<TimeMap>, others: &'a TimeMap) -> &'a TimeMap
+    ensures { result.now ≡ unwrap_or times.now others.now }
+{
+    match times {
+        Some(times) => times,
+        None => others,
+    }
+}
+
+// The shares of the ids, or of those of the shard, where ids are given. A shard goes by no times but those of a file, so that it
+// is the same whatever ran before; without times all are unknown.
 fn divide(
     alloc: Global,
     groups: &Groups,
@@ -199,16 +210,14 @@ fn divide(
         workers,
         ids,
         shard,
+        times: given,
     } = selected;
     let Some(ids) = ids else {
         return Ok(None);
     };
     let none = TimeMap::new(alloc);
-    let times = match times {
-        Some(times) => times,
-        None => &none,
-    };
-    let ids = keep_shard(alloc, ids, times, groups, shard)?;
-    let shares = share_out(alloc, ids, times, groups, workers)?;
+    let ids = keep_shard(alloc, ids, times_or(&given, &none), groups, shard)?;
+    let known = times_or(&given, times_or(times, &none));
+    let shares = share_out(alloc, ids, known, groups, workers)?;
     Ok(Some(shares))
 }

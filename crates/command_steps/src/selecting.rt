@@ -10,6 +10,7 @@ ghost use Rattle.suite_plan.specs.LoadList.{ReadsLoadList};
 ghost use Rattle.suite_plan.specs.PatternList.{ReadsPatternList};
 ghost use Rattle.suite_plan.specs.Processors.{IsInRange};
 ghost use Rattle.command_steps.specs.Asking.{FindsFailing};
+ghost use Rattle.command_steps.specs.TimesFile.{ReadsTimes};
 ghost use Rattle.command_steps.specs.Outside.{work};
 ghost use Rattle.command_steps.specs.Perhaps.{when, Perhaps};
 ghost use Rattle.command_steps.specs.Selecting.{CountsWorkers, ReadsFurther, Selects, picks_of, needs_listing as is_listing_needed};
@@ -19,12 +20,13 @@ ghost use Rattle.testr_words.specs.Suites.{wanted_of, run_options};
 use crate::Refusal;
 use crate::asking::find_failing;
 use crate::files::name_of;
+use crate::times_file::{TimesRefusal, read_times};
 use crate::told::TellFault;
 use edge_io::{Shelf, Site, Spawner};
 use partition_times::Filters;
 use run_shelf::Found;
 use std::alloc::Global;
-use sub_number::{IdList, Text};
+use sub_number::{IdList, Text, TimeMap};
 use suite_plan::{
     FurtherPicks, ListRefusal, ListingRefusal, MOST_WORKERS, PatternListRefusal, Picks, call_out,
     chosen, count_processors, list_tests, read_load_list, read_pattern_list,
@@ -44,6 +46,48 @@ pub struct Selected {
     pub ids: Option<IdList>,
     /// The shard of these that is wanted.
     pub shard: Option<Shard>,
+    /// The times that stand in place of those of the repository, where a file of them is named.
+    pub times: Option<TimeMap>,
+}
+
+/// What files say beside the words.
+#[derive(Drop)]
+pub struct Further {
+    /// Further patterns.
+    pub picks: FurtherPicks,
+    /// The times that stand in place of those of the repository, where a file of them is named.
+    pub times: Option<TimeMap>,
+}
+
+/// Why a file that stands beside the words was not taken.
+#[derive(Drop)]
+pub enum FurtherRefusal<'a> {
+    /// A list of patterns was not.
+    Patterns(PatternListRefusal<'a>),
+    /// The file of times was not.
+    Times(TimesRefusal<'a>),
+}
+
+impl<'a> From<PatternListRefusal<'a>> for FurtherRefusal<'a> {
+    ghost use Rattle.std.specs.Prelude.{◌≡◌};
+    ghost use Rattle.command_steps.specs.declared.selecting.FurtherRefusal.TheVariants.{Patterns};
+
+    ghost from_gives = { λ fault refusal. refusal ≡ Patterns fault };
+
+    fn from(fault: PatternListRefusal<'a>) -> Self {
+        FurtherRefusal::Patterns(fault)
+    }
+}
+
+impl<'a> From<TimesRefusal<'a>> for FurtherRefusal<'a> {
+    ghost use Rattle.std.specs.Prelude.{◌≡◌};
+    ghost use Rattle.command_steps.specs.declared.selecting.FurtherRefusal.TheVariants.{Times};
+
+    ghost from_gives = { λ fault refusal. refusal ≡ Times fault };
+
+    fn from(fault: TimesRefusal<'a>) -> Self {
+        FurtherRefusal::Times(fault)
+    }
 }
 
 /// Selects the tests of a run and the number of its workers, in two calls of the folder at most where both caches cover the
@@ -69,7 +113,7 @@ pub fn select<'a, H: Shelf, S: Spawner, F: Site>(
     ensures calls { AsksByFew (length (kinds_of found.now)) 2 (H.seen shelf.old).told (H.seen shelf.new).told (H.clock shelf.old) (H.clock shelf.new) }
 {
     let listed = load_list(alloc, &command.load_list, site)?;
-    let further = further_picks(alloc, command, site)?;
+    let further = read_further(alloc, command, site)?;
     let failing = failing_ids(alloc, command.failing, shelf, found)?;
     let workers = count_workers(
         alloc,
@@ -80,11 +124,16 @@ pub fn select<'a, H: Shelf, S: Spawner, F: Site>(
         site,
     )?;
     let listing = listing(alloc, needs_listing(command, workers), conf, spawner)?;
+    let Further {
+        picks: further,
+        times,
+    } = further;
     let ids = chosen(alloc, failing, listed, listing, picks, &further)?;
     Ok(Selected {
         workers,
         ids,
         shard: command.shard,
+        times,
     })
 }
 
@@ -102,20 +151,36 @@ fn load_list<'a, F: Site>(
     }
 }
 
-/// The patterns of the lists that the command names.
-pub fn further_picks<'a, F: Site>(
+/// The patterns of the lists that the command names, and the times of the file that it names.
+pub fn read_further<'a, F: Site>(
     alloc: Global,
     command: &'a Command,
     site: &mut F,
-) -> Result<FurtherPicks, PatternListRefusal<'a>>
+) -> Result<Further, FurtherRefusal<'a>>
     ensures { ReadsFurther (wanted_of command.now) (F.seen site.old) (F.seen site.new) result }
 {
     let including = pattern_list(alloc, &command.include_list, site)?;
     let excluding = pattern_list(alloc, &command.exclude_list, site)?;
-    Ok(FurtherPicks {
+    let times = times_of_file(alloc, &command.times, site)?;
+    let picks = FurtherPicks {
         including,
         excluding,
-    })
+    };
+    Ok(Further { picks, times })
+}
+
+// The times of the file of this name, where one is named.
+fn times_of_file<'a, F: Site>(
+    alloc: Global,
+    name: &'a Option<Text>,
+    site: &mut F,
+) -> Result<Option<TimeMap>, TimesRefusal<'a>>
+    ensures { Perhaps name.now ReadsTimes (F.seen site.old) (F.seen site.new) result }
+{
+    match name {
+        Some(name) => Ok(Some(read_times(alloc, site, name_of(name))?)),
+        None => Ok(None),
+    }
 }
 
 // The patterns of the list of this name, where one is named.

@@ -7,6 +7,7 @@ ghost use Rattle.command_steps.specs.Telling.{line_text};
 
 use crate::files::name_of;
 use crate::telling::{Line, Part, Refuses};
+use crate::times_file::TimesRefusal;
 use stestr_conf::TableKey;
 use suite_causes::SearchFault;
 use suite_plan::{
@@ -225,6 +226,44 @@ impl<'a> Refuses<'a> for ListRefusal<'a> {
                 rest: ": not an id\n",
             },
             ListRefusal::NoMemory => Line::of(OUT_OF_MEMORY),
+        }
+    }
+}
+
+impl<'a> Refuses<'a> for TimesRefusal<'a> {
+    ghost use Rattle.command_steps.specs.SuiteTexts.{times_code, times_text};
+
+    ghost status = { times_code };
+
+    ghost text = { times_text };
+
+    fn code(self) -> u8 {
+        match self {
+            TimesRefusal::TooLong(_) | TimesRefusal::Absent(_) | TimesRefusal::NotTimes(_) => 3,
+            TimesRefusal::Site => 4,
+            TimesRefusal::NoMemory => 5,
+        }
+    }
+
+    fn line(self) -> Line<'a> {
+        match self {
+            TimesRefusal::Site => Line::of(FAULT_OF_A_FILE),
+            TimesRefusal::TooLong(name) => Line {
+                front: "testr: ",
+                part: Part::Name(name),
+                rest: " is too long\n",
+            },
+            TimesRefusal::Absent(name) => Line {
+                front: "testr: no file ",
+                part: Part::Name(name),
+                rest: "\n",
+            },
+            TimesRefusal::NotTimes(name) => Line {
+                front: "testr: ",
+                part: Part::Name(name),
+                rest: " is no times\n",
+            },
+            TimesRefusal::NoMemory => Line::of(OUT_OF_MEMORY),
         }
     }
 }

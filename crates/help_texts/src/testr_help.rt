@@ -154,7 +154,8 @@ what they print as the next run, and prints its report. Status 0 where no test f
                     without the tests in whose ids this one is found; it may be repeated
   --exclude-list=FILE
                     the file has more of these
-  --shard=K/N       of these only the K-th of N parts, by groups and known times; each test is in one of them
+  --shard=K/N       of these only the K-th of N parts, by groups and names; each test is in one of them
+  --times=FILE      with --shard: the parts go by the times of this file, a copy of .testrepository/times.set
   --parallel        in several workers at once; behind stestr it stands, and --serial takes it away
   --concurrency=N   in N workers, at most 64; without it, or with 0, as test_run_concurrency says, or as many as processors;
                     a line on standard error tells where N is more
@@ -169,7 +170,7 @@ Example: testr run --parallel
 
 const LIST_TESTS: &str = "\
 usage: testr list-tests [--exclude-regex=PATTERN ..] [--exclude-list=FILE] [--include-list=FILE] [--shard=K/N]
-                        [--test-path=P] [--top-dir=D] [PATTERN..]
+                        [--times=FILE] [--test-path=P] [--top-dir=D] [PATTERN..]
 Prints the ids of the tests of the project, as the configuration in the current folder has them listed. Status 0.
 It needs no repository.
   PATTERN..    only ids in which one of these regular expressions is found

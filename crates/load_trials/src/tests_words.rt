@@ -258,15 +258,18 @@ fn a_shard_is_one_of_so_many(rt: HostRuntime) {
     }
 }
 
-const WRONG_SHARDS: [&[&str]; 4] = [
+const WRONG_SHARDS: [&[&str]; 7] = [
     &["run", "--shard=x", "--shard=1/2"],
     &["run", "--shard=1/2", "--shard=2/1"],
     &["list-tests", "--shard=3/2"],
     &["load", "--shard=1/2"],
+    &["run", "--times=t"],
+    &["list-tests", "--times=t", "--times", "u"],
+    &["run", "--shard=1/2", "--times"],
 ];
 
 #[test]
-fn a_value_that_is_no_shard_is_refused_wherever_it_stands(rt: HostRuntime) {
+fn a_value_that_is_no_shard_and_times_without_one_are_refused(rt: HostRuntime) {
     let alloc = rt.alloc();
     for (row, words) in WRONG_SHARDS.iter().enumerate() {
         assert!(rt; is_no_command(alloc, words), "row {row}");

@@ -128,6 +128,57 @@ const BY_LISTS: [(&[u8], &[&str], (u8, &[u8], &[u8])); 7] = [
     ),
 ];
 
+// A file of times, the words, and the status, what is printed and what is told.
+const BY_TIMES: [(&[u8], &[&str], (u8, &[u8], &[u8])); 5] = [
+    (
+        b"subunit-times 1\n0\na\x001\x00b\x002\x00",
+        &["testr", "list-tests", "--shard=1/2", "--times=l"],
+        (0, b"b\n", NOTHING),
+    ),
+    (
+        b"subunit-times 1\n0\n",
+        &[
+            "testr",
+            "list-tests",
+            "--times=n",
+            "--shard=1/2",
+            "--times",
+            "l",
+        ],
+        (0, b"a\n", NOTHING),
+    ),
+    (
+        b"subunit-times 1\n0\nb\x001\x00a\x002\x00",
+        &["testr", "list-tests", "--shard=1/2", "--times=l"],
+        (3, NOTHING, b"testr: l is no times\n"),
+    ),
+    // The lists of patterns are read before the times.
+    (
+        b"(",
+        &[
+            "testr",
+            "list-tests",
+            "--shard=1/2",
+            "--times=n",
+            "--exclude-list=l",
+        ],
+        (3, NOTHING, b"testr: l line 1: bad pattern: (\n"),
+    ),
+    (
+        NOTHING,
+        &["testr", "list-tests", "--shard=1/2", "--times=n"],
+        (3, NOTHING, b"testr: no file n\n"),
+    ),
+];
+
+#[test]
+fn the_shards_of_a_listing_go_by_the_times_of_a_file(rt: HostRuntime) -> Result<(), Fail> {
+    for (row, (file, words, wanted)) in BY_TIMES.iter().enumerate() {
+        assert!(rt; lists_by(&rt, file, words, *wanted)?, "row {row}");
+    }
+    Ok(())
+}
+
 fn lists_by<R: Threads + Wait + Sync + AllocGlobal>(
     rt: &R,
     list: &[u8],

@@ -11,7 +11,7 @@ use std::thread::Threads;
 use sub_number::Text;
 use trial_calls::{
     FAIL, FAIL_KEPT, FOO, FOO_KEPT, NOTHING, PASSED_AS_0, PASSED_AS_1, Project, SHELF_FAULT,
-    call_in, has_file, has_started, load, project_of, put, repository, shows,
+    call_in, has_file, has_started, load, project_of, project_with, put, repository, shows,
 };
 
 const COUNTED: &[u8] =
@@ -382,31 +382,95 @@ fn the_tests_are_shared_by_their_times_and_groups(rt: HostRuntime) -> Result<(),
     Ok(())
 }
 
-// Shards, and their ids behind a run of which the times are known.
-const SHARDS: [(&str, &[u8]); 3] = [
-    ("--shard=1/2", b"a\nd\ne\n"),
-    ("--shard=2/2", b"b\nc\n"),
-    ("--shard=1/1", b"a\nb\nc\nd\ne\n"),
+// Lists of ids beside a file of times. The repository knows the times a 5, b 4, c 3 and d 3.
+const BESIDE_TIMES: &[(&[u8], &[u8])] = &[
+    (b".testr.conf", CONF),
+    (b"l", b"a\nb\nc\nd\ne\n"),
+    (b"m", b"A\na\nb\nc\n"),
+    (
+        b"t",
+        b"subunit-times 1\n7\nb\x003\x00c\x003\x00d\x004\x00e\x005\x00",
+    ),
 ];
 
+// Words, and the ids of each worker, of which there are two at most.
+type Sharing<'a> = (&'a [&'a str], &'a [[&'a [u8]; 3]]);
+
+const SHARDS: [Sharing; 7] = [
+    (
+        &["testr", "run", "--load-list=l", "--shard=1/2"],
+        &[[b"run ", b".testr-ids.0", b"a\nc\ne\n"]],
+    ),
+    (
+        &["testr", "run", "--load-list=l", "--shard=2/2"],
+        &[[b"run ", b".testr-ids.0", b"b\nd\n"]],
+    ),
+    (
+        &["testr", "run", "--load-list=l", "--shard=1/1"],
+        &[[b"run ", b".testr-ids.0", b"a\nb\nc\nd\ne\n"]],
+    ),
+    (
+        &["testr", "run", "--load-list=l", "--shard=1/2", "--times=t"],
+        &[[b"run ", b".testr-ids.0", b"e\nb\na\n"]],
+    ),
+    (
+        &[
+            "testr",
+            "run",
+            "--times",
+            "t",
+            "--load-list=l",
+            "--shard=2/2",
+        ],
+        &[[b"run ", b".testr-ids.0", b"d\nc\n"]],
+    ),
+    // Two workers go by the times of the repository: `b` is known, and `A` comes to the first share, too.
+    (
+        &[
+            "testr",
+            "run",
+            "--load-list=m",
+            "--shard=1/2",
+            "--parallel",
+            "--concurrency=2",
+        ],
+        &[[b"run ", b".testr-ids.0", b"b\nA\n"]],
+    ),
+    // By the times of the file, where one is named, `e` is the longest.
+    (
+        &[
+            "testr",
+            "run",
+            "--load-list=l",
+            "--shard=1/2",
+            "--parallel",
+            "--concurrency=2",
+            "--times=t",
+        ],
+        &[
+            [b"run ", b".testr-ids.0", b"e\na\n"],
+            [b"run ", b".testr-ids.1", b"b\n"],
+        ],
+    ),
+];
+
+// Whether these are the workers behind a run of which the times are known.
 fn is_shard<R: Threads + Wait + Sync + AllocGlobal>(
     rt: &R,
-    shard: &str,
-    ids: &[u8],
+    words: &[&str],
+    jobs: &[[&[u8]; 3]],
 ) -> Result<bool, Fail> {
-    let outputs = [(NOTHING, ENDED)];
-    let mut project = project_beside(rt.alloc(), CONF, &outputs, b"l", b"a\nb\nc\nd\ne\n")?;
+    let outputs = [(NOTHING, ENDED), (NOTHING, ENDED)];
+    let mut project = project_with(rt.alloc(), BESIDE_TIMES, &outputs, &[], &[])?;
     let mut shelf = loaded(rt, TIMED)?;
-    let words = ["testr", "run", "--load-list=l", shard];
-    let run = (words.as_slice(), 0, NO_TESTS_AS_1, "1.part", NOTHING);
-    let jobs: [[&[u8]; 3]; 1] = [[b"run ", b".testr-ids.0", ids]];
-    is_run(rt, &mut shelf, &mut project, run, &jobs)
+    let run = (words, 0, NO_TESTS_AS_1, "1.part", NOTHING);
+    is_run(rt, &mut shelf, &mut project, run, jobs)
 }
 
 #[test]
-fn shards_are_partial_runs_of_their_tests(rt: HostRuntime) -> Result<(), Fail> {
-    for (row, (shard, ids)) in SHARDS.iter().enumerate() {
-        assert!(rt; is_shard(&rt, shard, ids)?, "row {row}");
+fn shards_go_by_the_times_of_a_file_alone(rt: HostRuntime) -> Result<(), Fail> {
+    for (row, (words, jobs)) in SHARDS.iter().enumerate() {
+        assert!(rt; is_shard(&rt, words, jobs)?, "row {row}");
     }
     Ok(())
 }

@@ -5,7 +5,7 @@ use Rattle.partition_times.specs.Patterns.{IsPattern}
 use Rattle.testr_conf.specs.Jobs.{list_job_of}
 use Rattle.testr_conf.specs.Settings.{Settings}
 use Rattle.command_steps.specs.Outside.{Work}
-use Rattle.command_steps.specs.Selecting.{list_refusal}
+use Rattle.command_steps.specs.Selecting.{further_refusal}
 use Rattle.command_steps.specs.Steps.{stops, goes_on}
 use Rattle.command_steps.specs.declared.answer.Refusal.{Refusal}
 use Rattle.command_steps.specs.declared.answer.Refusal.TheVariants as refusal
@@ -29,7 +29,7 @@ list_by_never : (wanted : Wanted) (settings : Settings) (a b : Work) (r : Refusa
 list_by_never wanted settings a b r (stops fault is step) can = same_cause (refusal.Pattern fault) r is (pattern_never wanted.patterns wanted.excluded (groups_for wanted.shard settings) fault can.good can.good_regex step.says)
 list_by_never wanted settings a b r (goes_on _ m compiled (stops fault is step)) can =
     let same : a.site.told ≡ m.site.told = sym (λ i. (compiled.same i).site.told) in
-    same_cause (list_refusal fault) r is (further_never wanted m.site b.site fault (subst (CanReadFurther wanted) same can.lists) step.at)
+    same_cause (further_refusal fault) r is (further_never wanted m.site b.site fault (subst (CanReadFurther wanted) same can.lists) step.at)
 list_by_never wanted settings a b r (goes_on _ m compiled (goes_on further n read (stops fault is step))) can =
     let same : a.spawner.told ≡ n.spawner.told = sym ((λ i. (read.rest i).spawner.told) ∙ (λ i. (compiled.same i).spawner.told)) in
     same_cause (refusal.Listing fault) r is (listing_never settings n.spawner b.spawner fault can.job (subst (λ (o : Option Spawning). IsSomeAnd o (EndsWell 0)) same can.ends) step.at)

@@ -37,7 +37,10 @@ use Rattle.command_steps.specs.Refusals.{refusal_code, place_of}
 use Rattle.command_steps.specs.Outside.{Work, Place, in_folder, in_site, in_spawner, in_input, in_out, RisesAt, SomeRose, of_folder, of_site, of_spawner, of_input, of_out}
 use Rattle.command_steps.specs.Told.{fault_fails}
 use Rattle.command_steps.specs.declared.answer.Refusal.{Refusal}
-use Rattle.command_steps.specs.declared.answer.Refusal.TheVariants.{Usage, Init, Open, Record, Keep, Refresh, Tell, Print, Conf, Pattern, LoadList, Call, Table, Listing, Job, Start, Lanes, Ran, Search, Upgrade}
+use Rattle.command_steps.specs.TimesFile.{times_failed}
+use Rattle.command_steps.specs.declared.times_file.TimesRefusal.{TimesRefusal}
+use Rattle.command_steps.specs.declared.times_file.TimesRefusal.TheVariants as times_file
+use Rattle.command_steps.specs.declared.answer.Refusal.TheVariants.{Usage, Init, Open, Record, Keep, Refresh, Tell, Print, Conf, Pattern, LoadList, TimesFile, Call, Table, Listing, Job, Start, Lanes, Ran, Search, Upgrade}
 use Rattle.command_steps.specs.declared.recording.RecordFault.TheVariants as record_fault
 use Rattle.old_upgrade.specs.declared.faults.UpgradeFault.TheVariants as upgrade_fault
 use Rattle.command_steps.specs.declared.told.TellFault.{TellFault}
@@ -63,6 +66,7 @@ codes (Tell tell_fault.Shelf) named = record { least = omega arith; most = omega
 codes (Conf conf.Site) named = record { least = omega arith; most = omega arith }
 codes (Pattern pattern.NoMemory) named = record { least = omega arith; most = omega arith }
 codes (LoadList load_list.Site) named = record { least = omega arith; most = omega arith }
+codes (TimesFile times_file.Site) named = record { least = omega arith; most = omega arith }
 codes (Call call.Spawn) named = record { least = omega arith; most = omega arith }
 codes (Table table.Site) named = record { least = omega arith; most = omega arith }
 codes (Listing listing.Spawn) named = record { least = omega arith; most = omega arith }
@@ -92,6 +96,7 @@ faults (Print fault) four = of_part in_out refl
 faults (Conf conf.Site) four = of_part in_site refl
 faults (Pattern pattern.NoMemory) four = absurd (omega (arith, four))
 faults (LoadList load_list.Site) four = of_part in_site refl
+faults (TimesFile times_file.Site) four = of_part in_site refl
 faults (Call call.Spawn) four = of_part in_spawner refl
 faults (Call call.Child) four = of_child tt
 faults (Table table.Site) four = of_part in_site refl
@@ -151,6 +156,10 @@ conf_place T fault = refl
 pub list_place : (T : Type 0) (fault : ListRefusal) → place_of (LoadList fault) ≡ cond (list_failed {T = T} (Err fault)) (Some in_site) None
 list_place T load_list.Site = refl
 list_place T fault = refl
+
+pub times_place : (T : Type 0) (fault : TimesRefusal) → place_of (TimesFile fault) ≡ cond (times_failed {T = T} (Err fault)) (Some in_site) None
+times_place T times_file.Site = refl
+times_place T fault = refl
 
 pub table_place : (T : Type 0) (fault : TableRefusal) → place_of (Table fault) ≡ cond (table_failed {T = T} (Err fault)) (Some in_site) None
 table_place T table.Site = refl

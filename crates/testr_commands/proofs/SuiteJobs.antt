@@ -2,7 +2,6 @@
 use Rattle.std.proofs.Common.{◌≡◌, ℕ, zero, suc, ◌≤◌, Bool, true, false, cond, Option, None, Some, IfSome, Result, Ok, Err, List, [], ◌∷◌, length, replicate, min, ◌==◌, ◌+◌, ◌%◌, refl, sym, ap, subst, ◌∙◌, arith}
 use Rattle.std.proofs.lemmas.List.{length-replicate}
 use Rattle.std.specs.FinMap as fin
-use Rattle.std.specs.Option.{unwrap_or}
 use Rattle.edge_io.specs.declared.job.Job.{Job}
 use Rattle.testr_conf.specs.Jobs.{run_job_of}
 use Rattle.testr_conf.specs.Settings.{Settings}
@@ -17,7 +16,7 @@ use Rattle.suite_plan.specs.declared.sharing.TheConstants.{MOST_WORKERS}
 use Rattle.suite_plan.proofs.ShareLemmas.{few_kept}
 use Rattle.command_steps.specs.Outside.{Work}
 use Rattle.suite_run.specs.NoneLost.{AreAllShort}
-use Rattle.command_steps.specs.Selecting.{UsesCalled, UsesAsked, CountsWorkers, Selects, shares_of_ids, Planned, Plans}
+use Rattle.command_steps.specs.Selecting.{UsesCalled, UsesAsked, CountsWorkers, Selects, shard_times, worker_times, shares_of_ids, Planned, Plans}
 use Rattle.command_steps.specs.Selecting.{Times as KnownTimes}
 use Rattle.command_steps.specs.Steps.{Gives}
 use Rattle.testr_words.specs.Suites.{RunOptions}
@@ -55,9 +54,15 @@ few_shares times groups ids workers some =
 few_by_ids : (groups : Option (List ℕ)) (times : Option KnownTimes) (selected : Selected) → IsInRange selected.workers → IfSome (shares_of_ids groups times selected) (λ shares. length shares ≤ 64)
 few_by_ids groups times selected range = by selected.ids
   where
-    by : (ids : Option Ids) → IfSome (shares_of_ids groups times (record { workers = selected.workers; ids = ids; shard = selected.shard })) (λ shares. length shares ≤ 64)
+    known : Times
+    known = fin.get (worker_times selected.times times)
+
+    parting : Times
+    parting = fin.get (shard_times selected.times)
+
+    by : (ids : Option Ids) → IfSome (shares_of_ids groups times (record { workers = selected.workers; ids = ids; shard = selected.shard; times = selected.times })) (λ shares. length shares ≤ 64)
     by None = tt
-    by (Some ids) = omega (arith, range.1, few_shares (fin.get (unwrap_or times fin.empty)) groups (ids_of_shard (fin.get (unwrap_or times fin.empty)) groups selected.shard ids) selected.workers range.0)
+    by (Some ids) = omega (arith, range.1, few_shares known groups (ids_of_shard parting groups selected.shard ids) selected.workers range.0)
 
 -- ---- jobs
 

@@ -21,7 +21,7 @@ use Rattle.suite_plan.specs.declared.calling.CallRefusal.{CallRefusal}
 use Rattle.suite_plan.specs.declared.conf_file.ConfRefusal.{ConfRefusal}
 use Rattle.suite_plan.specs.declared.listing.ListingRefusal.{ListingRefusal}
 use Rattle.suite_plan.specs.declared.load_list.ListRefusal.{ListRefusal}
-use Rattle.suite_plan.specs.declared.pattern_list.PatternListRefusal.{PatternListRefusal}
+use Rattle.command_steps.specs.declared.selecting.FurtherRefusal.{FurtherRefusal}
 use Rattle.suite_plan.specs.declared.patterns.PatternRefusal.{PatternRefusal}
 use Rattle.suite_plan.specs.declared.processors.TableRefusal.{TableRefusal}
 use Rattle.suite_run.specs.Recording.{RecordsLanes}
@@ -36,7 +36,7 @@ use Rattle.command_steps.specs.Outside.{Work, work_folder, work_site, work_spawn
 use Rattle.command_steps.specs.Perhaps.{Perhaps, not_asked, did, refused}
 use Rattle.testr_commands.specs.RunSuite.{ListsBy, ListsSuite, TellsRun, TellsAndFinds, RunsBy, RunsSuite}
 use Rattle.command_steps.specs.Working.{Works}
-use Rattle.command_steps.specs.Selecting.{list_refusal, ReadsFurther, UsesCalled, UsesAsked, CountsWorkers, Selects, Plans, Planned}
+use Rattle.command_steps.specs.Selecting.{further_refusal, ReadsFurther, UsesCalled, UsesAsked, CountsWorkers, Selects, Plans, Planned}
 use Rattle.testr_commands.specs.SelfTest.{TestsItself}
 use Rattle.command_steps.specs.Steps.{Step, Gives}
 use Rattle.testr_words.specs.Suites.{ListOptions, Wanted, RunOptions, Project}
@@ -106,8 +106,8 @@ module _ (a b : Work) where
     list_refuses : (name : List ℕ) (fault : ListRefusal) → ReadsLoadList name a.site b.site (Err fault) → IsRefused ⊤ (refusal.LoadList fault) a b
     list_refuses name fault reads = placed a b (refusal.LoadList fault) tt (λ c. tt) (list_place (List (List ℕ)) fault) (site_counts _ reads.count)
 
-    further_refuses : (wanted : Wanted) (fault : PatternListRefusal) → ReadsFurther wanted a.site b.site (Err fault) → IsRefused ⊤ (list_refusal fault) a b
-    further_refuses wanted fault reads = placed a b (list_refusal fault) (further_named fault) (λ c. tt) (further_place fault) (site_counts _ (further_rises wanted a.site b.site fault reads))
+    further_refuses : (wanted : Wanted) (fault : FurtherRefusal) → ReadsFurther wanted a.site b.site (Err fault) → IsRefused ⊤ (further_refusal fault) a b
+    further_refuses wanted fault reads = placed a b (further_refusal fault) (further_named fault) (λ c. tt) (further_place fault) (site_counts _ (further_rises wanted a.site b.site fault reads))
 
     table_refuses : (fault : TableRefusal) → CountsProcessors a.site b.site (Err fault) → IsRefused ⊤ (refusal.Table fault) a b
     table_refuses fault counts = placed a b (refusal.Table fault) tt (λ c. tt) (table_place ℕ fault) (site_counts _ counts.count)

@@ -53,7 +53,7 @@ use Rattle.command_steps.specs.Working.{Works}
 use Rattle.testr_commands.specs.Searches.{ProbesEnd, suspects_in, UseNoBroken}
 use Rattle.testr_commands.specs.Prospects.{MayCount, MaySelect, MayPlan}
 use Rattle.command_steps.specs.Runs.{HasRuns, KeepsFiles, run_bytes}
-use Rattle.command_steps.specs.Selecting.{Times, list_refusal, UsesCalled, UsesAsked, CountsWorkers, needs_listing, Selects, shares_of_ids, MakesJobs, HandsIds, Plans, asked_of, Planned, NamesIds}
+use Rattle.command_steps.specs.Selecting.{Times, shard_times, worker_times, further_refusal, UsesCalled, UsesAsked, CountsWorkers, needs_listing, Selects, shares_of_ids, MakesJobs, HandsIds, Plans, asked_of, Planned, NamesIds}
 use Rattle.command_steps.specs.Steps.{Step, stops, goes_on}
 use Rattle.testr_commands.specs.SuiteProgram.{calls_by, calls_of, EndsWell, CountIsTold, CallsOutNone, CanHand, CanRun}
 use Rattle.command_steps.specs.SuiteTexts.{list_code, table_code, job_code, start_code, lanes_code}
@@ -290,7 +290,7 @@ select_never settings options a b r (stops fault is step) can =
     same_cause (refusal.LoadList fault) r is (load_list_never asked.0 a.site b.site fault (asked_list options.load_list a.site.told asked.0 asked.1 can.load_list) asked.2)
 select_never settings options a b r (goes_on listed m read (stops fault is step)) can =
     let site : a.site.told ≡ m.site.told = sym (list_stays options.load_list a.site m.site listed read.at) in
-    same_cause (list_refusal fault) r is (further_never options.wanted m.site b.site fault (subst (CanReadFurther options.wanted) site can.lists) step.at)
+    same_cause (further_refusal fault) r is (further_never options.wanted m.site b.site fault (subst (CanReadFurther options.wanted) site can.lists) step.at)
 select_never settings options a b r (goes_on listed m read (goes_on further n more (stops fault is step))) can = same_cause (refusal.Tell fault) r is ((λ three. tell_never fault three), (λ child. child))
 select_never settings options a b r (goes_on listed m read (goes_on further n more (goes_on failing m2 found next))) can =
     let site : a.site.told ≡ m2.site.told = sym ((λ i. (found.rest i).site.told) ∙ further_told options.wanted m.site n.site (Ok further) more.at ∙ list_stays options.load_list a.site m.site listed read.at) in
@@ -348,13 +348,16 @@ handed_shares : (settings : Settings) (times : Option Times) (selected : Selecte
 handed_shares settings times selected range handed = by selected.ids handed
   where
     known : KnownTimes
-    known = fin.get (unwrap_or times fin.empty)
+    known = fin.get (worker_times selected.times times)
 
-    by : (ids : Option Ids) → IfSome ids (CanHand settings) → HandsShares settings (shares_of_ids settings.group_regex times (record { workers = selected.workers; ids = ids; shard = selected.shard }))
+    parting : KnownTimes
+    parting = fin.get (shard_times selected.times)
+
+    by : (ids : Option Ids) → IfSome ids (CanHand settings) → HandsShares settings (shares_of_ids settings.group_regex times (record { workers = selected.workers; ids = ids; shard = selected.shard; times = selected.times }))
     by None handed = tt
     by (Some ids) handed = λ some. handed (λ none.
-        some (ap (λ (l : Ids). shares_for known settings.group_regex (ids_of_shard known settings.group_regex selected.shard l) selected.workers) none
-        ∙ ap (λ (l : Ids). shares_for known settings.group_regex l selected.workers) (no_part known settings.group_regex selected.shard)
+        some (ap (λ (l : Ids). shares_for known settings.group_regex (ids_of_shard parting settings.group_regex selected.shard l) selected.workers) none
+        ∙ ap (λ (l : Ids). shares_for known settings.group_regex l selected.workers) (no_part parting settings.group_regex selected.shard)
         ∙ no_shares known settings.group_regex selected.workers (omega (arith, range.0))))
 
 -- ids can be handed to a probe, where that is asked

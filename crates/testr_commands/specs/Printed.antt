@@ -10,7 +10,7 @@ use Rattle.sub_text.specs.Texts.{report_of, summary_of}
 use Rattle.suite_plan.specs.Choosing.{Ids}
 use Rattle.suite_plan.specs.ConfFile.{GivesSettings}
 use Rattle.suite_plan.specs.Listing.{ListsSo}
-use Rattle.suite_plan.specs.declared.picks.FurtherPicks.{FurtherPicks}
+use Rattle.command_steps.specs.declared.selecting.Further.{Further}
 use Rattle.testr_conf.specs.Jobs.{id_lines}
 use Rattle.testr_conf.specs.Settings.{Settings}
 use Rattle.command_steps.specs.Files.{AreSources, HasRecordedInTurn}
@@ -46,7 +46,7 @@ pub record PrintsOfAnswer (question : Question) (before after : Work) : Type 0 w
 pub record PrintsOfListing (options : ListOptions) (before after : Work) : Type 0 where
   pub settings : Settings
   pub conf : IfSome before.site.told (GivesSettings options.project settings)
-  pub further : FurtherPicks
+  pub further : Further
   pub lists : GivesFurther options.wanted further before.site.told
   pub ids : Ids
   pub listed : Goes before.spawner.told after.spawner.told (ListsSo settings ids)

@@ -14,13 +14,13 @@ use Rattle.suite_plan.specs.Sharing.{ids_of_shard}
 use Rattle.command_steps.specs.Causes.{FindsCauses}
 use Rattle.command_steps.specs.Outside.{Work, work_folder, work_site, work_spawner, work_out}
 use Rattle.command_steps.specs.Reporting.{Reports, Prints}
-use Rattle.command_steps.specs.Selecting.{Times, picks_of, list_refusal, ReadsFurther, Selects, Plans}
+use Rattle.command_steps.specs.Selecting.{shard_times, picks_of, further_refusal, ReadsFurther, Selects, Plans}
 use Rattle.command_steps.specs.Steps.{Step, Then, Still, Gives, At}
 use Rattle.command_steps.specs.Store.{Opens, TakesRun}
 use Rattle.testr_words.specs.Shards.{Part}
 use Rattle.testr_words.specs.Suites.{ListOptions, Wanted, RunOptions, is_partial}
 use Rattle.suite_plan.specs.declared.patterns.Compiled.{Compiled}
-use Rattle.suite_plan.specs.declared.picks.FurtherPicks.{FurtherPicks}
+use Rattle.command_steps.specs.declared.selecting.Further.{Further}
 use Rattle.testr_commands.specs.declared.run.Asked.{Asked}
 use Rattle.command_steps.specs.declared.answer.Verdict.{Verdict}
 use Rattle.command_steps.specs.declared.answer.Verdict.TheVariants.{Passed}
@@ -35,24 +35,20 @@ abbrev pub groups_for : Option Part → Settings → Option (List ℕ)
 groups_for None settings = None
 groups_for (Some part) settings = settings.group_regex
 
--- no time is known
-abbrev pub no_times : Times
-no_times = fin.empty
-
 -- of the tests listed, those that are wanted by the patterns, these and the further ones, and of them those of the shard
-abbrev pub listed_ids : Wanted → Settings → FurtherPicks → Ids → Ids
+abbrev pub listed_ids : Wanted → Settings → Further → Ids → Ids
 listed_ids wanted settings further ids =
-    ids_of_shard (fin.get no_times) (groups_for wanted.shard settings) wanted.shard (chosen_of (with_further (picks_of wanted) further) ids)
+    ids_of_shard (fin.get (shard_times further.times)) (groups_for wanted.shard settings) wanted.shard (chosen_of (with_further (picks_of wanted) further.picks) ids)
 
 -- those, each on a line
-pub record WritesIds (wanted : Wanted) (settings : Settings) (further : FurtherPicks) (ids : Ids) (result : Result (List ℕ) NoMemory) : Type 0 where
+pub record WritesIds (wanted : Wanted) (settings : Settings) (further : Further) (ids : Ids) (result : Result (List ℕ) NoMemory) : Type 0 where
   pub lines : IfOk result (λ text. text ≡ id_lines (listed_ids wanted settings further ids))
 
 -- what is done with a configuration
 abbrev pub ListsBy : Wanted → Settings → Step Work Verdict Refusal
 ListsBy wanted settings =
     Then Pattern (Still (Compiles wanted.patterns wanted.excluded (groups_for wanted.shard settings))) (λ _.
-    Then list_refusal (At work_site (ReadsFurther wanted)) (λ further.
+    Then further_refusal (At work_site (ReadsFurther wanted)) (λ further.
     Then Listing (At work_spawner (ListsTests settings)) (λ ids.
     Then Memory (Still (WritesIds wanted settings further ids)) (λ text.
     Then Print (At work_out (Prints text)) (λ _.

@@ -20,7 +20,7 @@ use Rattle.suite_plan.specs.Listing.{ListsSo}
 use Rattle.suite_plan.specs.LoadList.{IsLoadList}
 use Rattle.suite_plan.specs.Processors.{table_name}
 use Rattle.suite_plan.specs.Texts.{most_text}
-use Rattle.suite_plan.specs.declared.picks.FurtherPicks.{FurtherPicks}
+use Rattle.command_steps.specs.declared.selecting.Further.{Further}
 use Rattle.testr_conf.specs.Jobs.{count_job_of, list_job_of, run_job_of, id_lines}
 use Rattle.testr_conf.specs.Settings.{Settings}
 use Rattle.command_steps.specs.Outside.{Work}
@@ -42,7 +42,7 @@ use Rattle.command_steps.specs.declared.selecting.Selected.{Selected}
 pub record ListsAll (options : ListOptions) (before after : Work) (answer : ℕ) : Type 0 where
   pub settings : Settings
   pub conf : IfSome before.site.told (GivesSettings options.project settings)
-  pub further : FurtherPicks
+  pub further : Further
   pub lists : GivesFurther options.wanted further before.site.told
   pub ids : Ids
   pub listed : Goes before.spawner.told after.spawner.told (ListsSo settings ids)

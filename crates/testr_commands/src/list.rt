@@ -8,18 +8,19 @@ ghost use Rattle.edge_io.specs.Seen.{Seen};
 ghost use Rattle.suite_plan.specs.Choosing.{with_further, chosen_of};
 ghost use Rattle.testr_conf.specs.Jobs.{id_lines};
 ghost use Rattle.command_steps.specs.Outside.{work};
-ghost use Rattle.testr_commands.specs.RunSuite.{ListsBy, groups_for, no_times};
+ghost use Rattle.command_steps.specs.Selecting.{shard_times};
+ghost use Rattle.testr_commands.specs.RunSuite.{ListsBy, groups_for};
 ghost use Rattle.suite_plan.specs.Patterns.{Compiles};
 ghost use Rattle.suite_plan.specs.Sharing.{ids_of_shard};
 ghost use Rattle.std.specs.FinMap as fin;
 ghost use Rattle.testr_words.specs.Suites.{wanted_of};
 
 use crate::{Refusal, Verdict};
-use command_steps::{further_picks, print};
+use command_steps::{Further, print, read_further};
 use edge_io::{Sink, Site, Spawner};
 use std::alloc::Global;
 use sub_number::{IdList, NoMemory, TimeMap};
-use suite_plan::{Compiled, FurtherPicks, PatternRefusal, choose, compile, keep_shard, list_tests};
+use suite_plan::{Compiled, PatternRefusal, choose, compile, keep_shard, list_tests};
 use testr_conf::{Conf, id_lines};
 use testr_words::{Command, Shard};
 
@@ -39,7 +40,7 @@ pub fn list<'a, S: Spawner, F: Site, O: Sink>(
         result }
 {
     let compiled = compiled(alloc, command, conf)?;
-    let further = further_picks(alloc, command, site)?;
+    let further = read_further(alloc, command, site)?;
     let ids = list_tests(alloc, conf, spawner)?;
     let text = wanted_lines(alloc, ids, &compiled, &further, command.shard)?;
     print(out, &text)?;
@@ -61,19 +62,23 @@ fn compiled<'a>(
 }
 
 // The ids, of which each stands once, that are wanted by these patterns and the further ones, of a shard its own, each on a
-// line. No time is known.
+// line. Times are known by a file alone.
 fn wanted_lines(
     alloc: Global,
     ids: IdList,
     compiled: &Compiled,
-    further: &FurtherPicks,
+    further: &Further,
     shard: Option<Shard>,
 ) -> Result<Vec<u8>, NoMemory>
     requires { IsDistinct bytes_eq ids }
-    ensures { IfOk result (λ lines. lines.items ≡ id_lines (ids_of_shard (fin.get no_times) compiled.now.groups shard (chosen_of (with_further compiled.now.picks further.now) ids))) }
+    ensures { IfOk result (λ lines. lines.items ≡ id_lines (ids_of_shard (fin.get (shard_times further.now.times)) compiled.now.groups shard (chosen_of (with_further compiled.now.picks further.now.picks) ids))) }
 {
-    let wanted = choose(alloc, ids, &compiled.picks, further)?;
+    let wanted = choose(alloc, ids, &compiled.picks, &further.picks)?;
     let none = TimeMap::new(alloc);
-    let kept = keep_shard(alloc, wanted, &none, &compiled.groups, shard)?;
+    let times = match &further.times {
+        Some(times) => times,
+        None => &none,
+    };
+    let kept = keep_shard(alloc, wanted, times, &compiled.groups, shard)?;
     id_lines(alloc, kept.list())
 }

@@ -17,6 +17,8 @@ pub record Wanted : Type 0 where
   pub exclude_list : Option (List ℕ)
   -- the shard of those that are wanted
   pub shard : Option Part
+  -- the file of the times that the shard goes by
+  pub times : Option (List ℕ)
 
 -- something is said of it
 abbrev pub is_choosing : Wanted → Bool
@@ -30,6 +32,7 @@ wanted_of command = record {
   include_list = command.include_list;
   exclude_list = command.exclude_list;
   shard = command.shard;
+  times = command.times;
 }
 
 -- the project whose tests are run, and what the words say of it

@@ -80,6 +80,10 @@ group_regex_word = codes "--group-regex"
 abbrev pub shard_word : List ℕ
 shard_word = codes "--shard"
 
+-- the option that names the file of the times that shards go by
+abbrev pub times_word : List ℕ
+times_word = codes "--times"
+
 -- the word that ends the options of a run
 abbrev pub end_word : List ℕ
 end_word = codes "--"
@@ -129,9 +133,9 @@ abbrev pub is_face_flag : Face → List ℕ → Bool
 is_face_flag Testr word = false
 is_face_flag Stestr word = bytes_eq word (codes "--serial")
 
--- the options that choose tests by patterns or a shard
+-- the options that choose tests by patterns or a shard, or name the times that the shard goes by
 abbrev pub choosing_kind : List ℕ → Option Kind
-choosing_kind word = if bytes_eq word exclude_word || (bytes_eq word exclude_list_word || (bytes_eq word include_list_word || bytes_eq word shard_word)) then Some Valued else None
+choosing_kind word = if bytes_eq word exclude_word || (bytes_eq word exclude_list_word || (bytes_eq word include_list_word || (bytes_eq word shard_word || bytes_eq word times_word))) then Some Valued else None
 
 -- the options of `list-tests`
 abbrev pub list_kind : List ℕ → Option Kind
@@ -386,6 +390,7 @@ command_of_drawing face drawing = record {
   include_list = None;
   exclude_list = None;
   shard = None;
+  times = None;
   project = no_project_words;
   seed = drawing.seed;
   lanes = drawing.lanes;
@@ -405,9 +410,14 @@ made_first_by Stestr Load items = true
 made_first_by Stestr Run items = true
 made_first_by face verb items = has_flag (codes "--force-init") items
 
--- the command of these items, names, workers, load list, patterns, files of patterns and shard, where the names are no more than the verb has
-abbrev pub command_with : Face → Verb → List Item → (names : List (List ℕ)) → (workers : ℕ) → (load_list : Option (List ℕ)) → (excluded : List (List ℕ)) → (include_list exclude_list : Option (List ℕ)) → (shard : Option Part) → Option Command
-command_with face verb items names workers load_list excluded include_list exclude_list shard = if may_have (most_names verb) (length names) then Some (record {
+-- a file of times is named for a shard alone
+abbrev pub may_time : (shard : Option Part) → (times : Option (List ℕ)) → Bool
+may_time shard times = is_some shard || not (is_some times)
+
+-- The command of these items, names, workers, load list, patterns, files of patterns, shard and file of times, where the names are
+-- no more than the verb has, and the file has a shard.
+abbrev pub command_with : Face → Verb → List Item → (names : List (List ℕ)) → (workers : ℕ) → (load_list : Option (List ℕ)) → (excluded : List (List ℕ)) → (include_list exclude_list : Option (List ℕ)) → (shard : Option Part) → (times : Option (List ℕ)) → Option Command
+command_with face verb items names workers load_list excluded include_list exclude_list shard times = if may_have (most_names verb) (length names) && may_time shard times then Some (record {
   face = face;
   verb = verb;
   partial = has_flag (codes "--partial") items;
@@ -428,6 +438,7 @@ command_with face verb items names workers load_list excluded include_list exclu
   include_list = include_list;
   exclude_list = exclude_list;
   shard = shard;
+  times = times;
   project = no_project_words;
   seed = 0;
   lanes = 0;
@@ -444,7 +455,8 @@ command_of_names face verb items =
     and_then (file_in include_list_word items) (λ include_list.
     and_then (file_in exclude_list_word items) (λ exclude_list.
     and_then (shard_in items) (λ shard.
-    command_with face verb items names workers load_list excluded include_list exclude_list shard)))))))
+    and_then (file_in times_word items) (λ times.
+    command_with face verb items names workers load_list excluded include_list exclude_list shard times))))))))
 
 -- the command of this verb that the items ask for
 abbrev pub command_of_items : Face → Verb → List Item → Option Command

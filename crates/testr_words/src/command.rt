@@ -112,6 +112,8 @@ pub struct Command {
     pub exclude_list: Option<Text>,
     /// The shard of the tests that is wanted.
     pub shard: Option<Shard>,
+    /// The file of the times that the shard goes by, and the shares of its workers.
+    pub times: Option<Text>,
     /// What is said of the project.
     pub project: ProjectWords,
     /// The seed of generated outputs.

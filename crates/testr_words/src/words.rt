@@ -4,18 +4,18 @@ ghost use Rattle.std.specs.Prelude.{◌≡◌, ◌++◌, true, map, option_map, 
 ghost use Rattle.command_words.specs.Code.{shown};
 ghost use Rattle.command_words.specs.Items.{texts, is_text};
 ghost use Rattle.std.specs.List.{list_all};
-ghost use Rattle.testr_words.specs.Words.{face_of, face_in, verb_of, verb_by, kinds_of, only_flag, load_kind, last_kind, run_kind, choosing_kind, idle_or, quiet_or, is_run_flag as is_flag_of_run, is_face_flag as is_flag_of_face, parallel_by, made_first_by, most_names, may_have as may_have_these, names_in, names_of, if_texts, command_of_names as command_of_these_names, command_of_drawing, drawing_in as drawing_of_items, command_of_items, command_of_verb, command_of, list_kind, is_run_option as is_option_of_run, command_behind as command_of_parts};
+ghost use Rattle.testr_words.specs.Words.{face_of, face_in, verb_of, verb_by, kinds_of, only_flag, load_kind, last_kind, run_kind, choosing_kind, idle_or, quiet_or, is_run_flag as is_flag_of_run, is_face_flag as is_flag_of_face, parallel_by, made_first_by, most_names, may_have as may_have_these, may_time as may_time_these, names_in, names_of, if_texts, command_of_names as command_of_these_names, command_of_drawing, drawing_in as drawing_of_items, command_of_items, command_of_verb, command_of, list_kind, is_run_option as is_option_of_run, command_behind as command_of_parts};
 ghost use Rattle.testr_words.specs.declared.command.Face.TheVariants.{Testr};
 
 use crate::command::{Command, Face, ProjectWords, Verb};
 use crate::drawing::drawing_in;
 use crate::letters::long_words;
 use crate::project::{parted, project_in};
-use crate::shard::shard_in;
+use crate::shard::{Shard, shard_in};
 use crate::values::{are_too_many_in, file_in, push_text, texts_in, workers_in};
 use command_words::{Item, Kind, OptionTable, has_flag, read_items};
 use std::alloc::Global;
-use sub_number::{IdList, NoMemory};
+use sub_number::{IdList, NoMemory, Text};
 
 /// How many files a load may be given.
 pub const MOST_FILES: usize = 64;
@@ -215,12 +215,12 @@ fn is_face_flag(face: Face, name: &str) -> bool
     }
 }
 
-// The option is one of those that choose tests by patterns or a shard, or none.
+// The option is one of those that choose tests by patterns or a shard, or name the times that the shard goes by, or none.
 fn choosing_option(name: &str) -> Option<Kind>
     ensures { result ≡ choosing_kind name.now }
 {
     match name {
-        "--exclude-regex" | "--exclude-list" | "--include-list" | "--shard" => {
+        "--exclude-regex" | "--exclude-list" | "--include-list" | "--shard" | "--times" => {
             Some(Kind::Valued)
         }
         _ => None,
@@ -305,6 +305,7 @@ fn drawing_command(alloc: Global, face: Face, items: &[Item<'_>]) -> Option<Comm
         include_list: None,
         exclude_list: None,
         shard: None,
+        times: None,
         project: ProjectWords::none(alloc),
         seed: drawing.seed,
         lanes: drawing.lanes,
@@ -337,6 +338,13 @@ fn may_have(verb: Verb, names: usize) -> bool
         Some(most) => names <= most,
         None => true,
     }
+}
+
+// Whether a file of times, where one is named, has a shard to stand for.
+fn may_time(shard: Option<Shard>, times: &Option<Text>) -> bool
+    ensures { result ≡ may_time_these shard times.now }
+{
+    shard.is_some() || times.is_none()
 }
 
 // Whether several workers are asked for: by default, where the face is `stestr`.
@@ -389,7 +397,10 @@ fn command_of_names(
     let Some(shard) = shard_in(items) else {
         return Ok(None);
     };
-    if !may_have(verb, names.list().len()) {
+    let Some(times) = file_in(alloc, items, "--times")? else {
+        return Ok(None);
+    };
+    if !(may_have(verb, names.list().len()) && may_time(shard, &times)) {
         return Ok(None);
     }
     Ok(Some(Command {
@@ -413,6 +424,7 @@ fn command_of_names(
         include_list,
         exclude_list,
         shard,
+        times,
         project: ProjectWords::none(alloc),
         seed: 0,
         lanes: 0,

@@ -50,7 +50,7 @@ returns-clause-step g c = λ input out.
     (part_done _ _ c.in_ok-failing.ensures.step
     (goes_on c.in_ok-workers.workers _ (c.in_ok-workers.ensures.step _ _ _)
     (part_done _ _ (perhaps_as c.needs_listing.ensures c.in_ok-listing.ensures.step)
-    (still_done _ (chooses_as _ _ c.in_ok-further.further _ _ _ _ c.requires.picks c.in_ok-ids.ensures)
+    (still_done _ (chooses_as _ _ c.in_ok-further.further.picks _ _ _ _ c.requires.picks c.in_ok-ids.ensures)
     gives)))))
 
 pub returns-in_err-listed-clause-calls : goal.returns-in_err-listed-clause-calls
