@@ -186,7 +186,7 @@ class Home:
 
     def check_runs(self, also=()):
         """The runs are whole, and no draft is left, unless that is also allowed."""
-        there = set(os.listdir(os.path.join(self.folder, ".testrepository"))) - {"lock", *NAMES, *also}
+        there = set(os.listdir(os.path.join(self.folder, ".testrepository"))) - {"lock", "writer", *NAMES, *also}
         check(there == {"format", *self.runs}, f"the files are {sorted(there)}")
         for name, kept in self.runs.items():
             check(bytes_of(self.folder, name) == kept, f"run {name} is damaged")

@@ -71,7 +71,7 @@ def new_repository(*counts):
 
 def check_runs(folder, *counts):
     """The runs have so many events, each is whole, and no draft is left."""
-    files = set(os.listdir(os.path.join(folder, ".testrepository"))) - {"lock", *caches.NAMES}
+    files = set(os.listdir(os.path.join(folder, ".testrepository"))) - {"lock", "writer", *caches.NAMES}
     wanted = {"format", *(str(place) for place in range(len(counts)))}
     check(files == wanted, f"the files are {sorted(files)}, not {sorted(wanted)}")
     check(bytes_of(folder, "format") == FORMAT, "format is damaged")
@@ -334,9 +334,11 @@ def lock_is_removed_again_and_again():
 def lock_is_held():
     folder, given = new_repository(2), stream(8000)
     slow = slow_load(folder, given)
-    for words in (["load"], ["init"], ["stats"], ["last"]):
+    for words, name in ((["load"], b"writer"), (["init"], b"lock"), (["upgrade"], b"lock")):
         check_refused(run(folder, *words, given=stream(2)), FOLDER_FAULT,
-                      b"lock .testrepository/lock: another testr is at work in this repository")
+                      b"lock .testrepository/%s: another testr is at work in this repository" % name)
+    check(run(folder, "stats") == (0, b"runs=1\n", b""), "stats is refused beside a load")
+    check(run(folder, "last", "--subunit") == (0, kept(2), b""), "last is refused beside a load")
     out, _ = slow.communicate(given[500_001:], LIMIT)
     check(slow.returncode <= 1 and b"id=1" in out, "the slow load fails")
     check_runs(folder, 2, 8000)
@@ -344,15 +346,16 @@ def lock_is_held():
 
 @case
 def questions_share_the_lock():
-    """One question waits for its output to be read. Another one is answered, and a load is not."""
+    """One question waits for its output to be read. Another one is answered, and a load is kept, but no init."""
     folder = new_repository(8000)
     slow = start(folder, "last", "--subunit", bufsize=0)
     check(slow.stdout.read(1) == kept(1)[:1], "last prints nothing")
     check(run(folder, "stats") == (0, b"runs=1\n", b""), "a second question is refused")
-    check_refused(run(folder, "load", given=stream(2)), FOLDER_FAULT, b"another testr is at work")
+    check_refused(run(folder, "init"), FOLDER_FAULT, b"another testr is at work")
+    loads(folder, 2, 1)
     out, _ = slow.communicate(timeout=LIMIT)
     check(slow.returncode == 0 and out == kept(8000)[1:], "the slow question fails")
-    loads(folder, 2, 1)
+    check_runs(folder, 8000, 2)
 
 
 @case
@@ -502,6 +505,9 @@ def folder_cannot_be_written():
     check(run(folder, "last", "--subunit", **user) == (0, kept(2), b""), "last is refused")
     check_refused(run(folder, "load", given=stream(4), **user), FOLDER_FAULT, b"make .testrepository/draft: ",
                   b"Permission denied")
+    os.remove(at(folder, "writer"))
+    check_refused(run(folder, "load", given=stream(4), **user), FOLDER_FAULT,
+                  b"lock .testrepository/writer: Permission denied")
     os.remove(at(folder, "lock"))
     check_refused(run(folder, "stats", **user), FOLDER_FAULT, b"lock .testrepository/lock: Permission denied")
 
@@ -759,7 +765,7 @@ def modes_follow_the_umask():
         loads(folder, 2, 0, umask=umask)
         home = os.path.join(folder, ".testrepository")
         check(mode_of(home) == 0o777 & ~umask, f"the folder's mode is {mode_of(home):o} under {umask:o}")
-        for name in ("format", "0", "lock", *found(folder)):
+        for name in ("format", "0", "lock", "writer", *found(folder)):
             check(mode_of(at(folder, name)) == 0o666 & ~umask, f"{name} is {mode_of(at(folder, name)):o} under {umask:o}")
 
 

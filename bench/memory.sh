@@ -183,7 +183,7 @@ class Init(Command):
     def look(self, folder, place, status):
         home = os.path.join(folder, ".testrepository")
         names = set(os.listdir(home)) if os.path.exists(home) else set()
-        check(names <= {"format", "lock"}, f"the files are {sorted(names)}")
+        check(names <= {"format", "lock", "writer"}, f"the files are {sorted(names)}")
         is_made = (0, b"runs=0\n", b"")
         wanted = [is_made] if status == 0 else [is_made, (3, b"", b"testr: no repository here\n")]
         answer = run(folder, "stats")
@@ -205,7 +205,7 @@ class OverRun(Command):
 
     def look(self, folder, place, status):
         names = set(os.listdir(os.path.join(folder, ".testrepository")))
-        runs = sorted(names - {"format", "lock", *NAMES})
+        runs = sorted(names - {"format", "lock", "writer", *NAMES})
         check(runs == ["0"] or self.wholes and runs == ["0", "1"], f"the files are {sorted(names)}")
         check(bytes_of(folder, "0") == EARLIER, "run 0 is damaged")
         check(len(runs) == 2 or status > 1 or not self.wholes, f"status {status}, and no run 1")

@@ -330,7 +330,7 @@ def the_program_is_killed():
 def made_by_then(folder):
     """Which files a repository has by then, or none; the draft, the lock and the caches are not counted."""
     home = at(folder, "")
-    return {name for name in os.listdir(home) if name not in ("draft", "lock", *NAMES)} if os.path.isdir(home) else set()
+    return {name for name in os.listdir(home) if name not in ("draft", "lock", "writer", *NAMES)} if os.path.isdir(home) else set()
 
 
 def kill_at_random(chance, folder, words, given, whole):

@@ -54,7 +54,7 @@ def run(program, folder, words, given=b""):
 def published(folder):
     """The files of the repository. The draft, the lock and the caches are none."""
     home = os.path.join(folder, ".testrepository")
-    return {name: os.path.join(home, name) for name in os.listdir(home) if name not in ("draft", "lock", *NAMES)}
+    return {name: os.path.join(home, name) for name in os.listdir(home) if name not in ("draft", "lock", "writer", *NAMES)}
 
 
 def holds(path, wanted):

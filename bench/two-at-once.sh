@@ -17,9 +17,9 @@ import streams
 
 LIMIT, AT_ONCE = 120, 8
 FORMAT = b"subunit-store 1\n"
-REFUSED = (4, b"", b"testr: fault of the repository folder\n"
-           b"testr: cause: lock .testrepository/lock: another testr is at work in this repository;"
-           b" try again when it has ended\n")
+REFUSED, INIT_REFUSED = ((4, b"", b"testr: fault of the repository folder\n"
+                          b"testr: cause: lock .testrepository/%s: another testr is at work in this repository;"
+                          b" try again when it has ended\n" % name) for name in (b"writer", b"lock"))
 
 
 def stream(count):
@@ -47,7 +47,7 @@ def check_files(folder, sizes):
     home = os.path.join(folder, ".testrepository")
     wanted = {str(place): b"".join(streams.small(count, b"0")) for place, count in enumerate(sizes)}
     wanted["format"] = FORMAT
-    names = set(os.listdir(home)) - {"lock", "draft", *caches.NAMES}
+    names = set(os.listdir(home)) - {"lock", "writer", "draft", *caches.NAMES}
     check(names == set(wanted), f"the files are {sorted(names)}")
     for name, bytes in wanted.items():
         with open(os.path.join(home, name), "rb") as file:
@@ -60,15 +60,16 @@ def check_files(folder, sizes):
 
 
 def one_waits(program, folder):
-    """A load has read a part of its input, more than a pipe holds, and waits for the rest. Meanwhile all others are
-    refused."""
+    """A load has read a part of its input, more than a pipe holds, and waits for the rest. Meanwhile all others that write
+    are refused, and a question is answered."""
     check(run(program, folder, "init")[0] == 0, "init failed")
     check(run(program, folder, "load", stream(2))[0] == 0, "the first load failed")
     slow, given = start(program, folder, "load"), stream(8000)
     slow.stdin.write(given[:500_001])
     slow.stdin.flush()
     check(run(program, folder, "load", stream(4)) == REFUSED, "a second load was not refused")
-    check(run(program, folder, "init") == REFUSED, "a second init was not refused")
+    check(run(program, folder, "init") == INIT_REFUSED, "a second init was not refused")
+    check(run(program, folder, "stats") == (0, b"runs=1\n", b""), "a question was refused")
     out, _ = slow.communicate(given[500_001:], LIMIT)
     check(slow.returncode <= 1 and b"id=1" in out, "the slow load failed")
     check(run(program, folder, "load", stream(6))[0] == 0, "the last load failed")

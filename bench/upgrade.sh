@@ -204,7 +204,7 @@ def a_damaged_folder_is_refused():
         after = files_of(folder)
         check({name: after[name] for name in before} == before, f"{name} of {bytes!r}: a file is not as it was")
         # Its own lock, and converted runs, which the original does not look at.
-        rest = {name for name in after if name not in before and name != "lock" and not name.endswith(".part")}
+        rest = {name for name in after if name not in before and name not in ("lock", "writer") and not name.endswith(".part")}
         check(not rest, f"{name} of {bytes!r}: there are {rest}")
 
 

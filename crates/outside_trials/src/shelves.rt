@@ -7,6 +7,10 @@ pub fn alone(rt: &HostRuntime) -> FolderShelf<'_, HostRuntime> {
     FolderShelf::new(rt.alloc(), rt, Sharing::Alone)
 }
 
+pub fn adding(rt: &HostRuntime) -> FolderShelf<'_, HostRuntime> {
+    FolderShelf::new(rt.alloc(), rt, Sharing::Adding)
+}
+
 pub fn together(rt: &HostRuntime) -> FolderShelf<'_, HostRuntime> {
     FolderShelf::new(rt.alloc(), rt, Sharing::Together)
 }

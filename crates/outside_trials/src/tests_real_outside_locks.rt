@@ -1,7 +1,7 @@
 // What no clause says of the folder's lock: who is kept out, and why a call was refused.
 
 use crate::homes::{check_cause, enter_home, holds, is_there, leave_home, shell};
-use crate::shelves::{alone, publish_one, together};
+use crate::shelves::{adding, alone, publish_bytes, publish_one, put, together};
 use edge_io::{Failed, Shelf};
 use real_outside::FolderShelf;
 use std::os::unix::fs::symlink;
@@ -130,6 +130,61 @@ fn those_that_ask_share_the_lock(rt: HostRuntime) -> Result<(), Fail> {
     publish_one(&rt, "0")?;
     check_shared(&rt, &rt, &mut together(&rt), &mut together(&rt));
     leave_home(&rt, "shared")?;
+    Ok(())
+}
+
+// What one asks while the other adds a run and puts a cache anew: its files are those whose length it was told.
+fn check_asked(
+    rt: &impl Abort,
+    adds: &mut FolderShelf<'_, HostRuntime>,
+    asks: &mut FolderShelf<'_, HostRuntime>,
+) {
+    let mut part = [0u8; 9];
+    assert_eq!(rt; adds.start_draft(), Ok(()));
+    assert_eq!(rt; asks.length("times.set"), Ok(Some(5)));
+    assert_eq!(rt; put(adds, "times.set", b"next times"), Ok(()));
+    assert_eq!(rt; asks.read_at("times.set", 0, &mut part), Ok(5));
+    assert_eq!(rt; part, *b"first\0\0\0\0");
+    assert_eq!(rt; asks.length("times.set"), Ok(Some(10)));
+    assert_eq!(rt; publish_bytes(adds, "0", b"run"), Ok(()));
+    assert_eq!(rt; asks.length("0"), Ok(Some(3)));
+    assert_eq!(rt; asks.start_draft(), Err(Failed));
+}
+
+fn check_adding(rt: &impl Abort, host: &HostRuntime, adds: &mut FolderShelf<'_, HostRuntime>) {
+    check_asked(rt, adds, &mut together(host));
+    check_refused(rt, &mut adding(host));
+    check_refused(rt, &mut alone(host));
+    assert_eq!(rt; adds.sync_folder(), Ok(()));
+}
+
+// One that adds runs lets in those that ask, and keeps out all others that write.
+#[test]
+fn those_that_ask_are_let_in_while_a_run_is_added(rt: HostRuntime) -> Result<(), Fail> {
+    enter_home(&rt, "adding")?;
+    publish_one(&rt, "times.set")?;
+    check_adding(&rt, &rt, &mut adding(&rt));
+    assert!(rt; holds(&rt, ".testrepository/0", "run"));
+    leave_home(&rt, "adding")?;
+    Ok(())
+}
+
+fn check_none_beside(
+    rt: &impl Abort,
+    host: &HostRuntime,
+    first: &mut FolderShelf<'_, HostRuntime>,
+) {
+    assert_eq!(rt; first.start_draft(), Ok(()));
+    assert_eq!(rt; adding(host).sync_folder(), Err(Failed));
+    assert_eq!(rt; together(host).sync_folder(), Err(Failed));
+}
+
+// One that has the folder alone keeps out both, also where it made the folder.
+#[test]
+fn none_is_let_in_beside_one_alone(rt: HostRuntime) -> Result<(), Fail> {
+    enter_home(&rt, "beside")?;
+    check_none_beside(&rt, &rt, &mut alone(&rt));
+    leave_home(&rt, "beside")?;
     Ok(())
 }
 

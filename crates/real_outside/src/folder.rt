@@ -5,7 +5,7 @@ ghost use Rattle.std.specs.Io.{ReadsAtMost};
 use crate::cause::{Cause, told};
 use crate::identity::is_at;
 use crate::lock::{FOLDER, Lock, Sharing};
-use crate::published_files::{PublishedFile, Replaces, is_stranger, length_of, publish};
+use crate::published_files::{PublishedFile, Replaces, is_stranger, publish};
 use std::alloc::Global;
 use std::collections::BTreeSet;
 use std::fs::{DirEntry, File, Files};
@@ -18,15 +18,17 @@ const DRAFT_NAME: &str = "draft";
 
 const DRAFT: &str = ".testrepository/draft";
 
-// The file whose lock keeps other programs out. No published file has this name.
+// The files whose locks keep other programs out. No published file has one of these names.
 const LOCK_NAME: &str = "lock";
+
+const WRITER_NAME: &str = "writer";
 
 // How many bytes of a draft may wait in memory for one write.
 const ROOM: usize = 65_536;
 
 /// The folder `.testrepository`, and the draft that is open in it. Each call asks for the folder's lock first, until it
-/// is held, and fails where that is refused. The file that was read last is kept open, as long as no other is read and none
-/// gets a name.
+/// is held, and fails where that is refused. The file that was asked for last is kept open, as long as no other is and none
+/// gets a name: so its bytes are those whose length was told, though another program may put a cache in its place.
 #[derive(Drop)]
 pub struct Folder<'r, R> {
     rt: &'r R,
@@ -63,8 +65,9 @@ impl<'r, R: Files<File = File>> Folder<'r, R> {
     }
 
     /// The names of regular files in the folder that are texts, each once, in the order of their bytes, without the draft's
-    /// and the lock's. A name that leads nowhere is one of them, so that whoever reads it fails. An absent folder has
-    /// none. The cause is want of memory only for want of memory.
+    /// and the locks'. A name that leads nowhere is one of them, so that whoever reads it fails. An absent folder has
+    /// none. Where another program may add runs meanwhile, the names are brought to the disk, so that no stop takes one
+    /// away that was told. The cause is want of memory only for want of memory.
     pub fn names(&mut self, alloc: Global) -> Result<Vec<Text>, Cause>
     where
         R: AllocGlobal + Clone + Drop,
@@ -74,6 +77,9 @@ impl<'r, R: Files<File = File>> Folder<'r, R> {
             Lock::NoFolder => BTreeSet::new(alloc),
             _ => told("list", FOLDER, found_names(alloc, self.rt))?,
         };
+        if self.sharing == Sharing::Together {
+            self.sync()?;
+        }
         told("list", FOLDER, in_order(alloc, found))
     }
 
@@ -82,9 +88,10 @@ impl<'r, R: Files<File = File>> Folder<'r, R> {
     pub fn length(&mut self, name: &str) -> Result<Option<u64>, Cause> {
         self.lock.ask(self.rt, self.sharing)?;
         let path = self.path_of(name)?;
-        match length_of(self.rt, &path) {
-            Ok(length) => Ok(length),
-            Err(error) => Err(Cause::of_path("read", path, error)),
+        self.read = PublishedFile::find(self.rt, path)?;
+        match &self.read {
+            Some(file) => Ok(Some(file.length())),
+            None => Ok(None),
         }
     }
 
@@ -115,7 +122,7 @@ impl<'r, R: Files<File = File>> Folder<'r, R> {
         if self.sharing == Sharing::Together {
             return Err(Cause::new("write", DRAFT, io::Error::from(ErrorKind::PermissionDenied)));
         }
-        self.lock.take(self.rt)?;
+        self.lock.take(self.rt, self.sharing)?;
         told("remove", DRAFT, removed(self.rt))?;
         let file = told("make", DRAFT, File::create_new(self.rt, DRAFT))?;
         let draft = BufWriter::with_capacity(self.alloc, ROOM, file);
@@ -240,7 +247,7 @@ fn in_order(alloc: Global, found: BTreeSet<Text>) -> io::Result<Vec<Text>> {
     Ok(names)
 }
 
-// The names of files in the folder that are texts, without the draft's and the lock's.
+// The names of files in the folder that are texts, without the draft's and the locks'.
 fn found_names<R>(alloc: Global, rt: &R) -> io::Result<BTreeSet<Text>>
 where
     R: Files<File = File> + AllocGlobal + Clone + Drop,
@@ -267,7 +274,10 @@ fn name_of<R: Files + Drop>(
         Err(error) => return Err(error),
     };
     let name = entry.file_name();
-    if name == DRAFT_NAME || name == LOCK_NAME || is_stranger(rt, entry.path()) {
+    if name == DRAFT_NAME || name == LOCK_NAME || name == WRITER_NAME {
+        return Ok(None);
+    }
+    if is_stranger(rt, entry.path()) {
         return Ok(None);
     }
     match Text::new(alloc, name.as_bytes()) {

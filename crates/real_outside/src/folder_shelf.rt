@@ -11,8 +11,8 @@ use std::fs::{File, Files};
 use sub_number::Text;
 
 /// The folder `.testrepository` of the current folder. Counts its calls, and those that fail. The first call that finds
-/// the folder there, or makes it, takes the lock on the file `lock` in it, for as long as this value lasts. Where another
-/// program has that lock, that call and all later ones fail.
+/// the folder there, or makes it, takes the lock on the file `lock` in it, and where runs are added that on `writer`, for as
+/// long as this value lasts. Where another program keeps it out, that call and all later ones fail.
 #[derive(Drop)]
 pub struct FolderShelf<'r, R> {
     folder: Folder<'r, R>,
@@ -58,7 +58,7 @@ impl<R: Files<File = File> + AllocGlobal + Clone + Drop> Shelf for FolderShelf<'
 
     ghost published_counts = { λ _. tt };
 
-    /// Lists the regular files of the folder, without `draft` and `lock`.
+    /// Lists the regular files of the folder, without `draft`, `lock` and `writer`.
     fn names(&mut self, alloc: Global) -> Result<Vec<Text>, NamesFault> {
         self.calls = self.calls.saturating_add(1);
         let result = self.folder.names(alloc);

@@ -1,4 +1,4 @@
-// The lock that keeps a second program out of the folder.
+// The locks that keep other programs out of the folder, or let in those that only ask.
 
 use crate::cause::{Cause, told};
 use crate::identity::is_at;
@@ -9,19 +9,38 @@ use std::{fs, io};
 /// The folder that holds the published files, in the current folder.
 pub const FOLDER: &str = ".testrepository";
 
-// The file that is locked.
+// The file that all lock: alone where nobody else may be there, and else shared.
 const LOCK: &str = ".testrepository/lock";
+
+// The file that one locks alone which adds runs.
+const WRITER: &str = ".testrepository/writer";
 
 /// Whom the lock keeps out.
 #[derive(Clone, Copy, PartialEq, Eq)]
 pub enum Sharing {
     /// All others.
     Alone,
+    /// Others that write. Those that only ask are let in: what is added changes nothing that they were told of.
+    Adding,
     /// Those that want it alone. Nothing is written under it.
     Together,
 }
 
-/// The lock on a file of the folder, which lasts as long as this value. After a refusal each later call is refused too,
+/// The open files that hold the lock.
+#[derive(Drop)]
+pub struct Keys {
+    lock: File,
+    writer: Option<File>,
+}
+
+/// Why the lock is not held: which file could not be locked, and the cause.
+#[derive(Clone, Copy)]
+pub struct NotHeld {
+    path: &'static str,
+    error: io::Error,
+}
+
+/// The lock on files of the folder, which lasts as long as this value. After a refusal each later call is refused too,
 /// since what was told before it may not be true any more.
 #[derive(Drop)]
 pub enum Lock {
@@ -29,10 +48,10 @@ pub enum Lock {
     Unasked,
     /// The last call found no folder.
     NoFolder,
-    /// It is held by this open file.
-    Held(File),
+    /// It is held.
+    Held(Keys),
     /// Another program had it, or it could not be asked for.
-    Refused(io::Error),
+    Refused(NotHeld),
 }
 
 impl Lock {
@@ -42,7 +61,7 @@ impl Lock {
     pub fn ask<R: Files<File = File>>(&mut self, rt: &R, sharing: Sharing) -> Result<(), Cause> {
         let was_absent = match self {
             Lock::Held(_) => return Ok(()),
-            Lock::Refused(error) => return Err(cause_of(*error)),
+            Lock::Refused(refusal) => return Err(cause_of(*refusal)),
             Lock::Unasked => false,
             Lock::NoFolder => true,
         };
@@ -52,110 +71,172 @@ impl Lock {
                 Ok(())
             }
             Ok(Some(_)) if was_absent => self.refuse(of_another()),
-            Ok(Some(file)) => {
-                *self = Lock::Held(file);
+            Ok(Some(keys)) => {
+                *self = Lock::Held(keys);
                 Ok(())
             }
-            Err(error) => self.refuse(error),
+            Err(refusal) => self.refuse(refusal),
         }
     }
 
     /// Takes the lock for one that writes, and makes the folder before, where it is absent. It is refused where another
-    /// program made the folder since a call found none, or where the lock's file was removed or replaced since.
-    pub fn take<R: Files<File = File>>(&mut self, rt: &R) -> Result<(), Cause> {
-        self.ask(rt, Sharing::Alone)?;
+    /// program made the folder since a call found none, or where one of the lock's files was removed or replaced since.
+    pub fn take<R: Files<File = File>>(&mut self, rt: &R, sharing: Sharing) -> Result<(), Cause> {
+        self.ask(rt, sharing)?;
         if matches!(self, Lock::NoFolder) {
-            self.make(rt)?;
+            self.make(rt, sharing)?;
         }
         self.confirm(rt)
     }
 
-    /// Refuses unless the lock is held, and its file is still the one that other programs find.
+    /// Refuses unless the lock is held, and its files are still those that other programs find.
     pub fn confirm<R: Files<File = File>>(&mut self, rt: &R) -> Result<(), Cause> {
-        let is_found = match self {
-            Lock::Held(file) => is_at(rt, file, LOCK),
-            Lock::Refused(error) => Err(*error),
-            Lock::Unasked | Lock::NoFolder => Ok(false),
+        let are_found = match self {
+            Lock::Held(keys) => keys.are_found(rt),
+            Lock::Refused(refusal) => Err(*refusal),
+            Lock::Unasked | Lock::NoFolder => Err(removed(LOCK)),
         };
-        match is_found {
-            Ok(true) => Ok(()),
-            Ok(false) => self.refuse(removed()),
-            Err(error) => self.refuse(error),
+        match are_found {
+            Ok(()) => Ok(()),
+            Err(refusal) => self.refuse(refusal),
         }
     }
 
-    // Makes the folder and the lock's file in it, both of which must be absent.
-    fn make<R: Files<File = File>>(&mut self, rt: &R) -> Result<(), Cause> {
+    // Makes the folder and the lock's files in it, all of which must be absent.
+    fn make<R: Files<File = File>>(&mut self, rt: &R, sharing: Sharing) -> Result<(), Cause> {
         match fs::create_dir(rt, FOLDER) {
             Err(error) if error.kind() == ErrorKind::AlreadyExists => {
                 return self.refuse(of_another());
             }
             result => told("make the folder", FOLDER, result)?,
         }
-        match created(rt) {
-            Ok(file) => {
-                *self = Lock::Held(file);
+        match created(rt, sharing) {
+            Ok(keys) => {
+                *self = Lock::Held(keys);
                 Ok(())
             }
-            Err(error) => self.refuse(error),
+            Err(refusal) => self.refuse(refusal),
         }
     }
 
-    fn refuse(&mut self, error: io::Error) -> Result<(), Cause> {
-        *self = Lock::Refused(error);
-        Err(cause_of(error))
+    fn refuse(&mut self, refusal: NotHeld) -> Result<(), Cause> {
+        *self = Lock::Refused(refusal);
+        Err(cause_of(refusal))
     }
 }
 
-fn cause_of(error: io::Error) -> Cause {
-    Cause::new("lock", LOCK, error)
+impl Keys {
+    // Whether each file is still at its path.
+    fn are_found<R: Files>(&self, rt: &R) -> Result<(), NotHeld> {
+        found_at(rt, &self.lock, LOCK)?;
+        match &self.writer {
+            Some(file) => found_at(rt, file, WRITER),
+            None => Ok(()),
+        }
+    }
 }
 
-fn of_another() -> io::Error {
-    io::Error::new(
-        ErrorKind::AlreadyExists,
-        "the folder was made by another program, or is a link to nothing",
-    )
+fn cause_of(refusal: NotHeld) -> Cause {
+    Cause::new("lock", refusal.path, refusal.error)
 }
 
-fn removed() -> io::Error {
-    io::Error::new(
-        ErrorKind::NotFound,
-        "it was removed or replaced while this program ran",
-    )
+fn of_another() -> NotHeld {
+    NotHeld {
+        path: LOCK,
+        error: io::Error::new(
+            ErrorKind::AlreadyExists,
+            "the folder was made by another program, or is a link to nothing",
+        ),
+    }
 }
 
-// The lock's file, open and locked; none where there is no folder.
-fn locked<R: Files<File = File>>(rt: &R, sharing: Sharing) -> io::Result<Option<File>> {
-    let Some(file) = opened(rt)? else {
+fn removed(path: &'static str) -> NotHeld {
+    NotHeld {
+        path,
+        error: io::Error::new(
+            ErrorKind::NotFound,
+            "it was removed or replaced while this program ran",
+        ),
+    }
+}
+
+fn found_at<R: Files>(rt: &R, file: &File, path: &'static str) -> Result<(), NotHeld> {
+    match is_at(rt, file, path) {
+        Ok(true) => Ok(()),
+        Ok(false) => Err(removed(path)),
+        Err(error) => Err(NotHeld { path, error }),
+    }
+}
+
+// The lock's files, open and locked; none where there is no folder. That of one that adds runs is asked for last, so whoever
+// has it has the other one, too.
+fn locked<R: Files<File = File>>(rt: &R, sharing: Sharing) -> Result<Option<Keys>, NotHeld> {
+    let Some(lock) = opened(rt, LOCK)? else {
         return Ok(None);
     };
-    hold(rt, &file, sharing)?;
-    Ok(Some(file))
+    hold(rt, &lock, LOCK, sharing == Sharing::Alone)?;
+    if sharing != Sharing::Adding {
+        return Ok(Some(Keys { lock, writer: None }));
+    }
+    let Some(writer) = opened(rt, WRITER)? else {
+        return Err(removed(LOCK));
+    };
+    hold(rt, &writer, WRITER, true)?;
+    Ok(Some(Keys {
+        lock,
+        writer: Some(writer),
+    }))
 }
 
-// A new lock's file, open and locked.
-fn created<R: Files<File = File>>(rt: &R) -> io::Result<File> {
-    let file = create(rt)?;
-    hold(rt, &file, Sharing::Alone)?;
-    Ok(file)
+// The lock's files, made anew and locked.
+fn created<R: Files<File = File>>(rt: &R, sharing: Sharing) -> Result<Keys, NotHeld> {
+    let lock = made(rt, LOCK)?;
+    hold(rt, &lock, LOCK, sharing == Sharing::Alone)?;
+    if sharing != Sharing::Adding {
+        return Ok(Keys { lock, writer: None });
+    }
+    let writer = made(rt, WRITER)?;
+    hold(rt, &writer, WRITER, true)?;
+    Ok(Keys {
+        lock,
+        writer: Some(writer),
+    })
+}
+
+// The file of this path, open; none where there is no folder.
+fn opened<R: Files<File = File>>(rt: &R, path: &'static str) -> Result<Option<File>, NotHeld> {
+    match open_or_create(rt, path) {
+        Ok(file) => Ok(file),
+        Err(error) => Err(NotHeld { path, error }),
+    }
+}
+
+// A new file of this path, open.
+fn made<R: Files<File = File>>(rt: &R, path: &'static str) -> Result<File, NotHeld> {
+    match create(rt, path) {
+        Ok(file) => Ok(file),
+        Err(error) => Err(NotHeld { path, error }),
+    }
 }
 
 // Locks the file, which must still be the one at its path then.
-fn hold<R: Files>(rt: &R, file: &File, sharing: Sharing) -> io::Result<()> {
-    let outcome = match sharing {
-        Sharing::Alone => file.try_lock(),
-        Sharing::Together => file.try_lock_shared(),
+fn hold<R: Files>(rt: &R, file: &File, path: &'static str, is_alone: bool) -> Result<(), NotHeld> {
+    match try_hold(file, is_alone) {
+        Ok(()) => found_at(rt, file, path),
+        Err(error) => Err(NotHeld { path, error }),
+    }
+}
+
+fn try_hold(file: &File, is_alone: bool) -> io::Result<()> {
+    let outcome = if is_alone {
+        file.try_lock()
+    } else {
+        file.try_lock_shared()
     };
     match outcome {
-        Ok(()) => {}
-        Err(fs::TryLockError::WouldBlock) => return Err(in_use()),
-        Err(fs::TryLockError::Error(error)) => return Err(error),
-    }
-    if is_at(rt, file, LOCK)? {
-        Ok(())
-    } else {
-        Err(removed())
+        Ok(()) => Ok(()),
+        Err(fs::TryLockError::WouldBlock) => Err(in_use()),
+        Err(fs::TryLockError::Error(error)) => Err(error),
     }
 }
 
@@ -166,16 +247,16 @@ fn in_use() -> io::Error {
     )
 }
 
-// The lock's file, which is made where it is absent; none where there is no folder. What is there and is no regular file,
-// as a link, is not opened.
-fn opened<R: Files<File = File>>(rt: &R) -> io::Result<Option<File>> {
-    match fs::symlink_metadata(rt, LOCK) {
-        Ok(found) if found.is_file() => Ok(Some(open(rt)?)),
+// The file of this path, which is made where it is absent; none where there is no folder. What is there and is no regular
+// file, as a link, is not opened.
+fn open_or_create<R: Files<File = File>>(rt: &R, path: &str) -> io::Result<Option<File>> {
+    match fs::symlink_metadata(rt, path) {
+        Ok(found) if found.is_file() => Ok(Some(open(rt, path)?)),
         Ok(_) => Err(io::Error::new(ErrorKind::InvalidData, "it is no regular file")),
-        Err(error) if error.kind() == ErrorKind::NotFound => match create(rt) {
+        Err(error) if error.kind() == ErrorKind::NotFound => match create(rt, path) {
             Ok(file) => Ok(Some(file)),
             Err(error) if error.kind() == ErrorKind::NotFound => Ok(None),
-            Err(error) if error.kind() == ErrorKind::AlreadyExists => Ok(Some(open(rt)?)),
+            Err(error) if error.kind() == ErrorKind::AlreadyExists => Ok(Some(open(rt, path)?)),
             Err(error) => Err(error),
         },
         Err(error) => Err(error),
@@ -183,9 +264,9 @@ fn opened<R: Files<File = File>>(rt: &R) -> io::Result<Option<File>> {
 }
 
 // A file that may not be written can be locked all the same.
-fn open<R: Files<File = File>>(rt: &R) -> io::Result<File> {
-    match File::options().read(true).write(true).open(rt, LOCK) {
-        Err(error) if is_unwritable(error.kind()) => File::open(rt, LOCK),
+fn open<R: Files<File = File>>(rt: &R, path: &str) -> io::Result<File> {
+    match File::options().read(true).write(true).open(rt, path) {
+        Err(error) if is_unwritable(error.kind()) => File::open(rt, path),
         result => result,
     }
 }
@@ -195,6 +276,6 @@ fn is_unwritable(kind: ErrorKind) -> bool {
 }
 
 // A new file, in place of nothing else.
-fn create<R: Files<File = File>>(rt: &R) -> io::Result<File> {
-    File::create_new(rt, LOCK)
+fn create<R: Files<File = File>>(rt: &R, path: &str) -> io::Result<File> {
+    File::create_new(rt, path)
 }

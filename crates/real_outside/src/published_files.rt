@@ -50,16 +50,16 @@ pub fn is_stranger<R: Files>(rt: &R, path: Path<'_>) -> bool {
     }
 }
 
-/// How many bytes the file of this path has, or `None` where there is none. What the system says counts only where a read
-/// finds the last byte and no byte behind it.
-pub fn length_of<R: Files<File = File>>(rt: &R, path: &str) -> io::Result<Option<u64>> {
+// The file of this path, open, with how many bytes it has, or `None` where there is none. What the system says counts only
+// where a read finds the last byte and no byte behind it.
+fn measured<R: Files<File = File>>(rt: &R, path: &str) -> io::Result<Option<(File, u64)>> {
     let Some(file) = opened(rt, path)? else {
         return Ok(None);
     };
     let length = file.metadata()?.len();
     let ends = !has_byte(&file, length)?;
     if ends && (length == 0 || has_byte(&file, length - 1)?) {
-        Ok(Some(length))
+        Ok(Some((file, length)))
     } else {
         Err(io::Error::new(
             ErrorKind::InvalidData,
@@ -77,6 +77,20 @@ pub struct PublishedFile {
 }
 
 impl PublishedFile {
+    /// The file of this path, or `None` where there is none. Fails where reads find another end than the system says.
+    pub fn find<R: Files<File = File>>(rt: &R, path: String) -> Result<Option<Self>, Cause> {
+        match measured(rt, path.as_str()) {
+            Ok(Some((file, end))) => Ok(Some(PublishedFile { path, file, end })),
+            Ok(None) => Ok(None),
+            Err(error) => Err(Cause::of_path("read", path, error)),
+        }
+    }
+
+    /// How many bytes it had when it was found.
+    pub fn length(&self) -> u64 {
+        self.end
+    }
+
     /// The file of this path. Fails where there is none.
     pub fn open<R: Files<File = File>>(rt: &R, path: String) -> Result<Self, Cause> {
         match opened_with_end(rt, path.as_str()) {
@@ -170,9 +184,11 @@ fn opened<R: Files<File = File>>(rt: &R, path: &str) -> io::Result<Option<File>>
     }
 }
 
-// None, where nothing stands at this path. A link that leads nowhere does.
-fn absent<R: Files>(rt: &R, path: &str) -> io::Result<Option<File>> {
+// None, where nothing stands at this path. A link that leads nowhere does. A file that got the name since the look before is
+// opened.
+fn absent<R: Files<File = File>>(rt: &R, path: &str) -> io::Result<Option<File>> {
     match fs::symlink_metadata(rt, path) {
+        Ok(found) if found.is_file() => Ok(Some(File::open(rt, path)?)),
         Ok(_) => Err(io::Error::new(ErrorKind::NotFound, "it is a link that leads nowhere")),
         Err(error) if error.kind() == ErrorKind::NotFound => Ok(None),
         Err(error) => Err(error),

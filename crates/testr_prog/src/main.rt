@@ -229,11 +229,13 @@ fn shelf_of<'r>(
     }
 }
 
-// Commands that only ask do not keep each other out. The folder refuses to write for them.
+// Commands that only ask do not keep each other out, nor do those that add runs keep them out. The folder refuses to write for
+// those that ask.
 fn sharing(words: &[String]) -> Sharing {
     match words.get(1) {
         Some(word) => match word.as_str() {
             "last" | "failing" | "slowest" | "stats" => Sharing::Together,
+            "load" | "run" => Sharing::Adding,
             _ => Sharing::Alone,
         },
         None => Sharing::Alone,
