@@ -4,3 +4,7 @@ pub mod Asking
 pub mod Folder
 -- How the code keeps the second.
 pub mod Parting
+-- Which words name the file that a filter writes.
+pub mod Output
+-- How the code keeps these.
+pub mod PartingOutput

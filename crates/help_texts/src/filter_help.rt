@@ -43,6 +43,7 @@ Of these tests only those:
   --without-id=PATTERN       in whose id the pattern is not found; where it is repeated, none of the patterns
 And:
   --no-passthrough           leaves out output of no test: other bytes, and events with a file and no id
+  -o FILE, --output-to=FILE  writes into this file, which has its name once it is whole
 Options are taken from left to right, and the last one stands. A value may also be the next word. A pattern is a regular
 expression, which may match anywhere in the id.
 Statuses: 2 wrong usage, 3 a bad pattern or a missing file, 4 a fault of the outside, 5 out of memory.
@@ -69,33 +70,39 @@ did.
   --times             prints behind the id how many seconds the test took, where that is known
   --exists            prints also the tests that are only said to exist
   --no-passthrough    leaves out other bytes, and files without an id
+  -o FILE, --output-to=FILE
+                      writes into this file, which has its name once it is whole
 Statuses: 2 wrong usage, 3 a missing file, 4 a fault of the outside, 5 out of memory.
 Example: subunit-ls --times stream
 ";
 
 const STATS: &str = "\
-usage: subunit-stats [--no-passthrough] [FILE]
+usage: subunit-stats [OPTION..] [FILE]
 Reads a Subunit v2 stream from standard input, or this file, and prints at its end how many tests there were, how many of
 them passed, failed and were skipped, and their tags. Other bytes, and files without an id, pass on as they are.
 Status 0 where no test failed, 1 where one did.
   --no-passthrough    leaves out other bytes, and files without an id
+  -o FILE, --output-to=FILE
+                      writes into this file, which has its name once it is whole
 Statuses: 2 wrong usage, 3 a missing file, 4 a fault of the outside, 5 out of memory.
 Example: subunit-stats stream
 ";
 
 const FROM_TAP: &str = "\
-usage: tap2subunit [FILE]
+usage: tap2subunit [-o FILE] [FILE]
 Reads lines of the Test Anything Protocol from standard input, or this file, and writes a Subunit v2 stream. A line that is
 none of the protocol becomes an event of the file stdout. Status 0.
+  -o FILE, --output-to=FILE  writes into this file, which has its name once it is whole
 Statuses: 2 wrong usage, 3 a missing file, 4 a fault of the outside, 5 out of memory.
 Example: perl t/parser.t | tap2subunit
 ";
 
 const TO_TAP: &str = "\
-usage: subunit2tap [FILE]
+usage: subunit2tap [-o FILE] [FILE]
 Reads a Subunit v2 stream from standard input, or this file, and writes a line of the Test Anything Protocol for each test
 as it ends, for those that did not end at the end of the stream, and then the plan. Other bytes are left out. Status 0
 where no test failed, 1 where one did.
+  -o FILE, --output-to=FILE  writes into this file, which has its name once it is whole
 Statuses: 2 wrong usage, 3 a missing file, 4 a fault of the outside, 5 out of memory.
 Example: subunit2tap stream
 ";
@@ -115,12 +122,14 @@ Of these tests only those:
   --without-tag=TAG          that do not have this tag; where it is repeated, none of the tags
   --with-id=PATTERN          in whose id the pattern is found; where it is repeated, one of the patterns
   --without-id=PATTERN       in whose id the pattern is not found; where it is repeated, none of the patterns
+And:
+  -o FILE, --output-to=FILE  writes into this file, which has its name once it is whole
 Statuses: 2 wrong usage, 3 a bad pattern or a missing file, 4 a fault of the outside, 5 out of memory.
 Example: subunit2csv --no-success stream
 ";
 
 const TRACE: &str = "\
-usage: subunit-trace [--live=KIND] [--no-summary] [FILE]
+usage: subunit-trace [OPTION..] [FILE]
 Reads a Subunit v2 stream from standard input, or this file, and writes lines of each test as soon as it has ended, and
 behind them the totals. Bytes that are no events are left out.
   --live=tests       a line of each test: lane, id, time and how it ended; below a failure its text; this is the default
@@ -128,18 +137,21 @@ behind them the totals. Bytes that are no events are left out.
   --live=dots        a mark of each test: . for passed, F for failed, S for skipped
   --live=none        nothing but the totals
   --no-summary       leaves the totals out
+  -o FILE, --output-to=FILE
+                     writes into this file, which has its name once it is whole
 Status 0 where tests ran and none failed, 1 where one failed or none ran.
 Statuses: 2 wrong usage, 3 a missing file, 4 a fault of the outside, 5 out of memory.
 Example: testr last --subunit | subunit-trace
 ";
 
 const TO_JUNIT: &str = "\
-usage: subunit2junitxml [--no-passthrough] [FILE]
+usage: subunit2junitxml [OPTION..] [FILE]
 Reads a Subunit v2 stream from standard input, or this file, and writes at its end a document of JUnit XML, for build
 servers: how many tests there were, failed and were skipped, and a case for each. Other bytes are left out, with
 --no-passthrough or without. Status 0 where no test failed, 1 where one did.
+  -o FILE, --output-to=FILE  writes into this file, which has its name once it is whole
 Statuses: 2 wrong usage, 3 a missing file, 4 a fault of the outside, 5 out of memory.
-Example: subunit2junitxml stream > junit.xml
+Example: subunit2junitxml -o junit.xml stream
 ";
 
 const OUTPUT: &str = "\
@@ -159,18 +171,20 @@ Example: make 2>&1 | subunit-output --success=build --attach-file=- --mimetype=t
 ";
 
 const FROM_V1: &str = "\
-usage: subunit-1to2 [FILE]
+usage: subunit-1to2 [-o FILE] [FILE]
 Reads lines of Subunit version 1 from standard input, or this file, and writes a Subunit v2 stream. A line that is none of
 version 1 becomes an event of the file stdout. Status 0.
+  -o FILE, --output-to=FILE  writes into this file, which has its name once it is whole
 Statuses: 2 wrong usage, 3 a missing file, 4 a fault of the outside, 5 out of memory.
 Example: subunit-1to2 old/.testrepository/0
 ";
 
 const TO_V1: &str = "\
-usage: subunit-2to1 [FILE]
+usage: subunit-2to1 [-o FILE] [FILE]
 Reads a Subunit v2 stream from standard input, or this file, and writes the lines of Subunit version 1 of each test as it
 ends, and for those that did not end, at the end of the stream, that they were not completed. Other bytes pass on as they
 are. Status 0.
+  -o FILE, --output-to=FILE  writes into this file, which has its name once it is whole
 Statuses: 2 wrong usage, 3 a missing file, 4 a fault of the outside, 5 out of memory.
 Example: subunit-2to1 stream
 ";
