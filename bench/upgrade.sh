@@ -114,8 +114,8 @@ def folder_of_stestr():
     return folder
 
 
-def upgraded(folder, count):
-    done = run(folder, "upgrade")
+def upgraded(folder, count, *words):
+    done = run(folder, "upgrade", *words)
     check(done == (0, f"upgraded {count} runs\n".encode(), b""), f"upgrade: {done!r}")
 
 
@@ -180,6 +180,33 @@ def a_folder_of_stestr():
     check(failing_of(folder) == FAILING, f"failing says {failing_of(folder)}")
     status, out, err = run(folder, "last")
     check(status == 1 and b"Ran 300 tests" in out and b"failures=7" in out, f"last says {out[-200:]!r}")
+
+
+FROM_STESTR = "--from=.stestr"
+WAY_OUT = b"testr: testr upgrade --from=.stestr takes over the runs of .stestr\n"
+
+
+def check_copied(folder, before):
+    """`.stestr` stands with its bytes, and so do the copies, but for their format."""
+    check(files_of(folder, ".stestr") == before, "a file of .stestr is not as it was")
+    copied = {name: bytes for name, bytes in before.items() if name in ("format", "next-stream", "failing") or name.isdigit()}
+    check_kept(copied, files_of(folder))
+
+
+@case
+def a_folder_of_stestr_where_it_stands():
+    folder = folder_of_stestr()
+    before = files_of(folder, ".stestr")
+    done = run(folder, "last")
+    check(done == (3, b"", b"testr: no repository here\n" + WAY_OUT), f"last: {done!r}")
+    upgraded(folder, 2, FROM_STESTR)
+    check_copied(folder, before)
+    after = files_of(folder)
+    check(after["0.part"] == b"" and "0" not in after, "the run that was removed is not empty")
+    check(failing_of(folder) == FAILING, f"failing says {failing_of(folder)}")
+    check(failing_of(folder, STESTR) == FAILING, "stestr's own failing set is another")
+    done = run(folder, "upgrade", FROM_STESTR)
+    check(done == (3, b"", b"testr: a repository is already here\n"), f"a second upgrade: {done!r}")
 
 
 DAMAGED = (
@@ -254,6 +281,43 @@ def kills_at_random_moments():
         shutil.rmtree(folder)
         os.mkdir(folder)
     print(f"         of {KILLS} kills {left['old']} left the old folder, and {left['new']} the new one")
+
+
+def state_of(folder):
+    """What stands in the folder here: no repository, an old one, or the new one."""
+    try:
+        with open(at(folder, "format"), "rb") as file:
+            return {OLD: "old", NEW: "new"}[file.read()]
+    except FileNotFoundError:
+        return "none"
+
+
+@case
+def kills_of_a_copy_at_random_moments():
+    whole = folder_of_stestr()
+    begun = time.monotonic()
+    upgraded(whole, 2, FROM_STESTR)
+    took = time.monotonic() - begun
+    before = files_of(whole, ".stestr")
+    draw = random.Random(2)
+    left = {"none": 0, "old": 0, "new": 0}
+    for number in range(KILLS):
+        folder = folder_of_stestr()
+        child = subprocess.Popen([PROGRAM, "testr", "upgrade", FROM_STESTR], cwd=folder, stdout=subprocess.DEVNULL, stderr=subprocess.DEVNULL)
+        time.sleep(draw.uniform(0, took * 1.1))
+        child.kill()
+        child.wait()
+        state = state_of(folder)
+        left[state] += 1
+        if state == "none":
+            upgraded(folder, 2, FROM_STESTR)
+        elif state == "old":
+            upgraded(folder, 2)
+        check_copied(folder, before)
+        check(failing_of(folder) == FAILING, f"kill {number}: failing says {failing_of(folder)}")
+        shutil.rmtree(folder)
+        os.mkdir(folder)
+    print(f"         of {KILLS} kills {left['none']} left no repository, {left['old']} an old folder, and {left['new']} the new one")
 
 
 main("upgrades", *sys.argv[3:])

@@ -208,11 +208,12 @@ Example: testr stats
 ";
 
 const UPGRADE: &str = "\
-usage: testr upgrade
+usage: testr upgrade [--from=DIR]
 Makes the folder .testrepository, which the original testr made, a repository of its runs and of the tests that failed last,
 and prints how many runs there are. The old files stay; until it is done the original testr goes on with them. Status 0; 3
 where there is nothing to upgrade, or a file is damaged.
-Example: testr upgrade
+  --from=DIR   copies the old files of DIR first, as of .stestr, into a .testrepository that holds no others. DIR stays as it is
+Example: testr upgrade --from=.stestr
 ";
 
 const SELFTEST: &str = "\

@@ -229,6 +229,36 @@ fn a_name_is_not_replaced(rt: HostRuntime) -> Result<(), Fail> {
     Ok(())
 }
 
+fn check_both_kept(rt: &impl Abort, host: &HostRuntime, shelf: &mut FolderShelf<'_, HostRuntime>) {
+    check_taken(rt, host, shelf, "format");
+    check_taken(rt, host, shelf, "0.part");
+}
+
+fn check_taking_over(rt: &impl Abort, shelf: &mut FolderShelf<'_, HostRuntime>) {
+    assert_eq!(rt; put(shelf, "0.part", b"converted"), Ok(()));
+    assert_eq!(rt; put(shelf, "format", b"other"), Ok(()));
+    assert_eq!(rt; put(shelf, "0", b"other"), Err(Failed));
+}
+
+#[test]
+fn partial_runs_and_the_format_are_replaced_in_a_folder_that_is_taken_over_alone(
+    rt: HostRuntime,
+) -> Result<(), Fail> {
+    enter_home(&rt, "taken_over")?;
+    publish_one(&rt, "format")?;
+    publish_one(&rt, "0.part")?;
+    publish_one(&rt, "0")?;
+    check_both_kept(&rt, &rt, &mut alone(&rt));
+    assert!(rt; holds(&rt, ".testrepository/format", "first"));
+    assert!(rt; holds(&rt, ".testrepository/0.part", "first"));
+    check_taking_over(&rt, &mut alone(&rt).taking_over());
+    assert!(rt; holds(&rt, ".testrepository/format", "other"));
+    assert!(rt; holds(&rt, ".testrepository/0.part", "converted"));
+    assert!(rt; holds(&rt, ".testrepository/0", "first"));
+    leave_home(&rt, "taken_over")?;
+    Ok(())
+}
+
 fn check_cache(rt: &impl Abort, shelf: &mut FolderShelf<'_, HostRuntime>) {
     let mut part = [0u8; 4];
     assert_eq!(rt; put(shelf, "failing.set", b"older"), Ok(()));

@@ -3,7 +3,7 @@ use Rattle.std.specs.Prelude.{◌≡◌, ℕ, List, ◌∷◌}
 use Rattle.command_steps.specs.Outside.{Outside}
 use Rattle.filter_cli.specs.Outside.{outside as piped}
 use Rattle.filter_cli.specs.Promises.{Promises as FilterPromises}
-use Rattle.testr_commands.specs.WholeCall.{TestrPromises}
+use Rattle.testr_cli.specs.From.{from_in, PromisesFrom}
 use Rattle.testr_words.specs.Words.{face_word}
 use Rattle.testr_words.specs.declared.command.Face.{Face}
 
@@ -13,8 +13,8 @@ pub record PromisesOfFilters (words : List (List ℕ)) (before after : Outside) 
   pub folder : after.folder ≡ before.folder
   pub spawner : after.spawner ≡ before.spawner
 
--- What each call of the program promises for all its words: what `testr` does for those behind the name of a face, and for others
--- what the filters do, which also say where words are neither.
+-- What each call of the program promises for all its words: what `testr` does for those behind the name of a face, which may
+-- tell a folder to upgrade from, and for others what the filters do, which also say where words are neither.
 pub record ProgramPromises (folder : List ℕ) (words : List (List ℕ)) (before after : Outside) (answer : ℕ) : Type 0 where
-  pub testr : (face : Face) (behind : List (List ℕ)) → words ≡ face_word face ∷ behind → TestrPromises folder face behind before after answer
+  pub testr : (face : Face) (behind : List (List ℕ)) → words ≡ face_word face ∷ behind → PromisesFrom (from_in behind) folder face behind before after answer
   pub filters : ((face : Face) (behind : List (List ℕ)) → words ≡ face_word face ∷ behind → ⊥) → PromisesOfFilters words before after answer

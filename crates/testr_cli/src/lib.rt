@@ -5,12 +5,14 @@
 //! a call of `testr_as`, and else one of `filter_cli::filters`. Its contract is what these two promise.
 //!
 //! - `faces`: the first word, and what it leads to
+//! - `from`: an upgrade from another folder
 //!
 //! The commands of `testr` stand in `testr_commands`, and are brought in here for those who call the program. Its tests
 //! stand in rooms of their own above it, `load_trials` and `run_trials`.
 #![tactic(auto)]
 
 mod faces;
+mod from;
 
 pub use faces::program;
 pub use testr_commands::{

@@ -12,15 +12,15 @@ use real_outside::{
     hold_closed,
 };
 use std::alloc::Global;
-use std::env;
 use std::env::Env;
 use std::io::{ErrorKind, Stderr, Stdout};
 use std::process::ExitCode;
 use std::sync::Wait;
 use std::thread::Threads;
+use std::{env, fs};
 use testr_cli::program;
 
-// The exit status where the folder to work in is not there.
+// The exit status of a named refusal, as where the folder to work in is not there.
 const REFUSED: u8 = 3;
 
 // The exit status of a fault of the outside.
@@ -31,6 +31,11 @@ const NO_MEMORY: u8 = 5;
 
 // What the name of a worker's file of ids begins with. The worker's number follows.
 const ID_FILE: &str = ".testr-ids.";
+
+// The file that makes the folder a repository, and that of the other tool's folder.
+const FORMAT: &str = ".testrepository/format";
+
+const OTHER_FORMAT: &str = ".stestr/format";
 
 // A run has fewer workers than these, or as many.
 const MOST_WORKERS: u32 = 64;
@@ -174,6 +179,9 @@ fn run_program<R: Threads + Wait + Sync>(
         err,
     );
     shelf.give_up();
+    if status == REFUSED {
+        tell_way_out(alloc, rt, words, err);
+    }
     if status == FAULT {
         let face = face_of(words);
         tell(alloc, face, shelf.cause(), err);
@@ -183,6 +191,35 @@ fn run_program<R: Threads + Wait + Sync>(
         tell(alloc, face, out.cause(), err);
     }
     status
+}
+
+// Tells where the runs are, in a project of the other tool that has no repository here. A refusal is told of already, and this
+// line is true whatever was refused.
+fn tell_way_out(alloc: Global, rt: &HostRuntime, words: &[String], err: &mut StreamSink<Stderr>) {
+    if names_other_folder(words) || is_file(rt, FORMAT) || !is_file(rt, OTHER_FORMAT) {
+        return;
+    }
+    let face = face_of(words);
+    if let Ok(line) = format!(in alloc;
+        "{face}: {face} upgrade --from=.stestr takes over the runs of .stestr\n"
+    ) {
+        let _ = write_whole(err, line.as_bytes());
+    }
+}
+
+// Whether the words tell already which folder to upgrade from.
+fn names_other_folder(words: &[String]) -> bool {
+    match words {
+        [_, verb, _, ..] => verb.as_str() == "upgrade",
+        _ => false,
+    }
+}
+
+fn is_file(rt: &HostRuntime, path: &str) -> bool {
+    match fs::metadata(rt, path) {
+        Ok(found) => found.is_file(),
+        Err(_) => false,
+    }
 }
 
 // The absolute path of the folder that the program works in; nothing where the system does not tell it, or not as text.

@@ -1,0 +1,85 @@
+-- Files of which some are copies: how one set of copies follows another.
+use Rattle.std.proofs.Common.{◌≡◌, ◌⊎◌, inl, inr, ℕ, Option, List, IsSome, refl, sym, ap, ◌∙◌, subst}
+use Rattle.edge_io.specs.Disk.{Files, Disk, Folder, IsImage}
+use Rattle.edge_io.proofs.Passing.{passes_then, passes_weaker}
+use Rattle.run_shelf.specs.Images.{AtRest}
+use Rattle.run_shelf.proofs.Joining.{rest_images}
+use Rattle.old_copies.specs.Copying.{Either, Between, HasCopies, HoldsOther, PassesCopies, Copies}
+
+pub between_self : (Of : List ℕ → Type 0) (old files : Files) → Between Of old files files
+between_self Of old files name = inl refl
+
+pub between_wider : (A B : List ℕ → Type 0) (old files image : Files) → ((name : List ℕ) → A name → B name) → Between A old files image → Between B old files image
+between_wider A B old files image wider between name = elim (between name) [
+  | inl same ↦ inl same
+  | inr taken ↦ inr (wider name taken.0, taken.1)
+]
+
+pub between_then : (Of : List ℕ → Type 0) (old files now image : Files) → Between Of old files now → Between Of old now image → Between Of old files image
+between_then Of old files now image first second name = elim (second name) [
+  | inr taken ↦ inr taken
+  | inl same ↦ elim (first name) [
+    | inl was ↦ inl (same ∙ was)
+    | inr taken ↦ inr (taken.0, same ∙ taken.1)
+  ]
+]
+
+-- a wider set of names
+pub copies_wider : (A B : List ℕ → Type 0) (old files image : Files) → ((name : List ℕ) → A name → B name) → ((name : List ℕ) → B name → A name) → HasCopies A old files image → HasCopies B old files image
+copies_wider A B old files image wider back has = record {
+  each = λ name named. has.each name (back name named);
+  between = between_wider A B old files image wider has.between;
+}
+
+pub passes_wider : (A B : List ℕ → Type 0) (old : Files) → ((name : List ℕ) → A name → B name) → (s t : Folder) → PassesCopies A old s t → PassesCopies B old s t
+passes_wider A B old wider s t passes = passes_weaker (λ image. IsImage s.disk image ⊎ Between A old s.disk.published image) (λ image. IsImage s.disk image ⊎ Between B old s.disk.published image) more s t passes
+  where
+    more : (image : Files) → IsImage s.disk image ⊎ Between A old s.disk.published image → IsImage s.disk image ⊎ Between B old s.disk.published image
+    more image (inl was) = inl was
+    more image (inr between) = inr (between_wider A B old s.disk.published image wider between)
+
+pub other_wider : (A B : List ℕ → Type 0) (old files : Files) → ((name : List ℕ) → A name → B name) → HoldsOther A old files → HoldsOther B old files
+other_wider A B old files wider holds = record { name = holds.name; named = wider holds.name holds.named; there = holds.there; other = holds.other }
+
+-- ---- first these, then those
+
+module _ (A B : List ℕ → Type 0) (old : Files) where
+  pub left : (name : List ℕ) → A name → Either A B name
+  left name named = inl named
+
+  right : (name : List ℕ) → B name → Either A B name
+  right name named = inr named
+
+  module _ (files now : Files) (first : HasCopies A old files now) where
+    pub both_between : (image : Files) → Between B old now image → Between (Either A B) old files image
+    both_between image second =
+        between_then (Either A B) old files now image (between_wider A (Either A B) old files now left first.between) (between_wider B (Either A B) old now image right second)
+
+    pub copies_then : (image : Files) → HasCopies B old now image → HasCopies (Either A B) old files image
+    copies_then image second = record { each = each_of; between = both_between image second.between }
+      where
+        each_of : (name : List ℕ) → Either A B name → image name ≡ old name
+        each_of name (inr named) = second.each name named
+        each_of name (inl named) = elim (second.between name) [
+          | inl same ↦ same ∙ first.each name named
+          | inr taken ↦ taken.1
+        ]
+
+    pub other_back : HoldsOther B old now → HoldsOther (Either A B) old files
+    other_back holds = elim (first.between holds.name) [
+      | inr taken ↦ absurd (holds.other taken.1)
+      | inl same ↦ record { name = holds.name; named = inr holds.named; there = subst IsSome same holds.there; other = λ e. holds.other (same ∙ e) }
+    ]
+
+  module _ (s m : Folder) (rest : AtRest m) (has : Copies A old s m) where
+    from_middle : (image : Files) → IsImage m.disk image ⊎ Between B old m.disk.published image → IsImage s.disk image ⊎ Between (Either A B) old s.disk.published image
+    from_middle image (inl was) =
+        let is : image ≡ m.disk.published = rest_images m.disk.published image (subst (λ (d : Disk). IsImage d image) rest was) in
+        inr (subst (λ (f : Files). Between (Either A B) old s.disk.published f) (sym is) (between_wider A (Either A B) old s.disk.published m.disk.published left has.between))
+    from_middle image (inr between) = inr (both_between s.disk.published m.disk.published has image between)
+
+    pub passes_both : (t : Folder) → PassesCopies A old s m → PassesCopies B old m t → PassesCopies (Either A B) old s t
+    passes_both t first second =
+        passes_then (λ image. IsImage s.disk image ⊎ Between (Either A B) old s.disk.published image) s m t
+        (passes_wider A (Either A B) old left s m first)
+        (passes_weaker (λ image. IsImage m.disk image ⊎ Between B old m.disk.published image) (λ image. IsImage s.disk image ⊎ Between (Either A B) old s.disk.published image) from_middle m t second)

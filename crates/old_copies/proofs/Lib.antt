@@ -1,0 +1,7 @@
+pub mod DraftSteps
+pub mod BetweenLemmas
+pub mod StepLemmas
+pub mod FileLemmas
+pub mod KeptLemmas
+pub mod NameLemmas
+pub mod WholeLemmas

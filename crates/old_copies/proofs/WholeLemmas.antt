@@ -1,0 +1,332 @@
+-- All files, one after another.
+use Rattle.std.proofs.Common.{◌≡◌, ◌⊎◌, inl, inr, ℕ, ◌+◌, ◌<◌, ◌≤◌, Bool, true, false, Option, Some, None, List, IfSome, IsSome, Result, Ok, Err, refl, sym, ap, ◌∙◌, subst, arith}
+use Rattle.std.proofs.lemmas.Bool.{cases_eq, cases_lt}
+use Rattle.edge_io.specs.Causes.{RisesExactlyIf}
+use Rattle.edge_io.specs.Disk.{Files, Disk, Folder, IsImage, at_rest}
+use Rattle.edge_io.specs.Moments.{Passes}
+use Rattle.edge_io.specs.Seen.{Seen}
+use Rattle.edge_io.specs.Steps.{Goes, Settled, Stays}
+use Rattle.edge_io.proofs.Going.{goes_then, goes_weaker, goes_from}
+use Rattle.edge_io.proofs.Passing.{passes_same, passes_then, passes_weaker}
+use Rattle.run_shelf.specs.Images.{AtRest, PassesOld}
+use Rattle.run_shelf.specs.Repository.{full_name, format_name}
+use Rattle.run_shelf.specs.declared.faults.ShelfCall.{ShelfCall}
+use Rattle.run_shelf.proofs.Joining.{rest_images, goes_beside, goes_after, goes_with, settled_stays, some_after}
+use Rattle.run_shelf.proofs.RunLemmas.{none_is_not_some}
+use Rattle.old_copies.specs.Copying.{folder_in, IsName, Either, IsRunBelow, IsCopiedFirst, IsCopied, Between, HasCopies, HoldsOther, Places, places, folder_failed, site_failed, StepFails, PassesCopies, Copies, GoesBy, CopyStep, IsOnTheWay, PassesWay, CopiesAll, IsOldFolder, PassesTaking, TakesFiles, HasOtherFiles, CopyFails, CopiesOld}
+use Rattle.old_copies.specs.Looking.{IsFree, HereFails, HoldsNoOther, HasOtherName, NamesFail, LookFails}
+use Rattle.old_copies.specs.declared.faults.OldCopyFault.{OldCopyFault}
+use Rattle.old_copies.specs.declared.faults.OldCopyFault.TheVariants as fault
+use Rattle.old_copies.proofs.BetweenLemmas.{between_self, between_then, between_wider, both_between}
+use Rattle.old_copies.proofs.FileLemmas.{rests, told_or_not, by_known}
+use Rattle.old_copies.proofs.StepLemmas.{goes_both, goes_to, by_weaker, by_then, counts_then, failed_wider, done_same, step_then}
+
+-- ---- the runs
+
+module _ (i : ℕ) where
+  pub run_more : (name : List ℕ) → Either (IsRunBelow i) (IsName (full_name i)) name → IsRunBelow (i + 1) name
+  run_more name (inl below) = (below.0, omega (arith, below.1), below.2)
+  run_more name (inr here) = (i, omega arith, here)
+
+  pub run_back : (name : List ℕ) → IsRunBelow (i + 1) name → Either (IsRunBelow i) (IsName (full_name i)) name
+  run_back name below = elim (cases_eq below.0 i) [
+    | inl same ↦ inr (below.2 ∙ ap full_name same)
+    | inr other ↦ inl (below.0, less below.0 i below.1 other, below.2)
+  ]
+    where
+      less : (n m : ℕ) → n < m + 1 → (n ≡ m → ⊥) → n < m
+      less n m within differs = elim (cases_lt n m) [
+        | inl is ↦ is
+        | inr more ↦ absurd (differs (omega (arith, within, more)))
+      ]
+
+  pub run_within : (count : ℕ) → i < count → (name : List ℕ) → Either (IsRunBelow i) (IsName (full_name i)) name → IsRunBelow count name
+  run_within count less name (inl below) = (below.0, omega (arith, below.1, less), below.2)
+  run_within count less name (inr here) = (i, less, here)
+
+-- none at first
+pub no_runs : {T : Type 0} (from : List ℕ) (x : Places) (value : T) → IfSome x.folder.told AtRest → CopyStep (IsRunBelow 0) from x x (Ok value)
+no_runs from x value rest = record {
+  same = refl;
+  rest = rest;
+  copied = told_or_not from x.site.told x.folder.told x.folder.told (Copies (IsRunBelow 0)) (λ old. still (Copies (IsRunBelow 0) old) x.folder.told (λ s. record { each = λ name below. absurd (omega (arith, below.1)); between = between_self (IsRunBelow 0) old s.disk.published }));
+  refused = tt;
+  any_moment = told_or_not from x.site.told x.folder.told x.folder.told (PassesCopies (IsRunBelow 0)) (λ old. still (PassesCopies (IsRunBelow 0) old) x.folder.told (λ s. passes_same (λ image. IsImage s.disk image ⊎ Between (IsRunBelow 0) old s.disk.published image) s s refl refl));
+  folder = rests x.folder.faults x.folder.faults refl;
+  site = rests x.site.faults x.site.faults refl;
+}
+  where
+    still : (R : Folder → Folder → Type 0) (a : Option Folder) → ((s : Folder) → R s s) → Goes a a R
+    still R None each = tt
+    still R (Some s) each = each s
+
+-- one more
+pub runs_then : {T U : Type 0} (i : ℕ) (from : List ℕ) (x y z : Places) (value other : T) (last : U) → CopyStep (IsRunBelow i) from x y (Ok value) → CopyStep (IsName (full_name i)) from y z (Ok other) → CopyStep (IsRunBelow (i + 1)) from x z (Ok last)
+runs_then i from x y z value other last first second =
+    done_same (Either (IsRunBelow i) (IsName (full_name i))) (IsRunBelow (i + 1)) from x z other last (run_more i) (run_back i)
+    (step_then (IsRunBelow i) (IsName (full_name i)) from x y z value first (Ok other) second)
+
+pub runs_stop : {T U V : Type 0} (count i : ℕ) (from : List ℕ) (x y z : Places) (value : T) (bad : OldCopyFault) → i < count → CopyStep (IsRunBelow i) from x y (Ok value) → CopyStep {T = U} (IsName (full_name i)) from y z (Err bad) → CopyStep {T = V} (IsRunBelow count) from x z (Err bad)
+runs_stop {U = U} count i from x y z value bad less first second =
+    failed_wider {T = U} (Either (IsRunBelow i) (IsName (full_name i))) (IsRunBelow count) from x z bad (run_within i count less)
+    (step_then (IsRunBelow i) (IsName (full_name i)) from x y z value first (Err bad) second)
+
+-- ---- `format` last
+
+module _ (count : ℕ) (old : Files) where
+  pub way_first : (s t : Folder) → PassesCopies (IsCopiedFirst count) old s t → PassesWay count old s t
+  way_first s t passes = passes_weaker (λ image. IsImage s.disk image ⊎ Between (IsCopiedFirst count) old s.disk.published image) (λ image. IsImage s.disk image ⊎ IsOnTheWay count old s.disk.published image) more s t passes
+    where
+      more : (image : Files) → IsImage s.disk image ⊎ Between (IsCopiedFirst count) old s.disk.published image → IsImage s.disk image ⊎ IsOnTheWay count old s.disk.published image
+      more image (inl was) = inl was
+      more image (inr between) = inr (inl between)
+
+  module _ (s m : Folder) (rest : AtRest m) (has : Copies (IsCopiedFirst count) old s m) where
+    -- without `format` it is as before that
+    without : (image : Files) → Between (IsName format_name) old m.disk.published image → image format_name ≡ m.disk.published format_name → Between (IsCopiedFirst count) old s.disk.published image
+    without image between same name = from_old (has.between name)
+      where
+        is_old : image name ≡ m.disk.published name
+        is_old = elim (between name) [
+          | inl is ↦ is
+          | inr taken ↦ ap image taken.0 ∙ same ∙ sym (ap m.disk.published taken.0)
+        ]
+
+        from_old : (m.disk.published name ≡ s.disk.published name) ⊎ (IsCopiedFirst count name × (m.disk.published name ≡ old name)) → (image name ≡ s.disk.published name) ⊎ (IsCopiedFirst count name × (image name ≡ old name))
+        from_old (inl was) = inl (is_old ∙ was)
+        from_old (inr taken) = inr (taken.0, is_old ∙ taken.1)
+
+    -- with it all are copied
+    with_it : (image : Files) → Between (IsName format_name) old m.disk.published image → image format_name ≡ old format_name → HasCopies (IsCopied count) old s.disk.published image
+    with_it image between is = record { each = each_of; between = both_between (IsCopiedFirst count) (IsName format_name) old s.disk.published m.disk.published has image between }
+      where
+        each_of : (name : List ℕ) → IsCopied count name → image name ≡ old name
+        each_of name (inr named) = ap image named ∙ is ∙ sym (ap old named)
+        each_of name (inl first) = elim (between name) [
+          | inl same ↦ same ∙ has.each name first
+          | inr taken ↦ taken.1
+        ]
+
+    last_image : (image : Files) → IsImage m.disk image ⊎ Between (IsName format_name) old m.disk.published image → IsImage s.disk image ⊎ IsOnTheWay count old s.disk.published image
+    last_image image (inl was) =
+        let is : image ≡ m.disk.published = rest_images m.disk.published image (subst (λ (d : Disk). IsImage d image) rest was) in
+        inr (inl (subst (λ (f : Files). Between (IsCopiedFirst count) old s.disk.published f) (sym is) has.between))
+    last_image image (inr between) = elim (between format_name) [
+      | inl same ↦ inr (inl (without image between same))
+      | inr taken ↦ inr (inr (with_it image between taken.1))
+    ]
+
+    pub way_then : (t : Folder) → PassesCopies (IsCopiedFirst count) old s m → PassesCopies (IsName format_name) old m t → PassesWay count old s t
+    way_then t first second =
+        passes_then (λ image. IsImage s.disk image ⊎ IsOnTheWay count old s.disk.published image) s m t (way_first s m first)
+        (passes_weaker (λ image. IsImage m.disk image ⊎ Between (IsName format_name) old m.disk.published image) (λ image. IsImage s.disk image ⊎ IsOnTheWay count old s.disk.published image) last_image m t second)
+
+first_named : (count : ℕ) (name : List ℕ) → IsCopiedFirst count name → IsCopied count name
+first_named count name first = inl first
+
+pub all_stop : {T U : Type 0} (count : ℕ) (from : List ℕ) (x y : Places) (bad : OldCopyFault) → CopyStep {T = T} (IsCopiedFirst count) from x y (Err bad) → CopiesAll {T = U} count from x y (Err bad)
+all_stop {T = T} count from x y bad step = record {
+  step = failed_wider {T = T} (IsCopiedFirst count) (IsCopied count) from x y bad (first_named count) step;
+  way = by_weaker from x.site.told x.folder.told y.folder.told (PassesCopies (IsCopiedFirst count)) (PassesWay count) step.any_moment (way_first count);
+}
+
+pub all_then : {T U : Type 0} (count : ℕ) (from : List ℕ) (x y z : Places) (value : T) (result : Result U OldCopyFault) → CopyStep (IsCopiedFirst count) from x y (Ok value) → CopyStep (IsName format_name) from y z result → CopiesAll count from x z result
+all_then count from x y z value result first second = record {
+  step = step_then (IsCopiedFirst count) (IsName format_name) from x y z value first result second;
+  way = by_then from x.site.told y.site.told x.folder.told y.folder.told z.folder.told first.same first.rest (λ old s m. Copies (IsCopiedFirst count) old s m × PassesCopies (IsCopiedFirst count) old s m) (PassesCopies (IsName format_name)) (PassesWay count)
+      (pair_by x.site.told first.copied first.any_moment) second.any_moment
+      (λ old s m t rest p q. way_then count old s m rest p.0 t p.1 q);
+}
+  where
+    pair_by : (w : Option Files) → IfSome w (λ files. Goes x.folder.told y.folder.told (Copies (IsCopiedFirst count) (folder_in from files))) → IfSome w (λ files. Goes x.folder.told y.folder.told (PassesCopies (IsCopiedFirst count) (folder_in from files))) → IfSome w (λ files. Goes x.folder.told y.folder.told (λ s m. Copies (IsCopiedFirst count) (folder_in from files) s m × PassesCopies (IsCopiedFirst count) (folder_in from files) s m))
+    pair_by None one two = tt
+    pair_by (Some files) one two = goes_both x.folder.told y.folder.told (Copies (IsCopiedFirst count) (folder_in from files)) (PassesCopies (IsCopiedFirst count) (folder_in from files)) one two
+
+-- ---- the looks before
+
+-- what stands beside the files, on the way
+abbrev TakingBeside : Files → Files → Files → Type 0
+TakingBeside old files image = (count : ℕ) × IsOldFolder count old × IsOnTheWay count old files image
+
+way_beside : (count : ℕ) (old : Files) → IsOldFolder count old → (m t : Folder) → PassesWay count old m t → Passes (λ image. IsImage m.disk image ⊎ TakingBeside old m.disk.published image) m t
+way_beside count old is m t passes = passes_weaker (λ image. IsImage m.disk image ⊎ IsOnTheWay count old m.disk.published image) (λ image. IsImage m.disk image ⊎ TakingBeside old m.disk.published image) more m t passes
+  where
+    more : (image : Files) → IsImage m.disk image ⊎ IsOnTheWay count old m.disk.published image → IsImage m.disk image ⊎ TakingBeside old m.disk.published image
+    more image (inl was) = inl was
+    more image (inr way) = inr (count, is, way)
+
+old_moments : (old : Files) (s t : Folder) → PassesOld s t → PassesTaking old s t
+old_moments old s t passes = passes_weaker (IsImage s.disk) (λ image. IsImage s.disk image ⊎ TakingBeside old s.disk.published image) (λ image was. inl was) s t passes
+
+here_fails : (old files : Files) (bad : OldCopyFault) → HereFails bad files → CopyFails old files bad
+here_fails old files fault.Here fails = fails
+here_fails old files fault.OldHere fails = fails
+here_fails old files fault.StrangeHere fails = fails
+here_fails old files (fault.Shelf call) fails = tt
+here_fails old files fault.NoMemory fails = tt
+here_fails old files fault.NoStore fails = absurd fails
+here_fails old files fault.NotOld fails = absurd fails
+here_fails old files fault.UnknownFormat fails = absurd fails
+here_fails old files fault.BadCount fails = absurd fails
+here_fails old files fault.OtherFiles fails = absurd fails
+here_fails old files fault.Site fails = absurd fails
+
+there_fails : (old files : Files) (bad : OldCopyFault) → LookFails old bad → CopyFails old files bad
+there_fails old files fault.NoStore fails = fails
+there_fails old files fault.NotOld fails = fails
+there_fails old files fault.UnknownFormat fails = fails
+there_fails old files fault.BadCount fails = fails
+there_fails old files fault.Site fails = tt
+there_fails old files fault.NoMemory fails = tt
+there_fails old files fault.Here fails = absurd fails
+there_fails old files fault.OldHere fails = absurd fails
+there_fails old files fault.StrangeHere fails = absurd fails
+there_fails old files fault.OtherFiles fails = absurd fails
+there_fails old files (fault.Shelf call) fails = absurd fails
+
+names_fail : (count : ℕ) (old : Files) (s : Folder) (is_old : IsOldFolder count old) (bad : OldCopyFault) → NamesFail count bad s → CopyFails old s.disk.published bad
+names_fail count old s is_old fault.OtherFiles fails = record { count = count; is_old = is_old; name = fails.name; there = fails.there; other = λ first. absurd (fails.other first) }
+names_fail count old s is_old (fault.Shelf call) fails = tt
+names_fail count old s is_old fault.NoMemory fails = tt
+names_fail count old s is_old fault.Here fails = absurd fails
+names_fail count old s is_old fault.OldHere fails = absurd fails
+names_fail count old s is_old fault.StrangeHere fails = absurd fails
+names_fail count old s is_old fault.NoStore fails = absurd fails
+names_fail count old s is_old fault.NotOld fails = absurd fails
+names_fail count old s is_old fault.UnknownFormat fails = absurd fails
+names_fail count old s is_old fault.BadCount fails = absurd fails
+names_fail count old s is_old fault.Site fails = absurd fails
+
+other_files : (count : ℕ) (old files : Files) → IsOldFolder count old → files format_name ≡ None → HoldsOther (IsCopied count) old files → HasOtherFiles old files
+other_files count old files is_old none holds = record { count = count; is_old = is_old; name = holds.name; there = holds.there; other = λ first. holds.other }
+
+step_fails : (count : ℕ) (old files : Files) → IsOldFolder count old → files format_name ≡ None → (bad : OldCopyFault) → StepFails (IsCopied count) old files bad → CopyFails old files bad
+step_fails count old files is_old none fault.OtherFiles fails = other_files count old files is_old none fails
+step_fails count old files is_old none fault.Site fails = tt
+step_fails count old files is_old none (fault.Shelf call) fails = tt
+step_fails count old files is_old none fault.NoMemory fails = tt
+step_fails count old files is_old none fault.Here fails = absurd fails
+step_fails count old files is_old none fault.OldHere fails = absurd fails
+step_fails count old files is_old none fault.StrangeHere fails = absurd fails
+step_fails count old files is_old none fault.NoStore fails = absurd fails
+step_fails count old files is_old none fault.NotOld fails = absurd fails
+step_fails count old files is_old none fault.UnknownFormat fails = absurd fails
+step_fails count old files is_old none fault.BadCount fails = absurd fails
+
+-- ---- the whole
+
+-- the folder here is not free
+pub stops_here : (from : List ℕ) (f g : Seen Folder) (w : Seen Files) (bad : OldCopyFault) → Goes f.told g.told (λ s t. HereFails bad s.disk.published) → Goes f.told g.told PassesOld → RisesExactlyIf f.faults g.faults (folder_failed {T = Unit {0}} (Err bad)) → site_failed {T = Unit {0}} (Err bad) ≡ false → CopiesOld from (places f w) (places g w) (Err bad)
+stops_here from f g w bad fails passes count quiet = record {
+  same = refl;
+  copied = tt;
+  refused = told_or_not from w.told f.told g.told (λ old s t. CopyFails old s.disk.published bad) (λ old. goes_weaker f.told g.told (λ s t. HereFails bad s.disk.published) (λ s t. CopyFails old s.disk.published bad) fails (λ s t is. here_fails old s.disk.published bad is));
+  any_moment = told_or_not from w.told f.told g.told PassesTaking (λ old. goes_weaker f.told g.told PassesOld (PassesTaking old) passes (old_moments old));
+  folder = count;
+  site = subst (RisesExactlyIf w.faults w.faults) (sym quiet) (rests w.faults w.faults refl);
+}
+
+-- behind the look here
+module _ (from : List ℕ) (f g : Seen Folder) (w v : Seen Files) (counts : IfSome f.told (λ s. IsImage s.disk s.disk.published)) (free : Goes f.told g.told IsFree) (same : v.told ≡ w.told) where
+  settled : Goes f.told g.told Settled
+  settled = goes_weaker f.told g.told IsFree Settled free (λ s t is. is.settled)
+
+  pub rests_free : IfSome g.told AtRest
+  rests_free = some_after f.told g.told IsFree AtRest free (λ s t is. ap (λ (u : Folder). u.disk) is.settled ∙ ap at_rest (sym (ap (λ (u : Folder). u.disk.published) is.settled)))
+
+  -- the other folder is none of the original tool
+  pub stops_there : (bad : OldCopyFault) → IfSome w.told (λ files. LookFails (folder_in from files) bad) → RisesExactlyIf f.faults g.faults false → folder_failed {T = Unit {0}} (Err bad) ≡ false → RisesExactlyIf w.faults v.faults (site_failed {T = Unit {0}} (Err bad)) → CopiesOld from (places f w) (places g v) (Err bad)
+  stops_there bad fails folder quiet site = record {
+    same = same;
+    copied = tt;
+    refused = by_known from w.told (λ old. LookFails old bad) f.told g.told (λ old s t. CopyFails old s.disk.published bad) fails (λ old is. goes_weaker f.told g.told Settled (λ s t. CopyFails old s.disk.published bad) settled (λ s t p. there_fails old s.disk.published bad is));
+    any_moment = told_or_not from w.told f.told g.told PassesTaking (λ old. goes_beside f.told g.told counts settled (TakingBeside old));
+    folder = subst (RisesExactlyIf f.faults g.faults) (sym quiet) folder;
+    site = site;
+  }
+
+  -- and behind that there
+  module _ (h : Seen Folder) (count : ℕ) (is_old : IfSome w.told (λ files. IsOldFolder count (folder_in from files))) (stays : Goes g.told h.told Stays) where
+    settled_all : Goes f.told h.told Settled
+    settled_all = settled_stays f.told g.told counts settled h.told stays
+
+    free_all : Goes f.told h.told IsFree
+    free_all = goes_then f.told g.told h.told IsFree Stays IsFree free stays (λ s m t is p. record { none = is.none; settled = p ∙ is.settled })
+
+    pub rests_all : IfSome h.told AtRest
+    rests_all = some_after f.told h.told IsFree AtRest free_all (λ s t is. ap (λ (u : Folder). u.disk) is.settled ∙ ap at_rest (sym (ap (λ (u : Folder). u.disk.published) is.settled)))
+
+    -- other files stand here
+    pub stops_at_names : (bad : OldCopyFault) → IfSome g.told (NamesFail count bad) → RisesExactlyIf f.faults h.faults (folder_failed {T = Unit {0}} (Err bad)) → site_failed {T = Unit {0}} (Err bad) ≡ false → RisesExactlyIf w.faults v.faults false → CopiesOld from (places f w) (places h v) (Err bad)
+    stops_at_names bad fails folder quiet site = record {
+      same = same;
+      copied = tt;
+      refused = by_known from w.told (IsOldFolder count) f.told h.told (λ old s t. CopyFails old s.disk.published bad) is_old (λ old is. goes_then f.told g.told h.told Settled (λ m t. NamesFail count bad m × Stays m t) (λ s t. CopyFails old s.disk.published bad) settled (goes_with g.told h.told (NamesFail count bad) Stays fails stays) (λ s m t p q. subst (λ (files : Files). CopyFails old files bad) (ap (λ (u : Folder). u.disk.published) p) (names_fail count old m is bad q.0)));
+      any_moment = told_or_not from w.told f.told h.told PassesTaking (λ old. goes_beside f.told h.told counts settled_all (TakingBeside old));
+      folder = folder;
+      site = subst (RisesExactlyIf w.faults v.faults) (sym quiet) site;
+    }
+
+    -- the copies
+    module _ (i : Seen Folder) (u : Seen Files) (alone : IfSome g.told (HoldsNoOther count)) (folder : RisesExactlyIf f.faults h.faults false) (site : RisesExactlyIf w.faults v.faults false) where
+      moments_by : (o : Option Files) → IfSome o (λ files. IsOldFolder count (folder_in from files)) → IfSome o (λ files. Goes h.told i.told (PassesWay count (folder_in from files))) → IfSome o (λ files. Goes f.told i.told (PassesTaking (folder_in from files)))
+      moments_by None is way = tt
+      moments_by (Some files) is way = goes_after f.told h.told counts settled_all i.told (TakingBeside (folder_in from files)) (goes_weaker h.told i.told (PassesWay count (folder_in from files)) (λ m t. Passes (λ image. IsImage m.disk image ⊎ TakingBeside (folder_in from files) m.disk.published image) m t) way (way_beside count (folder_in from files) is))
+
+      by_first : (Q : Files → Type 0) → IfSome v.told Q → IfSome w.told Q
+      by_first Q known = subst (λ (o : Option Files). IfSome o Q) same known
+
+      module _ (s m t : Folder) (old : Files) (is : IsOldFolder count old) (p : IsFree s m) where
+        published : m.disk.published ≡ s.disk.published
+        published = ap (λ (k : Folder). k.disk.published) p.settled
+
+        takes_files : HoldsNoOther count m → AtRest t → Copies (IsCopied count) old m t → TakesFiles old s t
+        takes_files none rest copied = record {
+          count = count;
+          is_old = is;
+          free = p.none;
+          alone = λ name text some. none name text (subst IsSome (sym (ap (λ (files : Files). files name) published)) some);
+          rest = rest;
+          copied = subst (λ (files : Files). HasCopies (IsCopied count) old files t.disk.published) published copied;
+        }
+
+        fails_files : (bad : OldCopyFault) → StepFails (IsCopied count) old m.disk.published bad → CopyFails old s.disk.published bad
+        fails_files bad fails = step_fails count old s.disk.published is p.none bad (subst (λ (files : Files). StepFails (IsCopied count) old files bad) published fails)
+
+      alone_all : IfSome h.told (HoldsNoOther count)
+      alone_all = stays_some_of g.told h.told alone stays
+        where
+          stays_some_of : (a b : Option Folder) → IfSome a (HoldsNoOther count) → Goes a b Stays → IfSome b (HoldsNoOther count)
+          stays_some_of a b known step = some_after a b (λ s t. HoldsNoOther count s × Stays s t) (HoldsNoOther count) (goes_with a b (HoldsNoOther count) Stays known step) (λ s t both. subst (HoldsNoOther count) (sym both.1) both.0)
+
+      pub takes_all : (value : Unit {0}) → CopiesAll count from (places h v) (places i u) (Ok value) → CopiesOld from (places f w) (places i u) (Ok value)
+      takes_all value all = record {
+        same = all.step.same ∙ same;
+        copied = by_known_too w.told is_old (by_first (λ files. Goes h.told i.told (Copies (IsCopied count) (folder_in from files))) all.step.copied);
+        refused = tt;
+        any_moment = moments_by w.told is_old (by_first (λ files. Goes h.told i.told (PassesWay count (folder_in from files))) all.way);
+        folder = counts_then f.faults h.faults i.faults false folder all.step.folder;
+        site = counts_then w.faults v.faults u.faults false site all.step.site;
+      }
+        where
+          by_known_too : (o : Option Files) → IfSome o (λ files. IsOldFolder count (folder_in from files)) → IfSome o (λ files. Goes h.told i.told (Copies (IsCopied count) (folder_in from files))) → IfSome o (λ files. Goes f.told i.told (TakesFiles (folder_in from files)))
+          by_known_too None is copied = tt
+          by_known_too (Some files) is copied =
+              let old : Files = folder_in from files in
+              goes_then f.told h.told i.told IsFree (λ m t. (HoldsNoOther count m × AtRest t) × Copies (IsCopied count) old m t) (TakesFiles old) free_all
+              (goes_from h.told i.told (HoldsNoOther count) (λ m t. AtRest t × Copies (IsCopied count) old m t) (λ m t. (HoldsNoOther count m × AtRest t) × Copies (IsCopied count) old m t) alone_all (goes_to h.told i.told (Copies (IsCopied count) old) AtRest all.step.rest copied) (λ m t here both. ((here, both.0), both.1)))
+              (λ s m t p q. takes_files s m t old is p q.0.0 q.0.1 q.1)
+
+      pub stops_all : (bad : OldCopyFault) → CopiesAll {T = Unit {0}} count from (places h v) (places i u) (Err bad) → CopiesOld from (places f w) (places i u) (Err bad)
+      stops_all bad all = record {
+        same = all.step.same ∙ same;
+        copied = tt;
+        refused = by_refused w.told is_old (by_first (λ files. Goes h.told i.told (λ m t. StepFails (IsCopied count) (folder_in from files) m.disk.published bad)) all.step.refused);
+        any_moment = moments_by w.told is_old (by_first (λ files. Goes h.told i.told (PassesWay count (folder_in from files))) all.way);
+        folder = counts_then f.faults h.faults i.faults _ folder all.step.folder;
+        site = counts_then w.faults v.faults u.faults _ site all.step.site;
+      }
+        where
+          by_refused : (o : Option Files) → IfSome o (λ files. IsOldFolder count (folder_in from files)) → IfSome o (λ files. Goes h.told i.told (λ m t. StepFails (IsCopied count) (folder_in from files) m.disk.published bad)) → IfSome o (λ files. Goes f.told i.told (λ s t. CopyFails (folder_in from files) s.disk.published bad))
+          by_refused None is fails = tt
+          by_refused (Some files) is fails = goes_then f.told h.told i.told IsFree (λ m t. StepFails (IsCopied count) (folder_in from files) m.disk.published bad) (λ s t. CopyFails (folder_in from files) s.disk.published bad) free_all fails (λ s m t p q. fails_files s m t (folder_in from files) is p bad q)

@@ -1,0 +1,101 @@
+-- The looks at both folders, and the parts of a copy.
+use Rattle.std.specs.Prelude.{◌≡◌, ◌≢◌, ⊤, ℕ, List, Option, Some, None, IsSome, Contains}
+use Rattle.sub_number.specs.Texts.{IsShortText}
+use Rattle.edge_io.specs.Disk.{Files, Folder}
+use Rattle.edge_io.specs.MemState.{KeptForGood}
+use Rattle.edge_io.specs.Steps.{Settled}
+use Rattle.run_shelf.specs.Adoption.{IsOld}
+use Rattle.run_shelf.specs.Repository.{format_name, HasFormat}
+use Rattle.old_folder.specs.Looking.{HasStrangeFormat, LacksCount}
+use Rattle.old_folder.specs.declared.faults.OldFault.{OldFault}
+use Rattle.old_folder.specs.declared.faults.OldFault.TheVariants as look
+use Rattle.old_copies.specs.Copying.{IsCopiedFirst}
+use Rattle.old_copies.specs.declared.faults.OldCopyFault.{OldCopyFault}
+use Rattle.old_copies.specs.declared.faults.OldCopyFault.TheVariants.{Here, OldHere, StrangeHere, NoStore, NotOld, UnknownFormat, BadCount, OtherFiles, Site, Shelf, NoMemory}
+use Rattle.old_copies.specs.declared.file.Compared.{Compared}
+use Rattle.old_copies.specs.declared.file.Compared.TheVariants.{Same, New, Other}
+
+-- ---- the folder here
+
+-- it has no `format`, and all of it is on the disk for good
+pub record IsFree (s t : Folder) : Type 0 where
+  pub none : s.disk.published format_name ≡ None
+  pub settled : Settled s t
+
+-- why it is not free, or not known to be
+abbrev pub HereFails : OldCopyFault → Files → Type 0
+HereFails Here files = HasFormat files
+HereFails OldHere files = IsOld files
+HereFails StrangeHere files = HasStrangeFormat files
+HereFails (Shelf call) files = ⊤
+HereFails NoMemory files = ⊤
+HereFails fault files = ⊥
+
+-- each file of a text's name has one that is copied, where there are so many runs
+abbrev pub HoldsNoOther : ℕ → Folder → Type 0
+HoldsNoOther count s = (name : List ℕ) → IsShortText name → IsSome (s.disk.published name) → IsCopiedFirst count name
+
+-- one of the names is another
+pub record HasOtherIn (count : ℕ) (names : List (List ℕ)) : Type 0 where
+  pub name : List ℕ
+  pub listed : Contains names name
+  pub other : IsCopiedFirst count name → ⊥
+
+-- a file has another name
+pub record HasOtherName (count : ℕ) (files : Files) : Type 0 where
+  pub name : List ℕ
+  pub there : IsSome (files name)
+  pub other : IsCopiedFirst count name → ⊥
+
+-- why the names are not known to be such
+abbrev pub NamesFail : ℕ → OldCopyFault → Folder → Type 0
+NamesFail count OtherFiles s = HasOtherName count s.disk.published
+NamesFail count (Shelf call) s = ⊤
+NamesFail count NoMemory s = ⊤
+NamesFail count fault s = ⊥
+
+-- ---- the other folder
+
+-- a read of it failed, or memory was wanting
+abbrev pub IsOfSite : OldCopyFault → Type 0
+IsOfSite Site = ⊤
+IsOfSite NoMemory = ⊤
+IsOfSite fault = ⊥
+
+-- a call of the folder here failed, or memory was wanting
+abbrev pub IsOfFolder : OldCopyFault → Type 0
+IsOfFolder (Shelf call) = ⊤
+IsOfFolder NoMemory = ⊤
+IsOfFolder fault = ⊥
+
+-- the file that is there, or not, is kept in memory
+abbrev pub TakesUp : List ℕ → Option (List ℕ) → Folder → Folder → Type 0
+TakesUp name None s t = t ≡ s
+TakesUp name (Some bytes) s t = KeptForGood name bytes s t
+
+-- a fault of the look in memory, as one of the copy
+abbrev pub copy_fault : OldFault → OldCopyFault
+copy_fault look.NoStore = NoStore
+copy_fault look.NotOld = NotOld
+copy_fault look.UnknownFormat = UnknownFormat
+copy_fault look.BadCount = BadCount
+copy_fault (look.Shelf call) = NoMemory
+copy_fault look.NoMemory = NoMemory
+
+-- why the other folder is none of the original tool
+abbrev pub LookFails : (old : Files) → OldCopyFault → Type 0
+LookFails old NoStore = old format_name ≡ None
+LookFails old NotOld = HasFormat old
+LookFails old UnknownFormat = HasStrangeFormat old
+LookFails old BadCount = LacksCount old
+LookFails old Site = ⊤
+LookFails old NoMemory = ⊤
+LookFails old fault = ⊥
+
+-- ---- one file
+
+-- how the file there compares with the one here
+abbrev pub Compares : (there here : Option (List ℕ)) → Compared → Type 0
+Compares there here Same = here ≡ there
+Compares there here (New bytes) = (there ≡ Some bytes) × (here ≡ None)
+Compares there here Other = IsSome here × (here ≢ there)
