@@ -21,7 +21,7 @@ use Rattle.outcome_fold.specs.Summed.{with_rows}
 use Rattle.outcome_fold.specs.declared.summary.Summary.{Summary}
 use Rattle.suite_run.specs.Summed.{GivesSums}
 use Rattle.worker_lane.specs.Recorded.{HasRecorded, IsRecorded}
-use Rattle.worker_lane.specs.Scribing.{Scribing, holding, Recording, HasNone}
+use Rattle.worker_lane.specs.Scribing.{Scribing, finished, Recording, HasNone}
 use Rattle.worker_lane.proofs.RecordingLemmas.{recording_ended, recording_whole}
 use Rattle.command_steps.specs.Files.{AreFiles, HasRecordedInTurn, AreFrontOf, IsFile, NoneFailed, RecordsFilePieces, RecordsFile, RecordsFiles, RecordsInTurn, RecordsSources, HasFilesCause}
 use Rattle.command_steps.specs.Outside.{Filed, filed, fed, work}
@@ -84,10 +84,10 @@ caused_in names before after (Err given) fault is cause = subst (HasFilesCause n
 -- ---- one file whole
 
 -- the end of the file, of which the last packets were written
-module _ (lane : ℕ) (name : List ℕ) (before : Filed) (between after : Seen Folder) (site : Seen Files) (scribe ended last : Scribing) (rows read last_rows : WrittenRun) (pieces : RecordsFilePieces name before (filed between site) scribe rows read) (is : ended ≡ holding scribe scribe.held.bytes true) (under : scribe.lane ≡ lane) where
+module _ (lane : ℕ) (name : List ℕ) (before : Filed) (between after : Seen Folder) (site : Seen Files) (scribe ended last : Scribing) (rows read last_rows : WrittenRun) (pieces : RecordsFilePieces name before (filed between site) scribe rows read) (going_on : scribe.held.ended ≡ false) (is : ended ≡ finished scribe) (under : scribe.lane ≡ lane) where
   whole_file : WritesPackets between after ended last read last_rows → HasNone last → RecordsFile lane name before (filed after site) rows last_rows
   whole_file more none =
-      let fed : Recording pieces.bytes ended pieces.run = recording_ended pieces.bytes pieces.run scribe ended is pieces.recording in
+      let fed : Recording pieces.bytes ended pieces.run = recording_ended pieces.bytes pieces.run scribe ended going_on is pieces.recording in
       let whole : Recording pieces.bytes last (pieces.run ++ more.run) = subst (λ (l : List ℕ). Recording pieces.bytes last (pieces.run ++ l)) (sym more.given.new_is) (more.given.recording pieces.bytes pieces.run fed) in
       let lane_is : last.lane ≡ lane = more.given.lane ∙ ap (λ (s : Scribing). s.lane) is ∙ under in
       record {

@@ -21,7 +21,7 @@ use Rattle.run_shelf.proofs.DraftLemmas.{goes_grown_then}
 use Rattle.stream_reader.proofs.FrontLemmas.{are_both}
 use Rattle.suite_run.specs.Summed.{GivesSums}
 use Rattle.worker_lane.specs.Recorded.{IsRecorded}
-use Rattle.worker_lane.specs.Scribing.{Scribing, holding, Recording, GivesOne, GivesPacket, GivesPackets, HasNone}
+use Rattle.worker_lane.specs.Scribing.{Scribing, finished, Recording, GivesOne, GivesPacket, GivesPackets, HasNone}
 use Rattle.worker_lane.proofs.RecordingLemmas.{packets_none, packets_one, recording_ended, recording_whole}
 use Rattle.command_steps.specs.Outside.{Fed, fed}
 use Rattle.command_steps.specs.Recording.{most_bytes, ReadsFew, ReadsTooMany, NoneFailed, WritesPackets, HasRecordCause, HasWriteCause, RecordsInput, RecordsPieces, RecordsAll, Records}
@@ -110,10 +110,10 @@ module _ (before : Fed) (between after : Seen Folder) (input : Seen (List ℕ)) 
   run : List ℕ
   run = pieces.run ++ packets
 
-  recorded : ended ≡ holding scribe scribe.held.bytes true → scribe.lane ≡ 0 → HasNone last → RecordsInput before.input.told input.told run
+  recorded : scribe.held.ended ≡ false → ended ≡ finished scribe → scribe.lane ≡ 0 → HasNone last → RecordsInput before.input.told input.told run
   unfolding run
-  recorded is lane none =
-      let fed : Recording pieces.bytes ended pieces.run = recording_ended pieces.bytes pieces.run scribe ended is pieces.recording in
+  recorded going_on is lane none =
+      let fed : Recording pieces.bytes ended pieces.run = recording_ended pieces.bytes pieces.run scribe ended going_on is pieces.recording in
       let whole : Recording pieces.bytes last (pieces.run ++ packets) = subst (λ (l : List ℕ). Recording pieces.bytes last (pieces.run ++ l)) (sym given.new_is) (given.recording pieces.bytes pieces.run fed) in
       let under : last.lane ≡ 0 = given.lane ∙ ap (λ (s : Scribing). s.lane) is ∙ lane in (
         pieces.bytes,
@@ -121,11 +121,11 @@ module _ (before : Fed) (between after : Seen Folder) (input : Seen (List ℕ)) 
         subst (λ (n : ℕ). IsRecorded n pieces.bytes (pieces.run ++ packets)) under (recording_whole pieces.bytes (pieces.run ++ packets) last (given.ended ∙ ap (λ (s : Scribing). s.held.ended) is) none whole),
       )
 
-  pub recorded_all : (list : List Row) → ended ≡ holding scribe scribe.held.bytes true → scribe.lane ≡ 0 → HasNone last → AreRowsOf (pieces.run ++ packets) list → RecordsAll list before (fed after input)
+  pub recorded_all : (list : List Row) → scribe.held.ended ≡ false → ended ≡ finished scribe → scribe.lane ≡ 0 → HasNone last → AreRowsOf (pieces.run ++ packets) list → RecordsAll list before (fed after input)
   unfolding run
-  recorded_all list is lane none rows_are = record {
+  recorded_all list going_on is lane none rows_are = record {
     run = pieces.run ++ packets;
-    recorded = recorded is lane none;
+    recorded = recorded going_on is lane none;
     are_bytes = are_both pieces.run packets pieces.are_bytes are;
     rows_are = rows_are;
     written = goes_grown_then before.folder.told between.told after.told pieces.run packets pieces.written written;

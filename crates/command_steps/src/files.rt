@@ -157,6 +157,7 @@ fn record_pieces<'a, H: Shelf, F: Site>(
         scribe.new run.old run.new) }
     ensures draft { OnOk result (HasDraft (H.seen shelf.new).told) }
     ensures lane { OnOk result (scribe.new.lane ≡ scribe.old.lane) }
+    ensures going_on { OnOk result (scribe.new.held.ended ≡ false) }
     ensures empty { OnOk result (packets.new.items ≡ []) }
     ensures rests { Goes (H.seen shelf.old).told (H.seen shelf.new).told SameButDraft }
     ensures files { (F.seen site.new).told ≡ (F.seen site.old).told }

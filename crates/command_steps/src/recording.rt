@@ -145,6 +145,7 @@ fn record_pieces<H: Shelf, I: Source>(
         scribe.new run.new) }
     ensures draft { OnOk result (HasDraft (H.seen shelf.new).told) }
     ensures lane { OnOk result (scribe.new.lane ≡ scribe.old.lane) }
+    ensures going_on { OnOk result (scribe.new.held.ended ≡ false) }
     ensures empty { OnOk result (packets.new.items ≡ []) }
     ensures rests { Goes (H.seen shelf.old).told (H.seen shelf.new).told SameButDraft }
     ensures refused { IfErr result (HasRecordCause

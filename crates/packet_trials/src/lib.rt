@@ -23,4 +23,6 @@ mod tests_stream_reader;
 #[cfg(test)]
 mod tests_worker_lane;
 #[cfg(test)]
+mod tests_worker_lane_inside;
+#[cfg(test)]
 mod tests_worker_lane_lost;

@@ -38,7 +38,7 @@ fn is_recorded(alloc: Global, lane: u32, stream: &[u8], size: usize, wanted: &[u
 }
 
 // Streams, and what is recorded of each under lane 0.
-const STREAMS: [(&[u8], &[u8]); 7] = [
+const STREAMS: [(&[u8], &[u8]); 6] = [
     (FOO, FOO_UNDER_0),
     (b"", b""),
     // `foo` failed.
@@ -60,11 +60,6 @@ const STREAMS: [(&[u8], &[u8]); 7] = [
     (
         b"ab\xb3\x29\x03\x0c\x03foo\x45\x9d\xfe\x10",
         b"\xb3\x25\x40\x14\x06stdout\x02ab\x01\x30\x3a\xe0\x57\xa9\xb3\x2d\x03\x0e\x03foo\x01\x30\xa4\xaf\xdb\xe0",
-    ),
-    // A header of 60 bytes, and a packet among them.
-    (
-        b"\xb3\x29\x03\x3c\xb3\x29\x03\x0c\x03foo\x45\x9d\xfe\x10",
-        b"\xb3\x25\x40\x16\x06stdout\x04\xb3\x29\x03\x3c\x01\x30\xec\x41\x8b\x3d\xb3\x2d\x03\x0e\x03foo\x01\x30\xa4\xaf\xdb\xe0",
     ),
 ];
 

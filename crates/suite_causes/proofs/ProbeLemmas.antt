@@ -25,8 +25,7 @@ use Rattle.packet_codec.proofs.SpellingLemmas.{canonical_spells}
 use Rattle.suite_plan.specs.Children.{IsBroken}
 use Rattle.worker_lane.specs.Endings.{ending_of, ending_events, returncode_text, returncode_under, IsPacketOf}
 use Rattle.worker_lane.specs.Lost.{named_ids, lost_ids, lost_events}
-use Rattle.worker_lane.specs.Recorded.{recorded_events}
-use Rattle.worker_lane.specs.Rest.{Gives, lots_asked, notes_of_stream, notes_are}
+use Rattle.worker_lane.specs.Rest.{Gives, lots_asked, notes_of_stream, notes_are, stream_events}
 use Rattle.worker_lane.specs.declared.lot.Ending.{Ending}
 use Rattle.worker_lane.specs.declared.lot.Ending.TheVariants.{Exit, Fault, NoMemory}
 use Rattle.worker_lane.specs.declared.lot.Lot.{Lot}
@@ -180,7 +179,7 @@ status_fits finish.WaitFault status can is = cc
 
 pub all_have_packets : (test : List ℕ) → IsShortText test → (output : Output) (status : ℤ) → AreBytes output.bytes → IsFinish output.finish → ending_of output.finish ≡ Exit status → HavePackets (events_asked 0 (test ∷ []) output)
 all_have_packets test text output status bytes can is =
-    let notes : List Event = recorded_events 0 (notes_of_stream output.bytes) in
+    let notes : List Event = stream_events 0 output.bytes in
     let how : Ending = ending_of output.finish in
     let lost : List Event = lost_events 0 how (lost_ids (named_ids (test ∷ [])) notes) in
     let ending : List Event = ending_events 0 how in

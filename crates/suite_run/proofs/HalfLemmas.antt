@@ -17,6 +17,7 @@ use Rattle.outcome_fold.proofs.HalfLemmas.{halves_say_same}
 use Rattle.outcome_fold.proofs.RouteLemmas.{same_says}
 use Rattle.suite_run.specs.Halves.{FitsOrIsCut, FitOrAreCut, whole_under}
 use Rattle.worker_lane.specs.Endings.{ending_events}
+use Rattle.worker_lane.specs.Inside.{ends_inside, inside_events}
 use Rattle.worker_lane.specs.Recorded.{in_halves, in_pieces, recorded_event, recorded_events, HasRecorded}
 use Rattle.worker_lane.specs.declared.lot.Ending.{Ending}
 use Rattle.worker_lane.proofs.NoteLemmas.{each_way}
@@ -46,12 +47,14 @@ notes_rows lane front (note.Event e ∷ notes) behind cut =
     ap (λ (l : List Event). rows_of (front ++ l)) (append_assoc (recorded_event lane e) (recorded_events lane notes) behind)
     ∙ event_rows lane front (recorded_events lane notes ++ behind) (map (under lane) (events_of notes) ++ behind) e (All-head (FitsOrIsCut lane) e (events_of notes) cut) rest
 
-pub says_the_same : (lane : ℕ) (bytes : List ℕ) (recorded events : List Event) (how : Ending) → AreBytes bytes → HasRecorded lane bytes recorded → HasEvents bytes events → FitOrAreCut lane events → SaySame (recorded ++ ending_events lane how) (whole_under lane events how)
+pub says_the_same : (lane : ℕ) (bytes : List ℕ) (recorded events : List Event) (how : Ending) → AreBytes bytes → HasRecorded lane bytes recorded → HasEvents bytes events → FitOrAreCut lane events → SaySame (recorded ++ ending_events lane how) (whole_under lane bytes events how)
 says_the_same lane bytes recorded events how are has (notes, are_notes, events_are) cut =
     let same : has.notes ≡ notes = one_notes bytes has.notes notes are has.are_notes are_notes in
     let cut_so : FitOrAreCut lane (events_of notes) = rw events_are at cut in
-    let recorded_is : recorded ≡ recorded_events lane notes = has.made ∙ ap (recorded_events lane) same in
+    let inside : List Event = inside_events lane (ends_inside bytes) in
+    let recorded_is : recorded ≡ recorded_events lane notes ++ inside = has.made ∙ ap (λ (l : List Note). recorded_events lane l ++ inside) same in
     same_says _ _
     (ap (λ (l : List Event). rows_of (l ++ ending_events lane how)) recorded_is
-    ∙ notes_rows lane [] notes (ending_events lane how) cut_so
-    ∙ ap (λ (l : List Event). rows_of (whole_under lane l how)) (sym events_are))
+    ∙ ap rows_of (append_assoc (recorded_events lane notes) inside (ending_events lane how))
+    ∙ notes_rows lane [] notes (inside ++ ending_events lane how) cut_so
+    ∙ ap (λ (l : List Event). rows_of (whole_under lane bytes l how)) (sym events_are))

@@ -26,9 +26,8 @@ use Rattle.packet_codec.specs.declared.event.Event.{Event}
 use Rattle.suite_run.specs.NoneLost.{HasRow, LosesNone, AreAllShort, LoseNone}
 use Rattle.worker_lane.specs.Endings.{ending_of}
 use Rattle.worker_lane.specs.Lost.{is_id, longest_id, names, named_ids}
-use Rattle.worker_lane.specs.Recorded.{recorded_events}
 use Rattle.worker_lane.specs.Sought.{AreShort}
-use Rattle.worker_lane.specs.Rest.{notes_of_stream}
+use Rattle.worker_lane.specs.Rest.{stream_events}
 use Rattle.worker_lane.specs.declared.lot.Ending.TheVariants.{Exit, Fault, NoMemory}
 use Rattle.worker_lane.proofs.LostLemmas.{named}
 use Rattle.worker_mux.specs.Outputs.{first_ids, other_ids, events_asked, lists_asked}
@@ -183,7 +182,7 @@ others_short (ids ∷ others) short = All-tail AreShort ids others short
 loses_none_by : (lane : ℕ) (events : List Event) (ids : List (List ℕ)) (output : Output) → AreShort ids → of_lane lane events ≡ events_asked lane ids output → (ending_of output.finish ≡ Exit (pos 0) → ⊥) → (ending_of output.finish ≡ NoMemory → ⊥) → AllByRecursion (HasRow (rows_of events)) ids
 loses_none_by lane events ids output short is other memory =
     subst (AllByRecursion (HasRow (rows_of events))) (all_named ids short) (all_rows lane events (events_asked lane ids output) (named_ids ids) is
-    (named lane (named_ids ids) (recorded_events lane (notes_of_stream output.bytes)) (ending_of output.finish) other memory))
+    (named lane (named_ids ids) (stream_events lane output.bytes) (ending_of output.finish) other memory))
 
 loses_none : (lane : ℕ) (events : List Event) (ids : List (List ℕ)) (output : Output) (how : Finish) → output.finish ≡ how → AreShort ids → of_lane lane events ≡ events_asked lane ids output → LosesNone (rows_of events) ids output
 loses_none lane events ids output (finish.Exit (pos zero)) how short is = inl how

@@ -6,9 +6,9 @@ use Rattle.packet_codec.specs.Grammar.{AreBytes}
 use Rattle.packet_codec.specs.Canonical.{IsEvent, Fits}
 use Rattle.stream_reader.specs.Notes.{HasEvents, notes_of, events_of}
 use Rattle.stream_reader.proofs.CutLemmas.{one_cut}
-use Rattle.stream_reader.proofs.NotesLemmas.{are_full, are_made, packets_of, notes_of_packets, events_of_packets, cut_of_written}
-use Rattle.worker_lane.specs.Recorded.{HasRecorded}
-use Rattle.worker_lane.proofs.NoteLemmas.{notes_have_packets, HavePackets}
+use Rattle.stream_reader.proofs.NotesLemmas.{packets_of, notes_of_packets, events_of_packets, cut_of_written}
+use Rattle.worker_lane.proofs.NoteLemmas.{HavePackets}
+use Rattle.worker_lane.proofs.RecordedLaneLemmas.{have_packets}
 use Rattle.outcome_fold.specs.declared.row.Row.{Row}
 use Rattle.outcome_fold.specs.Rows.{rows_of}
 use Rattle.run_ledger.specs.Reading.{AreRowsOf}
@@ -28,12 +28,7 @@ pub rows_of_written : (run : List ℕ) (events : List Event) (list : List Row) �
 rows_of_written run events list bytes are fit is rows =
     rows.folded ∙ ap rows_of (one_events run rows.events events bytes rows.told (subst (λ (l : List ℕ). HasEvents l events) (sym is) (written events are fit)))
 
--- what is recorded has packets
-have_packets : (lane : ℕ) (bytes : List ℕ) (events : List Event) → lane < 64 → AreBytes bytes → HasRecorded lane bytes events → HavePackets events
-have_packets lane bytes events small are h =
-    rw (h.made) (notes_have_packets lane h.notes bytes small are (rw (h.are_notes.made) (are_made h.are_notes.pieces [] bytes h.are_notes.cut)) (rw (h.are_notes.made) (are_full h.are_notes.pieces [] (omega arith))))
-
--- so has what is recorded of sources in turn
+-- what is recorded of sources in turn has packets
 pub have_in_turn : (lane : ℕ) (sources : List (List ℕ)) (events : List Event) → lane + length sources ≤ 64 → All AreBytes sources → HasRecordedInTurn lane sources events → HavePackets events
 have_in_turn lane [] events few are none = rw none (record { are_events = All-nil IsEvent; fit = All-nil Fits })
 have_in_turn lane (source ∷ sources) events few are (front, rest, is, first, others) =

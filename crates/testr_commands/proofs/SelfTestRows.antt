@@ -1,5 +1,5 @@
 -- The rows of drawn workers.
-use Rattle.std.proofs.Common.{◌≡◌, ℕ, zero, suc, ◌+◌, ◌*◌, ◌<◌, ◌≤◌, true, false, ◌&&◌, Option, None, Some, IfSome, Result, Ok, Err, List, [], ◌∷◌, ◌++◌, map, length, refl, sym, ap, subst, ◌∙◌, arith, add-one, append-nil}
+use Rattle.std.proofs.Common.{◌≡◌, ℕ, zero, suc, ◌+◌, ◌*◌, ◌<◌, ◌≤◌, Bool, true, false, ◌&&◌, Option, None, Some, IfSome, Result, Ok, Err, List, [], ◌∷◌, ◌++◌, map, length, refl, sym, ap, subst, ◌∙◌, arith, add-one, append-nil}
 use Rattle.std.specs.Prelude.{All, IfOk, nat_le}
 use Rattle.std.specs.List.{flat_map, range_with_len}
 use Rattle.std.proofs.lemmas.Bool.{leb-true, and_parts}
@@ -25,6 +25,7 @@ use Rattle.packet_codec.specs.Canonical.{canonical, IsEvent, Fits}
 use Rattle.packet_codec.specs.Lanes.{joined}
 use Rattle.packet_codec.specs.Routing.{under}
 use Rattle.packet_codec.specs.declared.event.Event.{Event}
+use Rattle.stream_reader.specs.declared.note.Note.{Note}
 use Rattle.stream_reader.specs.declared.note.Note.TheVariants as note
 use Rattle.stream_reader.proofs.NotesLemmas.{packets_of, notes_of_packets, cut_of_written}
 use Rattle.stream_reader.proofs.TurnLemmas.{one_notes}
@@ -32,7 +33,9 @@ use Rattle.suite_run.specs.Starting.{StartsAll}
 use Rattle.suite_run.specs.Summed.{GivesSums}
 use Rattle.worker_lane.specs.Recorded.{recorded_event, recorded_events}
 use Rattle.worker_lane.proofs.NoteLemmas.{recorded_whole}
-use Rattle.worker_lane.specs.Rest.{notes_of_stream, notes_are}
+use Rattle.worker_lane.proofs.InsideLemmas.{not_inside}
+use Rattle.worker_lane.specs.Inside.{ends_inside, inside_events}
+use Rattle.worker_lane.specs.Rest.{notes_of_stream, notes_are, stream_events}
 use Rattle.worker_mux.specs.Outputs.{events_for, lists_from}
 use Rattle.testr_words.specs.Drawings.{are_few}
 use Rattle.command_steps.specs.Outside.{Work, work}
@@ -87,11 +90,15 @@ events_under lane [] have = refl
 events_under lane (e ∷ events) have = λ i. event_under lane e (All-head (HasPacket lane) e events have) i ++ events_under lane events (All-tail (HasPacket lane) e events have) i
 
 -- what is recorded of packets is their events under the lane
-recorded_under : (lane : ℕ) (events : List Event) → All (HasPacket lane) events → recorded_events lane (notes_of_stream (flat_map canonical events)) ≡ map (under lane) events
+recorded_under : (lane : ℕ) (events : List Event) → All (HasPacket lane) events → stream_events lane (flat_map canonical events) ≡ map (under lane) events
 recorded_under lane events have =
     let packets = of_packets lane events have in
     let notes = one_notes (flat_map canonical events) (notes_of_stream (flat_map canonical events)) (map note.Event events) (packets_bytes events packets.0) (notes_are (flat_map canonical events)) (record { pieces = packets_of events; cut = cut_of_written events packets.0 packets.1; made = sym (notes_of_packets events) }) in
-    ap (recorded_events lane) notes ∙ events_under lane events have
+    let whole = not_inside events (packets_bytes events packets.0) packets.0 packets.1 in
+    ap (λ (l : List Note). recorded_events lane l ++ inside_events lane (ends_inside (flat_map canonical events))) notes
+    ∙ ap (λ (inside : Bool). recorded_events lane (map note.Event events) ++ inside_events lane inside) whole
+    ∙ append-nil (recorded_events lane (map note.Event events))
+    ∙ events_under lane events have
 
 module _ (drawing : Drawing) (few : drawing.tests ≤ 1000000) where
   output : ℕ → Output
@@ -101,7 +108,7 @@ module _ (drawing : Drawing) (few : drawing.tests ≤ 1000000) where
   have lane small = lane_has_packets lane drawing.tests (state_of drawing.seed drawing.tests lane) small few
 
   recorded_of : (lane : ℕ) → lane < 64 → events_for lane (output_of drawing.seed drawing.tests lane) ≡ lane_of drawing lane
-  recorded_of lane small = append-nil (recorded_events lane (notes_of_stream (flat_map canonical (events_of drawing.seed drawing.tests lane)))) ∙ recorded_under lane (events_of drawing.seed drawing.tests lane) (have lane small)
+  recorded_of lane small = append-nil (stream_events lane (flat_map canonical (events_of drawing.seed drawing.tests lane))) ∙ recorded_under lane (events_of drawing.seed drawing.tests lane) (have lane small)
 
   -- ---- all of them
 

@@ -19,9 +19,10 @@ use Rattle.stream_reader.specs.Notes.{stdout_event}
 use Rattle.stream_reader.specs.Room.{most_held}
 use Rattle.stream_reader.specs.Stream.{IsMadeOf}
 use Rattle.stream_reader.proofs.FrontLemmas.{are_before, are_behind, are_both}
+use Rattle.worker_lane.specs.Inside.{inside_event, inside_under}
 use Rattle.worker_lane.specs.Recorded.{pieces_of, stdout_under, recorded_event, recorded_note}
 use Rattle.worker_lane.specs.Waiting.{IsShortNote}
-use Rattle.worker_lane.specs.Scribing.{Scribing, holding, TakesNote, IsAsBefore, GivesEvent, GivesPacket, HasNone}
+use Rattle.worker_lane.specs.Scribing.{Scribing, holding, finished, TakesNote, TakesInside, IsAsBefore, GivesEvent, GivesPacket, HasNone}
 use Rattle.worker_lane.specs.Endings.{ending_of, ending_events, IsPacketOf}
 use Rattle.edge_io.specs.Children.{Output}
 use Rattle.worker_lane.specs.Courses.{GivesHeard, HasNoneHeard, GivesLost, HasNoneLost}
@@ -34,7 +35,8 @@ use Rattle.worker_lane.specs.declared.stage.Stage.TheVariants.{Reading, Closing}
 use Rattle.worker_lane.proofs.NoteLemmas.{HavePackets, note_is_short, each_way, event_has_packets, foreign_has_packet}
 use Rattle.worker_lane.proofs.RecordingLemmas.{as_before_lane, as_before_ended, given_lane, given_ended}
 use Rattle.worker_lane.proofs.LostLemmas.{in_turn, none_recorded, RecordsEach}
-use Rattle.worker_lane.proofs.RestLemmas.{given_left, fed_left, none_left, few_held}
+use Rattle.worker_lane.proofs.InsideEventLemmas.{inside_fits, inside_is_event}
+use Rattle.worker_lane.proofs.RestLemmas.{given_left, fed_left, ended_left, none_left, few_held}
 
 -- ---- what is recorded of a note is under the lane
 
@@ -68,7 +70,7 @@ note_events lane (note.Foreign run) front small are made short = are_events_of l
 
 -- ---- a scribe stays sound
 
-pub sound_start : (lane : ℕ) → lane < 64 → IsSoundScribe (record { lane = lane; waiting = []; held = record { bytes = []; ended = false } })
+pub sound_start : (lane : ℕ) → lane < 64 → IsSoundScribe (record { lane = lane; waiting = []; held = record { bytes = []; ended = false }; inside = false })
 sound_start lane small = record { lane = small; are_bytes = All-nil (λ byte. byte < 256); short = omega arith; waiting = All-nil (IsEventOf lane) }
 
 sound_taken : (before after : Scribing) → TakesNote before after → IsSoundScribe before → IsSoundScribe after
@@ -83,9 +85,18 @@ sound_taken before after t s =
       waiting = rw (t.lane, t.waiting) (note_events before.lane t.note t.given.front s.lane front t.given.made short);
     }
 
+sound_told : (before after : Scribing) → TakesInside before after → IsSoundScribe before → IsSoundScribe after
+sound_told before after t s = rw (t.after_is) (record {
+  lane = s.lane;
+  are_bytes = s.are_bytes;
+  short = s.short;
+  waiting = All-cons (IsEventOf before.lane) (inside_under before.lane) [] (record { inner = inside_event; event_is = refl; is_event = inside_is_event before.lane s.lane; fits = inside_fits before.lane s.lane }) (All-nil (IsEventOf before.lane));
+})
+
 pub sound_as_before : (before after : Scribing) → IsAsBefore before after → IsSoundScribe before → IsSoundScribe after
 sound_as_before before after (inl same) s = rw same s
-sound_as_before before after (inr t) s = sound_taken before after t s
+sound_as_before before after (inr (inl t)) s = sound_taken before after t s
+sound_as_before before after (inr (inr t)) s = sound_told before after t s
 
 record IsSoundFirst (event : Event) (after : Scribing) : Type 0 where
   after_sound : IsSoundScribe after
@@ -94,7 +105,7 @@ record IsSoundFirst (event : Event) (after : Scribing) : Type 0 where
 sound_given : (before after : Scribing) (event : Event) → GivesEvent before event after → IsSoundScribe before → IsSoundFirst event after
 sound_given before after event g s =
     let ready : IsSoundScribe g.waiting = sound_as_before before g.waiting g.ready s in
-    let first : IsSoundScribe (record { lane = after.lane; waiting = event ∷ after.waiting; held = after.held }) = rw (g.first) at ready in
+    let first : IsSoundScribe (record { lane = after.lane; waiting = event ∷ after.waiting; held = after.held; inside = after.inside }) = rw (g.first) at ready in
     record {
       after_sound = record { lane = first.lane; are_bytes = first.are_bytes; short = first.short; waiting = All-tail (IsEventOf after.lane) event after.waiting first.waiting };
       first = All-head (IsEventOf after.lane) event after.waiting first.waiting;
@@ -103,7 +114,7 @@ sound_given before after event g s =
 packet_of : (lane : ℕ) (event : Event) (packet : List ℕ) → IsEventOf lane event → packet ≡ canonical event → IsPacketOf lane packet
 packet_of lane event packet e made = record { event = e.inner; packet_is = made ∙ ap canonical e.event_is; is_event = rw (e.event_is) at e.is_event; fits = rw (e.event_is) at e.fits }
 
-pub sound_fed : (before after : Scribing) (piece : List ℕ) → AreBytes piece → length before.held.bytes ≤ most_held → length piece ≤ 65536 → after ≡ holding before (before.held.bytes ++ piece) false → IsSoundScribe before → IsSoundScribe after
+pub sound_fed : (before after : Scribing) (piece : List ℕ) → AreBytes piece → length before.held.bytes ≤ most_held → length piece ≤ 65536 → after ≡ holding before (before.held.bytes ++ piece) → IsSoundScribe before → IsSoundScribe after
 sound_fed before after piece are few short is s = rw is (record {
   lane = s.lane;
   are_bytes = are_both before.held.bytes piece s.are_bytes are;
@@ -111,7 +122,7 @@ sound_fed before after piece are few short is s = rw is (record {
   waiting = s.waiting;
 })
 
-pub sound_ended : (before after : Scribing) → after ≡ holding before before.held.bytes true → IsSoundScribe before → IsSoundScribe after
+pub sound_ended : (before after : Scribing) → after ≡ finished before → IsSoundScribe before → IsSoundScribe after
 sound_ended before after is s = rw is (record { lane = s.lane; are_bytes = s.are_bytes; short = s.short; waiting = s.waiting })
 
 -- ---- one call of the scribe for a packet
@@ -225,12 +236,20 @@ into_appends before after ids now stage failed old new packet is s going_on stan
       left = heard.reading is;
     }
 
-pub feed_left : (before after : Scribing) (piece : List ℕ) (ids : List (List ℕ)) (stage : Stage) (failed : Bool) → stage ≡ Reading → after ≡ holding before (before.held.bytes ++ piece) false
+pub feed_left : (before after : Scribing) (piece : List ℕ) (ids : List (List ℕ)) (stage : Stage) (failed : Bool) → stage ≡ Reading → before.held.ended ≡ false → after ≡ holding before (before.held.bytes ++ piece)
     → (more : List ℕ) (finish : Finish) → lots (record { scribe = before; ids = ids; stage = stage; failed = failed }) (record { bytes = piece ++ more; finish = finish }) ≡ lots (record { scribe = after; ids = ids; stage = stage; failed = failed }) (record { bytes = more; finish = finish })
-feed_left before after piece ids stage failed reading is = rw reading (λ more finish.
-    ap (λ (events : List Event). lots_to_give before.lane ids events (ending_of finish)) (fed_left before piece more false) ∙ ap (λ (s : Scribing). lots_to_give s.lane ids (events_left s more) (ending_of finish)) (sym is))
+feed_left before after piece ids stage failed reading going_on is = rw reading (λ more finish.
+    ap (λ (events : List Event). lots_to_give before.lane ids events (ending_of finish)) (fed_left before piece more going_on) ∙ ap (λ (s : Scribing). lots_to_give s.lane ids (events_left s more) (ending_of finish)) (sym is))
 
 -- ---- once the child is not read any more
+
+-- its output has ended
+pub close_left : (before after : Scribing) (ids : List (List ℕ)) (stage now : Stage) (failed marked : Bool) (how : Ending) → stage ≡ Reading → now ≡ Closing how → before.held.ended ≡ false → after ≡ finished before
+    → (finish : Finish) (output : Output) → ending_of finish ≡ how → lots (record { scribe = before; ids = ids; stage = stage; failed = failed }) (record { bytes = []; finish = finish }) ≡ lots (record { scribe = after; ids = ids; stage = now; failed = marked }) output
+close_left before after ids stage now failed marked how reading closing going_on is = rw (reading, closing) (λ finish output ends.
+    ap (λ (events : List Event). lots_to_give before.lane ids events (ending_of finish)) (ended_left before going_on)
+    ∙ ap (lots_to_give before.lane ids (events_left (finished before) [])) ends
+    ∙ ap (λ (s : Scribing). lots_to_give s.lane ids (events_left s []) how) (sym is))
 
 -- the first id that was lost is told of
 pub gives_lost : (scribe : Scribing) (ids rest : List (List ℕ)) (stage : Stage) (failed : Bool) (how : Ending) (id packet : List ℕ) → stage ≡ Closing how → ids ≡ id ∷ rest → RecordsEach scribe.lane how → IsLostPacket scribe.lane id packet

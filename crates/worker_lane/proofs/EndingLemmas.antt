@@ -17,15 +17,15 @@ use Rattle.worker_lane.proofs.EventLemmas.{IsPlain, plain_text, packet_size_most
 
 -- ---- plain texts
 
-are_plain : List ℕ → Bool
+pub are_plain : List ℕ → Bool
 are_plain [] = true
 are_plain (byte ∷ bytes) = nat_lt 0 byte && (nat_lt byte 128 && are_plain bytes)
 
-both : (a b : Bool) → (a && b) ≡ true → (a ≡ true) × (b ≡ true)
+pub both : (a b : Bool) → (a && b) ≡ true → (a ≡ true) × (b ≡ true)
 both true b h = (refl, h)
 both false b h = absurd (grind (arith, h))
 
-plain_by_test : (bytes : List ℕ) → are_plain bytes ≡ true → All IsPlain bytes
+pub plain_by_test : (bytes : List ℕ) → are_plain bytes ≡ true → All IsPlain bytes
 unfolding are_plain
 plain_by_test [] h = All-nil IsPlain
 plain_by_test (byte ∷ bytes) h =
@@ -37,11 +37,11 @@ id_is_text : IsShortText (codes "process-returncode")
 unfolding are_plain
 id_is_text = record { text = plain_text (codes "process-returncode") (plain_by_test (codes "process-returncode") refl); short = omega arith }
 
-mime_is_text : IsShortText (codes "text/plain;charset=utf8")
+pub mime_is_text : IsShortText (codes "text/plain;charset=utf8")
 unfolding are_plain
 mime_is_text = record { text = plain_text (codes "text/plain;charset=utf8") (plain_by_test (codes "text/plain;charset=utf8") refl); short = omega arith }
 
-name_is_text : IsShortText (codes "traceback")
+pub name_is_text : IsShortText (codes "traceback")
 unfolding are_plain
 name_is_text = record { text = plain_text (codes "traceback") (plain_by_test (codes "traceback") refl); short = omega arith }
 

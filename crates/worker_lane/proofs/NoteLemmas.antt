@@ -114,7 +114,7 @@ pieces_have_packets lane pieces small are = record {
   fit = All-map Fits (stdout_under lane) pieces (All-weaker IsPiece (λ piece. Fits (stdout_under lane piece)) (λ piece is. stdout_fits lane piece small is.short) pieces are);
 }
 
-both_have_packets : (first more : List Event) → HavePackets first → HavePackets more → HavePackets (first ++ more)
+pub both_have_packets : (first more : List Event) → HavePackets first → HavePackets more → HavePackets (first ++ more)
 both_have_packets first more h k = record { are_events = All-append IsEvent first more h.are_events k.are_events; fit = All-append Fits first more h.fit k.fit }
 
 pub event_has_packets : (lane : ℕ) (e : Event) (front : List ℕ) → lane < 64 → AreBytes front → SpellsEvent front e → HavePackets (recorded_event lane e)

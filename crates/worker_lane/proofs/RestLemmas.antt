@@ -11,9 +11,11 @@ use Rattle.stream_reader.specs.Stream.{HasGiven as GivesStream}
 use Rattle.stream_reader.proofs.CutLemmas.{one_cut}
 use Rattle.stream_reader.proofs.FrontLemmas.{are_both}
 use Rattle.stream_reader.proofs.RoomLemmas.{spent_short}
+use Rattle.worker_lane.specs.Inside.{ends_inside, inside_under, inside_events}
 use Rattle.worker_lane.specs.Recorded.{recorded_note, recorded_events}
-use Rattle.worker_lane.specs.Scribing.{Scribing, holding, TakesNote, IsAsBefore, GivesEvent, HasNone}
-use Rattle.worker_lane.specs.Rest.{notes_of_stream, notes_are, events_left}
+use Rattle.worker_lane.specs.Scribing.{Scribing, holding, finished, TakesNote, TakesInside, IsAsBefore, GivesEvent, HasNone}
+use Rattle.worker_lane.specs.Rest.{notes_of_stream, notes_are, inside_at, events_left}
+use Rattle.worker_lane.proofs.InsideLemmas.{given_alike}
 
 -- ---- a stream has one list of notes
 
@@ -36,18 +38,50 @@ notes_taken true bytes rest more given first are none =
     let whole : HasNotes bytes (given ∷ notes_of_stream rest) = first.notes (notes_of_stream rest) (notes_are rest) in
     rw (empty, append-nil bytes, append-nil rest) whole
 
+-- whether an end inside a packet is to be told of hangs on what is held
+inside_taken : (ended : Bool) (before after : Scribing) (more : List ℕ) → (t : TakesNote before after) → before.held.ended ≡ ended → AreBytes before.held.bytes → AreBytes more → inside_at ended before.inside (before.held.bytes ++ more) ≡ inside_at ended after.inside (after.held.bytes ++ more)
+inside_taken true before after more t ended are are_more = sym t.inside
+inside_taken false before after more t ended are are_more =
+    let first : GivesStream false before.held.bytes (t.note ∷ []) after.held.bytes = rw ended at t.given.first in
+    ap (λ (l : List ℕ). ends_inside (l ++ more)) t.given.parts
+    ∙ given_alike t.given.front after.held.bytes more t.note t.given.made (rw (t.given.parts) at first) (rw (t.given.parts) at are) are_more
+
 taken_left : (before after : Scribing) (more : List ℕ) → TakesNote before after → AreBytes before.held.bytes → AreBytes more → (before.held.ended ≡ true → more ≡ []) → events_left before more ≡ events_left after more
 taken_left before after more t are are_more none =
     let notes : notes_of_stream (before.held.bytes ++ more) ≡ t.note ∷ notes_of_stream (after.held.bytes ++ more) =
     the_notes (before.held.bytes ++ more) (t.note ∷ notes_of_stream (after.held.bytes ++ more)) (are_both before.held.bytes more are are_more) (notes_taken before.held.ended before.held.bytes after.held.bytes more t.note t.given.first are_more none) in
-    ap (λ (l : List Event). l ++ recorded_events before.lane (notes_of_stream (before.held.bytes ++ more))) t.none
-    ∙ ap (recorded_events before.lane) notes
-    ∙ sym (ap (λ (l : List Event). l ++ recorded_events after.lane (notes_of_stream (after.held.bytes ++ more))) t.waiting
-    ∙ ap (λ (lane : ℕ). recorded_note before.lane t.note ++ recorded_events lane (notes_of_stream (after.held.bytes ++ more))) t.lane)
+    let last_before : List Event = inside_events before.lane (inside_at before.held.ended before.inside (before.held.bytes ++ more)) in
+    let last_after : List Event = inside_events after.lane (inside_at after.held.ended after.inside (after.held.bytes ++ more)) in
+    let last : last_before ≡ last_after =
+    ap (inside_events before.lane) (inside_taken before.held.ended before after more t refl are are_more)
+    ∙ ap (λ (ended : Bool). inside_events before.lane (inside_at ended after.inside (after.held.bytes ++ more))) (sym t.ended)
+    ∙ ap (λ (lane : ℕ). inside_events lane (inside_at after.held.ended after.inside (after.held.bytes ++ more))) (sym t.lane) in
+    ap (λ (l : List Event). l ++ (recorded_events before.lane (notes_of_stream (before.held.bytes ++ more)) ++ last_before)) t.none
+    ∙ ap (λ (l : List Note). recorded_events before.lane l ++ last_before) notes
+    ∙ ap (λ (l : List Event). (recorded_note before.lane t.note ++ recorded_events before.lane (notes_of_stream (after.held.bytes ++ more))) ++ l) last
+    ∙ append_assoc (recorded_note before.lane t.note) (recorded_events before.lane (notes_of_stream (after.held.bytes ++ more))) last_after
+    ∙ sym (ap (λ (l : List Event). l ++ (recorded_events after.lane (notes_of_stream (after.held.bytes ++ more)) ++ last_after)) t.waiting
+    ∙ ap (λ (lane : ℕ). recorded_note before.lane t.note ++ (recorded_events lane (notes_of_stream (after.held.bytes ++ more)) ++ last_after)) t.lane)
+
+-- behind the last note the end is told of
+told_left : (before after : Scribing) (more : List ℕ) → TakesInside before after → (before.held.ended ≡ true → more ≡ []) → events_left before more ≡ events_left after more
+told_left before after more t none =
+    let empty : more ≡ [] = none t.ended in
+    let nothing : before.held.bytes ++ more ≡ [] = ap (λ (l : List ℕ). l ++ more) t.no_bytes ∙ empty in
+    ap (λ (l : List Event). l ++ (recorded_events before.lane (notes_of_stream (before.held.bytes ++ more)) ++ inside_events before.lane (inside_at before.held.ended before.inside (before.held.bytes ++ more)))) t.none
+    ∙ ap (λ (l : List ℕ). recorded_events before.lane (notes_of_stream l) ++ inside_events before.lane (inside_at before.held.ended before.inside l)) nothing
+    ∙ ap (λ (l : List Note). recorded_events before.lane l ++ inside_events before.lane (inside_at before.held.ended before.inside [])) no_notes
+    ∙ ap (λ (ended : Bool). inside_events before.lane (inside_at ended before.inside [])) t.ended
+    ∙ ap (inside_events before.lane) t.inside
+    ∙ sym (ap (λ (s : Scribing). events_left s more) t.after_is
+    ∙ ap (λ (l : List ℕ). inside_under before.lane ∷ (recorded_events before.lane (notes_of_stream l) ++ inside_events before.lane (inside_at before.held.ended false l))) nothing
+    ∙ ap (λ (l : List Note). inside_under before.lane ∷ (recorded_events before.lane l ++ inside_events before.lane (inside_at before.held.ended false []))) no_notes
+    ∙ ap (λ (ended : Bool). inside_under before.lane ∷ inside_events before.lane (inside_at ended false [])) t.ended)
 
 same_left : (before after : Scribing) (more : List ℕ) → IsAsBefore before after → AreBytes before.held.bytes → AreBytes more → (before.held.ended ≡ true → more ≡ []) → events_left before more ≡ events_left after more
 same_left before after more (inl same) are are_more none = ap (λ (s : Scribing). events_left s more) (sym same)
-same_left before after more (inr t) are are_more none = taken_left before after more t are are_more none
+same_left before after more (inr (inl t)) are are_more none = taken_left before after more t are are_more none
+same_left before after more (inr (inr t)) are are_more none = told_left before after more t none
 
 pub given_left : (before after : Scribing) (event : Event) (more : List ℕ) → GivesEvent before event after → AreBytes before.held.bytes → AreBytes more → (before.held.ended ≡ true → more ≡ []) → events_left before more ≡ event ∷ events_left after more
 given_left before after event more g are are_more none =
@@ -55,19 +89,29 @@ given_left before after event more g are are_more none =
 
 -- ---- bytes are fed
 
-pub fed_left : (before : Scribing) (piece more : List ℕ) (ended : Bool) → events_left before (piece ++ more) ≡ events_left (holding before (before.held.bytes ++ piece) ended) more
-fed_left before piece more ended = ap (λ (l : List ℕ). before.waiting ++ recorded_events before.lane (notes_of_stream l)) (sym (append_assoc before.held.bytes piece more))
+pub fed_left : (before : Scribing) (piece more : List ℕ) → before.held.ended ≡ false → events_left before (piece ++ more) ≡ events_left (holding before (before.held.bytes ++ piece)) more
+fed_left before piece more going_on =
+    ap (λ (l : List ℕ). before.waiting ++ (recorded_events before.lane (notes_of_stream l) ++ inside_events before.lane (inside_at before.held.ended before.inside l))) (sym (append_assoc before.held.bytes piece more))
+    ∙ ap (λ (ended : Bool). before.waiting ++ (recorded_events before.lane (notes_of_stream ((before.held.bytes ++ piece) ++ more)) ++ inside_events before.lane (inside_at ended before.inside ((before.held.bytes ++ piece) ++ more)))) going_on
+
+-- the stream has ended
+pub ended_left : (before : Scribing) → before.held.ended ≡ false → events_left before [] ≡ events_left (finished before) []
+ended_left before going_on =
+    ap (λ (ended : Bool). before.waiting ++ (recorded_events before.lane (notes_of_stream (before.held.bytes ++ [])) ++ inside_events before.lane (inside_at ended before.inside (before.held.bytes ++ [])))) going_on
+    ∙ ap (λ (l : List ℕ). before.waiting ++ (recorded_events before.lane (notes_of_stream (before.held.bytes ++ [])) ++ inside_events before.lane (ends_inside l))) (append-nil before.held.bytes)
 
 -- ---- nothing is left
 
 pub none_left : (scribe : Scribing) → scribe.held.ended ≡ true → HasNone scribe → events_left scribe [] ≡ []
-none_left scribe ended (none, spent) =
+none_left scribe ended ((none, spent), inside) =
     let empty : scribe.held.bytes ≡ [] = rw ended at spent in
-    ap (λ (l : List Event). l ++ recorded_events scribe.lane (notes_of_stream (scribe.held.bytes ++ []))) none
-    ∙ ap (λ (l : List ℕ). recorded_events scribe.lane (notes_of_stream (l ++ []))) empty
-    ∙ ap (recorded_events scribe.lane) no_notes
+    ap (λ (l : List Event). l ++ (recorded_events scribe.lane (notes_of_stream (scribe.held.bytes ++ [])) ++ inside_events scribe.lane (inside_at scribe.held.ended scribe.inside (scribe.held.bytes ++ [])))) none
+    ∙ ap (λ (l : List ℕ). recorded_events scribe.lane (notes_of_stream (l ++ [])) ++ inside_events scribe.lane (inside_at scribe.held.ended scribe.inside (l ++ []))) empty
+    ∙ ap (λ (l : List Note). recorded_events scribe.lane l ++ inside_events scribe.lane (inside_at scribe.held.ended scribe.inside [])) no_notes
+    ∙ ap (λ (e : Bool). inside_events scribe.lane (inside_at e scribe.inside [])) ended
+    ∙ ap (inside_events scribe.lane) inside
 
 -- ---- few bytes are held where none is decided
 
 pub few_held : (scribe : Scribing) → scribe.held.ended ≡ false → HasNone scribe → length scribe.held.bytes ≤ most_held
-few_held scribe going_on none = spent_short scribe.held.ended scribe.held.bytes going_on none.1
+few_held scribe going_on none = spent_short scribe.held.ended scribe.held.bytes going_on none.0.1

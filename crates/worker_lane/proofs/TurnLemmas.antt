@@ -10,10 +10,11 @@ use Rattle.edge_io.specs.Children.{Output}
 use Rattle.edge_io.specs.declared.child.Finish.{Finish}
 use Rattle.edge_io.specs.declared.child.Finish.TheVariants as finish
 use Rattle.stream_reader.specs.declared.note.Note.{Note}
+use Rattle.worker_lane.specs.Inside.{ends_inside, inside_events}
 use Rattle.worker_lane.specs.Recorded.{HasRecorded, recorded_events}
 use Rattle.worker_lane.specs.Endings.{ending_of}
 use Rattle.worker_lane.specs.Lost.{named_ids}
-use Rattle.worker_lane.specs.Rest.{notes_of_stream, Gives, IsOver, last_events, lots_to_give, lots_asked}
+use Rattle.worker_lane.specs.Rest.{stream_events, Gives, IsOver, last_events, lots_to_give, lots_asked}
 use Rattle.worker_lane.specs.declared.lot.Ending.{Ending}
 use Rattle.worker_lane.specs.declared.lot.Ending.TheVariants.{Exit, Fault, NoMemory}
 use Rattle.worker_lane.specs.declared.lot.Lot.{Lot}
@@ -47,7 +48,7 @@ gives_whole lots given (Some others) h over = sym (ap (told_or lots) h ∙ ap (�
 
 pub lots_recorded : (lane : ℕ) (ids : List (List ℕ)) (output : Output) (events : List Event) → AreBytes output.bytes → HasRecorded lane output.bytes events → lots_asked lane ids output ≡ lots_to_give lane (named_ids ids) events (ending_of output.finish)
 lots_recorded lane ids output events are h =
-    ap (λ (notes : List Note). lots_to_give lane (named_ids ids) (recorded_events lane notes) (ending_of output.finish)) (the_notes output.bytes h.notes are h.are_notes)
+    ap (λ (notes : List Note). lots_to_give lane (named_ids ids) (recorded_events lane notes ++ inside_events lane (ends_inside output.bytes)) (ending_of output.finish)) (the_notes output.bytes h.notes are h.are_notes)
     ∙ ap (λ (es : List Event). lots_to_give lane (named_ids ids) es (ending_of output.finish)) (sym h.made)
 
 end_of : Ending → Lot → Ending
@@ -63,7 +64,7 @@ one_end (packet ∷ packets) (lot ∷ given) others last how h = one_end packets
 
 pub ending_last : (lane : ℕ) (ids : List (List ℕ)) (output : Output) (given others : List Lot) (how : Ending) → lots_asked lane ids output ≡ given ++ End how ∷ others → (how ≡ ending_of output.finish) × (others ≡ [])
 ending_last lane ids output given others how h =
-    let events = recorded_events lane (notes_of_stream output.bytes) in
+    let events = stream_events lane output.bytes in
     one_end (map canonical (events ++ last_events lane (named_ids ids) events (ending_of output.finish))) given others (ending_of output.finish) how h
 
 pub fault_exactly : (f : Finish) → (ending_of f ≡ Fault) ↔ ((f ≡ finish.ReadFault) ⊎ (f ≡ finish.WaitFault))

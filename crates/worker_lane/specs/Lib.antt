@@ -1,6 +1,7 @@
 pub mod Endings
 pub mod Lost
 pub mod Sought
+pub mod Inside
 pub mod Recorded
 pub mod Scribing
 pub mod Waiting

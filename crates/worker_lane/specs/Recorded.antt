@@ -1,5 +1,5 @@
 -- What a stream becomes when it is recorded under a lane (docs/FORMATS.md, "What is recorded of a stream").
-use Rattle.std.specs.Prelude.{◌≡◌, ℕ, List, [], ◌∷◌, map, nat_le, if◌then◌else◌}
+use Rattle.std.specs.Prelude.{◌≡◌, ℕ, List, [], ◌∷◌, ◌++◌, map, nat_le, if◌then◌else◌}
 use Rattle.std.specs.List.{flat_map}
 use Rattle.packet_codec.specs.declared.event.Event.{Event}
 use Rattle.packet_codec.specs.Canonical.{canonical, canonical_size, largest_packet, IsEvent, Fits}
@@ -9,6 +9,7 @@ use Rattle.packet_codec.specs.Routing.{under}
 use Rattle.stream_reader.specs.declared.note.Note.{Note}
 use Rattle.stream_reader.specs.declared.note.Note.TheVariants as note
 use Rattle.stream_reader.specs.Notes.{HasNotes, stdout_event}
+use Rattle.worker_lane.specs.Inside.{ends_inside, inside_events}
 
 -- these bytes as a piece of the file `stdout`, under the lane
 abbrev pub stdout_under : (lane : ℕ) → (bytes : List ℕ) → Event
@@ -47,11 +48,11 @@ pub record HasPacket (event : Event) : Type 0 where
   pub is_event : IsEvent event
   pub fits : Fits event
 
--- the events that are recorded of a whole stream
+-- the events that are recorded of a whole stream: those of its notes, and one more where it ends inside a packet
 pub record HasRecorded (lane : ℕ) (bytes : List ℕ) (events : List Event) : Type 0 where
   pub notes : List Note
   pub are_notes : HasNotes bytes notes
-  pub made : events ≡ recorded_events lane notes
+  pub made : events ≡ recorded_events lane notes ++ inside_events lane (ends_inside bytes)
 
 -- these bytes are the packets of those events
 pub record IsRecorded (lane : ℕ) (bytes written : List ℕ) : Type 0 where

@@ -10,6 +10,7 @@ use Rattle.stream_reader.specs.Room.{room}
 use Rattle.stream_reader.specs.declared.note.Note.{Note}
 use Rattle.stream_reader.specs.Notes.{HasNotes}
 use Rattle.stream_reader.proofs.ExistLemmas.{some_notes}
+use Rattle.worker_lane.specs.Inside.{ends_inside, inside_events}
 use Rattle.worker_lane.specs.Recorded.{recorded_events}
 use Rattle.worker_lane.specs.Scribing.{Scribing}
 use Rattle.worker_lane.specs.Endings.{ending_of, ending_events, IsPacketOf}
@@ -29,6 +30,10 @@ pub notes_are : (bytes : List ℕ) → HasNotes bytes (notes_of_stream bytes)
 unfolding notes_of_stream
 notes_are bytes = (some_notes bytes).1
 
+-- the events that are recorded of a whole stream
+abbrev pub stream_events : (lane : ℕ) → (bytes : List ℕ) → List Event
+stream_events lane bytes = recorded_events lane (notes_of_stream bytes) ++ inside_events lane (ends_inside bytes)
+
 -- what is recorded behind these events: of those of the ids that none of them says more of, and then of the end
 abbrev pub last_events : (lane : ℕ) → (ids : List (List ℕ)) → List Event → Ending → List Event
 last_events lane ids events how = lost_events lane how (lost_ids ids events) ++ ending_events lane how
@@ -39,15 +44,23 @@ lots_to_give lane ids events how = map Packet (map canonical (events ++ last_eve
 
 -- the lots of a whole output under a lane whose job names these ids
 abbrev pub lots_asked : (lane : ℕ) → (ids : List (List ℕ)) → Output → List Lot
-lots_asked lane ids output = lots_to_give lane (named_ids ids) (recorded_events lane (notes_of_stream output.bytes)) (ending_of output.finish)
+lots_asked lane ids output = lots_to_give lane (named_ids ids) (stream_events lane output.bytes) (ending_of output.finish)
 
 -- the same of a job that names none
 abbrev pub lots_for : (lane : ℕ) → Output → List Lot
 lots_for lane output = lots_asked lane [] output
 
+-- Whether it is still to be told that the stream ends inside a packet, where it ends behind these bytes. Of a stream that
+-- has ended that is known.
+abbrev pub inside_at : (ended inside : Bool) → (bytes : List ℕ) → Bool
+inside_at true inside bytes = inside
+inside_at false inside bytes = ends_inside bytes
+
 -- the events that a scribe has still to give where these bytes are fed to it, and then the stream ends
 abbrev pub events_left : Scribing → (more : List ℕ) → List Event
-events_left scribe more = scribe.waiting ++ recorded_events scribe.lane (notes_of_stream (scribe.held.bytes ++ more))
+events_left scribe more = scribe.waiting
+    ++ (recorded_events scribe.lane (notes_of_stream (scribe.held.bytes ++ more))
+    ++ inside_events scribe.lane (inside_at scribe.held.ended scribe.inside (scribe.held.bytes ++ more)))
 
 -- The lots that are left. While the child is read they hang on what it tells, and after that on what the scribe holds.
 abbrev pub lots_left : Scribing → (ids : List (List ℕ)) → Stage → Output → List Lot
@@ -70,7 +83,7 @@ lots course = lots_left course.scribe course.ids course.stage
 
 -- the course of a new lane whose job names these ids
 abbrev pub new_course : (lane : ℕ) → (ids : List (List ℕ)) → Coursing
-new_course lane ids = record { scribe = record { lane = lane; waiting = []; held = record { bytes = []; ended = false } }; ids = named_ids ids; stage = Reading; failed = false }
+new_course lane ids = record { scribe = record { lane = lane; waiting = []; held = record { bytes = []; ended = false }; inside = false }; ids = named_ids ids; stage = Reading; failed = false }
 
 -- a packet of the lane stood at the front of what is left, and was appended
 pub record AppendsNext (before : Coursing) (old : List ℕ) (after : Coursing) (new : List ℕ) : Type 0 where

@@ -1,6 +1,6 @@
 -- What a scribe has still to give, and what it has given of the bytes fed (docs/FORMATS.md, "What is recorded of a
 -- stream").
-use Rattle.std.specs.Prelude.{◌≡◌, ◌⊎◌, ℕ, ◌+◌, ◌<◌, Bool, List, [], ◌∷◌, ◌++◌, length}
+use Rattle.std.specs.Prelude.{◌≡◌, ◌⊎◌, ℕ, ◌+◌, ◌<◌, Bool, true, false, List, [], ◌∷◌, ◌++◌, length}
 use Rattle.std.specs.List.{flat_map}
 use Rattle.packet_codec.specs.declared.event.Event.{Event}
 use Rattle.packet_codec.specs.Canonical.{canonical}
@@ -8,17 +8,24 @@ use Rattle.packet_codec.specs.Grammar.{AreBytes}
 use Rattle.stream_reader.specs.declared.note.Note.{Note}
 use Rattle.stream_reader.specs.Notes.{HasDecided}
 use Rattle.stream_reader.specs.Stream.{Held, HasGiven, GivesNote, IsSpent}
+use Rattle.worker_lane.specs.Inside.{ends_inside, inside_under, inside_events}
 use Rattle.worker_lane.specs.Recorded.{recorded_note, recorded_events, recorded, HasPacket}
 
--- The events that are to be given before the next note is taken, and the bytes fed of which no note was taken.
+-- The events that are to be given before the next note is taken, and the bytes fed of which no note was taken. Behind
+-- all of that it may be still to be told that the stream has ended inside a packet.
 pub record Scribing : Type 0 where
   pub lane : ℕ
   pub waiting : List Event
   pub held : Held
+  pub inside : Bool
 
--- more bytes were fed, or the stream has ended
-abbrev pub holding : Scribing → (bytes : List ℕ) → (ended : Bool) → Scribing
-holding scribe bytes ended = record { lane = scribe.lane; waiting = scribe.waiting; held = record { bytes = bytes; ended = ended } }
+-- more bytes were fed
+abbrev pub holding : Scribing → (bytes : List ℕ) → Scribing
+holding scribe bytes = record { lane = scribe.lane; waiting = scribe.waiting; held = record { bytes = bytes; ended = false }; inside = scribe.inside }
+
+-- the stream has ended behind what is held
+abbrev pub finished : Scribing → Scribing
+finished scribe = record { lane = scribe.lane; waiting = scribe.waiting; held = record { bytes = scribe.held.bytes; ended = true }; inside = ends_inside scribe.held.bytes }
 
 -- no event was waiting, and a note was taken, whose events are waiting now
 pub record TakesNote (before after : Scribing) : Type 0 where
@@ -27,17 +34,26 @@ pub record TakesNote (before after : Scribing) : Type 0 where
   pub given : GivesNote before.held note after.held
   pub ended : after.held.ended ≡ before.held.ended
   pub lane : after.lane ≡ before.lane
+  pub inside : after.inside ≡ before.inside
   pub waiting : after.waiting ≡ recorded_note before.lane note
 
--- What is to be given is as before: at most, the next note was taken.
+-- all else was given of a stream that has ended inside a packet, and the event that tells of it is waiting now
+pub record TakesInside (before after : Scribing) : Type 0 where
+  pub none : before.waiting ≡ []
+  pub no_bytes : before.held.bytes ≡ []
+  pub ended : before.held.ended ≡ true
+  pub inside : before.inside ≡ true
+  pub after_is : after ≡ record { lane = before.lane; waiting = inside_under before.lane ∷ []; held = before.held; inside = false }
+
+-- What is to be given is as before: at most, the next note was taken, or it is to be told how the stream has ended.
 abbrev pub IsAsBefore : Scribing → Scribing → Type 0
-IsAsBefore before after = (after ≡ before) ⊎ TakesNote before after
+IsAsBefore before after = (after ≡ before) ⊎ (TakesNote before after ⊎ TakesInside before after)
 
 -- the next event was given: the first one waiting, or where none was, the first one of the next note
 pub record GivesEvent (before : Scribing) (event : Event) (after : Scribing) : Type 0 where
   pub waiting : Scribing
   pub ready : IsAsBefore before waiting
-  pub first : waiting ≡ record { lane = after.lane; waiting = event ∷ after.waiting; held = after.held }
+  pub first : waiting ≡ record { lane = after.lane; waiting = event ∷ after.waiting; held = after.held; inside = after.inside }
 
 -- it is this one, which can be written as a packet, and its packet was appended to what was written before
 pub record GivesThis (before : Scribing) (old : List ℕ) (event : Event) (after : Scribing) (new : List ℕ) : Type 0 where
@@ -55,23 +71,36 @@ pub record GivesPacket (before : Scribing) (old : List ℕ) (after : Scribing) (
   pub given : GivesEvent before event after
   pub new_is : new ≡ old ++ canonical event
 
+-- no event is waiting, and the bytes fed so far decide no further note
+abbrev pub HasNoNote : Scribing → Type 0
+HasNoNote scribe = (scribe.waiting ≡ []) × IsSpent scribe.held.ended scribe.held.bytes
+
 -- the bytes fed so far decide no further event
 abbrev pub HasNone : Scribing → Type 0
-HasNone scribe = (scribe.waiting ≡ []) × IsSpent scribe.held.ended scribe.held.bytes
+HasNone scribe = HasNoNote scribe × (scribe.inside ≡ false)
 
 -- no more events than this are still to be given of the bytes fed
 abbrev pub most_left : Scribing → ℕ
-most_left scribe = length scribe.held.bytes + length scribe.waiting
+most_left scribe = length scribe.held.bytes + length scribe.waiting + length (inside_events scribe.lane scribe.inside)
+
+-- What was told so far of the end of the stream. Before the end that is nothing, and whether it ends inside a packet
+-- hangs on what is held. Behind it that is known, and is told behind all else.
+abbrev pub HasTold : (ended : Bool) → (lane : ℕ) → (fed held : List ℕ) → (inside : Bool) → (told : List Event) → Type 0
+HasTold false lane fed held inside told = (told ≡ []) × ((more : List ℕ) → AreBytes more → ends_inside (fed ++ more) ≡ ends_inside (held ++ more))
+HasTold true lane fed held inside told = (inside_events lane (ends_inside fed) ≡ told ++ inside_events lane inside) × ((told ≡ []) ⊎ (held ≡ []))
 
 -- With these bytes fed, so many packets were given: those of the first of the events that are recorded of the notes
--- taken, and the others are waiting.
+-- taken and of the end, and the others are waiting.
 pub record Recording (fed : List ℕ) (scribe : Scribing) (written : List ℕ) : Type 0 where
   pub lane : scribe.lane < 64
   pub are_bytes : AreBytes fed
+  pub are_held : AreBytes scribe.held.bytes
   pub notes : List Note
   pub taken : HasGiven scribe.held.ended fed notes scribe.held.bytes
+  pub told : List Event
+  pub telling : HasTold scribe.held.ended scribe.lane fed scribe.held.bytes scribe.inside told
   pub events : List Event
-  pub parts : recorded_events scribe.lane notes ≡ events ++ scribe.waiting
+  pub parts : recorded_events scribe.lane notes ++ told ≡ events ++ scribe.waiting
   pub packets : written ≡ flat_map canonical events
 
 -- some packets were given, in order

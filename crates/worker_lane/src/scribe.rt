@@ -9,10 +9,11 @@ ghost use Rattle.stream_reader.specs.declared.first.First.TheVariants.{Packet as
 ghost use Rattle.worker_lane.specs.Endings.{ending_events, IsPacketOf};
 ghost use Rattle.worker_lane.specs.Lost.{longest_id, IsLostPacket};
 ghost use Rattle.worker_lane.specs.declared.lot.Ending.TheVariants.{Exit, NoMemory as without_memory};
-ghost use Rattle.worker_lane.specs.Scribing.{holding, GivesOne, GivesPacket, HasNone, most_left, Recording};
+ghost use Rattle.worker_lane.specs.Scribing.{holding, finished, GivesOne, GivesPacket, HasNoNote, HasNone, most_left, Recording};
 ghost use Rattle.worker_lane.specs.Waiting.{PutsNote};
 
 use crate::ending::{ending_text, returncode_event};
+use crate::inside::{ends_inside, inside_event};
 use crate::lost::lost_event;
 use crate::lot::Ending;
 use crate::stdout::put_stdout;
@@ -23,9 +24,10 @@ use std::marker::Model;
 use stream_reader::{First, Reader, Seen};
 use sub_number::{Bytes, NoMemory, Text};
 
-/// What a stream becomes when it is recorded under a lane: for each note of the stream, packets under the lane's route.
-/// Contracts see the lane, the events that are given before the next note is taken, and the bytes fed of which no note
-/// was taken. A note is taken when its first packet is given.
+/// What a stream becomes when it is recorded under a lane: for each note of the stream, packets under the lane's route,
+/// and one more where it ends inside a packet. Contracts see the lane, the events that are given before the next note is
+/// taken, the bytes fed of which no note was taken, and whether an end inside a packet is still to be told of. A note is
+/// taken when its first packet is given.
 ///
 /// With `recording` the clauses say of all calls together what was given: that of `new` holds, each call keeps it, and
 /// `recording_in_turn` tells what it comes to at the end.
@@ -35,25 +37,27 @@ pub struct Scribe {
     lane: u32,
     reader: Reader,
     waiting: Waiting,
+    // The stream has ended inside a packet, and this is still to be told.
+    inside: bool,
 }
 
 impl Model for Scribe {
-    ghost use Rattle.std.specs.Prelude.{◌<◌};
+    ghost use Rattle.std.specs.Prelude.{◌≡◌, ◌<◌, true};
     ghost use Rattle.worker_lane.specs.Scribing.{Scribing};
     ghost use Rattle.worker_lane.specs.Waiting.{waiting_events, HasWaitingEvent};
 
     ghost Value = { Scribing };
 
-    ghost view = { λ s. record { lane = s.lane; waiting = waiting_events s.lane s.waiting; held = s.reader } };
+    ghost view = { λ s. record { lane = s.lane; waiting = waiting_events s.lane s.waiting; held = s.reader; inside = s.inside } };
 
-    ghost invariant = { λ s. (s.lane < 64) × HasWaitingEvent s.waiting };
+    ghost invariant = { λ s. (s.lane < 64) × HasWaitingEvent s.waiting × (s.inside ≡ true → s.reader.ended ≡ true) };
 }
 
 impl Scribe {
     /// A scribe to which nothing was fed. The lane is below 64.
     pub fn new(alloc: Global, lane: u32) -> Result<Self, NoMemory>
         requires { lane < 64 }
-        ensures empty { IfOk result (λ scribe. scribe ≡ record { lane = lane; waiting = []; held = record { bytes = []; ended = false } }) }
+        ensures empty { IfOk result (λ scribe. scribe ≡ record { lane = lane; waiting = []; held = record { bytes = []; ended = false }; inside = false }) }
         ensures recording { IfOk result (λ scribe. Recording [] scribe []) }
     {
         Ok(Scribe {
@@ -61,6 +65,7 @@ impl Scribe {
             lane,
             reader: Reader::new(alloc)?,
             waiting: Waiting::Nothing,
+            inside: false,
         })
     }
 
@@ -69,17 +74,19 @@ impl Scribe {
     pub fn feed(&mut self, piece: &[u8])
         requires going_on { self.old.held.ended ≡ false }
         requires in_room { length self.old.held.bytes + length piece.now ≤ room }
-        ensures ok { self.new ≡ holding self.old (self.old.held.bytes ++ piece.now) false }
+        ensures ok { self.new ≡ holding self.old (self.old.held.bytes ++ piece.now) }
         ensures recording { (fed written : List ℕ) → Recording fed self.old written → Recording (fed ++ piece.now) self.new written }
     {
         self.reader.feed(piece);
     }
 
-    /// The stream has ended: nothing is fed any more. A second call changes nothing.
+    /// The stream has ended: nothing is fed any more. Where it ends inside a packet this is told behind all else.
     pub fn finish(&mut self)
-        ensures ended { self.new ≡ holding self.old self.old.held.bytes true }
+        requires { self.old.held.ended ≡ false }
+        ensures ended { self.new ≡ finished self.old }
         ensures recording { (fed written : List ℕ) → Recording fed self.old written → Recording fed self.new written }
     {
+        self.inside = ends_inside(self.reader.front(self.reader.held()));
         self.reader.finish();
     }
 
@@ -93,8 +100,9 @@ impl Scribe {
 
     /// Appends the next recorded packet, and answers true. The packet stands under the lane, where it fits there, and
     /// is made from the parts that were read. Else it is a half, where the file may be cut in two, or a piece of the
-    /// file `stdout`. False comes where no note and no half or piece is left: before the end, until more bytes are fed;
-    /// behind the end, where all were given. After false before the end at most 4,259,837 bytes are held.
+    /// file `stdout`. Last comes the packet that tells of an end inside a packet, where the stream has ended so. False
+    /// comes where nothing is left: before the end, until more bytes are fed; behind the end, where all was given. After
+    /// false before the end at most 4,259,837 bytes are held.
     pub fn next_into(&mut self, out: &mut Vec<u8>) -> Result<bool, NoMemory>
         ensures given { IfOk result (λ given. given ≡ true → GivesPacket self.old out.old.items self.new out.new.items) }
         ensures packet { IfOk result (λ given. given ≡ true → GivesOne self.old out.old.items self.new out.new.items) }
@@ -102,7 +110,10 @@ impl Scribe {
         ensures none { IfOk result (λ given. given ≡ false → HasNone self.old × (self.new ≡ self.old) × (out.new.items ≡ out.old.items)) }
         ensures err { OnErr result ((self.new ≡ self.old) × (out.new.items ≡ out.old.items)) }
     {
-        self.put_next(out)
+        if self.put_next(out)? {
+            return Ok(true);
+        }
+        self.put_inside(out)
     }
 
     /// The next recorded packet. None comes where `next_into` answers false.
@@ -153,7 +164,7 @@ impl Scribe {
     #[inline(always)]
     fn put_next(&mut self, out: &mut Vec<u8>) -> Result<bool, NoMemory>
         ensures some { IfOk result (λ some. some ≡ true → GivesOne self.old out.old.items self.new out.new.items) }
-        ensures none { IfOk result (λ some. some ≡ false → HasNone self.old × (self.new ≡ self.old) × (out.new.items ≡ out.old.items)) }
+        ensures none { IfOk result (λ some. some ≡ false → HasNoNote self.old × (self.new ≡ self.old) × (out.new.items ≡ out.old.items)) }
         ensures err { OnErr result ((self.new ≡ self.old) × (out.new.items ≡ out.old.items)) }
     {
         if is_nothing(&self.waiting) {
@@ -168,7 +179,7 @@ impl Scribe {
     fn put_note(&mut self, out: &mut Vec<u8>) -> Result<bool, NoMemory>
         requires { self.old.waiting ≡ [] }
         ensures some { IfOk result (λ some. some ≡ true → GivesOne self.old out.old.items self.new out.new.items) }
-        ensures none { IfOk result (λ some. some ≡ false → HasNone self.old × (self.new ≡ self.old) × (out.new.items ≡ out.old.items)) }
+        ensures none { IfOk result (λ some. some ≡ false → HasNoNote self.old × (self.new ≡ self.old) × (out.new.items ≡ out.old.items)) }
         ensures err { OnErr result ((self.new ≡ self.old) × (out.new.items ≡ out.old.items)) }
     {
         match self.reader.first_seen() {
@@ -188,7 +199,7 @@ impl Scribe {
         requires none { self.old.waiting ≡ [] }
         requires candidate { IsCandidate self.old.held.bytes header sum }
         ensures some { IfOk result (λ some. some ≡ true → GivesOne self.old out.old.items self.new out.new.items) }
-        ensures none { IfOk result (λ some. some ≡ false → HasNone self.old × (self.new ≡ self.old) × (out.new.items ≡ out.old.items)) }
+        ensures none { IfOk result (λ some. some ≡ false → HasNoNote self.old × (self.new ≡ self.old) × (out.new.items ≡ out.old.items)) }
         ensures err { OnErr result ((self.new ≡ self.old) × (out.new.items ≡ out.old.items)) }
     {
         if let Some(size) = self.put_where_packet(header, sum, out)? {
@@ -205,7 +216,7 @@ impl Scribe {
         requires none { self.old.waiting ≡ [] }
         requires first { FirstIs self.old.held.ended self.old.held.bytes first }
         ensures some { IfOk result (λ some. some ≡ true → GivesOne self.old out.old.items self.new out.new.items) }
-        ensures none { IfOk result (λ some. some ≡ false → HasNone self.old × (self.new ≡ self.old) × (out.new.items ≡ out.old.items)) }
+        ensures none { IfOk result (λ some. some ≡ false → HasNoNote self.old × (self.new ≡ self.old) × (out.new.items ≡ out.old.items)) }
         ensures err { OnErr result ((self.new ≡ self.old) × (out.new.items ≡ out.old.items)) }
     {
         if !self.put_first_of(first, out)? {
@@ -228,6 +239,7 @@ impl Scribe {
         requires candidate { IsCandidate self.old.held.bytes header sum }
         ensures lane { self.new.lane ≡ self.old.lane }
         ensures held { self.new.held ≡ self.old.held }
+        ensures inside { self.new.inside ≡ self.old.inside }
         ensures some { IfOk result (λ answer. IfSome answer (λ size. PutsNote self.old.lane self.old.held.bytes (APacket size) out.old.items self.new.waiting out.new.items)) }
         ensures first { IfOk result (λ answer. IfSome answer (λ size. FirstIs self.old.held.ended self.old.held.bytes (APacket size))) }
         ensures none { IfOk result (λ answer. IfNone answer (IsForeignAtFront self.old.held.ended self.old.held.bytes × (self.new ≡ self.old) × (out.new.items ≡ out.old.items))) }
@@ -249,6 +261,7 @@ impl Scribe {
         requires first { FirstIs self.old.held.ended self.old.held.bytes first }
         ensures lane { self.new.lane ≡ self.old.lane }
         ensures held { self.new.held ≡ self.old.held }
+        ensures inside { self.new.inside ≡ self.old.inside }
         ensures some { IfOk result (λ some. some ≡ true → PutsNote self.old.lane self.old.held.bytes first out.old.items self.new.waiting out.new.items) }
         ensures none { IfOk result (λ some. some ≡ false → (first ≡ NoNote) × (self.new ≡ self.old) × (out.new.items ≡ out.old.items)) }
         ensures err { OnErr result ((self.new ≡ self.old) × (out.new.items ≡ out.old.items)) }
@@ -266,5 +279,22 @@ impl Scribe {
             }
             First::Nothing => Ok(false),
         }
+    }
+
+    // Appends the packet that tells of an end inside a packet, once all else was given. False comes where there is none.
+    #[inline(never)]
+    fn put_inside(&mut self, out: &mut Vec<u8>) -> Result<bool, NoMemory>
+        requires { HasNoNote self.old }
+        ensures some { IfOk result (λ some. some ≡ true → GivesOne self.old out.old.items self.new out.new.items) }
+        ensures none { IfOk result (λ some. some ≡ false → HasNone self.old × (self.new ≡ self.old) × (out.new.items ≡ out.old.items)) }
+        ensures err { OnErr result ((self.new ≡ self.old) × (out.new.items ≡ out.old.items)) }
+    {
+        if !self.inside {
+            return Ok(false);
+        }
+        let event = inside_event(self.alloc, self.lane)?;
+        encode(&event, out)?;
+        self.inside = false;
+        Ok(true)
     }
 }

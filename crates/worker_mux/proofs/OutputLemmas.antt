@@ -19,9 +19,8 @@ use Rattle.packet_codec.specs.Grammar.{AreBytes}
 use Rattle.packet_codec.specs.Lanes.{IsMerge, IsMergeOfTold}
 use Rattle.packet_codec.proofs.MergeLemmas.{merge_of_told}
 use Rattle.worker_lane.specs.Endings.{ending_of, ending_events, returncode_under, returncode_text, fault_text}
-use Rattle.worker_lane.specs.Recorded.{recorded_events}
 use Rattle.worker_lane.specs.Lost.{AreTexts, named_ids, lost_ids, lost_events}
-use Rattle.worker_lane.specs.Rest.{notes_of_stream, notes_are, lots_asked}
+use Rattle.worker_lane.specs.Rest.{notes_of_stream, notes_are, stream_events, lots_asked}
 use Rattle.worker_lane.specs.declared.lot.Ending.{Ending}
 use Rattle.worker_lane.specs.declared.lot.Lot.{Lot}
 use Rattle.worker_lane.specs.declared.lot.Lot.TheVariants.{Packet, End}
@@ -94,7 +93,7 @@ packets_of_packets (packet ∷ packets) how = ap (λ l. packet ∷ l) (packets_o
 are_packets : (lane : ℕ) (ids : List (List ℕ)) (output : Output) → lane < 64 → AreTexts ids → IsOutput output → ArePacketsOf (lots_asked lane ids output) (events_asked lane ids output)
 are_packets lane ids output small texts is =
     let how : Ending = ending_of output.finish in
-    let notes : List Event = recorded_events lane (notes_of_stream output.bytes) in
+    let notes : List Event = stream_events lane output.bytes in
     let lost : List Event = lost_events lane how (lost_ids (named_ids ids) notes) in
     let ending : List Event = ending_events lane how in
     let first : HavePackets notes = have_packets lane output.bytes notes small is.bytes (record { notes = notes_of_stream output.bytes; are_notes = notes_are output.bytes; made = refl }) in

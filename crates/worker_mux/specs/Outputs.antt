@@ -11,15 +11,14 @@ use Rattle.packet_codec.specs.Canonical.{canonical, IsEvent, Fits}
 use Rattle.packet_codec.specs.Lanes.{IsMerge, IsMergeOfTold}
 use Rattle.worker_lane.specs.Endings.{ending_of}
 use Rattle.worker_lane.specs.Lost.{named_ids, AreTexts}
-use Rattle.worker_lane.specs.Recorded.{recorded_events}
-use Rattle.worker_lane.specs.Rest.{notes_of_stream, last_events, lots_asked}
+use Rattle.worker_lane.specs.Rest.{stream_events, last_events, lots_asked}
 use Rattle.worker_lane.specs.declared.lot.Lot.{Lot}
 
 -- the events of an output under a lane whose job names these ids: those that are recorded of its bytes, and those behind them
 abbrev pub events_asked : (lane : ℕ) → (ids : List (List ℕ)) → Output → List Event
 events_asked lane ids output =
-    recorded_events lane (notes_of_stream output.bytes)
-    ++ last_events lane (named_ids ids) (recorded_events lane (notes_of_stream output.bytes)) (ending_of output.finish)
+    stream_events lane output.bytes
+    ++ last_events lane (named_ids ids) (stream_events lane output.bytes) (ending_of output.finish)
 
 -- the same of a job that names none
 abbrev pub events_for : (lane : ℕ) → Output → List Event

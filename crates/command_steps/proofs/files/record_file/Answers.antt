@@ -3,4 +3,4 @@ use Rattle.command_steps.proofs.FilesLemmas.{file_recorded}
 use Rattle.command_steps.proofs.files.record_file.Goals as goal
 
 pub returns-clause-recorded : goal.returns-clause-recorded
-returns-clause-recorded g c = file_recorded c.args.lane c.args.name.now _ _ _ _ _ _ _ _ _ _ c.in_ok-record_pieces.ensures.recorded c.finish.ensures.ended (c.in_ok-record_pieces.ensures.lane ∙ ap (λ s. s.lane) c.in_ok-scribe.ensures.empty) c.write_packets.result c.write_packets.ensures.written c.write_packets.ensures.none
+returns-clause-recorded g c = file_recorded c.args.lane c.args.name.now _ _ _ _ _ _ _ _ _ _ c.in_ok-record_pieces.ensures.recorded c.in_ok-record_pieces.ensures.going_on c.finish.ensures.ended (c.in_ok-record_pieces.ensures.lane ∙ ap (λ s. s.lane) c.in_ok-scribe.ensures.empty) c.write_packets.result c.write_packets.ensures.written c.write_packets.ensures.none

@@ -17,4 +17,4 @@ returns-then-len-ge-PIECE-clause-given c = packets_then _ _ _ _ _ _ c.loop-packe
 pub returns-clause-held : goal.returns-clause-held
 returns-clause-held c =
     let none = c.in_ok-gather_next.ensures.none c.if-branch.false in
-    λ _ going_on. rw (none.1) (spent_short _ _ (rw (none.1) at going_on) none.0.1)
+    λ _ going_on. rw (none.1) (spent_short _ _ (rw (none.1) at going_on) none.0.0.1)

@@ -33,7 +33,7 @@ returns g c =
       rows = sums.rows;
       sums = sums.sums;
       holds = record {
-        recorded = recorded_all _ _ _ _ _ _ _ _ pieces more.run more.given more.written more.are_bytes more.count _ c.finish.ensures.ended
+        recorded = recorded_all _ _ _ _ _ _ _ _ pieces more.run more.given more.written more.are_bytes more.count _ c.in_ok-record_pieces.ensures.going_on c.finish.ensures.ended
             (c.in_ok-record_pieces.ensures.lane ∙ ap (λ s. s.lane) c.in_ok-scribe.ensures.empty) c.in_ok-write_packets.ensures.none
             sums.are;
         refused = tt;

@@ -18,4 +18,4 @@ loop-piece-preserved c =
 pub returns : goal.returns
 returns c =
     let before = rw (take_all c.loop-piece.piece-index c.args.pieces.now (omega arith)) at c.loop-piece.invariant.recording in
-    all_recorded _ _ _ c.args.lane _ _ _ c.loop-piece.invariant.lane before c.finish.ensures.ended c.in_ok-take_packets.ensures.given c.in_ok-take_packets.ensures.none
+    all_recorded _ _ _ c.args.lane _ _ _ c.loop-piece.invariant.lane c.loop-piece.invariant.going_on before c.finish.ensures.ended c.in_ok-take_packets.ensures.given c.in_ok-take_packets.ensures.none

@@ -8,4 +8,4 @@ loop-preserved c = packets_then _ _ _ _ _ _ c.loop.invariant (packets_one _ _ _ 
 pub returns-clause-held : goal.returns-clause-held
 returns-clause-held c =
     let none = c.in_ok-next_into.ensures.none c.if-branch.false in
-    λ going_on. rw (none.1) (spent_short _ _ (rw (none.1) at going_on) none.0.1)
+    λ going_on. rw (none.1) (spent_short _ _ (rw (none.1) at going_on) none.0.0.1)
