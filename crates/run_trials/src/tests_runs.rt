@@ -411,7 +411,7 @@ const SHARDS: [Sharing; 7] = [
     ),
     (
         &["testr", "run", "--load-list=l", "--shard=1/2", "--times=t"],
-        &[[b"run ", b".testr-ids.0", b"e\nb\na\n"]],
+        &[[b"run ", b".testr-ids.0", b"e\nc\na\n"]],
     ),
     (
         &[
@@ -422,7 +422,7 @@ const SHARDS: [Sharing; 7] = [
             "--load-list=l",
             "--shard=2/2",
         ],
-        &[[b"run ", b".testr-ids.0", b"d\nc\n"]],
+        &[[b"run ", b".testr-ids.0", b"d\nb\n"]],
     ),
     // Two workers go by the times of the repository: `b` is known, and `A` comes to the first share, too.
     (
@@ -449,7 +449,7 @@ const SHARDS: [Sharing; 7] = [
         ],
         &[
             [b"run ", b".testr-ids.0", b"e\na\n"],
-            [b"run ", b".testr-ids.1", b"b\n"],
+            [b"run ", b".testr-ids.1", b"c\n"],
         ],
     ),
 ];
