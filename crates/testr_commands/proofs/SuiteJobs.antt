@@ -54,15 +54,9 @@ few_shares times groups ids workers some =
 few_by_ids : (groups : Option (List ℕ)) (times : Option KnownTimes) (selected : Selected) → IsInRange selected.workers → IfSome (shares_of_ids groups times selected) (λ shares. length shares ≤ 64)
 few_by_ids groups times selected range = by selected.ids
   where
-    known : Times
-    known = fin.get (worker_times selected.times times)
-
-    parting : Times
-    parting = fin.get (shard_times selected.times)
-
     by : (ids : Option Ids) → IfSome (shares_of_ids groups times (record { workers = selected.workers; ids = ids; shard = selected.shard; times = selected.times })) (λ shares. length shares ≤ 64)
     by None = tt
-    by (Some ids) = omega (arith, range.1, few_shares known groups (ids_of_shard parting groups selected.shard ids) selected.workers range.0)
+    by (Some ids) = omega (arith, range.1, few_shares (fin.get (worker_times selected.times times)) groups (ids_of_shard (fin.get (shard_times selected.times)) groups selected.shard ids) selected.workers range.0)
 
 -- ---- jobs
 
