@@ -17,7 +17,7 @@ use Rattle.worker_lane.proofs.EventLemmas.{IsPlain, plain_text, packet_size_most
 
 -- ---- plain texts
 
-pub are_plain : List ℕ → Bool
+unfoldable pub are_plain : List ℕ → Bool
 are_plain [] = true
 are_plain (byte ∷ bytes) = nat_lt 0 byte && (nat_lt byte 128 && are_plain bytes)
 

@@ -8,11 +8,11 @@ use Rattle.std.specs.Fmt.{decimal}
 use Rattle.sub_number.specs.Texts.{IsShortText}
 use Rattle.packet_codec.specs.declared.event.Event.{Event}
 use Rattle.packet_codec.specs.Grammar.{AreBytes}
-use Rattle.packet_codec.specs.Canonical.{canonical, canonical_text, canonical_fields, IsEvent, Fits}
+use Rattle.packet_codec.specs.Canonical.{canonical_text, canonical_fields, IsEvent, Fits}
 use Rattle.packet_codec.proofs.WritingLemmas.{length_canonical_fields}
 use Rattle.packet_codec.proofs.LaneLemmas.{is_event_under}
-use Rattle.worker_lane.specs.Endings.{IsPacketOf}
 use Rattle.worker_lane.specs.Inside.{inside_text, inside_event, inside_under, inside_events}
+use Rattle.worker_lane.specs.Recorded.{HasPacket}
 use Rattle.worker_lane.proofs.EventLemmas.{plain_text, packet_size_most, length_counted, length_decimal}
 use Rattle.worker_lane.proofs.EndingLemmas.{are_plain, both, plain_by_test, mime_is_text, name_is_text}
 use Rattle.worker_lane.proofs.NoteLemmas.{HavePackets}
@@ -55,6 +55,12 @@ text_is_bytes = are_by_test inside_text refl
 
 pub inside_is_event : (lane : ℕ) → lane < 64 → IsEvent (inside_under lane)
 inside_is_event lane small = is_event_under lane inside_event small (record { seconds = tt; id = id_is_text; tags = tt; mime = mime_is_text; file = (name_is_text, text_is_bytes); route = tt }) (inside_fits lane small)
+
+pub event_fits : (event : Event) (lane : ℕ) → event ≡ inside_under lane → lane < 64 → Fits event
+event_fits event lane is small = rw is (inside_fits lane small)
+
+pub inside_packet : (lane : ℕ) → lane < 64 → HasPacket (inside_under lane)
+inside_packet lane small = record { is_event = inside_is_event lane small; fits = inside_fits lane small }
 
 pub inside_has_packets : (lane : ℕ) (inside : Bool) → lane < 64 → HavePackets (inside_events lane inside)
 inside_has_packets lane true small = record {

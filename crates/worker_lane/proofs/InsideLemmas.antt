@@ -1,9 +1,9 @@
 -- Where a stream ends inside a packet, from one note to the next.
-use Rattle.std.proofs.Common.{◌≡◌, ℕ, ◌+◌, ◌≤◌, ◌<◌, All, Bool, true, false, List, [], ◌∷◌, ◌++◌, length, take, drop, get_or, refl, inl, inr, sym, ap, ◌∙◌, append_assoc, append-nil, arith}
+use Rattle.std.proofs.Common.{◌≡◌, ℕ, ◌+◌, ◌-◌, ◌≤◌, ◌<◌, All, Bool, true, false, List, [], ◌∷◌, ◌++◌, length, take, drop, get_or, refl, inl, inr, sym, ap, ◌∙◌, append_assoc, append-nil, arith}
 use Rattle.std.specs.Prelude.{nat_le}
 use Rattle.std.proofs.lemmas.Bool.{cases_lt}
 use Rattle.std.proofs.lemmas.Bool.Decides.{nat_tests}
-use Rattle.std.proofs.lemmas.List.{length-append, length-take-le}
+use Rattle.std.proofs.lemmas.List.{length-append, length-drop, take_all}
 use Rattle.packet_codec.specs.declared.event.Event.{Event}
 use Rattle.std.specs.List.{flat_map}
 use Rattle.std.proofs.lemmas.List.Elements.{All-nil, All-head, All-tail}
@@ -23,7 +23,7 @@ use Rattle.stream_reader.specs.Notes.{foreign_note, notes_behind, HasDecided}
 use Rattle.stream_reader.specs.Stream.{HasGiven, IsMadeOf}
 use Rattle.stream_reader.proofs.CutLemmas.{one_open_cut}
 use Rattle.stream_reader.proofs.ExistLemmas.{some_decided}
-use Rattle.stream_reader.proofs.FrontLemmas.{are_before, are_behind, are_both, are_dropped, begins_found, found_longer, found_needs_no_more, none_found, one_found, packet_some, stays_none}
+use Rattle.stream_reader.proofs.FrontLemmas.{are_before, are_behind, are_both, are_dropped, begins_found, found_longer, found_needs_no_more, none_found, one_found, stays_none}
 use Rattle.stream_reader.proofs.NotesLemmas.{one_more, last_one}
 use Rattle.worker_lane.specs.Inside.{LeavesTwo, EndsInside, HoldsBack, leaves_two, inside_if, ends_inside}
 
@@ -266,20 +266,24 @@ whole_alike (e ∷ events) bytes are fit =
 pub not_inside : (events : List Event) → AreBytes (flat_map canonical events) → All IsEvent events → All Fits events → ends_inside (flat_map canonical events) ≡ false
 not_inside events bytes are fit = alike_is (flat_map canonical events) [] bytes (All-nil (λ byte. byte < 256)) (whole_alike events bytes are fit) ∙ empty_not_inside
 
--- ---- the walk along a stream
+-- ---- the piece at the front
 
-pub past_packet : (bytes rest now : List ℕ) (size : ℕ) → AreBytes rest → BeginsWithPacket rest size → now ≡ drop size rest → ends_inside bytes ≡ ends_inside rest → ends_inside bytes ≡ ends_inside now
-past_packet bytes rest now size are p now-is so_far = so_far ∙ alike_is rest (drop size rest) are (are_dropped size rest are) (packet_alike rest (drop size rest) p.packet.0 are (begins_found rest size p)) ∙ ap ends_inside (sym now-is)
+-- the rest of a list, as a slice of it
+pub rest_is : (n : ℕ) (bytes : List ℕ) → take (length bytes - n) (drop n bytes) ≡ drop n bytes
+rest_is n bytes = take_all (length bytes - n) (drop n bytes) (omega (arith, length-drop n bytes))
+
+pub past_packet : (rest now : List ℕ) (size : ℕ) → AreBytes rest → BeginsWithPacket rest size → now ≡ drop size rest → ends_inside rest ≡ ends_inside now
+past_packet rest now size are p now-is = alike_is rest (drop size rest) are (are_dropped size rest are) (packet_alike rest (drop size rest) p.packet.0 are (begins_found rest size p)) ∙ ap ends_inside (sym now-is)
 
 -- where no packet stands, and none will, there is a byte
-pub some_left : (rest : List ℕ) → LooksLike rest No → 0 < length rest
-some_left [] looks = absurd (looks.1 (inl (front_of_none [] (omega arith))))
-some_left (byte ∷ rest) looks = omega arith
+pub byte_is_some : (rest : List ℕ) → LooksLike rest No → 0 < length rest
+byte_is_some [] looks = absurd (looks.1 (inl (front_of_none [] (omega arith))))
+byte_is_some (byte ∷ rest) looks = omega arith
 
-pub past_byte : (bytes rest now : List ℕ) → AreBytes rest → LooksLike rest No → now ≡ drop 1 rest → ends_inside bytes ≡ ends_inside rest → ends_inside bytes ≡ ends_inside now
-past_byte bytes [] now are looks now-is so_far = absurd (looks.1 (inl (front_of_none [] (omega arith))))
-past_byte bytes (byte ∷ rest) now are looks now-is so_far =
-    so_far ∙ alike_is (byte ∷ rest) rest are (are_next (byte ∷ rest) rest byte are refl) (foreign_alike (byte ∷ rest) rest byte (none_found (byte ∷ rest) looks.0) looks.1 refl) ∙ ap ends_inside (sym now-is)
+pub past_byte : (rest now : List ℕ) → AreBytes rest → LooksLike rest No → now ≡ drop 1 rest → ends_inside rest ≡ ends_inside now
+past_byte [] now are looks now-is = absurd (looks.1 (inl (front_of_none [] (omega arith))))
+past_byte (byte ∷ rest) now are looks now-is =
+    alike_is (byte ∷ rest) rest are (are_next (byte ∷ rest) rest byte are refl) (foreign_alike (byte ∷ rest) rest byte (none_found (byte ∷ rest) looks.0) looks.1 refl) ∙ ap ends_inside (sym now-is)
 
-pub packet_is_some : (rest : List ℕ) (size : ℕ) → BeginsWithPacket rest size → 0 < size
-packet_is_some rest size p = omega (arith, packet_some (take size rest) p.packet.0 p.packet.1, length-take-le size rest p.in_range)
+pub byte_is_less : (rest now : List ℕ) → LooksLike rest No → now ≡ drop 1 rest → length now < length rest
+byte_is_less rest now looks now-is = omega (arith, byte_is_some rest looks, ap length now-is, length-drop 1 rest)

@@ -41,10 +41,13 @@ recording_start lane small = record {
 -- what is told, where no bytes behind the end are known
 telling_fed : (ended : Bool) (lane : ℕ) (fed held piece : List ℕ) (inside : Bool) (told : List Event) → ended ≡ false → AreBytes piece → HasTold ended lane fed held inside told → HasTold false lane (fed ++ piece) (held ++ piece) inside told
 telling_fed true lane fed held piece inside told going_on are telling = absurd cc
-telling_fed false lane fed held piece inside told going_on are telling = (telling.0, λ more are'.
-    ap ends_inside (append_assoc fed piece more)
-    ∙ telling.1 (piece ++ more) (are_both piece more are are')
-    ∙ ap ends_inside (sym (append_assoc held piece more)))
+telling_fed false lane fed held piece inside told going_on are telling = (
+  telling.0,
+  λ more are'.
+      ap ends_inside (append_assoc fed piece more)
+      ∙ telling.1 (piece ++ more) (are_both piece more are are')
+      ∙ ap ends_inside (sym (append_assoc held piece more)),
+)
 
 pub recording_fed : (fed piece written : List ℕ) (before after : Scribing) → AreBytes piece → before.held.ended ≡ false → after ≡ holding before (before.held.bytes ++ piece) → Recording fed before written → Recording (fed ++ piece) after written
 recording_fed fed piece written before after are going_on after-is r =
@@ -88,6 +91,12 @@ recording_ended fed written before after going_on after-is r = rw after-is (reco
   packets = r.packets;
 })
 
+-- what is kept of a scribe whose stream has ended
+pub finished_by : (before : Scribing) (held : Held) (inside : Bool) → held ≡ record { bytes = before.held.bytes; ended = true } → inside ≡ ends_inside before.held.bytes → record { lane = before.lane; waiting = before.waiting; held = held; inside = inside } ≡ finished before
+finished_by before held inside held-is inside-is =
+    ap (λ (h : Held). record { lane = before.lane; waiting = before.waiting; held = h; inside = inside }) held-is
+    ∙ ap (λ (b : Bool). record { lane = before.lane; waiting = before.waiting; held = record { bytes = before.held.bytes; ended = true }; inside = b }) inside-is
+
 -- ---- one packet
 
 -- nothing was told of the end while a note is left
@@ -97,15 +106,18 @@ none_told true lane fed held inside told some (sum, inl none) = none
 none_told true lane fed held inside told some (sum, inr empty) = absurd (omega (arith, some, ap length empty))
 
 telling_taken : (ended : Bool) (fed : List ℕ) (before after : Scribing) (told : List Event) → (t : TakesNote before after) → before.held.ended ≡ ended → AreBytes before.held.bytes → told ≡ [] → HasTold ended before.lane fed before.held.bytes before.inside told → HasTold ended after.lane fed after.held.bytes after.inside told
-telling_taken false fed before after told t ended are none telling = (none, λ more are_more.
-    let first : HasGiven false before.held.bytes (t.note ∷ []) after.held.bytes = rw ended at t.given.first in
-    telling.1 more are_more
-    ∙ ap (λ (l : List ℕ). ends_inside (l ++ more)) t.given.parts
-    ∙ given_alike t.given.front after.held.bytes more t.note t.given.made (rw (t.given.parts) at first) (rw (t.given.parts) at are) are_more)
+telling_taken false fed before after told t ended are none telling = (
+  none,
+  λ more are_more.
+      let first : HasGiven false before.held.bytes (t.note ∷ []) after.held.bytes = rw ended at t.given.first in
+      telling.1 more are_more
+      ∙ ap (λ (l : List ℕ). ends_inside (l ++ more)) t.given.parts
+      ∙ given_alike t.given.front after.held.bytes more t.note t.given.made (rw (t.given.parts) at first) (rw (t.given.parts) at are) are_more,
+)
 telling_taken true fed before after told t ended are none telling = (
   ap (λ (lane : ℕ). inside_events lane (ends_inside fed)) t.lane ∙ telling.0
-  ∙ ap (λ (lane : ℕ). told ++ inside_events lane before.inside) (sym t.lane)
-  ∙ ap (λ (inside : Bool). told ++ inside_events after.lane inside) (sym t.inside),
+      ∙ ap (λ (lane : ℕ). told ++ inside_events lane before.inside) (sym t.lane)
+      ∙ ap (λ (inside : Bool). told ++ inside_events after.lane inside) (sym t.inside),
   inl none,
 )
 
@@ -236,15 +248,18 @@ first_note_given before between after first old new none held lane inside puts p
 pub told_given : (before after : Scribing) (old new : List ℕ) → HasNoNote before → before.held.ended ≡ true → before.inside ≡ true → HasPacket (inside_under before.lane) → after ≡ record { lane = before.lane; waiting = []; held = before.held; inside = false } → new ≡ old ++ canonical (inside_under before.lane) → GivesOne before old after new
 told_given before after old new (none, spent) ended inside has after-is new-is =
     let no_bytes : before.held.bytes ≡ [] = rw ended at spent in
-    rw after-is (inside_under before.lane, record {
-      given = record {
-        waiting = record { lane = before.lane; waiting = inside_under before.lane ∷ []; held = before.held; inside = false };
-        ready = inr (inr (record { none = none; no_bytes = no_bytes; ended = ended; inside = inside; after_is = refl }));
-        first = refl;
-      };
-      new_is = new-is;
-      has_packet = has;
-    })
+    rw after-is (
+      inside_under before.lane,
+      record {
+        given = record {
+          waiting = record { lane = before.lane; waiting = inside_under before.lane ∷ []; held = before.held; inside = false };
+          ready = inr (inr (record { none = none; no_bytes = no_bytes; ended = ended; inside = inside; after_is = refl }));
+          first = refl;
+        };
+        new_is = new-is;
+        has_packet = has;
+      },
+    )
 
 -- and it was given as its packet
 pub as_packet : (before after : Scribing) (old : List ℕ) (event : Event) (new : List ℕ) → GivesThis before old event after new → GivesPacket before old after new

@@ -34,18 +34,18 @@ pub record HoldsBack (bytes : List ℕ) : Type 0 where
   pub more : NeedsMore left
 
 -- whether a cut leaves two bytes
-pub leaves_two : (pieces : List Piece) (bytes : List ℕ) → IsOpenCut bytes pieces → Bool
+unfoldable pub leaves_two : (pieces : List Piece) (bytes : List ℕ) → IsOpenCut bytes pieces → Bool
 leaves_two [] bytes cut = nat_le 2 (length bytes)
 leaves_two (packet event ∷ pieces) bytes (rest, found, cut) = leaves_two pieces rest cut
 leaves_two (foreign byte ∷ pieces) bytes (rest, none, closed, parts, cut) = leaves_two pieces rest cut
 
 -- whether bytes that are known to be such end inside a packet
-pub inside_if : (bytes : List ℕ) → Decided (AreBytes bytes) → Bool
+unfoldable pub inside_if : (bytes : List ℕ) → Decided (AreBytes bytes) → Bool
 inside_if bytes (inl are) = leaves_two (some_decided bytes are).1.pieces bytes (some_decided bytes are).1.cut
 inside_if bytes (inr never) = false
 
 -- whether the bytes, as a whole stream, end inside a packet
-pub ends_inside : List ℕ → Bool
+unfoldable pub ends_inside : List ℕ → Bool
 ends_inside bytes = inside_if bytes (decided_all (λ byte. byte < 256) (λ byte. decided_less byte 256) bytes)
 
 -- the text that tells of it

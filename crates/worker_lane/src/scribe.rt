@@ -7,6 +7,7 @@ ghost use Rattle.stream_reader.specs.First.{FirstIs, IsCandidate, IsForeignAtFro
 ghost use Rattle.stream_reader.specs.Room.{room};
 ghost use Rattle.stream_reader.specs.declared.first.First.TheVariants.{Packet as APacket, Nothing as NoNote};
 ghost use Rattle.worker_lane.specs.Endings.{ending_events, IsPacketOf};
+ghost use Rattle.worker_lane.specs.Inside.{ends_inside as is_inside};
 ghost use Rattle.worker_lane.specs.Lost.{longest_id, IsLostPacket};
 ghost use Rattle.worker_lane.specs.declared.lot.Ending.TheVariants.{Exit, NoMemory as without_memory};
 ghost use Rattle.worker_lane.specs.Scribing.{holding, finished, GivesOne, GivesPacket, HasNoNote, HasNone, most_left, Recording};
@@ -86,7 +87,7 @@ impl Scribe {
         ensures ended { self.new ≡ finished self.old }
         ensures recording { (fed written : List ℕ) → Recording fed self.old written → Recording fed self.new written }
     {
-        self.inside = ends_inside(self.reader.front(self.reader.held()));
+        self.inside = self.stands_inside();
         self.reader.finish();
     }
 
@@ -161,6 +162,13 @@ impl Scribe {
 }
 
 impl Scribe {
+    // Whether the stream ends inside a packet, where it ends behind what is held.
+    fn stands_inside(&self) -> bool
+        ensures { result ≡ is_inside self.now.held.bytes }
+    {
+        ends_inside(self.reader.front(self.reader.held()))
+    }
+
     #[inline(always)]
     fn put_next(&mut self, out: &mut Vec<u8>) -> Result<bool, NoMemory>
         ensures some { IfOk result (λ some. some ≡ true → GivesOne self.old out.old.items self.new out.new.items) }
