@@ -21,4 +21,6 @@ mod tests_real_outside_folder;
 #[cfg(test)]
 mod tests_real_outside_locks;
 #[cfg(test)]
+mod tests_real_outside_new_files;
+#[cfg(test)]
 mod tests_real_outside_streams;

@@ -1,6 +1,6 @@
-// Which words ask for help, and which name the folder to work in.
+// Which words ask for help, and which name the folder to work in, or the file of the output.
 
-use help_texts::{Parted, help, part_words};
+use help_texts::{Aimed, Parted, help, part_output, part_words};
 use std::alloc::Global;
 use std::io;
 use std::process::Abort;
@@ -139,9 +139,9 @@ fn are_words(words: &[String], wanted: &[&str]) -> bool {
             .all(|(word, other)| word.as_str() == *other)
 }
 
-fn is_folder(folder: &Option<String>, wanted: Option<&str>) -> bool {
-    match (folder, wanted) {
-        (Some(folder), Some(wanted)) => folder.as_str() == wanted,
+fn is_value(value: &Option<String>, wanted: Option<&str>) -> bool {
+    match (value, wanted) {
+        (Some(value), Some(wanted)) => value.as_str() == wanted,
         (None, None) => true,
         _ => false,
     }
@@ -158,7 +158,73 @@ fn a_folder_is_taken_out_of_the_words_of_testr(rt: HostRuntime) -> Result<(), Fa
     for row in &PARTED {
         let found = parted(&rt, row.0)?;
         assert!(rt; are_words(&found.words, row.1));
-        assert!(rt; is_folder(&found.folder, row.2));
+        assert!(rt; is_value(&found.folder, row.2));
+    }
+    Ok(())
+}
+
+// Words, those of them that are handed on, and the file that they name.
+const AIMED: [(&[&str], &[&str], Option<&str>); 12] = [
+    (&[], &[], None),
+    (&["subunit-ls"], &["subunit-ls"], None),
+    (
+        &["subunit-ls", "-o", "x", "log"],
+        &["subunit-ls", "log"],
+        Some("x"),
+    ),
+    (&["subunit2csv", "-ox y"], &["subunit2csv"], Some("x y")),
+    (
+        &["subunit2junitxml", "log", "--output-to=x"],
+        &["subunit2junitxml", "log"],
+        Some("x"),
+    ),
+    (
+        &["subunit-filter", "--output-to", "-o"],
+        &["subunit-filter"],
+        Some("-o"),
+    ),
+    (
+        &["subunit-filter", "-o", "x", "--output-to=", "-s"],
+        &["subunit-filter", "-s"],
+        Some(""),
+    ),
+    (&["subunit-stats", "-o"], &["subunit-stats", "-o"], None),
+    (
+        &["subunit-trace", "-o", "x", "--output-to"],
+        &["subunit-trace", "--output-to"],
+        Some("x"),
+    ),
+    (
+        &["subunit-tags", "-o", "x"],
+        &["subunit-tags", "-o", "x"],
+        None,
+    ),
+    (
+        &["subunit-output", "--output-to=x"],
+        &["subunit-output", "--output-to=x"],
+        None,
+    ),
+    (
+        &["testr", "last", "-o", "x"],
+        &["testr", "last", "-o", "x"],
+        None,
+    ),
+];
+
+fn aimed(rt: &HostRuntime, words: &[&str]) -> io::Result<Aimed> {
+    let mut list = Vec::new(rt.alloc());
+    add_words(rt.alloc(), &mut list, words)?;
+    Ok(part_output(rt.alloc(), &list)?)
+}
+
+#[test]
+fn the_file_of_the_output_is_taken_out_of_the_words_of_a_filter(
+    rt: HostRuntime,
+) -> Result<(), Fail> {
+    for row in &AIMED {
+        let found = aimed(&rt, row.0)?;
+        assert!(rt; are_words(&found.words, row.1));
+        assert!(rt; is_value(&found.file, row.2));
     }
     Ok(())
 }

@@ -5,6 +5,7 @@
 //!
 //! - `folder_shelf`, `folder`, `published_files`: the folder of runs, its draft, and the files that are published in it
 //! - `lock`, `identity`: who may use the folder beside others, and whether a name still leads to the file that was opened
+//! - `real_new_files`: files that take their names at the end
 //! - `real_spawner`, `real_child`, `written_ids`: worker processes, and the files of ids that they are told
 //! - `real_site`, `working_folder`: files of the project by name, and the folder that names begin at
 //! - `stream_source`, `stream_sink`, `descriptors`: standard input and outputs, also where they are closed
@@ -22,6 +23,7 @@ mod identity;
 mod lock;
 mod published_files;
 mod real_child;
+mod real_new_files;
 mod real_site;
 mod real_spawner;
 mod stream_sink;
@@ -34,8 +36,9 @@ pub use descriptors::{Held, hold_closed};
 pub use folder_shelf::FolderShelf;
 pub use lock::Sharing;
 pub use real_child::RealChild;
+pub use real_new_files::RealNewFiles;
 pub use real_site::RealSite;
 pub use real_spawner::{Errors, RealSpawner};
-pub use stream_sink::StreamSink;
+pub use stream_sink::{Outlet, StreamSink};
 pub use stream_source::StreamSource;
 pub use working_folder::enter;

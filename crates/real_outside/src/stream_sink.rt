@@ -1,13 +1,19 @@
 // A writer of the system as a sink.
-ghost use Rattle.std.specs.Prelude.{◌<◌, length, IfOk};
+ghost use Rattle.std.specs.Prelude.{◌≡◌, ◌<◌, length, IfOk};
+ghost use Rattle.either.specs.declared.Either.TheVariants.{Right};
 ghost use Rattle.std.specs.Io.{WritesAtMost};
 ghost use Rattle.std.specs.Io.KnownBytes.{WriteAppends};
 
 use crate::cause::{Cause, told};
 use crate::fault_count::Faults;
 use edge_io::{Failed, Sink};
+use either::Either;
+use std::fs::File;
 use std::io;
-use std::io::{ErrorKind, Write};
+use std::io::{ErrorKind, Stdout, Write};
+
+/// Where the program's output goes: to the system's standard output, or into a file that has no name yet.
+pub type Outlet = Either<Stdout, File>;
 
 /// Writes to `stream`, and counts the writes that fail.
 #[derive(Drop)]
@@ -30,6 +36,24 @@ impl<W: Write> StreamSink<W> {
     /// Why the last write that failed did so.
     pub fn cause(&self) -> Option<&Cause> {
         self.faults.cause.as_ref()
+    }
+
+    // The writer, and why the last write that failed did so.
+    pub(crate) fn into_parts(self) -> (W, Option<Cause>) {
+        (self.stream, self.faults.cause)
+    }
+}
+
+impl StreamSink<Outlet> {
+    // A sink over this file, which does not tell what was written.
+    pub(crate) fn to_file(file: File, name: &'static str) -> Self
+        ensures { result.stream ≡ Right file }
+    {
+        StreamSink {
+            stream: Either::Right(file),
+            name,
+            faults: Faults::new(),
+        }
     }
 }
 
