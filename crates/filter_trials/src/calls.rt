@@ -7,7 +7,7 @@ use std::alloc::Global;
 use sub_number::{Bytes, Text};
 
 // Words as a program is given them.
-fn owned(alloc: Global, words: &[&str]) -> Option<Vec<String>> {
+pub fn owned(alloc: Global, words: &[&str]) -> Option<Vec<String>> {
     let mut owned = Vec::new(alloc);
     for word in words {
         owned.push(word.to_string(alloc).ok()?).ok()?;

@@ -31,4 +31,6 @@ mod tests_filter_cli_trace;
 #[cfg(test)]
 mod tests_filter_cli_v1;
 #[cfg(test)]
+mod tests_filter_to_file;
+#[cfg(test)]
 mod tests_tap_bridge;

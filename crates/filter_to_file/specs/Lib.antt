@@ -1,0 +1,2 @@
+-- A filter whose output becomes a file.
+pub mod Filed
