@@ -1,8 +1,8 @@
 #!/bin/sh
 # Tries the program where something outside is wrong: links, pipes and folders in place of files, closed descriptors, a
 # full disk, a limit on files, a file system without some call, modes, several users, a removed lock, two at once, killed
-# programs, caches that are damaged or cannot be put, a folder to work in that is none, a build that fails, the names of the
-# program, and its installation.
+# programs, caches that are damaged or cannot be put, a folder to work in that is none, a filter's output that becomes no file,
+# a build that fails, the names of the program, and its installation.
 # What cannot be tried here is skipped with a word: some cases want to be run by root, some want `strace`.
 # usage: bench/faults.sh [CASE..]: by default all cases.
 set -eu
@@ -900,6 +900,103 @@ def a_folder_may_not_be_entered():
     user = {"user": NOBODY, "group": NOBODY, "extra_groups": ()}
     done = run(folder, "-d", "closed", "last", **user)
     check_refused(done, b"testr: fault of the folder to work in\n", b"enter closed: Permission denied")
+
+
+# A filter's output as a file.
+
+def listed(folder, *words, given=b"", name="subunit-ls", **how):
+    return run(folder, *words, given=given, program=[PROGRAM, name], **how)
+
+
+def check_no_file(done, folder, names, *words):
+    """A fault of the output: its line and its cause. The folder has these names alone."""
+    status, out, err = done
+    lines = err.splitlines(True)
+    check((status, out, lines[:1]) == (4, b"", [b"subunit-ls: fault writing output\n"]), f"it answers {done}")
+    check(len(lines) == 2 and lines[1].startswith(b"subunit-ls: cause: "), f"the cause is {lines[1:]}")
+    for word in words:
+        check(word in lines[1], f"the cause is {lines[1]!r}, without {word!r}")
+    check(sorted(os.listdir(folder)) == sorted(names), f"the folder has {os.listdir(folder)}")
+
+
+def holds(folder, name, bytes):
+    with open(os.path.join(folder, name), "rb") as file:
+        return file.read() == bytes
+
+
+@case
+def an_output_becomes_a_file():
+    """With each way to write the option; in place of an older file; and of the file that is read."""
+    folder = new_folder()
+    given = stream(1000)
+    status, text, err = listed(folder, given=given)
+    check(text.count(b"\n") > 100 and err == b"", "nothing is listed")
+    for words in (["-o", "a b"], ["-oa b"], ["--output-to=a b"], ["--output-to", "a b"], ["-o", "other", "-o", "a b"]):
+        check(listed(folder, *words, given=given) == (status, b"", b""), f"{words} is no such option")
+        check(holds(folder, "a b", text) and os.listdir(folder) == ["a b"], f"{words} leaves {os.listdir(folder)}")
+        write(folder, "a b", b"old")
+    write(folder, "stream", given)
+    check(listed(folder, "stream", "-o", "stream") == (status, b"", b"") and holds(folder, "stream", text), "the file that is read is not replaced")
+    deep = os.path.join(folder, "deep")
+    os.mkdir(deep)
+    check(listed(folder, "-o", "deep/x", given=given)[0] == status and holds(deep, "x", text), "a path is no file")
+    tagged = listed(folder, "-o", "x", given=given, name="subunit-tags")
+    check(tagged[0] == 0 and tagged[1] != b"" and not os.path.exists(os.path.join(folder, "x")), "subunit-tags has the option")
+
+
+@case
+def an_output_is_no_file():
+    folder = new_folder()
+    write(folder, "old", b"old")
+    os.mkdir(os.path.join(folder, "folder"))
+    os.mkfifo(os.path.join(folder, "pipe"))
+    os.symlink("old", os.path.join(folder, "link"))
+    names = ["old", "folder", "pipe", "link"]
+    for name in ("folder", "pipe", "link", "/dev/null"):
+        check_no_file(listed(folder, "-o", name, given=stream(10)), folder, names, b"make " + name.encode() + b": it is no regular file")
+    check_no_file(listed(folder, "-o", "nowhere/x", given=stream(10)), folder, names, b"make nowhere/x.0.new: No such file")
+    check_no_file(listed(folder, "-o", "", given=stream(10)), folder, names)
+    check(stat.S_ISCHR(os.stat("/dev/null").st_mode), "the null device is replaced")
+    check(listed(folder, "-o", "old", "--unknown") == (2, b"", b"subunit-ls: wrong usage\n"), "wrong usage makes a file")
+    check(listed(folder, "-o") == (2, b"", b"subunit-ls: wrong usage\n"), "an option without a value is taken")
+    check(listed(folder, "-o", "old", "absent") == (3, b"", b"subunit-ls: no file absent\n"), "an absent file makes a file")
+    status, out, err = listed(folder, "-o", "old", "folder")
+    check((status, out) == (4, b"") and err.startswith(b"subunit-ls: fault reading a file\n"), f"a folder is read: {err!r}")
+    check(holds(folder, "old", b"old") and sorted(os.listdir(folder)) == sorted(names), "a refusal replaces the file")
+
+
+def fill_with_an_output(folder):
+    write(folder, "old", b"old")
+    given = stream(200_000)
+    check_no_file(listed(folder, "-o", "old", given=given), folder, ["old"], b"No space left")
+    check_no_file(listed(folder, "-o", "new", given=given), folder, ["old"], b"No space left")
+    check(holds(folder, "old", b"old"), "a full disk replaces the file")
+    check(listed(folder, "-o", "old", given=stream(100))[2] == b"" and not holds(folder, "old", b"old"), "the disk stays full")
+
+
+@case
+def disk_is_full_of_an_output():
+    on_small_disk("1m", fill_with_an_output)
+
+
+@case
+def a_filter_is_killed():
+    """The name holds what it did, and the next call takes another draft."""
+    folder = new_folder()
+    write(folder, "old", b"old")
+    draft = os.path.join(folder, "old.0.new")
+    pipe = subprocess.PIPE
+    filter = subprocess.Popen([PROGRAM, "subunit-ls", "-o", "old"], cwd=folder, stdin=pipe, stdout=pipe, stderr=pipe)
+    filter.stdin.write(stream(50_000))
+    filter.stdin.flush()
+    wait_until(lambda: os.path.exists(draft) and os.stat(draft).st_size > 0, "nothing is written")
+    check(holds(folder, "old", b"old"), "the file is replaced before the end")
+    filter.kill()
+    filter.communicate()
+    check(holds(folder, "old", b"old") and sorted(os.listdir(folder)) == ["old", "old.0.new"], f"the folder has {os.listdir(folder)}")
+    text = listed(folder, given=stream(100))[1]
+    check(listed(folder, "-o", "old", given=stream(100))[1:] == (b"", b"") and holds(folder, "old", text), "the next call fails")
+    check(sorted(os.listdir(folder)) == ["old", "old.0.new"], f"the folder has {os.listdir(folder)}")
 
 
 # What the program tells of itself, and the launcher.

@@ -1,19 +1,21 @@
 //! The program: the real input, outputs, arguments and folder behind the top call.
 //!
 //! `real_outside` has the objects that it is called on. `help_texts` has what is printed where the words ask for that, and
-//! takes out those that name the folder to work in. Here is decided which commands share the folder's lock, which files of
+//! takes out those that name the folder to work in, or the file that a filter writes. Here is decided which commands share the folder's lock, which files of
 //! killed runs are removed, and which lines tell of the cause of a fault.
 #![tactic(auto)]
 
 use edge_io::write_whole;
-use help_texts::{Parted, help, part_words};
+use either::Either;
+use filter_to_file::filters_to_file;
+use help_texts::{Parted, help, part_output, part_words};
 use real_outside::{
-    Cause, Errors, FolderShelf, RealSite, RealSpawner, Sharing, StreamSink, StreamSource, enter,
-    hold_closed,
+    Cause, Errors, FolderShelf, Outlet, RealNewFiles, RealSite, RealSpawner, Sharing, StreamSink,
+    StreamSource, enter, hold_closed,
 };
 use std::alloc::Global;
 use std::env::Env;
-use std::io::{ErrorKind, Stderr, Stdout};
+use std::io::{ErrorKind, Stderr};
 use std::process::ExitCode;
 use std::sync::Wait;
 use std::thread::Threads;
@@ -42,7 +44,7 @@ const MOST_WORKERS: u32 = 64;
 
 fn main(rt: HostRuntime) -> ExitCode {
     let held = hold_closed(&rt);
-    let mut out = StreamSink::new(rt.stdout(), "standard output");
+    let mut out = StreamSink::new(Either::Left(rt.stdout()), "standard output");
     let mut err = StreamSink::new(rt.stderr(), "standard error");
     let status = match (&held, words(&rt)) {
         (Err(error), _) => {
@@ -77,7 +79,7 @@ fn run<R: Threads + Wait + Sync>(
     rt: &HostRuntime,
     errors: Errors,
     words: &[String],
-    out: &mut StreamSink<Stdout>,
+    out: &mut StreamSink<Outlet>,
     err: &mut StreamSink<Stderr>,
 ) -> u8 {
     match part_words(rt.alloc(), words) {
@@ -93,7 +95,7 @@ fn run_parted<R: Threads + Wait + Sync>(
     rt: &HostRuntime,
     errors: Errors,
     parted: &Parted,
-    out: &mut StreamSink<Stdout>,
+    out: &mut StreamSink<Outlet>,
     err: &mut StreamSink<Stderr>,
 ) -> u8 {
     let alloc = rt.alloc();
@@ -101,10 +103,10 @@ fn run_parted<R: Threads + Wait + Sync>(
         return print_help(alloc, face_of(&parted.words), text, out, err);
     }
     let Some(folder) = &parted.folder else {
-        return run_program(threads, rt, errors, &parted.words, out, err);
+        return run_aimed(threads, rt, errors, &parted.words, out, err);
     };
     match enter(alloc, rt, folder.as_str()) {
-        Ok(true) => run_program(threads, rt, errors, &parted.words, out, err),
+        Ok(true) => run_aimed(threads, rt, errors, &parted.words, out, err),
         Ok(false) => no_folder(alloc, folder.as_str(), err),
         Err(cause) => {
             let _ = write_whole(err, b"testr: fault of the folder to work in\n");
@@ -137,7 +139,7 @@ fn print_help(
     alloc: Global,
     face: &str,
     text: &str,
-    out: &mut StreamSink<Stdout>,
+    out: &mut StreamSink<Outlet>,
     err: &mut StreamSink<Stderr>,
 ) -> u8 {
     match write_whole(out, text.as_bytes()) {
@@ -152,6 +154,40 @@ fn print_help(
     }
 }
 
+// Writes into a file, where the words of a filter name one. Else calls the program.
+fn run_aimed<R: Threads + Wait + Sync>(
+    threads: &R,
+    rt: &HostRuntime,
+    errors: Errors,
+    words: &[String],
+    out: &mut StreamSink<Outlet>,
+    err: &mut StreamSink<Stderr>,
+) -> u8 {
+    let Ok(aimed) = part_output(rt.alloc(), words) else {
+        return out_of_memory(err);
+    };
+    match &aimed.file {
+        Some(name) => run_to_file(rt, &aimed.words, name.as_str(), err),
+        None => run_program(threads, rt, errors, &aimed.words, out, err),
+    }
+}
+
+// Calls the filter with a new file in the place of standard output.
+fn run_to_file(rt: &HostRuntime, words: &[String], name: &str, err: &mut StreamSink<Stderr>) -> u8 {
+    let alloc = rt.alloc();
+    let mut files = RealNewFiles::new(alloc, rt);
+    let mut input = StreamSource::new(rt.stdin(), "standard input");
+    let mut site = RealSite::new(alloc, rt, working_folder(alloc, rt));
+    let status = filters_to_file(alloc, words, name, &mut site, &mut input, &mut files, err);
+    if status == FAULT {
+        let face = face_of(words);
+        tell(alloc, face, site.cause(), err);
+        tell(alloc, face, input.cause(), err);
+        tell(alloc, face, files.cause(), err);
+    }
+    status
+}
+
 // Calls the program on the real objects. After a fault the line that says which object failed has one more behind it,
 // that says why.
 fn run_program<R: Threads + Wait + Sync>(
@@ -159,7 +195,7 @@ fn run_program<R: Threads + Wait + Sync>(
     rt: &HostRuntime,
     errors: Errors,
     words: &[String],
-    out: &mut StreamSink<Stdout>,
+    out: &mut StreamSink<Outlet>,
     err: &mut StreamSink<Stderr>,
 ) -> u8 {
     let alloc = rt.alloc();
