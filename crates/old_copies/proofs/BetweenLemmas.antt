@@ -1,5 +1,5 @@
 -- Files of which some are copies: how one set of copies follows another.
-use Rattle.std.proofs.Common.{◌≡◌, ◌⊎◌, inl, inr, ℕ, Option, List, IsSome, refl, sym, ap, ◌∙◌, subst}
+use Rattle.std.proofs.Common.{◌≡◌, ◌⊎◌, inl, inr, ℕ, List, IsSome, refl, sym, ◌∙◌, subst}
 use Rattle.edge_io.specs.Disk.{Files, Disk, Folder, IsImage}
 use Rattle.edge_io.proofs.Passing.{passes_then, passes_weaker}
 use Rattle.run_shelf.specs.Images.{AtRest}

@@ -1,5 +1,5 @@
 -- One file that is copied.
-use Rattle.std.proofs.Common.{◌≡◌, ◌⊎◌, inl, inr, ℕ, Bool, true, false, Option, Some, None, List, IfSome, IsSome, Result, Ok, Err, OnErr, refl, sym, ap, ◌∙◌, subst, arith}
+use Rattle.std.proofs.Common.{◌≡◌, ◌⊎◌, inl, inr, ℕ, true, false, Option, Some, None, List, IfSome, IsSome, Result, Ok, Err, OnErr, refl, sym, ap, ◌∙◌, subst, arith}
 use Rattle.std.specs.Str.{bytes_eq}
 use Rattle.std.proofs.lemmas.Bool.{cases_Bool, cond-false}
 use Rattle.std.proofs.lemmas.Slice.Eq.{bytes_eq-Decides}
@@ -12,9 +12,8 @@ use Rattle.edge_io.proofs.Passing.{passes_same, passes_weaker}
 use Rattle.run_shelf.specs.Images.{AtRest, KeepsFile, PassesFile}
 use Rattle.run_shelf.specs.declared.faults.ShelfCall.{ShelfCall}
 use Rattle.run_shelf.proofs.Joining.{goes_with, stays_some, some_after}
-use Rattle.run_shelf.proofs.LookSteps.{stays_then}
 use Rattle.run_shelf.proofs.RunLemmas.{put_here}
-use Rattle.old_copies.specs.Copying.{folder_in, IsName, Between, HasCopies, HoldsOther, StepFails, PassesCopies, Copies, GoesBy, CopyStep, Places, places, folder_failed, site_failed}
+use Rattle.old_copies.specs.Copying.{folder_in, IsName, Between, HasCopies, HoldsOther, StepFails, PassesCopies, Copies, GoesBy, CopyStep, Places, folder_failed, site_failed}
 use Rattle.old_copies.specs.Looking.{IsOfFolder, IsOfSite}
 use Rattle.old_copies.specs.declared.faults.OldCopyFault.{OldCopyFault}
 use Rattle.old_copies.specs.declared.faults.OldCopyFault.TheVariants.{Here, OldHere, StrangeHere, NoStore, NotOld, UnknownFormat, BadCount, OtherFiles, Site, Shelf, NoMemory}

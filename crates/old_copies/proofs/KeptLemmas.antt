@@ -1,16 +1,15 @@
 -- The two files of the other folder that are kept in memory, and the look at them.
-use Rattle.std.proofs.Common.{◌≡◌, ◌⊎◌, inl, inr, ℕ, suc, zero, ◌+◌, ◌/◌, ◌%◌, ◌^◌, ◌<◌, ◌≤◌, Bool, true, false, Option, Some, None, IsSome, List, [], ◌∷◌, ◌++◌, length, IfSome, refl, sym, ap, ◌∙◌, subst, arith, get_or}
+use Rattle.std.proofs.Common.{◌≡◌, inl, inr, ℕ, ◌+◌, ◌/◌, ◌%◌, ◌^◌, ◌<◌, ◌≤◌, Bool, true, false, Option, Some, None, List, [], ◌∷◌, ◌++◌, length, IfSome, refl, sym, ap, ◌∙◌, subst, arith, get_or}
 use Rattle.std.specs.Prelude.{codes}
 use Rattle.std.specs.Fmt.{decimal}
 use Rattle.std.proofs.lemmas.Fmt.{decimal_by_steps}
-use Rattle.edge_io.specs.Disk.{Files, Disk, Folder, at_rest, put}
-use Rattle.edge_io.specs.MemState.{KeptForGood, begins_with}
-use Rattle.run_shelf.specs.Adoption.{IsOld}
-use Rattle.run_shelf.specs.Repository.{run_name, full_name, partial_name, most_runs, format_name, format_bytes, based_format_bytes, HasFormat, HasOtherFormat}
+use Rattle.edge_io.specs.Disk.{Files, Folder}
+use Rattle.edge_io.specs.MemState.{begins_with}
+use Rattle.run_shelf.specs.Repository.{run_name, most_runs, format_name, HasFormat}
 use Rattle.run_shelf.proofs.NameLemmas.{format_differs}
 use Rattle.run_shelf.proofs.RunLemmas.{put_here, put_other, none_is_not_some}
-use Rattle.old_folder.specs.Looking.{HasStrangeFormat, LacksCount, OldSurveyFails}
-use Rattle.old_folder.specs.Olds.{next_name, next_in, next_of, HasOldRun, IsOldWith}
+use Rattle.old_folder.specs.Looking.{HasStrangeFormat, OldSurveyFails}
+use Rattle.old_folder.specs.Olds.{next_name, next_in, HasOldRun, IsOldWith}
 use Rattle.old_folder.specs.declared.faults.OldFault.{OldFault}
 use Rattle.old_folder.specs.declared.faults.OldFault.TheVariants.{NoStore, NotOld, UnknownFormat, BadCount, Shelf, NoMemory}
 use Rattle.old_copies.specs.Copying.{IsOldFolder, folder_in}

@@ -1,14 +1,13 @@
 -- Which names are copied.
-use Rattle.std.proofs.Common.{◌≡◌, ◌⊎◌, inl, inr, ◌↔◌, ℕ, ◌<◌, ◌≤◌, ◌^◌, Bool, true, false, ltb, Option, Some, None, List, [], ◌∷◌, ◌++◌, ◌+◌, length, take, get_or, IfSome, IsSome, IsTrue, refl, sym, ap, ◌∙◌, subst, arith}
+use Rattle.std.proofs.Common.{◌≡◌, ◌↔◌, ℕ, ◌<◌, ◌≤◌, false, ltb, Option, Some, None, List, [], ◌∷◌, ◌++◌, ◌+◌, length, take, get_or, IfSome, IsTrue, sym, ◌∙◌, subst, arith}
 use Rattle.std.specs.Prelude.{Contains, All}
 use Rattle.std.proofs.lemmas.Bool.{lt-ltb, ltb-true}
 use Rattle.std.proofs.lemmas.List.Elements.{All-contains, All-append, All-cons, All-nil, Contains-get_or}
 use Rattle.std.proofs.lemmas.List.{take_more}
-use Rattle.sub_number.specs.Texts.{IsShortText}
-use Rattle.edge_io.specs.Disk.{Files, Folder}
-use Rattle.edge_io.specs.Names.{AreNamesOf, ListsNames}
+use Rattle.edge_io.specs.Disk.{Folder}
+use Rattle.edge_io.specs.Names.{ListsNames}
 use Rattle.run_shelf.specs.Names.{SpellsRunNumber, SpellsNoRunNumber}
-use Rattle.run_shelf.specs.Repository.{full_name, most_runs}
+use Rattle.run_shelf.specs.Repository.{most_runs}
 use Rattle.run_shelf.proofs.NameLemmas.{full_same}
 use Rattle.old_copies.specs.Copying.{IsRunBelow, IsCopiedFirst}
 use Rattle.old_copies.specs.Looking.{HoldsNoOther, HasOtherName, HasOtherIn}

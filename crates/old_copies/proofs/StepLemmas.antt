@@ -1,11 +1,11 @@
 -- Steps of a copy, one after another.
-use Rattle.std.proofs.Common.{◌≡◌, ◌⊎◌, inl, inr, ℕ, Bool, false, Option, Some, None, List, IfSome, Result, Ok, Err, OnOk, IfErr, refl, sym, ap, ◌∙◌, subst}
+use Rattle.std.proofs.Common.{◌≡◌, ℕ, Bool, false, Option, Some, None, List, IfSome, Result, Ok, Err, refl, ◌∙◌, subst}
 use Rattle.edge_io.specs.Causes.{RisesExactlyIf}
 use Rattle.edge_io.specs.Disk.{Files, Folder}
 use Rattle.edge_io.specs.Steps.{Goes}
 use Rattle.edge_io.proofs.Going.{goes_then, goes_weaker}
 use Rattle.run_shelf.specs.Images.{AtRest}
-use Rattle.old_copies.specs.Copying.{folder_in, Either, HoldsOther, HasCopies, Places, StepFails, PassesCopies, Copies, GoesBy, CopyStep, folder_failed, site_failed}
+use Rattle.old_copies.specs.Copying.{folder_in, Either, HasCopies, Places, StepFails, PassesCopies, Copies, GoesBy, CopyStep, folder_failed, site_failed}
 use Rattle.old_copies.specs.declared.faults.OldCopyFault.{OldCopyFault}
 use Rattle.old_copies.specs.declared.faults.OldCopyFault.TheVariants.{Here, OldHere, StrangeHere, NoStore, NotOld, UnknownFormat, BadCount, OtherFiles, Site, Shelf, NoMemory}
 use Rattle.old_copies.proofs.BetweenLemmas.{copies_wider, passes_wider, other_wider, copies_then, other_back, passes_both}

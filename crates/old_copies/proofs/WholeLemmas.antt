@@ -1,5 +1,5 @@
 -- All files, one after another.
-use Rattle.std.proofs.Common.{◌≡◌, ◌⊎◌, inl, inr, ℕ, ◌+◌, ◌<◌, ◌≤◌, Bool, true, false, Option, Some, None, List, IfSome, IsSome, Result, Ok, Err, refl, sym, ap, ◌∙◌, subst, arith}
+use Rattle.std.proofs.Common.{◌≡◌, ◌⊎◌, inl, inr, ℕ, ◌+◌, ◌<◌, false, Option, Some, None, List, IfSome, IsSome, Result, Ok, Err, refl, sym, ap, ◌∙◌, subst, arith}
 use Rattle.std.proofs.lemmas.Bool.{cases_eq, cases_lt}
 use Rattle.edge_io.specs.Causes.{RisesExactlyIf}
 use Rattle.edge_io.specs.Disk.{Files, Disk, Folder, IsImage, at_rest}
@@ -10,14 +10,12 @@ use Rattle.edge_io.proofs.Going.{goes_then, goes_weaker, goes_from}
 use Rattle.edge_io.proofs.Passing.{passes_same, passes_then, passes_weaker}
 use Rattle.run_shelf.specs.Images.{AtRest, PassesOld}
 use Rattle.run_shelf.specs.Repository.{full_name, format_name}
-use Rattle.run_shelf.specs.declared.faults.ShelfCall.{ShelfCall}
 use Rattle.run_shelf.proofs.Joining.{rest_images, goes_beside, goes_after, goes_with, settled_stays, some_after}
-use Rattle.run_shelf.proofs.RunLemmas.{none_is_not_some}
-use Rattle.old_copies.specs.Copying.{folder_in, IsName, Either, IsRunBelow, IsCopiedFirst, IsCopied, Between, HasCopies, HoldsOther, Places, places, folder_failed, site_failed, StepFails, PassesCopies, Copies, GoesBy, CopyStep, IsOnTheWay, PassesWay, CopiesAll, IsOldFolder, PassesTaking, TakesFiles, HasOtherFiles, CopyFails, CopiesOld}
-use Rattle.old_copies.specs.Looking.{IsFree, HereFails, HoldsNoOther, HasOtherName, NamesFail, LookFails}
+use Rattle.old_copies.specs.Copying.{folder_in, IsName, Either, IsRunBelow, IsCopiedFirst, IsCopied, Between, HasCopies, HoldsOther, Places, places, folder_failed, site_failed, StepFails, PassesCopies, Copies, CopyStep, IsOnTheWay, PassesWay, CopiesAll, IsOldFolder, PassesTaking, TakesFiles, HasOtherFiles, CopyFails, CopiesOld}
+use Rattle.old_copies.specs.Looking.{IsFree, HereFails, HoldsNoOther, NamesFail, LookFails}
 use Rattle.old_copies.specs.declared.faults.OldCopyFault.{OldCopyFault}
 use Rattle.old_copies.specs.declared.faults.OldCopyFault.TheVariants as fault
-use Rattle.old_copies.proofs.BetweenLemmas.{between_self, between_then, between_wider, both_between}
+use Rattle.old_copies.proofs.BetweenLemmas.{between_self, both_between}
 use Rattle.old_copies.proofs.FileLemmas.{rests, told_or_not, by_known}
 use Rattle.old_copies.proofs.StepLemmas.{goes_both, goes_to, by_weaker, by_then, counts_then, failed_wider, done_same, step_then}
 

@@ -1,5 +1,5 @@
 -- The old files of another folder, copied into this one (docs/FORMATS.md, "Folders of another program").
-use Rattle.std.specs.Prelude.{◌≡◌, ◌≢◌, ◌⊎◌, ⊤, ℕ, ◌<◌, Bool, true, false, Option, Some, None, IfSome, IsSome, List, ◌∷◌, ◌++◌, Result, Ok, Err, OnOk, IfErr}
+use Rattle.std.specs.Prelude.{◌≡◌, ◌≢◌, ◌⊎◌, ⊤, ℕ, ◌<◌, Bool, true, false, Some, None, IfSome, IsSome, List, ◌∷◌, ◌++◌, Result, Err, OnOk, IfErr}
 use Rattle.edge_io.specs.Causes.{RisesExactlyIf}
 use Rattle.edge_io.specs.Disk.{Files, Folder, IsImage}
 use Rattle.edge_io.specs.Moments.{Passes}

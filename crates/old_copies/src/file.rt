@@ -37,7 +37,7 @@ pub(crate) fn copy_file<F: Site, H: Shelf>(
     };
     match compare(there, here) {
         Compared::Same => Ok(()),
-        Compared::New(bytes) => match keep_file(shelf, name, bytes.bytes()) {
+        Compared::New(wanted) => match keep_file(shelf, name, wanted.bytes()) {
             Ok(()) => Ok(()),
             Err(call) => Err(OldCopyFault::Shelf(call)),
         },

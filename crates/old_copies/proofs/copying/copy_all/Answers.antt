@@ -4,8 +4,8 @@ use Rattle.old_copies.proofs.copying.copy_all.Goals as goal
 pub returns-in-Err : goal.returns-in-Err
 returns-in-Err g c = all_stop {T = Unit {0}} c.args.count c.args.from.now _ _ c.in-Err.fault c.in-Err.ensures
 
-pub copy_file-requires-clause-rest : goal.copy_file-requires-clause-rest
-copy_file-requires-clause-rest g c = c.in-Ok.ensures.rest
+pub copy_file-requires : goal.copy_file-requires
+copy_file-requires g c = record { rest = c.in-Ok.ensures.rest }
 
 pub returns : goal.returns
 returns g c = all_then c.args.count c.args.from.now _ _ _ tt c.copy_file.result c.in-Ok.ensures c.copy_file.ensures

@@ -1,4 +1,4 @@
-use Rattle.std.proofs.Common.{◌≡◌, ◌∙◌, refl, sym, ap, List, ℕ, Some, Err}
+use Rattle.std.proofs.Common.{◌≡◌, ◌∙◌, refl, sym, ap, Some}
 use Rattle.old_copies.specs.Copying.{places, IsName}
 use Rattle.old_copies.proofs.FileLemmas.{rises, quiet_folder, quiet_site, of_site, of_folder, goes_still, not_put, put_already, put_otherwise, put_now, put_failed}
 use Rattle.old_copies.proofs.file.copy_file.Goals as goal
@@ -23,8 +23,8 @@ returns-in-Same g c =
     put_already c.args.name.now c.args.from.now (places (g.H.Shelf.seen c.args.shelf.now) (g.F.Site.seen c.args.site.now)) (places (g.H.Shelf.seen c.read_here.new.shelf) (g.F.Site.seen c.read_there.new.site)) c.in-Ok.there c.in-Ok-read_here.here c.in-Ok.ensures.same c.in-Ok-read_here.ensures.same c.requires.rest
     c.in-Ok.ensures.found c.in-Ok-read_here.ensures.found c.in-Ok-read_here.ensures.cause c.in-Ok.ensures.cause tt c.in-Same.ensures
 
-pub returns-in-Other : goal.returns-in-Other
-returns-in-Other g c =
+pub returns : goal.returns
+returns g c =
     put_otherwise c.args.name.now c.args.from.now (places (g.H.Shelf.seen c.args.shelf.now) (g.F.Site.seen c.args.site.now)) (places (g.H.Shelf.seen c.read_here.new.shelf) (g.F.Site.seen c.read_there.new.site)) c.in-Ok.there c.in-Ok-read_here.here c.in-Ok.ensures.same c.in-Ok-read_here.ensures.same c.requires.rest
     c.in-Ok.ensures.found c.in-Ok-read_here.ensures.found c.in-Ok-read_here.ensures.cause c.in-Ok.ensures.cause c.in-Other.ensures.0 c.in-Other.ensures.1
 
@@ -35,8 +35,8 @@ returns-in-Ok-keep_file g c =
     c.in-Ok.ensures.found c.in-Ok-read_here.ensures.found c.in-Ok-read_here.ensures.cause c.in-Ok.ensures.cause
     (places (g.H.Shelf.seen c.keep_file.new.shelf) (g.F.Site.seen c.read_there.new.site)) c.bytes.result.now is_new refl tt c.in-Ok-keep_file.ensures.kept c.keep_file.ensures.any_moment c.in-Ok-keep_file.ensures.cause.done
 
-pub returns-in-Err-keep_file : goal.returns-in-Err-keep_file
-returns-in-Err-keep_file g c =
+pub returns-in-New : goal.returns-in-New
+returns-in-New g c =
     let is_new : c.in-Ok.there ≡ Some c.bytes.result.now = c.in-New.ensures.0 ∙ ap Some (sym c.bytes.ensures) in
     put_failed c.args.name.now c.args.from.now (places (g.H.Shelf.seen c.args.shelf.now) (g.F.Site.seen c.args.site.now)) (places (g.H.Shelf.seen c.read_here.new.shelf) (g.F.Site.seen c.read_there.new.site)) c.in-Ok.there c.in-Ok-read_here.here c.in-Ok.ensures.same c.in-Ok-read_here.ensures.same c.requires.rest
     c.in-Ok.ensures.found c.in-Ok-read_here.ensures.found c.in-Ok-read_here.ensures.cause c.in-Ok.ensures.cause
