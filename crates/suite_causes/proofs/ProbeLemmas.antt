@@ -1,6 +1,6 @@
 -- What a probe's child gives, lot by lot.
 use Rattle.std.proofs.Common.{◌≡◌, ◌⊎◌, inl, inr, ℕ, zero, suc, ◌<◌, ◌≤◌, Bool, true, false, ◌&&◌, Option, None, Some, Result, Ok, Err, IfOk, List, [], ◌∷◌, ◌++◌, map, length, nat_lt, refl, sym, ◌∙◌, ap, subst, arith, append_assoc, append-nil}
-use Rattle.std.specs.Prelude.{All, IfErr, FitsSigned, ℤ, pos, negsuc, codes}
+use Rattle.std.specs.Prelude.{All, IfErr, IfSome, FitsSigned, ℤ, pos, negsuc, codes}
 use Rattle.std.specs.Fmt.{signed_decimal}
 use Rattle.std.specs.Option.{option_map, option_to_list}
 use mir.Syntax.{w32}
@@ -9,7 +9,7 @@ use Rattle.std.proofs.lemmas.Fmt.{length_signed_le, IsAscii-signed}
 use Rattle.std.proofs.Math.Seq.{take-append_seam}
 use Rattle.std.proofs.lemmas.List.{length-append, drop_at}
 use Rattle.std.proofs.lemmas.List.Elements.{All-nil, All-cons, All-append, All-take, All-drop, All-head, All-from_get_or}
-use Rattle.edge_io.specs.Children.{IsFinish, Output}
+use Rattle.edge_io.specs.Children.{AreBytesLeft, CanFinish, IsFinish, Output}
 use Rattle.edge_io.specs.declared.child.Finish.{Finish}
 use Rattle.edge_io.specs.declared.child.Finish.TheVariants as finish
 use Rattle.sub_number.specs.Texts.{IsShortText}
@@ -205,3 +205,9 @@ pub tells_exit : (test : List ℕ) (result : Result Bool ProbeFault) (output : O
     → ((seen : List Event) → HasSummed [] summing seen → IfOk result (λ failed. failed ≡ one_fails test (rows_of seen))) → IfErr result (λ given. given ≡ fault.NoMemory) → TellsProbe test result output
 tells_exit test (Ok failed) output summing status ending summed fails lack = record { ended = not_broken output.finish status ending; answer = fails (events_asked 0 (test ∷ []) output) summed }
 tells_exit test (Err given) output summing status ending summed fails lack = subst (λ why. TellsProbe test (Err why) output) (sym lack) tt
+
+-- where the child tells
+pub told_probe : (told : Option Output) (test : List ℕ) (left : Option (List Lot)) (result : Result Bool ProbeFault) → AreBytesLeft told → CanFinish told → left ≡ option_map (lots_asked 0 (test ∷ [])) told
+    → ((output : Output) → AreBytes output.bytes → IsFinish output.finish → left ≡ Some (lots_asked 0 (test ∷ []) output) → TellsProbe test result output) → IfSome told (TellsProbe test result)
+told_probe None test left result are can is reads = tt
+told_probe (Some output) test left result are can is reads = reads output are can is
