@@ -1,1 +1,2 @@
 pub mod FromLemmas
+pub mod UpgradeLemmas

@@ -1,6 +1,6 @@
 -- `testr upgrade --from=DIR`: the old files of another folder are copied, and the folder is upgraded then (docs/COMMANDS.md,
 -- "Words").
-use Rattle.std.specs.Prelude.{◌≡◌, ◌⊎◌, ◌×◌, ◌&&◌, nat_eq, nat_lt, ℕ, Option, Some, None, List, [], ◌∷◌, ◌++◌, length, drop, codes, Ok, Err, if◌then◌else◌}
+use Rattle.std.specs.Prelude.{◌≡◌, ◌⊎◌, ◌&&◌, nat_eq, nat_lt, ℕ, Option, Some, None, List, [], ◌∷◌, ◌++◌, length, drop, codes, Ok, Err, if◌then◌else◌}
 use Rattle.std.specs.Io.KnownBytes.{Appends}
 use Rattle.std.specs.List.{starts_with}
 use Rattle.std.specs.Str.{bytes_eq}

@@ -1,6 +1,6 @@
 //! The first word, and what it leads to.
 
-ghost use Rattle.std.specs.Prelude.{◌≡◌, ◌∷◌, ℕ, List, None, false};
+ghost use Rattle.std.specs.Prelude.{◌≡◌, ◌∷◌, ℕ, List, false};
 ghost use Rattle.command_steps.specs.Outside.{outside};
 ghost use Rattle.command_words.specs.Items.{texts};
 ghost use Rattle.testr_commands.specs.Sparing.{SparesReads};
@@ -22,8 +22,9 @@ use testr_words::called_as;
 /// Does what the words say, and answers the exit status.
 ///
 /// Where the first word is `testr` or `stestr`, it is that of `testr_as` for this face and the words behind it. Where these are
-/// `upgrade` and `--from` with a folder, the old files of that folder are copied first. For all other words it is that of `filters`; where the first one is no filter's name either, the usage line of the whole program is
-/// written to `err`, and the status is 2.
+/// `upgrade` and `--from` with a folder, the old files of that folder are copied first, and it is that of `upgrade` then. For
+/// all other words it is that of `filters`; where the first one is no filter's name either, the usage line of the whole
+/// program is written to `err`, and the status is 2.
 ///
 /// The workers of `run` and `selftest` are read on threads of `rt`. `run` and `list-tests` may wait for the programs that
 /// they start, and `selftest` for its threads.
@@ -50,8 +51,8 @@ pub fn program<
         (outside (H.seen shelf.old) (F.seen site.old) (S.seen spawner.old) (I.seen input.old) (O.seen out.old) (E.seen err.old))
         (outside (H.seen shelf.new) (F.seen site.new) (S.seen spawner.new) (I.seen input.new) (O.seen out.new) (E.seen err.new))
         result }
-    ensures spares { (face : AFace) (behind : List (List ℕ)) → texts words.now ≡ face_word face ∷ behind → folder_in behind ≡ None → SparesReads (asked_by (F.folder site.old) face behind) (H.seen shelf.old).told (H.clock shelf.old) (H.clock shelf.new) }
-    ensures spares_run { (face : AFace) (behind : List (List ℕ)) → texts words.now ≡ face_word face ∷ behind → folder_in behind ≡ None → forced_by (F.folder site.old) face behind ≡ false → SparesRun (asked_by (F.folder site.old) face behind) (H.seen shelf.old).told (H.seen shelf.new).told result (H.clock shelf.old) (H.clock shelf.new) }
+    ensures spares { (face : AFace) (behind : List (List ℕ)) → texts words.now ≡ face_word face ∷ behind → SparesReads (asked_by (F.folder site.old) face behind) (H.seen shelf.old).told (H.clock shelf.old) (H.clock shelf.new) }
+    ensures spares_run { (face : AFace) (behind : List (List ℕ)) → texts words.now ≡ face_word face ∷ behind → forced_by (F.folder site.old) face behind ≡ false → SparesRun (asked_by (F.folder site.old) face behind) (H.seen shelf.old).told (H.seen shelf.new).told result (H.clock shelf.old) (H.clock shelf.new) }
 {
     match called_as(words) {
         Some(face) => by_face(
@@ -87,8 +88,8 @@ fn by_face<R: Threads + Wait + Sync, H: Shelf, S: Spawner, F: Site, I: Source, O
         (outside (H.seen shelf.old) (F.seen site.old) (S.seen spawner.old) (I.seen input.old) (O.seen out.old) (E.seen err.old))
         (outside (H.seen shelf.new) (F.seen site.new) (S.seen spawner.new) (I.seen input.new) (O.seen out.new) (E.seen err.new))
         result }
-    ensures spares { folder_in (texts words.now) ≡ None → SparesReads (asked_by (F.folder site.old) face (texts words.now)) (H.seen shelf.old).told (H.clock shelf.old) (H.clock shelf.new) }
-    ensures spares_run { folder_in (texts words.now) ≡ None → forced_by (F.folder site.old) face (texts words.now) ≡ false → SparesRun (asked_by (F.folder site.old) face (texts words.now)) (H.seen shelf.old).told (H.seen shelf.new).told result (H.clock shelf.old) (H.clock shelf.new) }
+    ensures spares { SparesReads (asked_by (F.folder site.old) face (texts words.now)) (H.seen shelf.old).told (H.clock shelf.old) (H.clock shelf.new) }
+    ensures spares_run { forced_by (F.folder site.old) face (texts words.now) ≡ false → SparesRun (asked_by (F.folder site.old) face (texts words.now)) (H.seen shelf.old).told (H.seen shelf.new).told result (H.clock shelf.old) (H.clock shelf.new) }
 {
     match from_in(words) {
         Some(from) => upgrade_from(

@@ -5,8 +5,7 @@ use Rattle.testr_words.specs.Words.{face_in, face_word}
 use Rattle.testr_commands.proofs.CallLemmas.{of_words}
 use Rattle.testr_commands.proofs.SparingLemmas.{none_spare, behind_spare}
 use Rattle.testr_words.proofs.WordsLemmas.{face_first, face_other}
-use Rattle.testr_cli.specs.From.{from_in}
-use Rattle.testr_cli.proofs.FromLemmas.{same_rest, promised_behind}
+use Rattle.testr_cli.proofs.FromLemmas.{promised_behind}
 use Rattle.testr_cli.proofs.faces.program.Goals as goal
 
 pub returns-in-None : goal.returns-in-None
@@ -17,8 +16,8 @@ returns-in-None g c =
         testr = λ face behind is. absurd (face_other _ unnamed face behind is);
         filters = λ none. record { filtered = c.filters.ensures.promises; folder = refl; spawner = refl };
       };
-      spares = λ face behind is none. none_spare _ _ _ _ refl;
-      spares_run = λ face behind is none. absurd (face_other _ unnamed face behind is);
+      spares = λ face behind is. none_spare _ _ _ _ refl;
+      spares_run = λ face behind is. absurd (face_other _ unnamed face behind is);
     }
 
 pub returns-in-Some : goal.returns-in-Some
@@ -31,6 +30,6 @@ returns-in-Some g c =
         testr = λ face behind is. promised_behind (g.F.Site.folder c.args.site.now) c.in-Some.face face _ behind (rest ∙ is) _ _ _ c.by_face.ensures.promises;
         filters = λ none. absurd (none c.in-Some.face (texts (drop 1 c.args.words.now)) first);
       };
-      spares = λ face behind is none. behind_spare (g.F.Site.folder c.args.site.now) c.in-Some.face face _ behind _ _ _ (rest ∙ is) (c.by_face.ensures.spares (ap from_in (same_rest c.in-Some.face face _ behind (rest ∙ is)) ∙ none));
-      spares_run = λ face behind is none. of_words (g.F.Site.folder c.args.site.now) c.in-Some.face face _ behind _ _ _ _ _ (rest ∙ is) (c.by_face.ensures.spares_run (ap from_in (same_rest c.in-Some.face face _ behind (rest ∙ is)) ∙ none));
+      spares = λ face behind is. behind_spare (g.F.Site.folder c.args.site.now) c.in-Some.face face _ behind _ _ _ (rest ∙ is) c.by_face.ensures.spares;
+      spares_run = λ face behind is. of_words (g.F.Site.folder c.args.site.now) c.in-Some.face face _ behind (g.H.Shelf.seen c.args.shelf.now).told (g.H.Shelf.seen c.by_face.new.shelf).told c.by_face.result (g.H.Shelf.clock c.args.shelf.now) (g.H.Shelf.clock c.by_face.new.shelf) (rest ∙ is) c.by_face.ensures.spares_run;
     }

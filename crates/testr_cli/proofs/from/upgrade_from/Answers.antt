@@ -7,13 +7,14 @@ use Rattle.testr_cli.proofs.from.upgrade_from.Goals as goal
 pub returns-in-Ok : goal.returns-in-Ok
 returns-in-Ok g c =
     let ready = outside (g.H.Shelf.seen c.copy_old.new.shelf) (g.F.Site.seen c.copy_old.new.site) (g.S.Spawner.seen c.args.spawner.now) (g.I.Source.seen c.args.input.now) (g.O.Sink.seen c.args.out.now) (g.E.Sink.seen c.args.err.now) in
+    let after = outside (g.H.Shelf.seen c.testr_as.new.shelf) (g.F.Site.seen c.testr_as.new.site) (g.S.Spawner.seen c.testr_as.new.spawner) (g.I.Source.seen c.testr_as.new.input) (g.O.Sink.seen c.testr_as.new.out) (g.E.Sink.seen c.testr_as.new.err) in
     let path = g.F.Site.folder c.copy_old.new.site in
     inl (record {
       ready = ready;
       copied = c.in-Ok.ensures;
       rest = refl;
       path = path;
-      upgraded = subst (λ (l : List (List ℕ)). TestrPromises path c.args.face l ready _ c.testr_as.result) c.requires.word c.testr_as.ensures.promises;
+      upgraded = subst (λ (l : List (List ℕ)). TestrPromises path c.args.face l ready after c.testr_as.result) c.requires.word c.testr_as.ensures.promises;
     })
 
 pub returns-in-Err : goal.returns-in-Err
