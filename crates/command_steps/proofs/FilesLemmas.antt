@@ -1,5 +1,5 @@
 -- What is recorded of files, one after another.
-use Rattle.std.proofs.Common.{◌≡◌, ℕ, ◌+◌, ◌<◌, ◌≤◌, Option, Some, None, IfSome, List, [], ◌∷◌, ◌++◌, map, OnOk, Result, Ok, Err, true, refl, sym, ap, subst, ◌∙◌, append_assoc, append-nil, length, length-append, take, drop, arith}
+use Rattle.std.proofs.Common.{◌≡◌, ℕ, ◌+◌, ◌<◌, ◌≤◌, Option, Some, None, IfSome, List, [], ◌∷◌, ◌++◌, map, OnOk, Result, Ok, Err, false, refl, sym, ap, subst, ◌∙◌, append_assoc, append-nil, length, length-append, take, drop, arith}
 use Rattle.std.specs.Prelude.{IsSomeAnd, IfErr, IsErrAnd}
 use Rattle.std.proofs.lemmas.List.{map-append, take-append-drop}
 use Rattle.std.proofs.lemmas.List.Elements.{All-nil, All-cons, All-append}
@@ -71,6 +71,14 @@ front_all name (Some files) bytes buf some front found = by (files name) front f
         let ends : length all ≤ length bytes = part.some refl some in
         let none : rest ≡ [] = none_left rest (omega (arith, ends, ap length is, length-append bytes rest)) in
         ap (λ (l : List ℕ). Some l) (is ∙ ap (λ (l : List ℕ). bytes ++ l) none ∙ append-nil bytes)
+
+-- and where a read gives none, as it is told of
+pub front_end : (name : List ℕ) (told now : Option Files) (bytes buf : List ℕ) (place count : ℕ) (found : Found) → now ≡ told → length bytes ≡ place → found ≡ Read count → count ≡ 0 → 0 < length buf → AreFrontOf name told bytes → IfSome now (λ files. Finds (files name) place buf found) → IsFile name told bytes
+front_end name told now bytes buf place count found same size is none some front given =
+    front_all name told bytes buf some front
+    (subst (λ (o : Option Files). IfSome o (λ files. Finds (files name) (length bytes) buf (Read 0))) same
+    (subst (λ (n : ℕ). IfSome now (λ files. Finds (files name) n buf (Read 0))) (sym size)
+    (subst (λ (f : Found). IfSome now (λ files. Finds (files name) place buf f)) (is ∙ ap Read none) given)))
 
 -- ---- faults
 

@@ -11,6 +11,7 @@ pub mod Resting
 pub mod SoundLemmas
 pub mod StepCalls
 pub mod SelectLemmas
+pub mod TimesLemmas
 pub mod PlanLemmas
 pub mod WorkLemmas
 pub mod FindingLemmas

@@ -1,11 +1,11 @@
-use Rattle.std.proofs.Common.{[], ◌∙◌, ◌++◌, ap, sym, subst, take, length-append, append_assoc, arith}
+use Rattle.std.proofs.Common.{[], ◌∙◌, ◌++◌, ◌<◌, ap, sym, subst, take, length, length-append, append_assoc, arith}
 use Rattle.std.proofs.lemmas.List.{length-take-le}
 use Rattle.stream_reader.proofs.FrontLemmas.{are_both}
 use Rattle.run_ledger.specs.Writing.{HasWritten}
 use Rattle.run_shelf.proofs.DraftLemmas.{goes_grown_then}
 use Rattle.worker_lane.specs.Scribing.{Recording}
 use Rattle.command_steps.proofs.Resting.{same_then}
-use Rattle.command_steps.proofs.FilesLemmas.{front_next, fits_count}
+use Rattle.command_steps.proofs.FilesLemmas.{front_next, front_end, fits_count}
 use Rattle.command_steps.proofs.files.record_pieces.Goals as goal
 
 pub loop-found-preserved : goal.loop-found-preserved
@@ -35,5 +35,22 @@ loop-found-preserved g c =
       empty = c.in_ok-write_packets.ensures.empty;
       rests = same_then _ _ _ c.loop-found.invariant.rests c.in_ok-write_packets.ensures.rests;
       counts = record { folder = more.count ∙ c.loop-found.invariant.counts.folder; site = c.in-Ok.ensures.cause.done ∙ c.loop-found.invariant.counts.site };
+      files = c.in-Ok.ensures.same ∙ c.loop-found.invariant.files;
+    }
+
+pub returns-then-count-eq0-clause-recorded : goal.returns-then-count-eq0-clause-recorded
+returns-then-count-eq0-clause-recorded g c =
+    let (bytes, front, size, run, recording, folded, are, written) = c.loop-found.invariant.read in
+    let some : 0 < length c.read_at.new.buf = grind arith in
+    record {
+      bytes = bytes;
+      whole = front_end c.args.name.now _ _ bytes c.read_at.new.buf c.loop-found.total c.in-Read.count c.in-Ok.found c.loop-found.invariant.files size c.in-Read.is (omega (arith, c.if-count-eq0.true)) some front c.in-Ok.ensures.found;
+      size = omega (arith, size, c.loop-found.invariant.few);
+      run = run;
+      recording = recording;
+      folded = folded;
+      are_bytes = are;
+      written = written;
+      counts = record { folder = c.loop-found.invariant.counts.folder; site = c.in-Ok.ensures.cause.done ∙ c.loop-found.invariant.counts.site };
       files = c.in-Ok.ensures.same ∙ c.loop-found.invariant.files;
     }
