@@ -43,7 +43,7 @@ const ROWS: [Row; 6] = [
 fn holds<S: Site>(site: &mut S, wanted: Option<&[u8]>) -> bool {
     let mut buf = [0u8; 64];
     match (site.read_at("out", 0, &mut buf), wanted) {
-        (Ok(Found::Read(count)), Some(wanted)) => buf[..count] == *wanted,
+        (Ok(Found::Read(count)), Some(wanted)) => &buf[..count] == wanted,
         (Ok(Found::Absent), None) => true,
         _ => false,
     }
