@@ -78,11 +78,14 @@ const DAMAGED: &[u8] = b"\xb3\x29\x03\x0c\x03foo\x45\x9d\xfe\x11";
 const DAMAGED_KEPT: &[u8] =
     b"\xb3\x25\x40\x1e\x06stdout\x0c\xb3\x29\x03\x0c\x03foo\x45\x9d\xfe\x11\x01\x30\x7c\x95\xa7\xfd";
 
-// A header of 60 bytes, and a packet among them.
+// A header of 60 bytes, and a packet among them. The stream ends inside the first one.
 const CUT: &[u8] = b"\xb3\x29\x03\x3c\xb3\x29\x03\x0c\x03foo\x45\x9d\xfe\x10";
 
 const CUT_KEPT: &[u8] =
-    b"\xb3\x25\x40\x16\x06stdout\x04\xb3\x29\x03\x3c\x01\x30\xec\x41\x8b\x3d\xb3\x2d\x03\x0e\x03foo\x01\x30\xa4\xaf\xdb\xe0";
+    b"\xb3\x25\x40\x16\x06stdout\x04\xb3\x29\x03\x3c\x01\x30\xec\x41\x8b\x3d\xb3\x2d\x03\x0e\x03foo\x01\x30\xa4\xaf\xdb\xe0\xb3\x2d\x66\x40\x5d\x0esubunit.parser\x17text/plain;charset=utf8\x09traceback\x20the output ends inside a packet\x0a\x01\x30\x85\x79\xe1\x8d";
+
+const CUT_REPORT: &[u8] =
+    b"======================================================================\nFAIL: subunit.parser\n----------------------------------------------------------------------\nthe output ends inside a packet\nRan 2 tests\nFAILED (id=0, failures=1)\n";
 
 // Streams, and the run, the report and the status of each.
 const STREAMS: [(&[u8], &[u8], &[u8], u8); 12] = [
@@ -97,7 +100,7 @@ const STREAMS: [(&[u8], &[u8], &[u8], u8); 12] = [
     (END, END_KEPT, NO_TESTS, 0),
     (LOG, LOG_KEPT, PASSED_AS_0, 0),
     (DAMAGED, DAMAGED_KEPT, NO_TESTS, 0),
-    (CUT, CUT_KEPT, PASSED_AS_0, 0),
+    (CUT, CUT_KEPT, CUT_REPORT, 1),
 ];
 
 // Whether a load of the whole stream tells this, and keeps this run.
