@@ -115,7 +115,13 @@ fn lane_of(alloc: Global, piece: usize) -> Option<Lane<PlanChild>> {
     let mut ids = Vec::new(alloc);
     ids.push(Text::new(alloc, b"bar").ok()?).ok()?;
     let output = Bytes::new(alloc, CUT).ok()?;
-    Lane::new(alloc, 0, PlanChild::new(output, piece, Finish::Exit(7)), &ids).ok()
+    Lane::new(
+        alloc,
+        0,
+        PlanChild::new(output, piece, Finish::Exit(7)),
+        &ids,
+    )
+    .ok()
 }
 
 // Whether the lane gives these packets, and then its end.
