@@ -286,7 +286,8 @@ def lock_is_removed():
     folder, given = new_repository(), stream(8000)
     slow = slow_load(folder, given)
     wait_until(lambda: os.path.exists(at(folder, "lock")), "a load takes no lock")
-    os.remove(at(folder, "lock"))
+    for name in ("lock", "writer"):
+        os.remove(at(folder, name))
     loads(folder, 4, 0)
     out, err = slow.communicate(given[500_001:], LIMIT)
     check_refused((slow.returncode, out, err), FOLDER_FAULT, b"lock .testrepository/lock: it was removed or replaced")
