@@ -16,8 +16,6 @@ mod tests_files;
 #[cfg(test)]
 mod tests_force;
 #[cfg(test)]
-mod tests_from;
-#[cfg(test)]
 mod tests_load;
 #[cfg(test)]
 mod tests_options;
