@@ -3,6 +3,7 @@
 # 300 tests of Python, of which seven fail, two workers, a run of few tests, an empty run, and a run that was removed. Behind
 # the upgrade `failing`, `last` and `slowest` must say what theirs said. A damaged folder is refused and stays as it was. The
 # program is killed at random moments, and each folder that is left must be one that Debian's `testr` opens, or the new one.
+# Which refusals tell the way out of a project of stestr is tried without these programs.
 # usage: bench/upgrade.sh [CASE..]: by default all cases. The variable KILLS says how often the program is killed: 100,
 # unless it is set.
 set -eu
@@ -207,6 +208,25 @@ def a_folder_of_stestr_where_it_stands():
     check(failing_of(folder, STESTR) == FAILING, "stestr's own failing set is another")
     done = run(folder, "upgrade", FROM_STESTR)
     check(done == (3, b"", b"testr: a repository is already here\n"), f"a second upgrade: {done!r}")
+
+
+@case
+def a_way_out_is_told_of_no_other_refusal():
+    folder = new_folder()
+    os.mkdir(os.path.join(folder, ".stestr"))
+    write(folder, ".stestr/format", OLD)
+    for command in ("load", "run", "last", "failing", "slowest", "stats", "upgrade"):
+        done = run(folder, command)
+        check(done == (3, b"", b"testr: no repository here\n" + WAY_OUT), f"{command}: {done!r}")
+    done = run(folder, "list-tests")
+    check(done == (3, b"", b"testr: no .testr.conf or .stestr.conf\n"), f"list-tests: {done!r}")
+    done = run(folder, "upgrade", "--from=nothing")
+    check(done == (3, b"", b"testr: no repository in nothing\n"), f"upgrade --from=nothing: {done!r}")
+    done = run(folder, "nothing", program=[PROGRAM, "subunit-filter"])
+    check(done == (3, b"", b"subunit-filter: no file nothing\n"), f"subunit-filter nothing: {done!r}")
+    run(folder, "init")
+    done = run(folder, "last")
+    check(done == (3, b"", b"testr: no runs\n"), f"last: {done!r}")
 
 
 DAMAGED = (

@@ -1,8 +1,9 @@
 //! The program: the real input, outputs, arguments and folder behind the top call.
 //!
 //! `real_outside` has the objects that it is called on. `help_texts` has what is printed where the words ask for that, and
-//! takes out those that name the folder to work in, or the file that a filter writes. Here is decided which commands share the folder's lock, which files of
-//! killed runs are removed, and which lines tell of the cause of a fault.
+//! takes out those that name the folder to work in, or the file that a filter writes. Here is decided which commands share
+//! the folder's lock, which files of killed runs are removed, and which lines tell of the cause of a fault, or of a project
+//! of the other tool.
 #![tactic(auto)]
 
 use edge_io::write_whole;
@@ -229,10 +230,10 @@ fn run_program<R: Threads + Wait + Sync>(
     status
 }
 
-// Tells where the runs are, in a project of the other tool that has no repository here. A refusal is told of already, and this
-// line is true whatever was refused.
+// Tells where the runs are, in a project of the other tool that has no repository here: a command that opens it was refused for
+// nothing else then, since the file of its format is looked for first.
 fn tell_way_out(alloc: Global, rt: &HostRuntime, words: &[String], err: &mut StreamSink<Stderr>) {
-    if names_other_folder(words) || is_file(rt, FORMAT) || !is_file(rt, OTHER_FORMAT) {
+    if !opens_repository(words) || is_file(rt, FORMAT) || !is_file(rt, OTHER_FORMAT) {
         return;
     }
     let face = face_of(words);
@@ -243,10 +244,17 @@ fn tell_way_out(alloc: Global, rt: &HostRuntime, words: &[String], err: &mut Str
     }
 }
 
-// Whether the words tell already which folder to upgrade from.
-fn names_other_folder(words: &[String]) -> bool {
-    match words {
-        [_, verb, _, ..] => verb.as_str() == "upgrade",
+// Whether the words are those of a command that is refused where no repository is here. An upgrade from another folder makes one.
+fn opens_repository(words: &[String]) -> bool {
+    let [face, verb, behind @ ..] = words else {
+        return false;
+    };
+    if face.as_str() != "testr" && face.as_str() != "stestr" {
+        return false;
+    }
+    match verb.as_str() {
+        "load" | "run" | "last" | "failing" | "slowest" | "stats" => true,
+        "upgrade" => behind.is_empty(),
         _ => false,
     }
 }
