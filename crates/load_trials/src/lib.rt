@@ -6,6 +6,8 @@
 #![tactic(auto)]
 
 pub mod folders;
+#[cfg(test)]
+mod other_folder;
 pub mod runs;
 #[cfg(test)]
 mod tests_ask;
@@ -15,6 +17,10 @@ mod tests_copying;
 mod tests_files;
 #[cfg(test)]
 mod tests_force;
+#[cfg(test)]
+mod tests_from;
+#[cfg(test)]
+mod tests_from_faults;
 #[cfg(test)]
 mod tests_load;
 #[cfg(test)]
