@@ -187,3 +187,39 @@ fn its_parts_are_the_document(rt: HostRuntime) {
     assert!(rt; put_parts(alloc, counts, &ROWS, &mut out).is_some());
     assert!(rt; out.as_slice() == DOCUMENT);
 }
+
+// A sum of times, and the head with it: on both sides of 2^64 nanoseconds, and far behind.
+const HEADS: [(u128, &[u8]); 3] = [
+    (
+        18_446_744_073_709_551_615,
+        b"<?xml version=\"1.0\" encoding=\"utf-8\"?>\n<testsuite name=\"\" tests=\"1\" failures=\"0\" errors=\"0\" skipped=\"0\" time=\"18446744073.710\">\n",
+    ),
+    (
+        18_446_744_073_709_551_616,
+        b"<?xml version=\"1.0\" encoding=\"utf-8\"?>\n<testsuite name=\"\" tests=\"1\" failures=\"0\" errors=\"0\" skipped=\"0\" time=\"18446744073.710\">\n",
+    ),
+    (
+        1_000_000_000_000_000_000_001_500_000,
+        b"<?xml version=\"1.0\" encoding=\"utf-8\"?>\n<testsuite name=\"\" tests=\"1\" failures=\"0\" errors=\"0\" skipped=\"0\" time=\"1000000000000000000.002\">\n",
+    ),
+];
+
+fn is_head(alloc: Global, nanos: u128, wanted: &[u8]) -> bool {
+    let counts = Counts {
+        total: 1,
+        passed: 1,
+        failed: 0,
+        skipped: 0,
+        nanos: Some(nanos),
+    };
+    let mut out = Vec::new(alloc);
+    junit_head(counts, &mut out).is_ok() && out.as_slice() == wanted
+}
+
+#[test]
+fn the_time_of_a_suite_has_no_end(rt: HostRuntime) {
+    let alloc = rt.alloc();
+    for (nanos, wanted) in HEADS {
+        assert!(rt; is_head(alloc, nanos, wanted), "{nanos}");
+    }
+}

@@ -1,10 +1,10 @@
 -- Bytes are written run by run.
 use Rattle.std.proofs.Common.{◌≡◌, ℕ, ◌+◌, ◌-◌, ◌<◌, ◌≤◌, List, [], ◌∷◌, ◌++◌, length, take, drop, get_or, None, Some, Bool, true, false, true≢false, encode_utf8, refl, sym, ◌∙◌, ap, arith, append_assoc}
-use Rattle.std.specs.Prelude.{Option}
+use Rattle.std.specs.Prelude.{Option, ◌||◌, not}
 use Rattle.std.specs.List.{flat_map}
 use Rattle.std.specs.Option.{unwrap_or, option_map, is_some}
 use Rattle.std.proofs.Math.Seq.{take-add}
-use Rattle.std.proofs.lemmas.List.{append-nil, take_at, drop-drop, drop_all, drop_more, length-append, length-drop}
+use Rattle.std.proofs.lemmas.List.{append-nil, take_at, take_all, get_or-drop, drop-drop, drop_all, drop_more, length-append, length-drop}
 use Rattle.bstr.specs.Utf8.{Decoded, good, decoded, or_replacement, replacement, lossy_chars}
 use Rattle.bstr.proofs.lemmas.PieceLemmas.{value-1, piece-bounds, lossy_chars-step, lossy_chars-nil}
 use Rattle.bstr.proofs.lemmas.SoundLemmas.{SpellsChar-decoded}
@@ -85,6 +85,16 @@ run_more stands bytes size more first second =
     ∙ ap (λ (l : List ℕ). l ++ written stands (drop more (drop size bytes))) (sym (take-add size more bytes))
     ∙ ap (λ (l : List ℕ). take (size + more) bytes ++ written stands l) (drop-drop more size bytes)
 
+-- a plain byte more of a value
+pub plain_more : (bytes : List ℕ) (done byte : ℕ) → done < length bytes → byte ≡ get_or bytes done 0 → byte < 128 → escape place.Value byte ≡ None
+    → written place.Value bytes ≡ take done bytes ++ written place.Value (drop done bytes)
+    → written place.Value bytes ≡ take (done + 1) bytes ++ written place.Value (drop (done + 1) bytes)
+plain_more bytes done byte within is small none so_far =
+    let same : done ≡ done + 0 = omega arith in
+    let first : byte ≡ get_or (drop done bytes) 0 0 = is ∙ ap (λ (n : ℕ). get_or bytes n 0) same ∙ sym (get_or-drop done bytes 0 0) in
+    run_more place.Value bytes done 1 so_far
+    (byte_plain place.Value (drop done bytes) (omega (arith, within, length-drop done bytes)) (omega (arith, small, first)) (ap (escape place.Value) (sym first) ∙ none))
+
 -- a run, and all of the bytes with it
 pub run_done : (stands : Place) (bytes : List ℕ) (size : ℕ) (old new : List ℕ) → written stands bytes ≡ take size bytes ++ written stands (drop size bytes)
     → new ≡ old ++ take size bytes → new ++ written stands (drop size bytes) ≡ old ++ written stands bytes
@@ -115,3 +125,17 @@ pub all_done : (stands : Place) (bytes : List ℕ) (done : ℕ) (old new : List 
     → new ++ written stands (drop done bytes) ≡ old ++ written stands bytes → new ≡ old ++ written stands bytes
 all_done stands bytes done old new all is =
     sym (append-nil new) ∙ ap (λ (l : List ℕ). new ++ l) (sym (written_none stands)) ∙ ap (λ (l : List ℕ). new ++ written stands l) (sym (drop_all done bytes all)) ∙ is
+
+-- all bytes of a value are plain
+pub plain_value : (bytes : List ℕ) (done : ℕ) → length bytes ≤ done → written place.Value bytes ≡ take done bytes ++ written place.Value (drop done bytes) → written place.Value bytes ≡ bytes
+plain_value bytes done all is =
+    is ∙ ap (λ (l : List ℕ). take done bytes ++ written place.Value l) (drop_all done bytes all) ∙ ap (λ (l : List ℕ). take done bytes ++ l) (written_none place.Value)
+    ∙ append-nil (take done bytes) ∙ take_all done bytes all
+
+pub both_false : (a b : Bool) → (a || b) ≡ false → (a ≡ false) × (b ≡ false)
+both_false true b never = absurd (true≢false never)
+both_false false b is = (refl, is)
+
+pub not_true : (b : Bool) → not b ≡ true → b ≡ false
+not_true true never = absurd (true≢false (sym never))
+not_true false is = refl

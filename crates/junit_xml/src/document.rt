@@ -9,7 +9,7 @@ ghost use Rattle.junit_xml.specs.Characters.{written};
 ghost use Rattle.junit_xml.specs.Seconds.{printed_seconds};
 ghost use Rattle.junit_xml.specs.Documents as spec;
 
-use crate::escaping::{Place, put_written};
+use crate::escaping::{Place, put_value, put_written};
 use crate::names::names_of;
 use crate::seconds::put_seconds;
 use itoa::Buffer;
@@ -28,7 +28,7 @@ fn put_attribute(name: &[u8], value: &[u8], text: &mut Vec<u8>) -> Result<(), No
     text.push(b' ')?;
     text.extend_from_slice(name)?;
     text.extend_from_slice(b"=\"")?;
-    put_written(value, Place::Value, text)?;
+    put_value(value, text)?;
     text.push(b'"')?;
     Ok(())
 }
@@ -63,10 +63,13 @@ fn put_case_begin(row: &Row, text: &mut Vec<u8>) -> Result<(), NoMemory>
     ensures kept { take (length text.old.items) text.new.items ≡ text.old.items }
 {
     let (class, name) = names_of(row.id.bytes());
-    text.extend_from_slice(b"<testcase")?;
-    put_attribute(b"classname", class, text)?;
-    put_attribute(b"name", name, text)?;
-    put_time(u128::from(row.nanos.unwrap_or(0)), text)?;
+    text.extend_from_slice(b"<testcase classname=\"")?;
+    put_value(class, text)?;
+    text.extend_from_slice(b"\" name=\"")?;
+    put_value(name, text)?;
+    text.extend_from_slice(b"\" time=\"")?;
+    put_seconds(u128::from(row.nanos.unwrap_or(0)), text)?;
+    text.extend_from_slice(b"\">\n")?;
     Ok(())
 }
 

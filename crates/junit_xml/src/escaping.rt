@@ -1,8 +1,9 @@
 //! Bytes as characters of a document.
 
-ghost use Rattle.std.specs.Prelude.{◌≡◌, ◌≤◌, ◌<◌, ◌++◌, None, IsTrue, take, drop, length, encode_utf8, IfOk, OnOk};
+ghost use Rattle.std.specs.Prelude.{◌≡◌, ◌≤◌, ◌<◌, ◌++◌, false, None, IsTrue, take, drop, length, encode_utf8, IfOk, OnOk};
 ghost use Rattle.std.specs.Option.{option_map};
 ghost use Rattle.bstr.specs.Utf8.{decoded, or_replacement, replacement};
+ghost use Rattle.junit_xml.specs.declared.escaping.Place.TheVariants.{Value};
 ghost use Rattle.junit_xml.specs.Characters as spec;
 
 use bstr::decode_utf8;
@@ -178,4 +179,41 @@ pub(crate) fn put_written(bytes: &[u8], place: Place, text: &mut Vec<u8>) -> Res
         done += put_front(&bytes[done..], place, text)?;
     }
     Ok(())
+}
+
+// Whether the byte is no character of ASCII, or one that is written otherwise in a value. It is told without a branch, so
+// that the bytes of a value are looked at several in one step.
+#[inline(always)]
+fn is_special(byte: u8) -> bool
+    ensures { result ≡ false → (byte < 128) × (spec.escape Value byte ≡ None) }
+{
+    (byte < 0x20)
+        | (byte > 0x7F)
+        | (byte == b'&')
+        | (byte == b'<')
+        | (byte == b'>')
+        | (byte == b'"')
+}
+
+// Whether each byte of a value is a character that is written as it is.
+fn are_plain(bytes: &[u8]) -> bool
+    ensures { IsTrue result → spec.written Value bytes.now ≡ bytes.now }
+{
+    let mut special = false;
+    for byte in bytes {
+        special |= is_special(*byte);
+    }
+    !special
+}
+
+/// Appends the bytes as they are written in a value. Most are plain, and are copied at once.
+pub(crate) fn put_value(bytes: &[u8], text: &mut Vec<u8>) -> Result<(), NoMemory>
+    ensures ok { OnOk result (text.new.items ≡ text.old.items ++ spec.written Value bytes.now) }
+    ensures kept { take (length text.old.items) text.new.items ≡ text.old.items }
+{
+    if are_plain(bytes) {
+        text.extend_from_slice(bytes)?;
+        return Ok(());
+    }
+    put_written(bytes, Place::Value, text)
 }
