@@ -33,3 +33,4 @@ pub mod V1Lemmas
 pub mod V1Prefix
 pub mod V1TextLemmas
 pub mod SeparatorLemmas
+pub mod JunitCaseLemmas

@@ -172,6 +172,10 @@ among_joined tag (row ∷ rows) =
 in_turn : (p : Row → Bool) (es : List Event) → total (one_if p) (completed_rows es ++ open_rows es) ≡ total (one_if p) (rows_of es)
 in_turn p es = omega (arith, total_append (one_if p) (completed_rows es) (open_rows es), as_many es p, total_is (one_if p) (rows_of es), total_is (one_if p) (completed_rows es), total_is (one_if p) (open_rows es))
 
+-- a row fails where a completed or an open one does
+pub fails_in_turn : (es : List Event) → list_any row_fails (completed_rows es ++ open_rows es) ≡ list_any row_fails (rows_of es)
+fails_in_turn es = any_same row_fails (completed_rows es ++ open_rows es) (rows_of es) _ _ refl refl (in_turn row_fails es)
+
 -- the tags of all rows are those of the completed and the open ones
 pub tags_are : (es : List Event) → seen_tags_of (completed_rows es ++ open_rows es) ≡ seen_tags_of (rows_of es)
 tags_are es =

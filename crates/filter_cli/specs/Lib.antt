@@ -52,3 +52,5 @@ pub mod V1
 pub mod V1Fed
 pub mod V1Laws
 pub mod V1Parts
+pub mod JunitCases
+pub mod JunitKept

@@ -9,7 +9,7 @@
 //! - `filter`, `pass`: what a filter is, and the one loop that serves them all
 //! - `notes`, `of_notes`, `taking`, `through`: filters that go by the notes of a stream
 //! - `ls`, `sifting`, `stats`, `subunit_to_junit`, `subunit_to_tap`, `tagging`, `tracing`: those filters; `tally`: what is
-//!   counted; `loose`: output of no test
+//!   counted; `junit_cases`: cases by route; `loose`: output of no test
 //! - `of_tap`, `open_line`, `packets`, `pass_tap`: lines of the Test Anything Protocol as packets
 //! - `headed`, `exporting`: a text in front of what a filter writes, and the records of tests below the names of their fields
 //! - `of_v1`, `pass_v1`, `subunit_to_v1`: lines of version 1 as packets, and tests as such lines
@@ -27,6 +27,7 @@ mod exporting;
 mod file_loop;
 mod filter;
 mod headed;
+mod junit_cases;
 mod laws;
 mod letters;
 mod loose;
