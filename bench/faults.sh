@@ -956,7 +956,7 @@ def an_output_is_no_file():
     for name in ("folder", "pipe", "link", "/dev/null"):
         check_no_file(listed(folder, "-o", name, given=stream(10)), folder, names, b"make " + name.encode() + b": it is no regular file")
     check_no_file(listed(folder, "-o", "nowhere/x", given=stream(10)), folder, names, b"make nowhere/x.0.new: No such file")
-    check_no_file(listed(folder, "-o", "", given=stream(10)), folder, names)
+    check_no_file(listed(folder, "-o", "", given=stream(10)), folder, names, b"make : it has no name")
     check(stat.S_ISCHR(os.stat("/dev/null").st_mode), "the null device is replaced")
     check(listed(folder, "-o", "old", "--unknown") == (2, b"", b"subunit-ls: wrong usage\n"), "wrong usage makes a file")
     check(listed(folder, "-o") == (2, b"", b"subunit-ls: wrong usage\n"), "an option without a value is taken")

@@ -46,7 +46,8 @@ fn a_file_takes_its_name_at_the_end(rt: HostRuntime) -> Result<(), Fail> {
 }
 
 // What cannot be made, and why.
-const REFUSED: [(&str, &str); 4] = [
+const REFUSED: [(&str, &str); 5] = [
+    ("", "make : it has no name"),
     ("folder", "make folder: it is no regular file"),
     ("pipe", "make pipe: it is no regular file"),
     ("link", "make link: it is no regular file"),
@@ -70,6 +71,7 @@ fn only_a_regular_file_is_replaced(rt: HostRuntime) -> Result<(), Fail> {
     for row in &REFUSED {
         check_refused(&rt, &rt, row)?;
     }
+    assert!(rt; !is_there(&rt, ".0.new"));
     leave_home(&rt, "replaced")?;
     Ok(())
 }

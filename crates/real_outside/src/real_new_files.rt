@@ -48,7 +48,7 @@ impl<R: Files<File = File>> NewFiles for RealNewFiles<'_, R> {
 
     ghost seen = { λ s. record { told = None; faults = s.faults.count } };
 
-    /// What stands under the name and is no regular file, as a device, a pipe or a link, is a fault.
+    /// An empty name is a fault, and so is what stands under the name and is no regular file, as a device, a pipe or a link.
     fn begin(&mut self, name: &str) -> Result<StreamSink<Outlet>, Failed> {
         let outcome = self.drafts.begin(name);
         let file = self.faults.counted(outcome)?;
@@ -140,8 +140,11 @@ fn place<R: Files>(rt: &R, file: &File, draft: &str, path: &str) -> io::Result<(
 }
 
 // Whether a file may take this path: it leads to a regular file, or to nothing. A link is not followed, and a device is not
-// replaced.
+// replaced. An empty path leads to nothing, too, and no file can take it.
 fn check_place<R: Files>(rt: &R, path: &str) -> io::Result<()> {
+    if path.is_empty() {
+        return Err(io::Error::new(ErrorKind::InvalidInput, "it has no name"));
+    }
     match fs::symlink_metadata(rt, path) {
         Ok(found) if found.is_file() => Ok(()),
         Ok(_) => Err(io::Error::new(ErrorKind::AlreadyExists, "it is no regular file")),
