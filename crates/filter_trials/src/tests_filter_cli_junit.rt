@@ -17,13 +17,6 @@ const FAILED: &[u8] =
 const FAILED_TEXT: &[u8] =
     b"<?xml version=\"1.0\" encoding=\"utf-8\"?>\n<testsuite name=\"\" tests=\"2\" failures=\"1\" errors=\"0\" skipped=\"0\" time=\"0.000\">\n<testcase classname=\"\" name=\"a,b\" time=\"0.000\">\n</testcase>\n<testcase classname=\"\" name=\"c\" time=\"0.000\">\n<failure type=\"fail\"></failure>\n</testcase>\n</testsuite>\n";
 
-// `b` passed under the route `1`, and then `a` failed without a route.
-const ROUTED: &[u8] =
-    b"\xb3\x2d\x03\x0c\x01b\x011\x6b\x7f\x80\x8e\xb3\x29\x06\x0a\x01a\xea\x1f\x37\x88";
-
-const ROUTED_TEXT: &[u8] =
-    b"<?xml version=\"1.0\" encoding=\"utf-8\"?>\n<testsuite name=\"\" tests=\"2\" failures=\"1\" errors=\"0\" skipped=\"0\" time=\"0.000\">\n<testcase classname=\"\" name=\"a\" time=\"0.000\">\n<failure type=\"fail\"></failure>\n</testcase>\n<testcase classname=\"\" name=\"b\" time=\"0.000\">\n</testcase>\n</testsuite>\n";
-
 const NOTHING_TEXT: &[u8] =
     b"<?xml version=\"1.0\" encoding=\"utf-8\"?>\n<testsuite name=\"\" tests=\"0\" failures=\"0\" errors=\"0\" skipped=\"0\" time=\"0.000\">\n</testsuite>\n";
 
@@ -42,7 +35,7 @@ type Row = (
     u8,
 );
 
-const ROWS: [Row; 9] = [
+const ROWS: [Row; 8] = [
     (
         &["subunit2junitxml"],
         TIMED,
@@ -57,15 +50,6 @@ const ROWS: [Row; 9] = [
         FAILED,
         NO_FAULT,
         FAILED_TEXT,
-        b"",
-        0,
-        1,
-    ),
-    (
-        &["subunit2junitxml"],
-        ROUTED,
-        NO_FAULT,
-        ROUTED_TEXT,
         b"",
         0,
         1,
