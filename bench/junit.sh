@@ -82,16 +82,33 @@ def drawn(draw, count):
         moment = draw.choice((None, draw.randrange(10 ** 18), draw.randrange(10 ** 10)))
         said = b"".join(draw.choices(PARTS, k=draw.randrange(12)))
         event = (draw.choice((b"", b"0", b"1", b"0/2")), draw.choice(names), draw.choice(STATUSES), moment, said,
-                 draw.choice((b"log", b"reason")))
+                 draw.choice((b"log", b"reason", b"traceback")))
         stream += packet_of(*event)
         events.append(event)
     return bytes(stream), events
 
 
+def text_of(pieces):
+    """A file that is alone as it stands; else each under its name, and the traceback last."""
+    last = b"".join(said for file, said in pieces if file == b"traceback")[:65_536]
+    others = []
+    for file, said in pieces:
+        if file == b"traceback" or not said:
+            continue
+        if others and others[-1][0] == file:
+            others[-1] = file, others[-1][1] + said
+        else:
+            others.append((file, said))
+    if len(others) + bool(last) < 2:
+        return (others[0][1] if others else last)[:65_536]
+    told = b"".join(file + b": {{{\n" + said + (b"" if said.endswith(b"\n") else b"\n") + b"}}}\n" for file, said in others)[:65_536]
+    return told + (b"" if told.endswith(b"\n") else b"\n") + last
+
+
 def row(name, kind, nanos, said, why):
     """A case: class, name, seconds, and what stands in it."""
     one, other = names_of(name)
-    inside = [("skipped", shown(why[:1_024].split(b"\n")[0]), None)] if kind == "skip" else [("failure", kind, shown(said[:65_536]))] if kind else []
+    inside = [("skipped", shown(why[:1_024].split(b"\n")[0]), None)] if kind == "skip" else [("failure", kind, shown(text_of(said)))] if kind else []
     return (shown(one), shown(other), seconds(nanos or 0), inside), nanos
 
 
@@ -100,8 +117,8 @@ def rows_of(events):
     begun, rows = {}, {}
     for route, name, status, moment, said, file in events:
         rows.setdefault(route, [])
-        first, before, why = begun.pop((route, name), (moment, b"", b""))
-        before += said
+        first, before, why = begun.pop((route, name), (moment, [], b""))
+        before = before + [(file, said)]
         why += said if file == b"reason" else b""
         if status in (UNSET, IN_PROGRESS):
             begun[route, name] = first, before, why

@@ -245,7 +245,8 @@ def a_worker_goes_its_own_way():
     folder = project(worker=f"#!/bin/sh\n{LISTS}cat\necho a word >&2\ncat packets/a packets/b\n")
     check_answer(run(folder, "run", given=b"not for it"), 0, report([], 2, 0), "run", b"a word\n")
     # It is told to run one test, and runs others.
-    check_answer(run(folder, "run", "c"), 0, report([], 2, 1), "run c", b"a word\n")
+    missing = b"testr: 1 of 1 tests that were asked for did not run\n  c\n"
+    check_answer(run(folder, "run", "c"), 0, report([], 2, 1), "run c", b"a word\n" + missing)
     check_clean(folder)
     # A program that writes to one that has gone is ended, as in any shell.
     run_of("yes | head -n 1 >/dev/null; cat packets/a\n", 1, [], 0)

@@ -211,13 +211,19 @@ def a_folder_of_stestr_where_it_stands():
 
 
 @case
-def a_way_out_is_told_of_no_other_refusal():
+def a_way_out_is_told():
     folder = new_folder()
     os.mkdir(os.path.join(folder, ".stestr"))
     write(folder, ".stestr/format", OLD)
-    for command in ("load", "run", "last", "failing", "slowest", "stats", "upgrade"):
+    for command in ("load", "last", "failing", "slowest", "stats", "upgrade"):
         done = run(folder, command)
         check(done == (3, b"", b"testr: no repository here\n" + WAY_OUT), f"{command}: {done!r}")
+    done = run(folder, "run")
+    check(done == (3, b"", b"testr: no .testr.conf or .stestr.conf\n" + WAY_OUT), f"run without a configuration: {done!r}")
+    write(folder, ".testr.conf", CONF)
+    done = run(folder, "run")
+    check(done == (3, b"", b"testr: no repository here\n" + WAY_OUT), f"run: {done!r}")
+    os.remove(os.path.join(folder, ".testr.conf"))
     done = run(folder, "list-tests")
     check(done == (3, b"", b"testr: no .testr.conf or .stestr.conf\n"), f"list-tests: {done!r}")
     done = run(folder, "upgrade", "--from=nothing")

@@ -1,5 +1,5 @@
 -- What is recorded of files, one after another.
-use Rattle.std.proofs.Common.{◌≡◌, ℕ, ◌+◌, ◌<◌, ◌≤◌, Option, Some, None, IfSome, List, [], ◌∷◌, ◌++◌, map, OnOk, Result, Ok, Err, false, refl, sym, ap, subst, ◌∙◌, append_assoc, append-nil, length, length-append, take, drop, arith}
+use Rattle.std.proofs.Common.{◌≡◌, inr, ℕ, ◌+◌, ◌<◌, ◌≤◌, Option, Some, None, IfSome, List, [], ◌∷◌, ◌++◌, map, OnOk, Result, Ok, Err, false, refl, sym, ap, subst, ◌∙◌, append_assoc, append-nil, length, length-append, take, drop, arith}
 use Rattle.std.specs.Prelude.{IsSomeAnd, IfErr, IsErrAnd}
 use Rattle.std.proofs.lemmas.List.{map-append, take-append-drop}
 use Rattle.std.proofs.lemmas.List.Elements.{All-nil, All-cons, All-append}
@@ -7,26 +7,28 @@ use Rattle.std.proofs.lemmas.Grind.{flat_map-append}
 use Rattle.edge_io.specs.Disk.{Files, Folder}
 use Rattle.edge_io.specs.Seen.{Seen}
 use Rattle.edge_io.specs.Spawners.{Spawning}
+use Rattle.edge_io.specs.Steps.{Goes, Grown}
 use Rattle.edge_io.specs.Sites.{Finds, FitsIn, GivesPart}
 use Rattle.edge_io.specs.declared.site.Found.{Found}
 use Rattle.edge_io.specs.declared.site.Found.TheVariants.{Read}
 use Rattle.packet_codec.specs.Grammar.{AreBytes}
 use Rattle.packet_codec.specs.Canonical.{canonical}
 use Rattle.packet_codec.specs.declared.event.Event.{Event}
-use Rattle.run_ledger.specs.Writing.{HasWritten}
-use Rattle.run_ledger.specs.declared.written_run.WrittenRun.{WrittenRun}
+use Rattle.outcome_fold.specs.declared.row.Row.{Row}
+use Rattle.run_ledger.specs.Reading.{AreRowsOf}
+use Rattle.run_shelf.specs.Drafts.{SameButDraft}
 use Rattle.run_shelf.proofs.DraftLemmas.{goes_grown_then}
 use Rattle.stream_reader.proofs.FrontLemmas.{are_both}
-use Rattle.outcome_fold.specs.Summed.{with_rows}
-use Rattle.outcome_fold.specs.declared.summary.Summary.{Summary}
-use Rattle.suite_run.specs.Summed.{GivesSums}
 use Rattle.worker_lane.specs.Recorded.{HasRecorded, IsRecorded}
 use Rattle.worker_lane.specs.Scribing.{Scribing, finished, Recording, HasNone}
 use Rattle.worker_lane.proofs.RecordingLemmas.{recording_ended, recording_whole}
-use Rattle.command_steps.specs.Files.{AreFiles, HasRecordedInTurn, AreFrontOf, IsFile, NoneFailed, RecordsFilePieces, RecordsFile, RecordsFiles, RecordsInTurn, RecordsSources, HasFilesCause}
+use Rattle.command_steps.specs.Files.{AreFiles, HasRecordedInTurn, AreFrontOf, IsFile, NoneFailed, RecordsFilePieces, RecordsFile, RecordsInTurn, RecordsSources, HearsSources, HasFilesCause}
+use Rattle.command_steps.specs.Hearing.{HearsMore}
 use Rattle.command_steps.specs.Outside.{Filed, filed, fed, work}
-use Rattle.command_steps.specs.Recording.{most_bytes, WritesPackets, Records}
+use Rattle.command_steps.specs.Recording.{most_bytes, WritesPackets, RecordsBytes, HasRecordCause}
 use Rattle.command_steps.specs.declared.recording.RecordFault.{RecordFault}
+use Rattle.command_steps.specs.declared.recording.RecordFault.TheVariants.{NoMemory}
+use Rattle.command_steps.proofs.HearLemmas.{hears_then}
 
 -- ---- the bytes of one file
 
@@ -92,8 +94,8 @@ caused_in names before after (Err given) fault is cause = subst (HasFilesCause n
 -- ---- one file whole
 
 -- the end of the file, of which the last packets were written
-module _ (lane : ℕ) (name : List ℕ) (before : Filed) (between after : Seen Folder) (site : Seen Files) (scribe ended last : Scribing) (rows read last_rows : WrittenRun) (pieces : RecordsFilePieces name before (filed between site) scribe rows read) (going_on : scribe.held.ended ≡ false) (is : ended ≡ finished scribe) (under : scribe.lane ≡ lane) where
-  whole_file : WritesPackets between after ended last read last_rows → HasNone last → RecordsFile lane name before (filed after site) rows last_rows
+module _ (lane : ℕ) (name : List ℕ) (before : Filed) (between after : Seen Folder) (site : Seen Files) {L : Type 0} (heard : L → L → List (List ℕ) → Type 0) (scribe ended last : Scribing) (p q r : L) (pieces : RecordsFilePieces name before (filed between site) scribe (HearsMore heard p q)) (going_on : scribe.held.ended ≡ false) (is : ended ≡ finished scribe) (under : scribe.lane ≡ lane) where
+  whole_file : WritesPackets between after ended last (HearsMore heard q r) → HasNone last → RecordsFile lane name before (filed after site) (HearsMore heard p r)
   whole_file more none =
       let fed : Recording pieces.bytes ended pieces.run = recording_ended pieces.bytes pieces.run scribe ended going_on is pieces.recording in
       let whole : Recording pieces.bytes last (pieces.run ++ more.run) = subst (λ (l : List ℕ). Recording pieces.bytes last (pieces.run ++ l)) (sym more.given.new_is) (more.given.recording pieces.bytes pieces.run fed) in
@@ -105,30 +107,80 @@ module _ (lane : ℕ) (name : List ℕ) (before : Filed) (between after : Seen F
         size = pieces.size;
         run = pieces.run ++ more.run;
         recorded = subst (λ (n : ℕ). IsRecorded n pieces.bytes (pieces.run ++ more.run)) lane_is (recording_whole pieces.bytes (pieces.run ++ more.run) last (more.given.ended ∙ ap (λ (s : Scribing). s.held.ended) is) none whole);
-        folded = λ front has. subst (λ (l : List ℕ). HasWritten [] last_rows l) (append_assoc front pieces.run more.run) (more.folded (front ++ pieces.run) (pieces.folded front has));
+        was_heard = hears_then heard p q r pieces.run more.run pieces.was_heard more.was_heard;
         are_bytes = are_both pieces.run more.run pieces.are_bytes more.are_bytes;
         written = goes_grown_then before.folder.told between.told after.told pieces.run more.run pieces.written more.written;
         counts = record { folder = more.count ∙ pieces.counts.folder; site = pieces.counts.site };
         files = pieces.files;
       }
 
-  pub file_recorded : {T E : Type 0} (result : Result T E) → OnOk result (WritesPackets between after ended last read last_rows) → OnOk result (HasNone last) → OnOk result (RecordsFile lane name before (filed after site) rows last_rows)
+  pub file_recorded : {T E : Type 0} (result : Result T E) → OnOk result (WritesPackets between after ended last (HearsMore heard q r)) → OnOk result (HasNone last) → OnOk result (RecordsFile lane name before (filed after site) (HearsMore heard p r))
   file_recorded (Err fault) more none = tt
   file_recorded (Ok done) more none = whole_file more none
 
 -- ---- the choice of the source
 
-pub sources_input : (names : List (List ℕ)) (folder folder' : Seen Folder) (site : Seen Files) (input input' : Seen (List ℕ)) (result : Result Summary RecordFault) → length names ≤ 0 → GivesSums [] (Records (fed folder input) (fed folder' input')) result → GivesSums [] (λ rows. (spawner : Seen Spawning) (out : Seen (List ℕ)) → RecordsSources names (work folder site spawner input out) (work folder' site spawner input' out) rows) result
-sources_input [] folder folder' site input input' result none gives = record { rows = gives.rows; sums = gives.sums; holds = λ spawner out. record { at = gives.holds; rest = refl } }
-sources_input (name ∷ names) folder folder' site input input' result none gives = absurd (omega (arith, none))
+pub heard_input : (names : List (List ℕ)) (folder folder' : Seen Folder) (site : Seen Files) (input input' : Seen (List ℕ)) (heard : List ℕ → Type 0) (result : Result (Unit {0}) RecordFault) → length names ≤ 0 → OnOk result (RecordsBytes (fed folder input) (fed folder' input') heard) → IfErr result (HasRecordCause (fed folder input) (fed folder' input')) → HearsSources names (filed folder site) input (filed folder' site) input' heard result
+heard_input [] folder folder' site input input' heard (Ok done) none recorded refused = (refl, recorded)
+heard_input [] folder folder' site input input' heard (Err fault) none recorded refused = (refl, refused)
+heard_input (name ∷ names) folder folder' site input input' heard result none recorded refused = absurd (omega (arith, none))
 
-pub sources_files : (names given : List (List ℕ)) (folder folder' : Seen Folder) (site site' : Seen Files) (input : Seen (List ℕ)) (result : Result Summary RecordFault) → given ≡ names → 0 < length names → GivesSums [] (RecordsFiles given (filed folder site) (filed folder' site')) result → GivesSums [] (λ rows. (spawner : Seen Spawning) (out : Seen (List ℕ)) → RecordsSources names (work folder site spawner input out) (work folder' site' spawner input out) rows) result
-sources_files [] given folder folder' site site' input result is some gives = absurd (omega (arith, some))
-sources_files (name ∷ names) given folder folder' site site' input result is some gives = record {
-  rows = gives.rows;
-  sums = gives.sums;
-  holds = λ spawner out. record { at = subst (λ (l : List (List ℕ)). RecordsFiles l (filed folder site) (filed folder' site') (with_rows gives.rows result)) is gives.holds; rest = refl };
-}
+pub heard_files : (names given : List (List ℕ)) (folder folder' : Seen Folder) (site site' : Seen Files) (input : Seen (List ℕ)) (heard : List ℕ → Type 0) (result : Result (Unit {0}) RecordFault) → given ≡ names → 0 < length names → OnOk result ((run : List ℕ) × RecordsInTurn given (filed folder site) (filed folder' site') run × heard run) → IfErr result (HasFilesCause given (filed folder site) (filed folder' site')) → site'.told ≡ site.told → HearsSources names (filed folder site) input (filed folder' site') input heard result
+heard_files [] given folder folder' site site' input heard result is some recorded refused same = absurd (omega (arith, some))
+heard_files (name ∷ names) given folder folder' site site' input heard (Ok done) is some recorded refused same =
+    (refl, same, recorded.0, subst (λ (l : List (List ℕ)). RecordsInTurn l (filed folder site) (filed folder' site') recorded.0) is recorded.1, recorded.2)
+heard_files (name ∷ names) given folder folder' site site' input heard (Err fault) is some recorded refused same =
+    (refl, same, subst (λ (l : List (List ℕ)). HasFilesCause l (filed folder site) (filed folder' site') fault) is refused)
+
+-- what was written is the step, with the rows of what was heard
+module _ (folder folder' : Seen Folder) (site site' : Seen Files) (input input' : Seen (List ℕ)) (heard : List ℕ → Type 0) (rests : Goes folder.told folder'.told SameButDraft) where
+  pub heard_run : (names : List (List ℕ)) (done : Unit {0}) → HearsSources names (filed folder site) input (filed folder' site') input' heard (Ok done) → (run : List ℕ) × heard run × Goes folder.told folder'.told (Grown run)
+  heard_run [] done hears = (hears.1.run, hears.1.was_heard, hears.1.written)
+  heard_run (name ∷ names) done hears = (hears.2, hears.4, hears.3.written)
+
+  pub heard_rows : (names : List (List ℕ)) (done : Unit {0}) (hears : HearsSources names (filed folder site) input (filed folder' site') input' heard (Ok done)) (rows : List Row) → AreRowsOf (heard_run names done hears).0 rows → (spawner : Seen Spawning) (printed : Seen (List ℕ)) → RecordsSources names (work folder site spawner input printed) (work folder' site' spawner input' printed) (Ok rows)
+  unfolding heard_run
+  heard_rows [] done hears rows are spawner printed =
+      subst (λ (s : Seen Files). RecordsSources [] (work folder site spawner input printed) (work folder' s spawner input' printed) (Ok rows)) (sym hears.0) (record {
+        at = record {
+          recorded = record { run = hears.1.run; recorded = hears.1.recorded; are_bytes = hears.1.are_bytes; rows_are = are; written = hears.1.written; counts = hears.1.counts };
+          refused = tt;
+          rests = rests;
+        };
+        rest = refl;
+      })
+  heard_rows (name ∷ names) done hears rows are spawner printed =
+      subst (λ (i : Seen (List ℕ)). RecordsSources (name ∷ names) (work folder site spawner input printed) (work folder' site' spawner i printed) (Ok rows)) (sym hears.0) (record {
+        at = record { recorded = record { run = hears.2; recorded = hears.3; rows_are = are }; refused = tt; rests = rests; files = hears.1 };
+        rest = refl;
+      })
+
+  -- and memory was wanted behind it
+  pub heard_wanting : (names : List (List ℕ)) (done : Unit {0}) → HearsSources names (filed folder site) input (filed folder' site') input' heard (Ok done) → (spawner : Seen Spawning) (printed : Seen (List ℕ)) → RecordsSources names (work folder site spawner input printed) (work folder' site' spawner input' printed) (Err NoMemory)
+  heard_wanting [] done hears spawner printed =
+      let reads = hears.1.recorded in
+      subst (λ (s : Seen Files). RecordsSources [] (work folder site spawner input printed) (work folder' s spawner input' printed) (Err NoMemory)) (sym hears.0) (record {
+        at = record { recorded = tt; refused = (hears.1.counts, record { bytes = reads.0; read = reads.1.read; few = reads.1.size }); rests = rests };
+        rest = refl;
+      })
+  heard_wanting (name ∷ names) done hears spawner printed =
+      subst (λ (i : Seen (List ℕ)). RecordsSources (name ∷ names) (work folder site spawner input printed) (work folder' site' spawner i printed) (Err NoMemory)) (sym hears.0) (record {
+        at = record { recorded = tt; refused = inr (refl, hears.3.counts); rests = rests; files = hears.1 };
+        rest = refl;
+      })
+
+  -- it was not written whole
+  pub heard_fault : (names : List (List ℕ)) (fault : RecordFault) → HearsSources names (filed folder site) input (filed folder' site') input' heard (Err fault) → (spawner : Seen Spawning) (printed : Seen (List ℕ)) → RecordsSources names (work folder site spawner input printed) (work folder' site' spawner input' printed) (Err fault)
+  heard_fault [] fault hears spawner printed =
+      subst (λ (s : Seen Files). RecordsSources [] (work folder site spawner input printed) (work folder' s spawner input' printed) (Err fault)) (sym hears.0) (record {
+        at = record { recorded = tt; refused = hears.1; rests = rests };
+        rest = refl;
+      })
+  heard_fault (name ∷ names) fault hears spawner printed =
+      subst (λ (i : Seen (List ℕ)). RecordsSources (name ∷ names) (work folder site spawner input printed) (work folder' site' spawner i printed) (Err fault)) (sym hears.0) (record {
+        at = record { recorded = tt; refused = hears.2; rests = rests; files = hears.1 };
+        rest = refl;
+      })
 
 -- ---- one behind others
 
@@ -160,7 +212,7 @@ place_is : (lane n m : ℕ) → lane ≡ n → m ≡ n → lane ≡ 0 + m
 place_is lane n m is same = omega (arith, is, same)
 
 -- the next file behind those that were recorded
-module _ (names : List (List ℕ)) (name : List ℕ) (before between after : Filed) (run : List ℕ) (rows read : WrittenRun) (done : RecordsInTurn names before between run) (lane : ℕ) (lane_is : lane ≡ length names) (file : RecordsFile lane name between after rows read) where
+module _ (names : List (List ℕ)) (name : List ℕ) (before between after : Filed) (run : List ℕ) (heard : List ℕ → Type 0) (done : RecordsInTurn names before between run) (lane : ℕ) (lane_is : lane ≡ length names) (file : RecordsFile lane name between after heard) where
   next_turn : HasRecordedInTurn 0 (done.sources ++ file.bytes ∷ []) (done.events ++ file.recorded.events)
   next_turn = in_turn_more 0 done.sources done.events file.bytes file.recorded.events done.recorded (subst (λ (n : ℕ). HasRecorded n file.bytes file.recorded.events) (place_is lane (length names) (length done.sources) lane_is done.are_files.count) file.recorded.has)
 

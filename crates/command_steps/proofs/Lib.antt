@@ -3,13 +3,16 @@ pub mod Lines
 pub mod StepLemmas
 pub mod PrintingLemmas
 pub mod SumLemmas
+pub mod HearLemmas
 pub mod RecordLemmas
 pub mod FilesLemmas
+pub mod SourceLemmas
 pub mod TellLemmas
 pub mod CopyLemmas
 pub mod Resting
 pub mod SoundLemmas
 pub mod StepCalls
+pub mod SpeakLemmas
 pub mod SelectLemmas
 pub mod TimesLemmas
 pub mod PlanLemmas

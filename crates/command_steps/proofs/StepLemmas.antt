@@ -6,6 +6,7 @@ use Rattle.outcome_fold.specs.declared.row.Row.{Row}
 use Rattle.edge_io.specs.Disk.{Folder}
 use Rattle.edge_io.specs.Seen.{Seen}
 use Rattle.sub_number.specs.declared.memory.NoMemory.{NoMemory}
+use Rattle.testr_words.specs.declared.format.FormatKind.{FormatKind}
 use Rattle.command_steps.specs.Steps.{Step, Then, stops, goes_on, Still, Gives, Part, At}
 use Rattle.command_steps.specs.Refreshing.{Refreshes}
 use Rattle.command_steps.specs.Reporting.{Report, Reports, Prints}
@@ -53,8 +54,8 @@ gives = record { answer = refl; same = refl }
 pub prints_as : {given text : List ℕ} {before after : Seen (List ℕ)} {result : Result (Unit {0}) PrintFault} → given ≡ text → Prints given before after result → Prints text before after result
 prints_as {before = before} {after = after} {result = result} same prints = subst (λ (l : List ℕ). Prints l before after result) same prints
 
-pub reports_as : {given number : ℕ} {tags : List (List ℕ)} {rows : List Row} {result : Result Report NoMemory} → given ≡ number → Reports given tags rows result → Reports number tags rows result
-reports_as {tags = tags} {rows = rows} {result = result} same reports = subst (λ (n : ℕ). Reports n tags rows result) same reports
+pub reports_as : {format : FormatKind} {given number : ℕ} {tags : List (List ℕ)} {rows : List Row} {result : Result Report NoMemory} → given ≡ number → Reports format given tags rows result → Reports format number tags rows result
+reports_as {format = format} {tags = tags} {rows = rows} {result = result} same reports = subst (λ (n : ℕ). Reports format n tags rows result) same reports
 
 -- the run behind others has the number of these
 pub refreshes_as : (given kinds : List Bool) (partial : Bool) {rows : List Row} {before after : Seen Folder} {result : Result (Unit {0}) TellFault} → given ≡ kinds ++ partial ∷ [] → Refreshes (length given - 1) rows before after result → Refreshes (length kinds) rows before after result

@@ -1,8 +1,9 @@
 -- What is kept of rows, in place of the rows.
 use Rattle.std.proofs.Common.{◌≡◌, ◌<◌, ℕ, true, false, Bool, List, [], ◌∷◌, length, Result, Err, refl, sym, ap, subst, ◌∙◌, arith}
 use Rattle.std.specs.Prelude.{IsErrAnd, ◌||◌, if◌then◌else◌}
-use Rattle.std.specs.List.{filter, list_any}
+use Rattle.std.specs.List.{filter, flat_map, list_any}
 use Rattle.std.proofs.lemmas.Result.{err_from_is_err_and}
+use Rattle.build_notes.specs.Notes.{note_of, notes_of}
 use Rattle.outcome_fold.specs.Answers.{row_fails}
 use Rattle.outcome_fold.specs.declared.row.Row.{Row}
 use Rattle.outcome_fold.specs.declared.summary.Summary.{Summary}
@@ -39,3 +40,15 @@ none_fails rows (row ∷ kept) is none = absurd (omega (arith, none))
 pub some_fails : (rows kept : List Row) → kept ≡ filter row_fails rows → 0 < length kept → Failed ≡ verdict_of rows
 some_fails rows [] is some = absurd (omega (arith, some))
 some_fails rows (row ∷ kept) is some = verdict_by rows (row ∷ kept) is
+
+-- the notes of the rows that fail are those of all rows
+failing_again : (rows : List Row) → filter row_fails (filter row_fails rows) ≡ filter row_fails rows
+failing_again [] = refl
+failing_again (row ∷ rows) = by (row_fails row) refl (failing_again rows)
+  where
+    by : (fails : Bool) → row_fails row ≡ fails → filter row_fails (filter row_fails rows) ≡ filter row_fails rows → filter row_fails (if fails then row ∷ filter row_fails rows else filter row_fails rows) ≡ (if fails then row ∷ filter row_fails rows else filter row_fails rows)
+    by true is rest = ap (λ (b : Bool). if b then row ∷ filter row_fails (filter row_fails rows) else filter row_fails (filter row_fails rows)) is ∙ ap (λ (l : List Row). row ∷ l) rest
+    by false is rest = rest
+
+pub notes_kept : (rows kept : List Row) → kept ≡ filter row_fails rows → notes_of kept ≡ notes_of rows
+notes_kept rows kept is = ap notes_of is ∙ ap (flat_map note_of) (failing_again rows)

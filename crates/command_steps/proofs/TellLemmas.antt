@@ -1,6 +1,9 @@
 -- What is told of a store, and why nothing is.
 use Rattle.std.proofs.Common.{◌≡◌, ℕ, ◌<◌, ◌-◌, true, false, Bool, Option, None, Some, IfSome, IsSomeAnd, List, [], ◌++◌, length, Result, Ok, Err, IfOk, refl, sym, ap, subst, ◌∙◌, arith}
+use Rattle.std.specs.FinMap.{FinMap}
 use Rattle.edge_io.specs.Disk.{Folder}
+use Rattle.edge_io.specs.Steps.{Goes, Stays}
+use Rattle.outcome_fold.specs.Order.{text_cmp}
 use Rattle.run_shelf.specs.declared.faults.ShelfCall.{ShelfCall}
 use Rattle.run_shelf.specs.declared.faults.StoreFault.TheVariants as store_fault
 use Rattle.edge_io.specs.Causes.{RisesExactlyIf}
@@ -15,9 +18,13 @@ use Rattle.run_ledger.specs.Reading.{AreRowsOf}
 use Rattle.run_ledger.specs.Cached.{SaysItsFailing, SaysItsTimes}
 use Rattle.run_ledger.specs.Ledger.{HasRowsAt, IsFailingSet}
 use Rattle.skip_reasons.specs.Skips.{TellsSkips}
+use Rattle.last_failures.specs.Last.{AreLastFailures}
+use Rattle.last_failures.specs.Texts.{text_of as last_failures_text_of, packets_text}
+use Rattle.last_failures.specs.declared.failures.Failure.{Failure}
 use Rattle.sub_text.specs.Texts.{report_of, failing_text_of}
 use Rattle.command_steps.specs.Verdicts.{verdict_of}
-use Rattle.command_steps.specs.Says.{Says, SaysReport, SaysSkips, SaysFailing, SoundFor, verdict_of_failing}
+use Rattle.command_steps.specs.declared.answer.Verdict.TheVariants as verdict
+use Rattle.command_steps.specs.Says.{Says, SaysReport, SaysSkips, SaysNotes, IsNotedReport, SaysFailing, SaysLastFailures, SaysFailurePackets, SoundFor, verdict_of_failing}
 use Rattle.testr_words.specs.Questions.{OfBytes}
 use Rattle.command_steps.specs.Runs.{HasRuns}
 use Rattle.command_steps.specs.Trusted.{SoundFailing, SoundTimes}
@@ -96,6 +103,32 @@ pub failing_said : (list : Bool) (ids : List (List ℕ)) (told : Told) (state : 
 failing_said list ids told None set text verdict = tt
 failing_said list ids told (Some s) set text verdict = λ sound. record { ids = ids; set = set sound; text_is = text; verdict_is = verdict }
 
+-- how each test of the failing set failed last, where its cache is sound
+pub last_failures_said : (ids : List (List ℕ)) (found : FinMap text_cmp Failure) (told : Told) (first before : Option Folder) → IfSome first (λ s. SoundFailing s → IsFailingSet ids s) → Goes first before Stays → IfSome before (AreLastFailures false ids found) → told.text.items ≡ last_failures_text_of ids found → told.verdict ≡ verdict_of_failing ids → IfSome first (λ s. SoundFailing s → TellsSo SaysLastFailures told s)
+last_failures_said ids found told None before set same are text verdict = tt
+last_failures_said ids found told (Some s) None set same are text verdict = absurd same
+last_failures_said ids found told (Some s) (Some t) set same are text verdict = λ sound. record {
+  ids = ids;
+  set = set sound;
+  found = found;
+  found_are = subst (AreLastFailures false ids found) same are;
+  text_is = text;
+  verdict_is = verdict;
+}
+
+-- the packets of how each test of the failing set failed last, where its cache is sound
+pub failure_packets_said : (ids : List (List ℕ)) (found : FinMap text_cmp Failure) (told : Told) (first before : Option Folder) → IfSome first (λ s. SoundFailing s → IsFailingSet ids s) → Goes first before Stays → IfSome before (AreLastFailures true ids found) → told.text.items ≡ packets_text ids found → told.verdict ≡ verdict.Passed → IfSome first (λ s. SoundFailing s → TellsSo SaysFailurePackets told s)
+failure_packets_said ids found told None before set same are text verdict_is = tt
+failure_packets_said ids found told (Some s) None set same are text verdict_is = absurd same
+failure_packets_said ids found told (Some s) (Some t) set same are text verdict_is = λ sound. record {
+  ids = ids;
+  set = set sound;
+  found = found;
+  found_are = subst (AreLastFailures true ids found) same are;
+  text_is = text;
+  verdict_is = verdict_is;
+}
+
 -- where the last run's bytes are not asked for, its report is
 pub is_report : (question : Question) (subunit : Bool) → question ≡ Last subunit → (OfBytes question → ⊥) → question ≡ Last false
 is_report question true is not = absurd (not (subst OfBytes (sym is) tt))
@@ -134,5 +167,22 @@ skips_said kinds given rows skips told (Some s) some is fits has tells text verd
       skips = skips;
       tells = tells;
       text_is = text ∙ ap (λ n. report_of rows n [] ++ skips) is;
+      verdict_is = verdict;
+    }
+
+-- the report of the rows of the last run, and what stands behind it with their notes
+pub notes_said : (skips : Bool) (kinds : List Bool) (given : ℕ) (rows : List Row) (told : Told) (state : Option Folder) → 0 < length kinds → given ≡ length kinds - 1 → IfSome state (FitsFolder kinds) → IfSome state (HasRowsAt (length kinds - 1) rows) → IsNotedReport skips rows given told.text.items → told.verdict ≡ verdict_of rows → IfSome state (TellsSo (SaysNotes skips) told)
+notes_said skips kinds given rows told None some is fits has noted verdict = tt
+notes_said skips kinds given rows told (Some s) some is fits has noted verdict = at (run_at s.disk.published (length kinds - 1)) refl has
+  where
+    at : (found : Option Run) → run_at s.disk.published (length kinds - 1) ≡ found → IsSomeAnd found (λ run. AreRowsOf run.bytes rows) → SaysNotes skips s told.text.items told.verdict
+    at None there has = absurd has
+    at (Some run) there has = record {
+      number = length kinds - 1;
+      run = run;
+      rows = rows;
+      last = record { count = record { repository = fits.repository; kinds = kinds; kinds_are = fits.kinds_are; count = omega (arith, some) }; there = there };
+      rows_are = has;
+      noted = subst (λ n. IsNotedReport skips rows n told.text.items) is noted;
       verdict_is = verdict;
     }

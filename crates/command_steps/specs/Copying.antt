@@ -38,7 +38,7 @@ pub record Counts {T : Type 0} (before after : Shown) (result : Result T CopyFau
 abbrev pub HasBytesAt : ℕ → List ℕ → Folder → Type 0
 HasBytesAt number bytes s = IsSomeAnd (run_at s.disk.published number) (λ run. bytes ≡ run.bytes)
 
--- with these bytes it begins
+-- the run of this number, which there is, begins with these bytes
 abbrev pub BeginsAt : ℕ → List ℕ → Folder → Type 0
 BeginsAt number bytes s = IsSomeAnd (run_at s.disk.published number) (λ run. (rest : List ℕ) × (run.bytes ≡ bytes ++ rest))
 
@@ -61,7 +61,7 @@ copy_refusal (Write fault) = Print fault
 abbrev pub GoesOnAt : ℕ → ℕ → List ℕ → Folder → Type 0
 GoesOnAt number place bytes s = IsSomeAnd (run_at s.disk.published number) (λ run. (rest : List ℕ) × (drop place run.bytes ≡ bytes ++ rest))
 
--- they are as many of its bytes as there are from there on, and fit
+-- of the run of this number these are the bytes from this place on, as many as there are and have room
 abbrev pub HasPieceAt : ℕ → ℕ → ℕ → List ℕ → Folder → Type 0
 HasPieceAt number place room bytes s = IsSomeAnd (run_at s.disk.published number) (λ run. bytes ≡ take room (drop place run.bytes))
 

@@ -1,21 +1,22 @@
 -- The step that records files, one after another (docs/FORMATS.md, "What is recorded of a stream"): the first under lane 0,
 -- the next under lane 1, and so on.
-use Rattle.std.specs.Prelude.{◌≡◌, ◌⊎◌, ℕ, ◌+◌, ◌<◌, ◌≤◌, Option, Some, None, IfSome, IsSomeAnd, IfOk, IfErr, List, [], ◌∷◌, ◌++◌, length, map, All, Result}
+use Rattle.std.specs.Prelude.{◌≡◌, ◌⊎◌, ℕ, ◌+◌, ◌<◌, ◌≤◌, Option, Some, None, IfSome, IsSomeAnd, IfOk, IfErr, List, [], ◌∷◌, ◌++◌, length, map, All, Result, Ok, Err}
 use Rattle.edge_io.specs.Causes.{Rose}
 use Rattle.edge_io.specs.Disk.{Files}
+use Rattle.edge_io.specs.Seen.{Seen}
+use Rattle.outcome_fold.specs.declared.summary.Summary.{Summary}
 use Rattle.edge_io.specs.Steps.{Goes, Grown}
 use Rattle.outcome_fold.specs.declared.row.Row.{Row}
 use Rattle.packet_codec.specs.Grammar.{AreBytes}
 use Rattle.packet_codec.specs.declared.event.Event.{Event}
 use Rattle.run_ledger.specs.Reading.{AreRowsOf}
-use Rattle.run_ledger.specs.Writing.{HasWritten}
-use Rattle.run_ledger.specs.declared.written_run.WrittenRun.{WrittenRun}
 use Rattle.run_shelf.specs.Drafts.{SameButDraft}
 use Rattle.run_shelf.specs.declared.faults.ShelfCall.TheVariants.{Append}
 use Rattle.worker_lane.specs.Recorded.{HasRecorded, IsRecorded}
 use Rattle.worker_lane.specs.Scribing.{Scribing, Recording}
-use Rattle.command_steps.specs.Outside.{Work, Filed, work_fed, work_filed}
-use Rattle.command_steps.specs.Recording.{Records, most_bytes}
+use Rattle.command_steps.specs.Outside.{Work, Filed, fed, work_fed, work_filed}
+use Rattle.command_steps.specs.Recording.{Records, RecordsBytes, HasRecordCause, most_bytes}
+use Rattle.command_steps.specs.declared.files.Recorded.{Recorded}
 use Rattle.command_steps.specs.Runs.{run_bytes}
 use Rattle.command_steps.specs.Steps.{Step, At}
 use Rattle.command_steps.specs.declared.recording.RecordFault.{RecordFault}
@@ -49,33 +50,33 @@ pub record NoneFailed (before after : Filed) : Type 0 where
 abbrev pub AreFrontOf : List ℕ → Option Files → List ℕ → Type 0
 AreFrontOf name told bytes = IfSome told (λ files. IfSome (files name) (λ all. (rest : List ℕ) × (all ≡ bytes ++ rest)))
 
--- these are all its bytes
+-- these are all bytes of the file of this name, where the files are told
 abbrev pub IsFile : List ℕ → Option Files → List ℕ → Type 0
 IsFile name told bytes = IfSome told (λ files. files name ≡ Some bytes)
 
--- The file was read to its end, the packets that its bytes decide stand in the draft, and their rows were folded; the
--- scribe was not told of an end.
-pub record RecordsFilePieces (name : List ℕ) (before after : Filed) (scribe : Scribing) (rows read : WrittenRun) : Type 0 where
+-- The file was read to its end, the packets that its bytes decide stand in the draft, and were heard as this says; the scribe was
+-- not told of an end.
+pub record RecordsFilePieces (name : List ℕ) (before after : Filed) (scribe : Scribing) (heard : List ℕ → Type 0) : Type 0 where
   pub bytes : List ℕ
   pub whole : IsFile name before.site.told bytes
   pub size : length bytes ≤ most_bytes
   pub run : List ℕ
   pub recording : Recording bytes scribe run
-  pub folded : (front : List ℕ) → HasWritten [] rows front → HasWritten [] read (front ++ run)
+  pub was_heard : heard run
   pub are_bytes : AreBytes run
   pub written : Goes before.folder.told after.folder.told (Grown run)
   pub counts : NoneFailed before after
   pub files : after.site.told ≡ before.site.told
 
--- what is recorded of the file under the lane was written behind the draft, and folded
-pub record RecordsFile (lane : ℕ) (name : List ℕ) (before after : Filed) (rows read : WrittenRun) : Type 0 where
+-- what is recorded of the file under the lane was written behind the draft, and heard as this says
+pub record RecordsFile (lane : ℕ) (name : List ℕ) (before after : Filed) (heard : List ℕ → Type 0) : Type 0 where
   pub bytes : List ℕ
   pub whole : IsFile name before.site.told bytes
   pub bytes_are : AreBytes bytes
   pub size : length bytes ≤ most_bytes
   pub run : List ℕ
   pub recorded : IsRecorded lane bytes run
-  pub folded : (front : List ℕ) → HasWritten [] rows front → HasWritten [] read (front ++ run)
+  pub was_heard : heard run
   pub are_bytes : AreBytes run
   pub written : Goes before.folder.told after.folder.told (Grown run)
   pub counts : NoneFailed before after
@@ -135,6 +136,20 @@ pub record RecordsFiles (names : List (List ℕ)) (before after : Filed) (result
   pub refused : IfErr result (HasFilesCause names before after)
   pub rests : Goes before.folder.told after.folder.told SameButDraft
   pub files : after.site.told ≡ before.site.told
+
+-- ---- what was heard
+
+-- The input was recorded where no file is named, else the files, and heard as this says; or why it was not.
+abbrev pub HearsSources : List (List ℕ) → (before : Filed) → (input : Seen (List ℕ)) → (after : Filed) → (input_then : Seen (List ℕ)) → (heard : List ℕ → Type 0) → Result (Unit {0}) RecordFault → Type 0
+HearsSources [] before input after input_then heard (Ok done) = (after.site ≡ before.site) × RecordsBytes (fed before.folder input) (fed after.folder input_then) heard
+HearsSources [] before input after input_then heard (Err fault) = (after.site ≡ before.site) × HasRecordCause (fed before.folder input) (fed after.folder input_then) fault
+HearsSources (name ∷ names) before input after input_then heard (Ok done) = (input_then ≡ input) × (after.site.told ≡ before.site.told) × (run : List ℕ) × RecordsInTurn (name ∷ names) before after run × heard run
+HearsSources (name ∷ names) before input after input_then heard (Err fault) = (input_then ≡ input) × (after.site.told ≡ before.site.told) × HasFilesCause (name ∷ names) before after fault
+
+-- of what was recorded what is kept of the rows alone
+abbrev pub summary_of : {E : Type 0} → Result Recorded E → Result Summary E
+summary_of (Ok recorded) = Ok recorded.summary
+summary_of (Err fault) = Err fault
 
 -- ---- the step
 

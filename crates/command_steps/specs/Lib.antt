@@ -4,6 +4,7 @@ pub mod Runs
 pub mod Verdicts
 pub mod Says
 pub mod Store
+pub mod Hearing
 pub mod Recording
 pub mod Files
 pub mod Reporting
@@ -23,3 +24,4 @@ pub mod Selecting
 pub mod Causes
 pub mod Working
 pub mod Calls
+pub mod Speaking

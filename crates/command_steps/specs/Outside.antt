@@ -147,7 +147,7 @@ RisesAt (Some in_spawner) before after = Rose before.spawner.faults after.spawne
 RisesAt (Some in_input) before after = Rose before.input.faults after.input.faults × (after.folder.faults ≡ before.folder.faults) × (after.site.faults ≡ before.site.faults) × (after.spawner.faults ≡ before.spawner.faults) × (after.out.faults ≡ before.out.faults)
 RisesAt (Some in_out) before after = Rose before.out.faults after.out.faults × (after.folder.faults ≡ before.folder.faults) × (after.site.faults ≡ before.site.faults) × (after.spawner.faults ≡ before.spawner.faults) × (after.input.faults ≡ before.input.faults)
 
--- the count of one of them rose
+-- of one at least of the parts that can fail the count of faults rose
 pub data SomeRose (before after : Work) : Type 0 where
   of_folder : Rose before.folder.faults after.folder.faults → SomeRose before after
   of_site : Rose before.site.faults after.site.faults → SomeRose before after

@@ -3,7 +3,7 @@ use Rattle.std.specs.Prelude.{◌≡◌, Bool, true, false, Option, Some, None, 
 use Rattle.std.specs.declared.alloc.Global.{Global}
 use Rattle.command_steps.specs.Steps.{Step}
 
--- asked for where this is so
+-- whether a step is asked for that needs no more to be told: it is where this is true
 abbrev pub when : Bool → Option (Unit {0})
 when false = None
 when true = Some tt

@@ -9,8 +9,6 @@ use Rattle.edge_io.specs.Steps.{Goes, Grown}
 use Rattle.outcome_fold.specs.declared.row.Row.{Row}
 use Rattle.packet_codec.specs.Grammar.{AreBytes}
 use Rattle.run_ledger.specs.Reading.{AreRowsOf}
-use Rattle.run_ledger.specs.Writing.{HasWritten}
-use Rattle.run_ledger.specs.declared.written_run.WrittenRun.{WrittenRun}
 use Rattle.run_shelf.specs.Drafts.{SameButDraft}
 use Rattle.run_shelf.specs.declared.faults.ShelfCall.TheVariants.{Append}
 use Rattle.worker_lane.specs.Recorded.{IsRecorded}
@@ -47,7 +45,7 @@ pub record ReadsInput (left after : Option (List ℕ)) (bytes : List ℕ) : Type
   pub size : length bytes ≤ most_bytes
   pub are_bytes : AreBytes bytes
 
--- and the run is what is recorded of it under lane 0
+-- the input was read whole, and the run is what is recorded of it under lane 0
 abbrev pub RecordsInput : Option (List ℕ) → Option (List ℕ) → List ℕ → Type 0
 RecordsInput left after run = (bytes : List ℕ) × ReadsInput left after bytes × IsRecorded 0 bytes run
 
@@ -56,16 +54,16 @@ pub record NoneFailed (before after : Fed) : Type 0 where
   pub folder : after.folder.faults ≡ before.folder.faults
   pub input : after.input.faults ≡ before.input.faults
 
--- Some bytes of the input were read, the packets that they decide stand in the draft, and their rows were folded; the
--- scribe was not told of an end.
-pub record RecordsPieces (before after : Fed) (scribe : Scribing) (rows : WrittenRun) : Type 0 where
+-- Some bytes of the input were read, the packets that they decide stand in the draft, and were heard as this says; the scribe was
+-- not told of an end.
+pub record RecordsPieces (before after : Fed) (scribe : Scribing) (heard : List ℕ → Type 0) : Type 0 where
   pub bytes : List ℕ
   pub read : Consumes before.input.told after.input.told bytes
   pub at_end : IsAtEnd after.input.told
   pub size : length bytes ≤ most_bytes
   pub run : List ℕ
   pub recording : Recording bytes scribe run
-  pub folded : HasWritten [] rows run
+  pub was_heard : heard run
   pub are_bytes : AreBytes run
   pub written : Goes before.folder.told after.folder.told (Grown run)
   pub counts : NoneFailed before after
@@ -81,14 +79,23 @@ pub record IsOneMore (scribe : Scribing) (packets : List ℕ) : Type 0 where
   pub few : length front < most_gathered
   pub last : GivesPacket before front scribe packets
 
--- some packets were given in order, written behind the draft, and folded
-pub record WritesPackets (before after : Seen Folder) (scribe now : Scribing) (rows folded_rows : WrittenRun) : Type 0 where
+-- some packets were given in order, written behind the draft, and heard as this says
+pub record WritesPackets (before after : Seen Folder) (scribe now : Scribing) (heard : List ℕ → Type 0) : Type 0 where
   pub run : List ℕ
   pub given : GivesPackets scribe [] now run
   pub are_bytes : AreBytes run
   pub written : Goes before.told after.told (Grown run)
-  pub folded : (bytes : List ℕ) → HasWritten [] rows bytes → HasWritten [] folded_rows (bytes ++ run)
+  pub was_heard : heard run
   pub count : after.faults ≡ before.faults
+
+-- what is recorded of the input was written behind the draft, and heard as this says
+pub record RecordsBytes (before after : Fed) (heard : List ℕ → Type 0) : Type 0 where
+  pub run : List ℕ
+  pub recorded : RecordsInput before.input.told after.input.told run
+  pub are_bytes : AreBytes run
+  pub written : Goes before.folder.told after.folder.told (Grown run)
+  pub counts : NoneFailed before after
+  pub was_heard : heard run
 
 -- what is recorded of the input was written behind the draft, and these are its rows
 pub record RecordsAll (rows : List Row) (before after : Fed) : Type 0 where
@@ -126,7 +133,8 @@ pub record Records (before after : Fed) (result : Result (List Row) RecordFault)
   pub refused : IfErr result (HasRecordCause before after)
   pub rests : Goes before.folder.told after.folder.told SameButDraft
 
--- the status where the input is not recorded so
+-- the exit status where the input is not recorded so: 3 for what is missing or too long, 4 where a call failed, 5 where
+-- memory was wanting
 abbrev pub record_code : RecordFault → ℕ
 record_code (Shelf call) = 4
 record_code Input = 4

@@ -28,7 +28,8 @@ use Rattle.command_steps.specs.declared.answer.Verdict.{Verdict}
 use Rattle.command_steps.specs.declared.answer.Refusal.{Refusal}
 use Rattle.command_steps.specs.declared.answer.Refusal.TheVariants.{Usage, Init, Open, Runs, Record, Memory, Keep, Refresh, Tell, Print, Conf, Pattern, LoadList, PatternLine, TimesFile, Call, Table, Listing, Job, Start, Lanes, Report, Suspects, Ran, Search, LongId, Upgrade}
 
--- the status of a refusal
+-- the exit status of a refusal: 2 for wrong usage, 3 for what a command does not take, 4 where a call failed, 5 where
+-- memory was wanting
 abbrev pub refusal_code : Refusal → ℕ
 refusal_code (Usage fault) = 2
 refusal_code (Init fault) = init_code fault
@@ -62,7 +63,7 @@ refusal_code (Upgrade fault) = upgrade_code fault
 abbrev pub usage_text : UsageFault → List ℕ
 usage_text Words = codes "testr: wrong usage\n"
 
--- the line of a refusal
+-- the line that tells of a refusal, with its newline: that of the step that refuses
 abbrev pub refusal_line : Refusal → List ℕ
 refusal_line (Usage fault) = usage_text fault
 refusal_line (Init fault) = init_text fault
@@ -126,7 +127,7 @@ place_of (Search search_fault.Spawn) = Some in_spawner
 place_of (Upgrade (upgrade_fault.Shelf call)) = Some in_folder
 place_of refusal = None
 
--- the status of an outcome
+-- the exit status of an outcome: that of its verdict, or else that of the refusal
 abbrev pub code_of : Result Verdict Refusal → ℕ
 code_of (Ok verdict) = verdict_code verdict
 code_of (Err refusal) = refusal_code refusal

@@ -41,7 +41,7 @@ MakesWhereNone before after (Ok done) = Makes before after (Ok done) ⊎ Makes b
 MakesWhereNone before after (Err init_fault.Exists) = ⊥
 MakesWhereNone before after (Err (init_fault.Shelf call)) = Makes before after (Err (init_fault.Shelf call))
 
--- the status where no repository is made
+-- the exit status where no repository is made: 3 where one is there, 4 where a call of the folder failed
 abbrev pub init_code : InitFault → ℕ
 init_code init_fault.Exists = 3
 init_code (init_fault.Shelf call) = 4
@@ -61,7 +61,8 @@ pub record Opens (before after : Seen Folder) (result : Result Found OpenFault) 
   pub any_moment : Goes before.told after.told PassesOld
   pub count : RisesExactlyIf before.faults after.faults (open_failed result)
 
--- the status where the folder has no such runs
+-- the exit status where the folder has no such runs: 3 by what it holds, 4 where a call of it failed, 5 where memory was
+-- wanting
 abbrev pub open_code : OpenFault → ℕ
 open_code open_fault.NoStore = 3
 open_code open_fault.UnknownFormat = 3

@@ -63,7 +63,8 @@ long_id_text = codes "testr: an id has more than 65536 bytes\n"
 
 -- ---- the configuration
 
--- the status where the configuration is refused
+-- the exit status where the configuration is refused: 3 by what its files say, 4 where a read failed, 5 where memory was
+-- wanting
 abbrev pub conf_code : ConfRefusal → ℕ
 conf_code conf.Site = 4
 conf_code conf.Absent = 3
@@ -124,7 +125,7 @@ has_look_around (byte ∷ bytes) = is_look_around (byte ∷ bytes) || has_look_a
 abbrev pub end_of_pattern : List ℕ → List ℕ
 end_of_pattern pattern = if has_look_around pattern then codes "\ntestr: look-around is not known; --exclude-regex leaves tests out\n" else codes "\n"
 
--- the status where a pattern is refused
+-- the exit status where a pattern is refused: 3 for a bad one, 5 where memory was wanting
 abbrev pub pattern_code : PatternRefusal → ℕ
 pattern_code (pattern.Bad given) = 3
 pattern_code pattern.NoMemory = 5
@@ -140,7 +141,8 @@ bad_line_text line = codes "testr: " ++ pattern_place_text line.name.now line.nu
 
 -- ---- a list of ids, or of patterns
 
--- the status where a list is refused
+-- the exit status where a list is refused: 3 where its file is missing or too long or has a bad line, 4 where a read
+-- failed, 5 where memory was wanting
 abbrev pub list_code : ListRefusal → ℕ
 list_code load_list.Site = 4
 list_code (load_list.TooLong given) = 3
@@ -158,7 +160,8 @@ list_text load_list.NoMemory = short_text
 
 -- ---- a file of times
 
--- the status where a file of times is refused
+-- the exit status where a file of times is refused: 3 where it is missing, too long or no times, 4 where a read failed,
+-- 5 where memory was wanting
 abbrev pub times_code : TimesRefusal → ℕ
 times_code times_file.Site = 4
 times_code (times_file.TooLong given) = 3
@@ -176,7 +179,8 @@ times_text times_file.NoMemory = short_text
 
 -- ---- the number of workers
 
--- the status where the number of workers is not called out
+-- the exit status where the number of workers is not called out: 3 where none was told, 4 where the program was not
+-- started or read, 5 where memory was wanting
 abbrev pub call_code : CallRefusal → ℕ
 call_code call.Spawn = 4
 call_code call.Child = 4
@@ -195,7 +199,8 @@ call_text call.Child = child_text
 call_text (call.NoNumber said) = codes "testr: test_run_concurrency gave no number\n"
 call_text call.NoMemory = short_text
 
--- the status where the table of processors is refused
+-- the exit status where the table of processors is refused: 3 where it is too long, 4 where a read failed, 5 where
+-- memory was wanting
 abbrev pub table_code : TableRefusal → ℕ
 table_code table.Site = 4
 table_code table.TooLong = 3
@@ -214,7 +219,8 @@ abbrev pub key_text : Key → List ℕ
 key_text key.IdOption = codes "testr: .testr.conf: test_id_option is needed\n"
 key_text key.ListOption = codes "testr: .testr.conf: test_list_option is needed\n"
 
--- the status where the tests are not listed
+-- the exit status where the tests are not listed: 3 where the listing failed or has no option, 4 where the program was
+-- not started or read, 5 where memory was wanting
 abbrev pub listing_code : ListingRefusal → ℕ
 listing_code listing.NoListOption = 3
 listing_code listing.Spawn = 4
@@ -235,7 +241,7 @@ listing_text listing.Child = child_text
 listing_text (listing.Failed status said) = codes "testr: listing ended with " ++ signed_decimal status ++ codes "\n"
 listing_text listing.NoMemory = short_text
 
--- the status where a job is not made
+-- the exit status where a job is not made: 3 where the configuration lacks an option for it, 5 where memory was wanting
 abbrev pub job_code : JobFault → ℕ
 job_code (job.NoOption which) = 3
 job_code job.NoMemory = 5
@@ -247,7 +253,7 @@ job_text job.NoMemory = short_text
 
 -- ---- the workers
 
--- the status where the workers are not started
+-- the exit status where the workers are not started: 4 where a start failed, 5 where memory was wanting
 abbrev pub start_code : StartRefusal → ℕ
 start_code start.Spawn = 4
 start_code start.NoMemory = 5
@@ -257,7 +263,7 @@ abbrev pub start_text : StartRefusal → List ℕ
 start_text start.Spawn = spawn_text
 start_text start.NoMemory = short_text
 
--- the status where the lanes are not recorded
+-- the exit status where the lanes are not recorded: 4 where a call of the folder failed, 5 where memory was wanting
 abbrev pub lanes_code : LanesRefusal → ℕ
 lanes_code (lanes.Shelf which) = 4
 lanes_code lanes.NoMemory = 5
@@ -269,7 +275,8 @@ lanes_text lanes.NoMemory = short_text
 
 -- ---- the search for causes
 
--- the status where a search comes to no verdict
+-- the exit status where a search comes to no verdict: 4 where a probe was not started or read, 5 where memory was
+-- wanting
 abbrev pub search_code : SearchFault → ℕ
 search_code search_fault.Spawn = 4
 search_code search_fault.Child = 4

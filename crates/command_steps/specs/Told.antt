@@ -42,7 +42,7 @@ pub record Finds (question : Question) (before after : Seen Folder) (result : Re
   pub same : Goes before.told after.told Stays
   pub count : RisesExactlyIf before.faults after.faults (tell_failed result)
 
--- the status where the runs do not tell
+-- the exit status where the runs do not tell: 4 where a call of the folder failed, 5 where memory was wanting
 abbrev pub tell_code : TellFault → ℕ
 tell_code Shelf = 4
 tell_code NoMemory = 5

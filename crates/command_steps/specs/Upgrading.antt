@@ -18,11 +18,12 @@ pub record UpgradesFolder (before after : Seen Folder) (result : Result ℕ Upgr
   pub any_moment : Goes before.told after.told PassesUpgrade
   pub count : RisesExactlyIf before.faults after.faults (upgrade_failed result)
 
--- what is printed then
+-- the line that is printed of a folder that was upgraded: how many runs it has
 abbrev pub upgraded_text : ℕ → List ℕ
 upgraded_text count = codes "upgraded " ++ decimal count ++ codes " runs\n"
 
--- the status where it was not upgraded
+-- the exit status where a folder was not upgraded: 3 by what it holds, 4 where a call of it failed, 5 where memory was
+-- wanting
 abbrev pub upgrade_code : UpgradeFault → ℕ
 upgrade_code upgrade_fault.NoStore = 3
 upgrade_code upgrade_fault.NotOld = 3
@@ -33,7 +34,7 @@ upgrade_code upgrade_fault.BadFailing = 3
 upgrade_code (upgrade_fault.Shelf call) = 4
 upgrade_code upgrade_fault.NoMemory = 5
 
--- the line then
+-- the line where a folder was not upgraded
 abbrev pub upgrade_text : UpgradeFault → List ℕ
 upgrade_text upgrade_fault.NoStore = codes "testr: no repository here\n"
 upgrade_text upgrade_fault.NotOld = codes "testr: nothing to upgrade\n"

@@ -10,7 +10,7 @@ use Rattle.command_steps.specs.declared.answer.Verdict.TheVariants.{Passed, Fail
 abbrev pub verdict_of : List Row → Verdict
 verdict_of rows = if list_any row_fails rows then Failed else Passed
 
--- the status of a verdict
+-- the exit status of a verdict: 0 where the tests passed, 1 where one failed
 abbrev pub verdict_code : Verdict → ℕ
 verdict_code Passed = 0
 verdict_code Failed = 1

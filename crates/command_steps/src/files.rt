@@ -1,96 +1,176 @@
 //! Records files as they are read, one after another: the first under lane 0, the next under lane 1, and so on.
 
-ghost use Rattle.std.specs.Prelude.{◌≡◌, ℕ, ◌<◌, ◌≤◌, List, [], ◌++◌, false, length, take, IfOk, IfErr, OnOk};
+ghost use Rattle.std.specs.Prelude.{◌≡◌, ℕ, ◌<◌, ◌≤◌, List, [], false, length, IfOk, IfErr, OnOk};
 ghost use Rattle.edge_io.specs.Seen.{Seen};
 ghost use Rattle.edge_io.specs.Spawners.{Spawning};
 ghost use Rattle.edge_io.specs.Steps.{Goes, HasDraft};
-ghost use Rattle.run_ledger.specs.Writing.{HasWritten};
 ghost use Rattle.run_shelf.specs.Drafts.{SameButDraft};
 ghost use Rattle.stream_reader.specs.Room.{most_held};
 ghost use Rattle.suite_run.specs.Summed.{GivesSums};
-ghost use Rattle.command_steps.specs.Files.{RecordsSources, RecordsFiles, RecordsInTurn, RecordsFile, RecordsFilePieces, HasFileCause, HasFilesCause};
+ghost use Rattle.suite_run.specs.Aloud.{sinks};
+ghost use Rattle.command_steps.specs.Hearing.{Answers, Closes, HearsMore, MayStop};
+ghost use Rattle.command_steps.specs.Speaking.{WritesAloud, SaysPart};
+ghost use Rattle.command_steps.specs.Files.{RecordsSources, HearsSources, summary_of, RecordsInTurn, RecordsFile, RecordsFilePieces, HasFileCause, HasFilesCause};
 ghost use Rattle.command_steps.specs.Outside.{work, filed};
 ghost use Rattle.worker_lane.specs.Scribing.{Recording};
 
 use crate::recording::{RecordFault, record, write_packets};
-use edge_io::{Found, MOST_BYTES, PIECE, Shelf, Site, Source};
+use crate::speaking::Silenced;
+use edge_io::{Found, MOST_BYTES, PIECE, Shelf, Sink, Site, Source};
 use outcome_fold::Summary;
 use packet_codec::Tags;
-use run_ledger::WrittenRun;
 use std::alloc::Global;
 use std::str;
 use sub_number::{IdList, Text};
+use suite_run::{Closed, Ear, Hearing, Shown};
 use worker_lane::Scribe;
+use worker_mux::Listener;
+
+/// What was recorded of sources.
+#[derive(Drop)]
+pub struct Recorded {
+    /// What is kept of the rows of what was recorded.
+    pub summary: Summary,
+    /// The end of the lines, which is left to say.
+    pub end: Vec<u8>,
+}
 
 /// Records the input where no file is named, else the files, of which there are 64 at most, behind the draft that was begun,
 /// and gives what is kept of the rows of what was written. No tag filters.
-pub fn record_sources<'a, H: Shelf, F: Site, I: Source>(
+///
+/// As it is recorded it is said: its lines to `errors`, up to their end, and its packets to `out`, as `shown` asks.
+/// `silenced` tells then which of them have failed.
+pub fn record_sources<'a, H: Shelf, F: Site, I: Source, E: Sink, O: Sink>(
     alloc: Global,
     names: &'a IdList,
     shelf: &mut H,
     site: &mut F,
     input: &mut I,
-) -> Result<Summary, RecordFault<'a>>
+    shown: Shown,
+    errors: &mut E,
+    out: &mut O,
+    silenced: &mut Silenced,
+) -> Result<Recorded, RecordFault<'a>>
     requires few { length names.now ≤ 64 }
     requires draft { HasDraft (H.seen shelf.old).told }
-    ensures step { GivesSums [] (λ rows. (spawner : Seen Spawning) (out : Seen (List ℕ)) → RecordsSources names.now
-        (work (H.seen shelf.old) (F.seen site.old) spawner (I.seen input.old) out)
-        (work (H.seen shelf.new) (F.seen site.new) spawner (I.seen input.new) out)
-        rows) result }
+    ensures step { GivesSums [] (λ rows. (spawner : Seen Spawning) (printed : Seen (List ℕ)) → RecordsSources names.now
+        (work (H.seen shelf.old) (F.seen site.old) spawner (I.seen input.old) printed)
+        (work (H.seen shelf.new) (F.seen site.new) spawner (I.seen input.new) printed)
+        rows) (summary_of result) }
     ensures draft { OnOk result (HasDraft (H.seen shelf.new).told) }
     ensures rests { Goes (H.seen shelf.old).told (H.seen shelf.new).told SameButDraft }
+    ensures aloud { IfOk result (λ recorded. WritesAloud shown [] (H.seen shelf.old).told (H.seen shelf.new).told (sinks (E.seen errors.old) (O.seen out.old)) (sinks (E.seen errors.new) (O.seen out.new)) silenced.new recorded.end.items recorded.summary) }
+    ensures some { IfErr result (λ _. SaysPart shown (sinks (E.seen errors.old) (O.seen out.old)) (sinks (E.seen errors.new) (O.seen out.new)) silenced.new) }
 {
-    match names.list() {
-        [] => record(alloc, shelf, input),
-        list => record_files(alloc, list, shelf, site),
+    let mut ear = Ear {
+        hearing: Hearing::new(alloc, Tags::new(alloc), shown.live),
+        echo: shown.echo,
+        errors,
+        errors_failed: false,
+        out,
+        out_failed: false,
+    };
+    let done = record_heard(alloc, names, shelf, site, input, &mut ear);
+    let Ear {
+        hearing,
+        echo: _,
+        errors,
+        errors_failed,
+        out,
+        out_failed,
+    } = ear;
+    hand_back(errors);
+    hand_back(out);
+    silenced.errors = errors_failed;
+    silenced.out = out_failed;
+    answer_of(done, hearing)
+}
+
+// Why it was not recorded; or what was heard, closed.
+fn answer_of<'a>(
+    done: Result<(), RecordFault<'a>>,
+    hearing: Hearing,
+) -> Result<Recorded, RecordFault<'a>>
+    ensures { Answers done.entry hearing result }
+{
+    match done {
+        Ok(()) => close(hearing),
+        Err(fault) => Err(fault),
     }
 }
 
-// Records these files, of which there are 64 at most.
-fn record_files<'a, H: Shelf, F: Site>(
-    alloc: Global,
-    names: &'a [Text],
-    shelf: &mut H,
-    site: &mut F,
-) -> Result<Summary, RecordFault<'a>>
-    requires few { length names.now ≤ 64 }
-    requires draft { HasDraft (H.seen shelf.old).told }
-    ensures { GivesSums [] (RecordsFiles names.now
-        (filed (H.seen shelf.old) (F.seen site.old))
-        (filed (H.seen shelf.new) (F.seen site.new))) result }
+// What was heard, closed.
+fn close(hearing: Hearing) -> Result<Recorded, RecordFault<'static>>
+    ensures { Closes hearing result }
 {
-    let mut run = WrittenRun::new(alloc, Tags::new(alloc));
-    record_each(alloc, names, shelf, site, &mut run)?;
-    let summary = run.close()?;
-    Ok(summary)
+    let Closed { summary, end } = hearing.close()?;
+    Ok(Recorded { summary, end })
 }
 
-// Records each of the files, of which there are 64 at most, under the lane of its place.
-fn record_each<'a, H: Shelf, F: Site>(
+// The sink is with its lender again.
+fn hand_back<E: Sink>(sink: &mut E)
+    ensures { sink.new ≡ sink.old }
+{}
+
+// Records the input where no file is named, else the files, and lets what was written be heard.
+fn record_heard<'a, H: Shelf, F: Site, I: Source, L: Listener>(
     alloc: Global,
-    names: &'a [Text],
+    names: &'a IdList,
     shelf: &mut H,
     site: &mut F,
-    run: &mut WrittenRun,
+    input: &mut I,
+    listener: &mut L,
 ) -> Result<(), RecordFault<'a>>
     requires few { length names.now ≤ 64 }
     requires draft { HasDraft (H.seen shelf.old).told }
-    requires folded { HasWritten [] run.old [] }
+    ensures recorded { HearsSources names.now
+        (filed (H.seen shelf.old) (F.seen site.old)) (I.seen input.old)
+        (filed (H.seen shelf.new) (F.seen site.new)) (I.seen input.new)
+        (HearsMore L.heard listener.old listener.new) result }
+    ensures draft { OnOk result (HasDraft (H.seen shelf.new).told) }
+    ensures rests { Goes (H.seen shelf.old).told (H.seen shelf.new).told SameButDraft }
+    ensures stops { MayStop L.heard L.keeps listener.old listener.new }
+{
+    match names.list() {
+        [] => record(alloc, shelf, input, listener),
+        list => record_each(alloc, list, shelf, site, listener),
+    }
+}
+
+// Records each of the files, of which there are 64 at most, under the lane of its place.
+fn record_each<'a, H: Shelf, F: Site, L: Listener>(
+    alloc: Global,
+    names: &'a [Text],
+    shelf: &mut H,
+    site: &mut F,
+    listener: &mut L,
+) -> Result<(), RecordFault<'a>>
+    requires few { length names.now ≤ 64 }
+    requires draft { HasDraft (H.seen shelf.old).told }
     ensures recorded { OnOk result ((bytes : List ℕ) × RecordsInTurn names.now
         (filed (H.seen shelf.old) (F.seen site.old))
         (filed (H.seen shelf.new) (F.seen site.new))
-        bytes × HasWritten [] run.new bytes) }
+        bytes × HearsMore L.heard listener.old listener.new bytes) }
     ensures draft { OnOk result (HasDraft (H.seen shelf.new).told) }
     ensures rests { Goes (H.seen shelf.old).told (H.seen shelf.new).told SameButDraft }
     ensures files { (F.seen site.new).told ≡ (F.seen site.old).told }
     ensures refused { IfErr result (HasFilesCause names.now
         (filed (H.seen shelf.old) (F.seen site.old))
         (filed (H.seen shelf.new) (F.seen site.new))) }
+    ensures stops { MayStop L.heard L.keeps listener.old listener.new }
 {
     let mut packets = Vec::new(alloc);
     let mut lane = 0;
     for name in names {
-        record_file(alloc, lane, name_of(name), shelf, site, run, &mut packets)?;
+        record_file(
+            alloc,
+            lane,
+            name_of(name),
+            shelf,
+            site,
+            listener,
+            &mut packets,
+        )?;
         lane += 1;
     }
     Ok(())
@@ -107,13 +187,13 @@ pub(crate) fn name_of(name: &Text) -> &str
 }
 
 // Records the file under the lane.
-fn record_file<'a, H: Shelf, F: Site>(
+fn record_file<'a, H: Shelf, F: Site, L: Listener>(
     alloc: Global,
     lane: u32,
     name: &'a str,
     shelf: &mut H,
     site: &mut F,
-    run: &mut WrittenRun,
+    listener: &mut L,
     packets: &mut Vec<u8>,
 ) -> Result<(), RecordFault<'a>>
     requires lane { lane < 64 }
@@ -122,7 +202,7 @@ fn record_file<'a, H: Shelf, F: Site>(
     ensures recorded { OnOk result (RecordsFile lane name.now
         (filed (H.seen shelf.old) (F.seen site.old))
         (filed (H.seen shelf.new) (F.seen site.new))
-        run.old run.new) }
+        (HearsMore L.heard listener.old listener.new)) }
     ensures draft { OnOk result (HasDraft (H.seen shelf.new).told) }
     ensures empty { OnOk result (packets.new.items ≡ []) }
     ensures rests { Goes (H.seen shelf.old).told (H.seen shelf.new).told SameButDraft }
@@ -130,20 +210,21 @@ fn record_file<'a, H: Shelf, F: Site>(
     ensures refused { IfErr result (HasFileCause name.now
         (filed (H.seen shelf.old) (F.seen site.old))
         (filed (H.seen shelf.new) (F.seen site.new))) }
+    ensures stops { MayStop L.heard L.keeps listener.old listener.new }
 {
     let mut scribe = Scribe::new(alloc, lane)?;
-    record_pieces(name, shelf, site, &mut scribe, run, packets)?;
+    record_pieces(name, shelf, site, &mut scribe, listener, packets)?;
     scribe.finish();
-    write_packets(shelf, &mut scribe, run, packets)
+    write_packets(shelf, &mut scribe, listener, packets)
 }
 
 // Records the file piece by piece, up to its end, which the scribe is not told.
-fn record_pieces<'a, H: Shelf, F: Site>(
+fn record_pieces<'a, H: Shelf, F: Site, L: Listener>(
     name: &'a str,
     shelf: &mut H,
     site: &mut F,
     scribe: &mut Scribe,
-    run: &mut WrittenRun,
+    listener: &mut L,
     packets: &mut Vec<u8>,
 ) -> Result<(), RecordFault<'a>>
     requires draft { HasDraft (H.seen shelf.old).told }
@@ -154,7 +235,7 @@ fn record_pieces<'a, H: Shelf, F: Site>(
     ensures recorded { OnOk result (RecordsFilePieces name.now
         (filed (H.seen shelf.old) (F.seen site.old))
         (filed (H.seen shelf.new) (F.seen site.new))
-        scribe.new run.old run.new) }
+        scribe.new (HearsMore L.heard listener.old listener.new)) }
     ensures draft { OnOk result (HasDraft (H.seen shelf.new).told) }
     ensures lane { OnOk result (scribe.new.lane ≡ scribe.old.lane) }
     ensures going_on { OnOk result (scribe.new.held.ended ≡ false) }
@@ -164,6 +245,7 @@ fn record_pieces<'a, H: Shelf, F: Site>(
     ensures refused { IfErr result (HasFileCause name.now
         (filed (H.seen shelf.old) (F.seen site.old))
         (filed (H.seen shelf.new) (F.seen site.new))) }
+    ensures stops { MayStop L.heard L.keeps listener.old listener.new }
 {
     let mut piece = [0u8; PIECE];
     let mut total = 0;
@@ -182,6 +264,6 @@ fn record_pieces<'a, H: Shelf, F: Site>(
             return Err(RecordFault::FileTooLong(name));
         }
         scribe.feed(&piece[..count]);
-        write_packets(shelf, scribe, run, packets)?;
+        write_packets(shelf, scribe, listener, packets)?;
     }
 }

@@ -10,6 +10,7 @@
 //! - `recording`, `files`: what is recorded of the input, or of files
 //! - `told`, `asking`, `copying`: what is told of the runs, and a run's bytes
 //! - `reporting`, `printing`: the report of a run, made and printed
+//! - `speaking`: what is said of a run while it goes on
 //! - `times_file`: times that a file holds
 //! - `selecting`, `planning`, `working`: which tests run, what each worker is started with, and the workers themselves
 //! - `upgrading`: a folder of the original tool, made a repository
@@ -31,6 +32,7 @@ mod recording;
 mod refreshing;
 mod reporting;
 mod selecting;
+mod speaking;
 mod store;
 mod suite_refusals;
 mod telling;
@@ -43,13 +45,14 @@ mod working;
 pub use answer::{Refusal, Verdict};
 pub use causes::find_causes;
 pub use copying::{CopyFault, copy_last};
-pub use files::record_sources;
+pub use files::{Recorded, record_sources};
 pub use planning::{LongId, WorkPlan, plan};
 pub use printing::print_report;
 pub use recording::RecordFault;
 pub use refreshing::refresh;
 pub use reporting::{Ending, PrintFault, end_report, print, verdict_kept};
-pub use selecting::{Further, FurtherRefusal, Selected, read_further, select};
+pub use selecting::{Further, FurtherRefusal, Selected, read_further, read_ids, select};
+pub use speaking::{Silenced, say_end};
 pub use store::{
     KeepFault, RunsFault, begin, have_run, keep, make, make_where_none, open, take_run,
 };

@@ -1,28 +1,26 @@
-//! Records an input as it is read: each piece of it becomes packets, which are folded as they are given, and are
-//! written behind the draft. A piece may decide very many, so they are written as soon as they have `PIECE` bytes: less
-//! than that and one packet are held at most.
+//! Records an input as it is read: each piece of it becomes packets, which are written behind the draft, and heard as
+//! they are. A piece may decide very many, so they are written as soon as they have `PIECE` bytes: less than that and one
+//! packet are held at most.
 
-ghost use Rattle.std.specs.Prelude.{◌≡◌, ℕ, ◌<◌, ◌≤◌, List, [], ◌++◌, true, false, length, IfOk, IfErr, OnOk};
+ghost use Rattle.std.specs.Prelude.{◌≡◌, ◌<◌, ◌≤◌, [], true, false, length, IfOk, IfErr, OnOk};
 ghost use Rattle.edge_io.specs.Steps.{Goes, Grown, HasDraft};
 ghost use Rattle.packet_codec.specs.Grammar.{AreBytes};
-ghost use Rattle.run_ledger.specs.Writing.{HasWritten};
+ghost use Rattle.packet_codec.specs.Packets.{ArePackets};
 ghost use Rattle.run_shelf.specs.Drafts.{SameButDraft};
 ghost use Rattle.stream_reader.specs.Room.{most_held};
-ghost use Rattle.suite_run.specs.Summed.{GivesSums};
 ghost use Rattle.command_steps.specs.Outside.{fed};
-ghost use Rattle.command_steps.specs.Recording.{Records, RecordsPieces, WritesPackets, IsOneMore, most_gathered, HasRecordCause, HasWriteCause, record_code, record_text};
+ghost use Rattle.command_steps.specs.Hearing.{HearsMore, MayStop};
+ghost use Rattle.command_steps.specs.Recording.{RecordsBytes, RecordsPieces, WritesPackets, IsOneMore, most_gathered, HasRecordCause, HasWriteCause, record_code, record_text};
 ghost use Rattle.command_steps.specs.Telling.{line_text};
 ghost use Rattle.command_steps.specs.declared.recording.RecordFault.TheVariants.{Shelf as ShelfFailed, Input, NoMemory};
 ghost use Rattle.worker_lane.specs.Scribing.{Recording, GivesPacket, GivesPackets, HasNone, most_left};
 
 use crate::telling::{Line, Part};
 use edge_io::{Failed, MOST_BYTES, PIECE, Shelf, Source};
-use outcome_fold::Summary;
-use packet_codec::Tags;
-use run_ledger::WrittenRun;
 use run_shelf::{ShelfCall, add_packet};
 use std::alloc::Global;
 use worker_lane::Scribe;
+use worker_mux::Listener;
 
 /// Why an input was not recorded whole.
 #[derive(Clone, Copy, Debug, PartialEq, Eq)]
@@ -103,46 +101,51 @@ impl<'a> From<sub_number::NoMemory> for RecordFault<'a> {
     }
 }
 
-/// Records the input under lane 0, behind the draft that was begun, and gives what is kept of the rows of what was written.
-/// No tag filters. It is read in pieces, to its end.
-pub fn record<H: Shelf, I: Source>(
+/// Records the input under lane 0, behind the draft that was begun, and lets what was written be heard. It is read in
+/// pieces, to its end.
+pub(crate) fn record<H: Shelf, I: Source, L: Listener>(
     alloc: Global,
     shelf: &mut H,
     input: &mut I,
-) -> Result<Summary, RecordFault<'static>>
-    requires { HasDraft (H.seen shelf.old).told }
-    ensures { GivesSums [] (Records
+    listener: &mut L,
+) -> Result<(), RecordFault<'static>>
+    requires draft { HasDraft (H.seen shelf.old).told }
+    ensures recorded { OnOk result (RecordsBytes
         (fed (H.seen shelf.old) (I.seen input.old))
-        (fed (H.seen shelf.new) (I.seen input.new))) result }
+        (fed (H.seen shelf.new) (I.seen input.new))
+        (HearsMore L.heard listener.old listener.new)) }
+    ensures draft { OnOk result (HasDraft (H.seen shelf.new).told) }
+    ensures rests { Goes (H.seen shelf.old).told (H.seen shelf.new).told SameButDraft }
+    ensures refused { IfErr result (HasRecordCause
+        (fed (H.seen shelf.old) (I.seen input.old))
+        (fed (H.seen shelf.new) (I.seen input.new))) }
+    ensures stops { MayStop L.heard L.keeps listener.old listener.new }
 {
     let mut scribe = Scribe::new(alloc, 0)?;
-    let mut run = WrittenRun::new(alloc, Tags::new(alloc));
     let mut packets = Vec::new(alloc);
-    record_pieces(shelf, input, &mut scribe, &mut run, &mut packets)?;
+    record_pieces(shelf, input, &mut scribe, listener, &mut packets)?;
     scribe.finish();
-    write_packets(shelf, &mut scribe, &mut run, &mut packets)?;
-    let summary = run.close()?;
-    Ok(summary)
+    write_packets(shelf, &mut scribe, listener, &mut packets)?;
+    Ok(())
 }
 
 // Records the input piece by piece, up to its end, which the scribe is not told.
-fn record_pieces<H: Shelf, I: Source>(
+fn record_pieces<H: Shelf, I: Source, L: Listener>(
     shelf: &mut H,
     input: &mut I,
     scribe: &mut Scribe,
-    run: &mut WrittenRun,
+    listener: &mut L,
     packets: &mut Vec<u8>,
 ) -> Result<(), RecordFault<'static>>
     requires draft { HasDraft (H.seen shelf.old).told }
     requires going_on { scribe.old.held.ended ≡ false }
     requires held { length scribe.old.held.bytes ≤ most_held }
     requires recording { Recording [] scribe.old [] }
-    requires folded { HasWritten [] run.old [] }
     requires empty { packets.old.items ≡ [] }
     ensures recorded { OnOk result (RecordsPieces
         (fed (H.seen shelf.old) (I.seen input.old))
         (fed (H.seen shelf.new) (I.seen input.new))
-        scribe.new run.new) }
+        scribe.new (HearsMore L.heard listener.old listener.new)) }
     ensures draft { OnOk result (HasDraft (H.seen shelf.new).told) }
     ensures lane { OnOk result (scribe.new.lane ≡ scribe.old.lane) }
     ensures going_on { OnOk result (scribe.new.held.ended ≡ false) }
@@ -151,6 +154,7 @@ fn record_pieces<H: Shelf, I: Source>(
     ensures refused { IfErr result (HasRecordCause
         (fed (H.seen shelf.old) (I.seen input.old))
         (fed (H.seen shelf.new) (I.seen input.new))) }
+    ensures stops { MayStop L.heard L.keeps listener.old listener.new }
 {
     let mut piece = [0u8; PIECE];
     let mut total = 0;
@@ -164,30 +168,31 @@ fn record_pieces<H: Shelf, I: Source>(
             return Err(RecordFault::TooLong);
         }
         scribe.feed(&piece[..count]);
-        write_packets(shelf, scribe, run, packets)?;
+        write_packets(shelf, scribe, listener, packets)?;
     }
 }
 
-// Writes all packets that are decided by now behind the draft, and folds them. None are gathered before, nor afterwards.
-pub(crate) fn write_packets<'a, H: Shelf>(
+// Writes all packets that are decided by now behind the draft, and lets them be heard. None are gathered before, nor afterwards.
+pub(crate) fn write_packets<'a, H: Shelf, L: Listener>(
     shelf: &mut H,
     scribe: &mut Scribe,
-    run: &mut WrittenRun,
+    listener: &mut L,
     packets: &mut Vec<u8>,
 ) -> Result<(), RecordFault<'a>>
     requires draft { HasDraft (H.seen shelf.old).told }
     requires empty { packets.old.items ≡ [] }
-    ensures written { OnOk result (WritesPackets (H.seen shelf.old) (H.seen shelf.new) scribe.old scribe.new run.old run.new) }
+    ensures written { OnOk result (WritesPackets (H.seen shelf.old) (H.seen shelf.new) scribe.old scribe.new (HearsMore L.heard listener.old listener.new)) }
     ensures none { OnOk result (HasNone scribe.new) }
     ensures held { OnOk result (scribe.new.held.ended ≡ false → length scribe.new.held.bytes ≤ most_held) }
     ensures empty { OnOk result (packets.new.items ≡ []) }
     ensures draft { OnOk result (HasDraft (H.seen shelf.new).told) }
     ensures rests { Goes (H.seen shelf.old).told (H.seen shelf.new).told SameButDraft }
     ensures refused { IfErr result (HasWriteCause (H.seen shelf.old) (H.seen shelf.new)) }
+    ensures stops { MayStop L.heard L.keeps listener.old listener.new }
 {
     loop {
-        let more = gather_packets(scribe, run, packets)?;
-        write_gathered(shelf, packets)?;
+        let more = gather_packets(scribe, packets)?;
+        write_gathered(shelf, listener, packets)?;
         if !more {
             return Ok(());
         }
@@ -195,22 +200,17 @@ pub(crate) fn write_packets<'a, H: Shelf>(
 }
 
 // Gathers packets until they have `PIECE` bytes or more, and answers true then; false where no more are decided by now.
-// They are folded as they are given.
-fn gather_packets(
-    scribe: &mut Scribe,
-    run: &mut WrittenRun,
-    packets: &mut Vec<u8>,
-) -> Result<bool, sub_number::NoMemory>
+fn gather_packets(scribe: &mut Scribe, packets: &mut Vec<u8>) -> Result<bool, sub_number::NoMemory>
     requires { packets.old.items ≡ [] }
     ensures given { GivesPackets scribe.old [] scribe.new packets.new.items }
-    ensures folded { (bytes : List ℕ) → HasWritten [] run.old bytes → OnOk result (HasWritten [] run.new (bytes ++ packets.new.items)) }
+    ensures packets { OnOk result (ArePackets packets.new.items) }
     ensures shorter { IfOk result (λ more. more ≡ true → most_left scribe.new < most_left scribe.old) }
     ensures one_more { IfOk result (λ more. more ≡ true → IsOneMore scribe.new packets.new.items) }
     ensures none { IfOk result (λ more. more ≡ false → HasNone scribe.new) }
     ensures held { IfOk result (λ more. more ≡ false → scribe.new.held.ended ≡ false → length scribe.new.held.bytes ≤ most_held) }
     ensures few { IfOk result (λ more. more ≡ false → length packets.new.items < most_gathered) }
 {
-    while gather_next(scribe, run, packets)? {
+    while scribe.next_into(packets)? {
         if packets.len() >= PIECE {
             return Ok(true);
         }
@@ -218,42 +218,31 @@ fn gather_packets(
     Ok(false)
 }
 
-// Appends the next packet, folds it from where it stands then, and answers true; false where no more are decided by now.
-fn gather_next(
-    scribe: &mut Scribe,
-    run: &mut WrittenRun,
+// Writes the packets that were gathered behind the draft, and lets them be heard then. Where there are none the folder is not
+// called, and nothing is heard.
+fn write_gathered<'a, H: Shelf, L: Listener>(
+    shelf: &mut H,
+    listener: &mut L,
     packets: &mut Vec<u8>,
-) -> Result<bool, sub_number::NoMemory>
-    ensures given { GivesPackets scribe.old packets.old.items scribe.new packets.new.items }
-    ensures one { IfOk result (λ more. more ≡ true → GivesPacket scribe.old packets.old.items scribe.new packets.new.items) }
-    ensures folded { (bytes : List ℕ) → HasWritten [] run.old (bytes ++ packets.old.items) → OnOk result (HasWritten [] run.new (bytes ++ packets.new.items)) }
-    ensures shorter { IfOk result (λ more. more ≡ true → most_left scribe.new < most_left scribe.old) }
-    ensures none { IfOk result (λ more. more ≡ false → HasNone scribe.old × (scribe.new ≡ scribe.old) × (packets.new.items ≡ packets.old.items)) }
-{
-    let start = packets.len();
-    if !scribe.next_into(packets)? {
-        return Ok(false);
-    }
-    run.hear(&packets[start..])?;
-    Ok(true)
-}
-
-// Writes the packets that were gathered behind the draft. Where there are none the folder is not called.
-fn write_gathered<'a, H: Shelf>(shelf: &mut H, packets: &mut Vec<u8>) -> Result<(), RecordFault<'a>>
-    requires { HasDraft (H.seen shelf.old).told }
+) -> Result<(), RecordFault<'a>>
+    requires draft { HasDraft (H.seen shelf.old).told }
+    requires packets { ArePackets packets.old.items }
     ensures idle { packets.old.items ≡ [] → H.clock shelf.new ≡ H.clock shelf.old }
     ensures are_bytes { AreBytes packets.old.items }
     ensures written { OnOk result (Goes (H.seen shelf.old).told (H.seen shelf.new).told (Grown packets.old.items)) }
+    ensures heard { OnOk result (HearsMore L.heard listener.old listener.new packets.old.items) }
     ensures empty { OnOk result (packets.new.items ≡ []) }
     ensures draft { OnOk result (HasDraft (H.seen shelf.new).told) }
     ensures rests { Goes (H.seen shelf.old).told (H.seen shelf.new).told SameButDraft }
     ensures count { OnOk result ((H.seen shelf.new).faults ≡ (H.seen shelf.old).faults) }
     ensures refused { IfErr result (HasWriteCause (H.seen shelf.old) (H.seen shelf.new)) }
+    ensures stops { MayStop L.heard L.keeps listener.old listener.new }
 {
     if packets.is_empty() {
         return Ok(());
     }
     add_packet(shelf, packets)?;
+    listener.hear(packets)?;
     packets.clear();
     Ok(())
 }

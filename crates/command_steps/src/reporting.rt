@@ -1,45 +1,63 @@
 //! What is told of a run.
 
-ghost use Rattle.std.specs.Prelude.{◌≡◌, [], ℕ, List, All, IfOk};
+ghost use Rattle.std.specs.Prelude.{◌≡◌, ◌++◌, [], ℕ, List, All, IfOk, OnOk};
 ghost use Rattle.std.specs.List.{filter, list_any};
 ghost use Rattle.outcome_fold.specs.Answers.{row_fails};
 ghost use Rattle.outcome_fold.specs.Summed.{Sums};
 ghost use Rattle.outcome_fold.specs.declared.row.Row.{Row as ARow};
 ghost use Rattle.sub_text.specs.Texts.{report_of};
 ghost use Rattle.command_steps.specs.Verdicts.{verdict_of};
-ghost use Rattle.command_steps.specs.Reporting.{Reports, Prints, shown_with, print_text};
+ghost use Rattle.command_steps.specs.Reporting.{Reports, Prints, notes_for, shown_with, print_text};
 ghost use Rattle.command_steps.specs.Telling.{line_text};
 
 use crate::Verdict;
 use crate::telling::Line;
+use build_notes::notes_text;
 use edge_io::{Failed, Sink, write_whole};
 use outcome_fold::{Row, Rows, Summary};
 use packet_codec::Tags;
 use std::alloc::Global;
 use sub_number::NoMemory;
 use sub_text::{report_text, summary_from};
+use testr_words::FormatKind;
 
 /// How the report of a run ends. It is made before anything is printed, so that printing takes no memory; `load` makes it before
 /// the run is kept, too.
 #[derive(Drop)]
 pub struct Ending {
-    /// The last two lines.
+    /// The last two lines, and the notes behind them.
     pub lines: Vec<u8>,
     /// Whether the tests passed.
     pub verdict: Verdict,
 }
 
-/// How the report of the run of this number ends, of whose rows this is kept. Tests that do not fail and have one of the tags
-/// that filter it are not counted.
-pub fn end_report(alloc: Global, number: u32, summary: &Summary) -> Result<Ending, NoMemory>
-    ensures { (filter_tags : List (List ℕ)) (rows : List ARow) → Sums filter_tags rows summary.now → Reports number filter_tags rows (shown_with (filter row_fails rows) result) }
+/// How the report of the run of this number ends, for this reader, of whose rows this is kept. Tests that do not fail and have one
+/// of the tags that filter it are not counted.
+pub fn end_report(
+    alloc: Global,
+    format: FormatKind,
+    number: u32,
+    summary: &Summary,
+) -> Result<Ending, NoMemory>
+    ensures { (filter_tags : List (List ℕ)) (rows : List ARow) → Sums filter_tags rows summary.now → Reports format number filter_tags rows (shown_with (filter row_fails rows) result) }
 {
     let mut lines = Vec::new(alloc);
     summary_from(summary.counts(), number, &mut lines)?;
+    put_notes(format, summary, &mut lines)?;
     Ok(Ending {
         lines,
         verdict: verdict_kept(summary),
     })
+}
+
+// Appends the notes of the rows that fail, where this reader has them.
+fn put_notes(format: FormatKind, summary: &Summary, text: &mut Vec<u8>) -> Result<(), NoMemory>
+    ensures { (filter_tags : List (List ℕ)) (rows : List ARow) → Sums filter_tags rows summary.now → OnOk result (text.new.items ≡ text.old.items ++ notes_for format rows) }
+{
+    match format {
+        FormatKind::Plain => Ok(()),
+        FormatKind::Github => notes_text(summary.failing(), text),
+    }
 }
 
 /// A write failed.

@@ -151,6 +151,17 @@ fn load_list<'a, F: Site>(
     }
 }
 
+/// The ids of the file of this name.
+pub fn read_ids<'a, F: Site>(
+    alloc: Global,
+    name: &'a Text,
+    site: &mut F,
+) -> Result<IdList, ListRefusal<'a>>
+    ensures { ReadsLoadList name.now (F.seen site.old) (F.seen site.new) result }
+{
+    read_load_list(alloc, site, name_of(name))
+}
+
 /// The patterns of the lists that the command names, and the times of the file that it names.
 pub fn read_further<'a, F: Site>(
     alloc: Global,

@@ -1,12 +1,12 @@
 //! What is told of the runs of a repository.
 
-ghost use Rattle.std.specs.Prelude.{◌≡◌, ◌<◌, ◌-◌, None, length, IfSome, IfOk};
+ghost use Rattle.std.specs.Prelude.{◌≡◌, ◌<◌, ◌-◌, ◌++◌, None, ℕ, List, length, IfSome, IfOk, OnOk};
 ghost use Rattle.edge_io.specs.Steps.{Goes, Stays};
 ghost use Rattle.edge_io.specs.Causes.{RisesExactlyIf};
 ghost use Rattle.run_shelf.specs.Holds.{kinds_of, FitsWhereTold};
 ghost use Rattle.run_shelf.specs.Stores.{store_kinds, store_fault, FitsUnlessBroken};
 ghost use Rattle.run_ledger.specs.Ledger.{HasRowsAt};
-ghost use Rattle.command_steps.specs.Says.{SaysReport, SaysSkips, SaysSlowest, SaysFailing, SaysStats, stats_of, verdict_of_failing};
+ghost use Rattle.command_steps.specs.Says.{SaysReport, SaysSkips, SaysNotes, TellsReasons, IsNotedReport, SaysSlowest, SaysFailing, SaysLastFailures, SaysFailurePackets, SaysStats, stats_of, verdict_of_failing};
 ghost use Rattle.testr_words.specs.Questions.{OfBytes, OfLastRun};
 ghost use Rattle.command_steps.specs.Calls.{SparesFor, SparesRuns};
 ghost use Rattle.command_steps.specs.Telling.{line_text};
@@ -16,8 +16,10 @@ ghost use Rattle.command_steps.specs.Trusted.{SoundFailing};
 use crate::Verdict;
 use crate::reporting::{report, verdict};
 use crate::telling::Line;
+use build_notes::notes_text;
 use edge_io::Shelf;
 use itoa::Buffer;
+use last_failures::{last_failures, last_failures_text, last_packets_text};
 use outcome_fold::Rows;
 use run_ledger::{LedgerFault, failing, rows_of};
 use run_shelf::{Found, Store};
@@ -112,7 +114,10 @@ fn answer_of<H: Shelf>(
     match question {
         Question::Last { .. } => tell_report(alloc, store),
         Question::Skips => tell_skips(alloc, store),
+        Question::Notes { skips } => tell_notes(alloc, skips, store),
         Question::Failing { list } => tell_failing(alloc, list, store),
+        Question::LastFailures => tell_last_failures(alloc, store),
+        Question::FailurePackets => tell_failure_packets(alloc, store),
         Question::Slowest { all } => tell_slowest(alloc, all, store),
         Question::Stats => tell_stats(alloc, store),
     }
@@ -186,6 +191,55 @@ fn tell_skips<H: Shelf>(alloc: Global, store: &mut Store<'_, H>) -> Result<Told,
     })
 }
 
+// The report of the last run, why tests were skipped, where that is wanted, and the notes of those that failed.
+fn tell_notes<H: Shelf>(
+    alloc: Global,
+    skips: bool,
+    store: &mut Store<'_, H>,
+) -> Result<Told, TellFault>
+    requires some { 0 < length (store_kinds store.old) }
+    requires open { store_fault store.old ≡ None }
+    requires fits { FitsUnlessBroken (store_kinds store.old) (store_fault store.old) (H.seen store.old.shelf.now).told }
+    ensures same_reference { store.new.shelf.ghost_name ≡ store.old.shelf.ghost_name }
+    ensures told { IfOk result (λ told. IfSome (H.seen store.old.shelf.now).told (TellsSo (SaysNotes skips) told)) }
+    ensures count { RisesExactlyIf (H.seen store.old.shelf.now).faults (H.seen store.new.shelf.now).faults (tell_failed result) }
+    ensures same { Goes (H.seen store.old.shelf.now).told (H.seen store.new.shelf.now).told Stays }
+{
+    let number = store.runs() - 1;
+    let rows = match last_rows(alloc, store) {
+        Ok(rows) => rows,
+        Err(fault) => return Err(fault),
+    };
+    let Ok(text) = noted_report(alloc, skips, &rows, number) else {
+        return Err(TellFault::NoMemory);
+    };
+    Ok(Told {
+        text,
+        verdict: verdict(&rows),
+    })
+}
+
+// The report of the run of this number, why tests were skipped, where that is wanted, and the notes.
+fn noted_report(alloc: Global, skips: bool, rows: &Rows, number: u32) -> Result<Vec<u8>, NoMemory>
+    ensures { IfOk result (λ text. IsNotedReport skips rows.now number text.items) }
+{
+    let mut text = report(alloc, rows, number)?;
+    put_reasons(alloc, skips, rows, &mut text)?;
+    notes_text(rows.list(), &mut text)?;
+    Ok(text)
+}
+
+// Appends why tests were skipped, where that is wanted.
+fn put_reasons(alloc: Global, skips: bool, rows: &Rows, text: &mut Vec<u8>) -> Result<(), NoMemory>
+    ensures { OnOk result ((reasons : List ℕ) × TellsReasons skips rows.now reasons × (text.new.items ≡ text.old.items ++ reasons)) }
+{
+    if skips {
+        skips_text(alloc, rows, text)
+    } else {
+        Ok(())
+    }
+}
+
 // The slowest tests of the last run.
 fn tell_slowest<H: Shelf>(
     alloc: Global,
@@ -239,6 +293,63 @@ fn tell_failing<H: Shelf>(
     Ok(Told {
         text,
         verdict: failing_verdict(&ids),
+    })
+}
+
+// How each test that fails by all runs failed last.
+fn tell_last_failures<H: Shelf>(alloc: Global, store: &mut Store<'_, H>) -> Result<Told, TellFault>
+    requires open { store_fault store.old ≡ None }
+    requires fits { FitsUnlessBroken (store_kinds store.old) (store_fault store.old) (H.seen store.old.shelf.now).told }
+    ensures same_reference { store.new.shelf.ghost_name ≡ store.old.shelf.ghost_name }
+    ensures told { IfOk result (λ told. IfSome (H.seen store.old.shelf.now).told (λ s. SoundFailing s → TellsSo SaysLastFailures told s)) }
+    ensures count { RisesExactlyIf (H.seen store.old.shelf.now).faults (H.seen store.new.shelf.now).faults (tell_failed result) }
+    ensures same { Goes (H.seen store.old.shelf.now).told (H.seen store.new.shelf.now).told Stays }
+{
+    let ids = match failing(alloc, store) {
+        Ok(ids) => ids,
+        Err(fault) => return Err(ledger_refusal(fault)),
+    };
+    let found = match last_failures(alloc, store, &ids, false) {
+        Ok(found) => found,
+        Err(fault) => return Err(ledger_refusal(fault)),
+    };
+    let mut text = Vec::new(alloc);
+    let Ok(()) = last_failures_text(alloc, &ids, &found, &mut text) else {
+        return Err(TellFault::NoMemory);
+    };
+    Ok(Told {
+        text,
+        verdict: failing_verdict(&ids),
+    })
+}
+
+// The packets of how each test that fails by all runs failed last.
+fn tell_failure_packets<H: Shelf>(
+    alloc: Global,
+    store: &mut Store<'_, H>,
+) -> Result<Told, TellFault>
+    requires open { store_fault store.old ≡ None }
+    requires fits { FitsUnlessBroken (store_kinds store.old) (store_fault store.old) (H.seen store.old.shelf.now).told }
+    ensures same_reference { store.new.shelf.ghost_name ≡ store.old.shelf.ghost_name }
+    ensures told { IfOk result (λ told. IfSome (H.seen store.old.shelf.now).told (λ s. SoundFailing s → TellsSo SaysFailurePackets told s)) }
+    ensures count { RisesExactlyIf (H.seen store.old.shelf.now).faults (H.seen store.new.shelf.now).faults (tell_failed result) }
+    ensures same { Goes (H.seen store.old.shelf.now).told (H.seen store.new.shelf.now).told Stays }
+{
+    let ids = match failing(alloc, store) {
+        Ok(ids) => ids,
+        Err(fault) => return Err(ledger_refusal(fault)),
+    };
+    let found = match last_failures(alloc, store, &ids, true) {
+        Ok(found) => found,
+        Err(fault) => return Err(ledger_refusal(fault)),
+    };
+    let mut text = Vec::new(alloc);
+    let Ok(()) = last_packets_text(&ids, &found, &mut text) else {
+        return Err(TellFault::NoMemory);
+    };
+    Ok(Told {
+        text,
+        verdict: Verdict::Passed,
     })
 }
 

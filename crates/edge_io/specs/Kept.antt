@@ -58,6 +58,7 @@ latest found (mark ∷ marks) moment = latest (if nat_le mark.since moment then 
 abbrev pub mark_in_force : List Mark → ℕ → Mark
 mark_in_force marks moment = latest first_mark marks moment
 
+-- what reads give of such a disk is among what a stop may leave of it
 pub disk_counts : (stable : Files) (pending : Option File) (whole : Bool) → IsImage (disk_with stable pending whole) (disk_with stable pending whole).published
 disk_counts stable None whole = inl (λ i. stable)
 disk_counts stable (Some file) whole = inr (file.bytes.items, λ i. put stable (string_bytes file.name) file.bytes.items, λ t. put_same stable (string_bytes file.name) file.bytes.items)

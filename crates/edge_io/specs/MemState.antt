@@ -14,6 +14,7 @@ folder_of shelf = record {
   past = map (disk_at shelf.files.items) shelf.past.items;
 }
 
+-- what reads give of a shelf in memory is among what a stop may leave of its disk
 pub folder_counts : (shelf : MemShelf) → IsImage (folder_of shelf).disk (folder_of shelf).disk.published
 folder_counts shelf = disk_counts _ _ _
 

@@ -4,7 +4,10 @@ use Rattle.std.specs.List.{flat_map}
 use Rattle.std.specs.Option.{unwrap_or}
 use Rattle.std.proofs.lemmas.List.{take_more}
 use Rattle.packet_codec.specs.declared.event.Event.{Event}
-use Rattle.outcome_fold.specs.Parts.{last_tags, text_in, text_limit, text_of, reason_in, reason_limit, reason_of}
+use Rattle.outcome_fold.specs.Parts.{last_tags, text_in, reason_in, reason_limit, reason_of}
+use Rattle.outcome_fold.specs.declared.files.KeptFiles.{KeptFiles}
+use Rattle.outcome_fold.specs.Files.{name_in, files_of, with_piece}
+use Rattle.outcome_fold.proofs.FileLemmas.{files_push}
 use Rattle.outcome_fold.proofs.StepLemmas.{last_tags_at, flat_map_push, take_again}
 
 abbrev At : List Event → ℕ → Event → Type 0
@@ -17,13 +20,11 @@ next_is part i e below is = take_more part i e below ∙ ap (λ x. take i part +
 pub tags_take : (part : List Event) (i : ℕ) (e : Event) (tags : Option (List (List ℕ))) → i < length part → At part i e → e.tags ≡ tags → last_tags (take (i + 1) part) ≡ unwrap_or tags (last_tags (take i part))
 tags_take part i e tags below is own = ap last_tags (next_is part i e below is) ∙ last_tags_at tags (take i part) e own
 
--- the text that is kept, with one event more
-pub text_take : (part : List Event) (i : ℕ) (e : Event) (text next : List ℕ) → i < length part → At part i e → text ≡ text_of (take i part) → next ≡ take text_limit (text ++ text_in e.mime e.file) → next ≡ text_of (take (i + 1) part)
-text_take part i e text next below is before kept =
-    let piece = λ (e : Event). text_in e.mime e.file in
-    kept ∙ ap (λ t. take text_limit (t ++ piece e)) before
-    ∙ take_again text_limit (flat_map piece (take i part)) (piece e)
-    ∙ ap (take text_limit) (sym (flat_map_push piece (take i part) e) ∙ ap (flat_map piece) (sym (next_is part i e below is)))
+-- the files that are kept, with one event more
+pub files_take : (part : List Event) (i : ℕ) (e : Event) (files next : KeptFiles) → i < length part → At part i e → files ≡ files_of (take i part) → next ≡ with_piece files (name_in e.file) (text_in e.mime e.file) → next ≡ files_of (take (i + 1) part)
+files_take part i e files next below is before kept =
+    kept ∙ ap (λ (files : KeptFiles). with_piece files (name_in e.file) (text_in e.mime e.file)) before
+    ∙ sym (files_push (take i part) e) ∙ ap files_of (sym (next_is part i e below is))
 
 -- the same of the reason
 pub reason_take : (part : List Event) (i : ℕ) (e : Event) (reason next : List ℕ) → i < length part → At part i e → reason ≡ reason_of (take i part) → next ≡ take reason_limit (reason ++ reason_in e.file) → next ≡ reason_of (take (i + 1) part)

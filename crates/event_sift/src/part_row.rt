@@ -2,9 +2,13 @@
 
 ghost use Rattle.std.specs.Prelude.{◌≡◌, [], IfOk, if◌then◌else◌};
 ghost use Rattle.outcome_fold.specs.Parts as parts;
+ghost use Rattle.outcome_fold.specs.Files as files_are;
 ghost use Rattle.outcome_fold.specs.Rows as rows;
 
-use outcome_fold::{Ended, KeptText, Row, TestKey, instant_of, reason_in, sorted_tags, text_in};
+use outcome_fold::{
+    Ended, KeptFiles, KeptText, Row, TestKey, file_name_in, instant_of, reason_in, sorted_tags,
+    text_in,
+};
 use packet_codec::Event;
 use std::alloc::Global;
 use sub_number::{Bytes, NoMemory, Text};
@@ -32,28 +36,27 @@ fn last_tags(part: &[Event]) -> &[Text]
     last
 }
 
-// The first bytes of the files of text, joined.
-fn kept_text(alloc: Global, part: &[Event]) -> Result<KeptText, NoMemory>
-    ensures { IfOk result (λ text. text ≡ parts.text_of part.now) }
+// The files of text, as far as they are kept.
+fn kept_files(alloc: Global, part: &[Event]) -> Result<KeptFiles, NoMemory>
+    ensures { IfOk result (λ files. files ≡ files_are.files_of part.now) }
 {
-    let mut text = KeptText::new(alloc);
+    let mut files = KeptFiles::new(alloc);
     for event in part {
-        text.append(text_in(event))?;
+        files.append(alloc, file_name_in(event), text_in(event))?;
     }
-    Ok(text)
+    Ok(files)
 }
 
-// The same, as bytes.
+// The text that shows them.
 fn text_of(alloc: Global, part: &[Event]) -> Result<Bytes, NoMemory>
-    ensures { IfOk result (λ text. text ≡ parts.text_of part.now) }
+    ensures { IfOk result (λ text. text ≡ files_are.text_of part.now) }
 {
-    let text = kept_text(alloc, part)?;
-    Ok(text.into_bytes())
+    kept_files(alloc, part)?.shown(alloc)
 }
 
 // The text of a row that ended so: that of its events where the row fails, else none.
 fn row_text(alloc: Global, ended: Ended, part: &[Event]) -> Result<Bytes, NoMemory>
-    ensures { IfOk result (λ text. text ≡ (if rows.is_failure ended then parts.text_of part.now else [])) }
+    ensures { IfOk result (λ text. text ≡ (if rows.is_failure ended then files_are.text_of part.now else [])) }
 {
     if ended.fails() {
         text_of(alloc, part)

@@ -6,6 +6,8 @@ use Rattle.edge_io.specs.Bytes.{AppendsPrefix}
 use Rattle.event_sift.specs.declared.rules.Rules.{Rules}
 use Rattle.event_sift.specs.Keeping.{keeps}
 use Rattle.sub_export.specs.Records.{csv_head_text}
+use Rattle.stream_end.specs.Inside.{ends_inside}
+use Rattle.filter_cli.specs.declared.filter.StreamEnd.{StreamEnd}
 use Rattle.filter_cli.specs.declared.pass.PumpFault.{PumpFault}
 use Rattle.filter_cli.specs.Exporting.{csv_plan, IsCsvSeen, IsCsvFiltered}
 use Rattle.filter_cli.specs.Headed.{IsSeenBelow, IsWholeBelow}
@@ -48,10 +50,10 @@ nothing_below head plan None out = tt
 nothing_below head plan (Some bytes) out = below_prefix head plan (Some bytes) out out (λ are all status filtered. (0, omega arith, Appends-nil out))
 
 -- the same head, and the same rules
-pub csv_pumps : (head : List ℕ) (rules other : Rules) (before after : Pipe) (result : Result ℕ PumpFault) → head ≡ csv_head_text → other ≡ rules → Pumps (IsSeenBelow head (IsSeen (csv_plan (keeps other)))) (IsWholeBelow head (IsFiltered (csv_plan (keeps other)))) before after result → Pumps (IsCsvSeen rules) (IsCsvFiltered rules) before after result
+pub csv_pumps : (head : List ℕ) (rules other : Rules) (before after : Pipe) (result : Result StreamEnd PumpFault) → head ≡ csv_head_text → other ≡ rules → Pumps ends_inside (IsSeenBelow head (IsSeen (csv_plan (keeps other)))) (IsWholeBelow head (IsFiltered (csv_plan (keeps other)))) before after result → Pumps ends_inside (IsCsvSeen rules) (IsCsvFiltered rules) before after result
 csv_pumps head rules other before after result is same pumps =
-    subst (λ (r : Rules). Pumps (IsCsvSeen r) (IsCsvFiltered r) before after result) same
-    (subst (λ (h : List ℕ). Pumps (IsSeenBelow h (IsSeen (csv_plan (keeps other)))) (IsWholeBelow h (IsFiltered (csv_plan (keeps other)))) before after result) is pumps)
+    subst (λ (r : Rules). Pumps ends_inside (IsCsvSeen r) (IsCsvFiltered r) before after result) same
+    (subst (λ (h : List ℕ). Pumps ends_inside (IsSeenBelow h (IsSeen (csv_plan (keeps other)))) (IsWholeBelow h (IsFiltered (csv_plan (keeps other)))) before after result) is pumps)
 
 pub csv_prefix : (head : List ℕ) (rules other : Rules) (told old new : Option (List ℕ)) → head ≡ csv_head_text → other ≡ rules → IfSome told (WritesFirst (IsWholeBelow head (IsFiltered (csv_plan (keeps other)))) old new) → IfSome told (WritesFirst (IsCsvFiltered rules) old new)
 csv_prefix head rules other told old new is same first =

@@ -1,5 +1,5 @@
 -- How a chain goes on, and how it stops.
-use Rattle.std.proofs.Common.{◌≡◌, ℕ, All, Option, None, Some, List, [], Result, Ok, Err, IsTrue, true≢false, refl, sym, ap, subst, ◌∙◌, arith}
+use Rattle.std.proofs.Common.{◌≡◌, ℕ, Bool, All, Option, None, Some, List, [], Result, Ok, Err, IsTrue, true≢false, refl, sym, ap, subst, ◌∙◌, arith}
 use Rattle.std.specs.Prelude.{IsErrAnd, is_some}
 use Rattle.std.proofs.lemmas.Result.{err_from_is_err_and}
 use Rattle.partition_times.specs.Patterns.{IsPattern}
@@ -18,9 +18,10 @@ use Rattle.filter_cli.specs.Exporting.{csv_plan, IsCsvSeen, IsCsvFiltered}
 use Rattle.filter_cli.specs.Headed.{IsSeenBelow, IsWholeBelow}
 use Rattle.filter_cli.specs.Pipe.{Pipe, pipe}
 use Rattle.filter_cli.specs.Plan.{Plan, IsSeen, IsFiltered}
-use Rattle.filter_cli.specs.Pumping.{Pumps}
+use Rattle.stream_end.specs.Inside.{ends_inside}
+use Rattle.filter_cli.specs.Pumping.{Pumps, in_no_packet}
 use Rattle.filter_cli.specs.Tagging.{tags_plan, tags_plan_of}
-use Rattle.filter_cli.specs.Streams.{of_job, writing_of, unread_by, unread_text, sees_by, ends_by, patterns_of}
+use Rattle.filter_cli.specs.Streams.{of_job, writing_of, unread_by, unread_text, inside_by, sees_by, ends_by, patterns_of}
 use Rattle.filter_cli.specs.FileReads.{FeedsFile}
 use Rattle.filter_cli.specs.Outside.{Reach}
 use Rattle.filter_cli.specs.declared.file_loop.FileFault.{FileFault}
@@ -28,6 +29,7 @@ use Rattle.filter_cli.specs.Program.{PumpsOrLeaves, Passes, Checked, FeedsNamed,
 use Rattle.filter_cli.specs.declared.asked.Asked.{Asked}
 use Rattle.filter_cli.specs.declared.asked.Request.{Request}
 use Rattle.filter_cli.specs.declared.asked.Asked.TheVariants.{Output}
+use Rattle.filter_cli.specs.declared.filter.StreamEnd.{StreamEnd}
 use Rattle.filter_cli.specs.declared.pass.PumpFault.{PumpFault}
 use Rattle.filter_cli.specs.declared.refusal.UsageFault.{UsageFault}
 use Rattle.filter_cli.specs.declared.refusal.Refusal.{Refusal}
@@ -49,7 +51,7 @@ pub gives : {W A R : Type 0} {value : A} {after : W} → Gives {R = R} value aft
 gives = record { answer = refl; same = refl }
 
 -- good patterns, and then the rest
-pub checked : (asked : Asked) (before after : Pipe) (result : Result ℕ Refusal) → All IsPattern (patterns_of asked) → Passes asked before after result → Checked asked before after result
+pub checked : (asked : Asked) (before after : Pipe) (result : Result StreamEnd Refusal) → All IsPattern (patterns_of asked) → Passes asked before after result → Checked asked before after result
 checked asked before after result good next = still_done tt good next
 
 pub none_given : All IsPattern []
@@ -57,63 +59,63 @@ none_given k d lt = absurd (omega (arith, lt))
 
 -- ---- the same of another term of the same value
 
-pub performs_as : (fault given : UsageFault) (request other : Option Request) (before after : Reach) (result : Result ℕ Refusal) → given ≡ fault → other ≡ request → Performs given other before after result → Performs fault request before after result
+pub performs_as : (fault given : UsageFault) (request other : Option Request) (before after : Reach) (result : Result StreamEnd Refusal) → given ≡ fault → other ≡ request → Performs given other before after result → Performs fault request before after result
 performs_as fault given request other before after result fault_is is done =
     subst (λ (r : Option Request). Performs fault r before after result) is (subst (λ (f : UsageFault). Performs f other before after result) fault_is done)
 
-pub takes_as : (file given : Option (List ℕ)) (asked : Asked) (before after : Reach) (result : Result ℕ Refusal) → given ≡ file → Takes given asked before after result → Takes file asked before after result
+pub takes_as : (file given : Option (List ℕ)) (asked : Asked) (before after : Reach) (result : Result StreamEnd Refusal) → given ≡ file → Takes given asked before after result → Takes file asked before after result
 takes_as file given asked before after result is done = subst (λ (f : Option (List ℕ)). Takes f asked before after result) is done
 
-pub checked_as : (asked given : Asked) (before after : Pipe) (result : Result ℕ Refusal) → given ≡ asked → Checked given before after result → Checked asked before after result
+pub checked_as : (asked given : Asked) (before after : Pipe) (result : Result StreamEnd Refusal) → given ≡ asked → Checked given before after result → Checked asked before after result
 checked_as asked given before after result is done = subst (λ (a : Asked). Checked a before after result) is done
 
 -- ---- with a file by its name
 
-pub named_as : (asked given : Asked) (name : List ℕ) (before after : Reach) (result : Result ℕ Refusal) → given ≡ asked → Takes (Some name) given before after result → Takes (Some name) asked before after result
+pub named_as : (asked given : Asked) (name : List ℕ) (before after : Reach) (result : Result StreamEnd Refusal) → given ≡ asked → Takes (Some name) given before after result → Takes (Some name) asked before after result
 named_as asked given name before after result is done = subst (λ (a : Asked). Takes (Some name) a before after result) is done
 
 -- good patterns, and then the filter and its file
-pub checked_named : (asked : Asked) (name : List ℕ) (before after : Reach) (result : Result ℕ Refusal) → All IsPattern (patterns_of asked) → MakesAndFeeds name (sees_by (writing_of asked)) (ends_by (writing_of asked)) before after result → Takes (Some name) asked before after result
+pub checked_named : (asked : Asked) (name : List ℕ) (before after : Reach) (result : Result StreamEnd Refusal) → All IsPattern (patterns_of asked) → MakesAndFeeds name (inside_by (writing_of asked)) (sees_by (writing_of asked)) (ends_by (writing_of asked)) before after result → Takes (Some name) asked before after result
 checked_named asked name before after result good next = still_done tt good next
 
 -- the filter was made
-pub made : (name : List ℕ) (sees : List ℕ → List ℕ → Type 0) (ends : List ℕ → List ℕ → ℕ → Type 0) (before after : Reach) (result : Result ℕ Refusal) → FeedsNamed name sees ends before after result → MakesAndFeeds name sees ends before after result
+pub made : {inside : List ℕ → Bool} (name : List ℕ) (sees : List ℕ → List ℕ → Type 0) (ends : List ℕ → List ℕ → ℕ → Type 0) (before after : Reach) (result : Result StreamEnd Refusal) → FeedsNamed name inside sees ends before after result → MakesAndFeeds name inside sees ends before after result
 made name sees ends before after result next = still_done tt tt next
 
 -- by a plan of the same value
-pub plan_named : (plan given : Plan) (name : List ℕ) (before after : Reach) (result : Result ℕ Refusal) → given ≡ plan → MakesAndFeeds name (IsSeen given) (IsFiltered given) before after result → MakesAndFeeds name (IsSeen plan) (IsFiltered plan) before after result
-plan_named plan given name before after result is feeds = subst (λ (p : Plan). MakesAndFeeds name (IsSeen p) (IsFiltered p) before after result) is feeds
+pub plan_named : (plan given : Plan) (name : List ℕ) (before after : Reach) (result : Result StreamEnd Refusal) → given ≡ plan → MakesAndFeeds name ends_inside (IsSeen given) (IsFiltered given) before after result → MakesAndFeeds name ends_inside (IsSeen plan) (IsFiltered plan) before after result
+plan_named plan given name before after result is feeds = subst (λ (p : Plan). MakesAndFeeds name ends_inside (IsSeen p) (IsFiltered p) before after result) is feeds
 
 -- the records by the same rules
-pub records_named_as : (rules given : Rules) (name : List ℕ) (before after : Reach) (result : Result ℕ Refusal) → given ≡ rules → MakesAndFeeds name (IsCsvSeen given) (IsCsvFiltered given) before after result → MakesAndFeeds name (IsCsvSeen rules) (IsCsvFiltered rules) before after result
-records_named_as rules given name before after result is feeds = subst (λ (r : Rules). MakesAndFeeds name (IsCsvSeen r) (IsCsvFiltered r) before after result) is feeds
+pub records_named_as : (rules given : Rules) (name : List ℕ) (before after : Reach) (result : Result StreamEnd Refusal) → given ≡ rules → MakesAndFeeds name ends_inside (IsCsvSeen given) (IsCsvFiltered given) before after result → MakesAndFeeds name ends_inside (IsCsvSeen rules) (IsCsvFiltered rules) before after result
+records_named_as rules given name before after result is feeds = subst (λ (r : Rules). MakesAndFeeds name ends_inside (IsCsvSeen r) (IsCsvFiltered r) before after result) is feeds
 
-pub tells_as : (name given : List ℕ) (outcome : Result ℕ Refusal) (before after : Seen (List ℕ)) (answer : ℕ) → given ≡ name → Tells given outcome before after answer → Tells name outcome before after answer
+pub tells_as : (name given : List ℕ) (outcome : Result StreamEnd Refusal) (before after : Seen (List ℕ)) (answer : ℕ) → given ≡ name → Tells given outcome before after answer → Tells name outcome before after answer
 tells_as name given outcome before after answer is tells = subst (λ (n : List ℕ). Tells n outcome before after answer) is tells
 
 -- what a plan does
-abbrev pub PumpsBy : Plan → Pipe → Pipe → Result ℕ PumpFault → Type 0
-PumpsBy plan = Pumps (IsSeen plan) (IsFiltered plan)
+abbrev pub PumpsBy : Plan → Pipe → Pipe → Result StreamEnd PumpFault → Type 0
+PumpsBy plan = Pumps ends_inside (IsSeen plan) (IsFiltered plan)
 
-pub plan_as : (plan given : Plan) (before after : Pipe) (result : Result ℕ PumpFault) → given ≡ plan → PumpsBy given before after result → PumpsBy plan before after result
+pub plan_as : (plan given : Plan) (before after : Pipe) (result : Result StreamEnd PumpFault) → given ≡ plan → PumpsBy given before after result → PumpsBy plan before after result
 plan_as plan given before after result is pumps = subst (λ (p : Plan). PumpsBy p before after result) is pumps
 
 -- the records by the same rules
-pub records_as : (rules given : Rules) (before after : Pipe) (result : Result ℕ PumpFault) → given ≡ rules → Pumps (IsCsvSeen given) (IsCsvFiltered given) before after result → Pumps (IsCsvSeen rules) (IsCsvFiltered rules) before after result
-records_as rules given before after result is pumps = subst (λ (r : Rules). Pumps (IsCsvSeen r) (IsCsvFiltered r) before after result) is pumps
+pub records_as : (rules given : Rules) (before after : Pipe) (result : Result StreamEnd PumpFault) → given ≡ rules → Pumps ends_inside (IsCsvSeen given) (IsCsvFiltered given) before after result → Pumps ends_inside (IsCsvSeen rules) (IsCsvFiltered rules) before after result
+records_as rules given before after result is pumps = subst (λ (r : Rules). Pumps ends_inside (IsCsvSeen r) (IsCsvFiltered r) before after result) is pumps
 
 -- ---- the events that words ask for
 
-attaches_with : (job : Job) (attachment : Option Attachment) (before after : Pipe) (result : Result ℕ PumpFault) → IsTrue (is_some attachment) → Pumps (IsOutputSeen job) (IsOutput job) before after result → PumpsOrLeaves (unread_by job attachment) (of_job job) before after result
+attaches_with : (job : Job) (attachment : Option Attachment) (before after : Pipe) (result : Result StreamEnd PumpFault) → IsTrue (is_some attachment) → Pumps in_no_packet (IsOutputSeen job) (IsOutput job) before after result → PumpsOrLeaves (unread_by job attachment) (of_job job) before after result
 attaches_with job None before after result some pumps = absurd (true≢false (sym some))
 attaches_with job (Some attachment) before after result some pumps = pumps
 
 -- a job that attaches a file reads the input
-pub attaches_as : (job : Job) (before after : Pipe) (result : Result ℕ PumpFault) → IsTrue (is_some job.attachment) → Pumps (IsOutputSeen job) (IsOutput job) before after result → PumpsOrLeaves (unread_text (Output job)) (writing_of (Output job)) before after result
+pub attaches_as : (job : Job) (before after : Pipe) (result : Result StreamEnd PumpFault) → IsTrue (is_some job.attachment) → Pumps in_no_packet (IsOutputSeen job) (IsOutput job) before after result → PumpsOrLeaves (unread_text (Output job)) (writing_of (Output job)) before after result
 attaches_as job before after result some pumps = attaches_with job job.attachment before after result some pumps
 
 -- one that attaches nothing leaves it unread
-pub leaves_as : (job : Job) (input before after : Seen (List ℕ)) (result : Result ℕ PumpFault) → job.attachment ≡ None → WritesAlone (canonical (last_event job)) before after result → PumpsOrLeaves (unread_text (Output job)) (writing_of (Output job)) (pipe input before) (pipe input after) result
+pub leaves_as : (job : Job) (input before after : Seen (List ℕ)) (result : Result StreamEnd PumpFault) → job.attachment ≡ None → WritesAlone (canonical (last_event job)) before after result → PumpsOrLeaves (unread_text (Output job)) (writing_of (Output job)) (pipe input before) (pipe input after) result
 leaves_as job input before after result none written =
     subst (λ (o : Option Attachment). PumpsOrLeaves (unread_by job o) (of_job job) (pipe input before) (pipe input after) result) (sym none) (record { unread = refl; written = written })
 
@@ -121,15 +123,15 @@ pub tags_is : (tagger : Tagger) (add remove : List (List ℕ)) → tagger.add �
 tags_is tagger add remove add_is remove_is = ap (λ (l : List (List ℕ)). tags_plan_of l tagger.remove) add_is ∙ ap (tags_plan_of add) remove_is
 
 -- a file by the same name
-pub file_as : (name given : List ℕ) (sees : List ℕ → List ℕ → Type 0) (ends : List ℕ → List ℕ → ℕ → Type 0) (before after : Reach) (result : Result ℕ FileFault) → given ≡ name → FeedsFile given sees ends before after result → FeedsFile name sees ends before after result
-file_as name given sees ends before after result is feeds = subst (λ (n : List ℕ). FeedsFile n sees ends before after result) is feeds
+pub file_as : {inside : List ℕ → Bool} (name given : List ℕ) (sees : List ℕ → List ℕ → Type 0) (ends : List ℕ → List ℕ → ℕ → Type 0) (before after : Reach) (result : Result StreamEnd FileFault) → given ≡ name → FeedsFile given inside sees ends before after result → FeedsFile name inside sees ends before after result
+file_as {inside = inside} name given sees ends before after result is feeds = subst (λ (n : List ℕ). FeedsFile n inside sees ends before after result) is feeds
 
 -- the same head, and the same rules
-pub csv_named : (head : List ℕ) (rules other : Rules) (name : List ℕ) (before after : Reach) (result : Result ℕ Refusal) → head ≡ csv_head_text → other ≡ rules → MakesAndFeeds name (IsSeenBelow head (IsSeen (csv_plan (keeps other)))) (IsWholeBelow head (IsFiltered (csv_plan (keeps other)))) before after result → MakesAndFeeds name (IsCsvSeen rules) (IsCsvFiltered rules) before after result
+pub csv_named : (head : List ℕ) (rules other : Rules) (name : List ℕ) (before after : Reach) (result : Result StreamEnd Refusal) → head ≡ csv_head_text → other ≡ rules → MakesAndFeeds name ends_inside (IsSeenBelow head (IsSeen (csv_plan (keeps other)))) (IsWholeBelow head (IsFiltered (csv_plan (keeps other)))) before after result → MakesAndFeeds name ends_inside (IsCsvSeen rules) (IsCsvFiltered rules) before after result
 csv_named head rules other name before after result is same feeds =
     records_named_as rules other name before after result same
-    (subst (λ (h : List ℕ). MakesAndFeeds name (IsSeenBelow h (IsSeen (csv_plan (keeps other)))) (IsWholeBelow h (IsFiltered (csv_plan (keeps other)))) before after result) is feeds)
+    (subst (λ (h : List ℕ). MakesAndFeeds name ends_inside (IsSeenBelow h (IsSeen (csv_plan (keeps other)))) (IsWholeBelow h (IsFiltered (csv_plan (keeps other)))) before after result) is feeds)
 
 -- a job by the same value
-pub job_as : (job given : Job) (name : List ℕ) (before after : Reach) (result : Result ℕ Refusal) → given ≡ job → MakesAndFeeds name (IsOutputSeen given) (IsOutput given) before after result → MakesAndFeeds name (IsOutputSeen job) (IsOutput job) before after result
-job_as job given name before after result is feeds = subst (λ (j : Job). MakesAndFeeds name (IsOutputSeen j) (IsOutput j) before after result) is feeds
+pub job_as : (job given : Job) (name : List ℕ) (before after : Reach) (result : Result StreamEnd Refusal) → given ≡ job → MakesAndFeeds name in_no_packet (IsOutputSeen given) (IsOutput given) before after result → MakesAndFeeds name in_no_packet (IsOutputSeen job) (IsOutput job) before after result
+job_as job given name before after result is feeds = subst (λ (j : Job). MakesAndFeeds name in_no_packet (IsOutputSeen j) (IsOutput j) before after result) is feeds

@@ -1,5 +1,5 @@
 -- The ways in which a filter ends, over what it reads: the input, or a file by its name.
-use Rattle.std.proofs.Common.{◌≡◌, ◌⊎◌, inl, inr, ℕ, Option, None, Some, IfSome, Result, Ok, Err, List, refl, sym, ap, subst, ◌∙◌}
+use Rattle.std.proofs.Common.{◌≡◌, ◌⊎◌, inl, inr, ℕ, Bool, Option, None, Some, IfSome, Result, Ok, Err, List, refl, sym, ap, subst, ◌∙◌}
 use Rattle.sub_number.specs.declared.memory.NoMemory.{NoMemory}
 use Rattle.filter_cli.specs.Steps.{stops, goes_on}
 use Rattle.edge_io.specs.Disk.{Files}
@@ -8,7 +8,7 @@ use Rattle.filter_cli.specs.Pipe.{Pipe}
 use Rattle.filter_cli.specs.Outside.{Reach}
 use Rattle.filter_cli.specs.Tools.{tool_of}
 use Rattle.filter_cli.specs.Words.{request_of, asked_of, file_in}
-use Rattle.filter_cli.specs.Streams.{writing_of, unread_with, text_unread, sees_by, ends_by, AsksFor, HasBadPattern}
+use Rattle.filter_cli.specs.Streams.{writing_of, unread_with, text_unread, inside_by, sees_by, ends_by, AsksFor, HasBadPattern}
 use Rattle.filter_cli.specs.Refusals.{usage_fault, file_code, code_of}
 use Rattle.filter_cli.specs.Program.{FeedsNamed, MakesAndFeeds, Takes, Performs, Filters}
 use Rattle.filter_cli.specs.declared.asked.Asked.{Asked}
@@ -16,6 +16,7 @@ use Rattle.filter_cli.specs.declared.asked.Request.{Request}
 use Rattle.filter_cli.specs.declared.patterns.PatternsFault.TheVariants as patterns_fault
 use Rattle.filter_cli.specs.declared.file_loop.FileFault.{FileFault}
 use Rattle.filter_cli.specs.declared.file_loop.FileFault.TheVariants as file_fault
+use Rattle.filter_cli.specs.declared.filter.StreamEnd.{StreamEnd}
 use Rattle.filter_cli.specs.declared.refusal.Refusal.{Refusal}
 use Rattle.filter_cli.specs.declared.refusal.Refusal.TheVariants.{Memory, File}
 use Rattle.filter_cli.proofs.BadLemmas.{asks_no_bad}
@@ -24,19 +25,19 @@ use Rattle.filter_cli.proofs.FileLemmas.{absent_untold, rest_begun, none_there, 
 use Rattle.filter_cli.proofs.Ways.{Ways, by_usage, by_memory, by_bad, by_want, passed, by_file_read, by_file_length, by_file_output, by_file_room, by_no_file, checked_ways}
 
 -- what a filter does that reads the file of this name
-pub record FileWays (words : List (List ℕ)) (name : List ℕ) (r s : Reach) (outcome : Result ℕ Refusal) : Type 0 where
+pub record FileWays (words : List (List ℕ)) (name : List ℕ) (r s : Reach) (outcome : Result StreamEnd Refusal) : Type 0 where
   pub rest : LeavesRest name r s
   pub missing : IfSome r.site.told (λ files. files name ≡ None → SaysMissing r.site s.site (code_of outcome))
   pub nothing : HasBadPattern words → s ≡ r
   pub place : ℕ
   pub ways : Ways words (IsAbsent name r.site.told) (file_pipe name 0 r) (file_pipe name place s) outcome
 
-pub data Course (words : List (List ℕ)) (r s : Reach) (outcome : Result ℕ Refusal) : Type 0 where
+pub data Course (words : List (List ℕ)) (r s : Reach) (outcome : Result StreamEnd Refusal) : Type 0 where
   by_pipe : file_in words ≡ None → s.site ≡ r.site → Ways words ⊥ r.pipe s.pipe outcome → Course words r s outcome
   by_name : (name : List ℕ) → file_in words ≡ Some name → FileWays words name r s outcome → Course words r s outcome
 
 -- what a fault says of a file that is not there
-file_missing : (name : List ℕ) (r s : Reach) (sees : List ℕ → List ℕ → Type 0) (ends : List ℕ → List ℕ → ℕ → Type 0) (fault : FileFault) → FeedsFile name sees ends r s (Err fault) → IfSome r.site.told (λ files. files name ≡ None → SaysMissing r.site s.site (file_code fault))
+file_missing : {inside : List ℕ → Bool} (name : List ℕ) (r s : Reach) (sees : List ℕ → List ℕ → Type 0) (ends : List ℕ → List ℕ → ℕ → Type 0) (fault : FileFault) → FeedsFile name inside sees ends r s (Err fault) → IfSome r.site.told (λ files. files name ≡ None → SaysMissing r.site s.site (file_code fault))
 file_missing name r s sees ends file_fault.Read step = none_written name r.site.told _ (inr (inl (refl, step.fed.rose)))
 file_missing name r s sees ends file_fault.NoFile step = none_written name r.site.told _ (inl refl)
 file_missing name r s sees ends file_fault.TooLong step = none_there name r.site.told _ step.found
@@ -47,7 +48,7 @@ rest_same : (name : List ℕ) (r s : Reach) → s ≡ r → LeavesRest name r s
 rest_same name r s same = subst (LeavesRest name r) (sym same) (rest_begun name r r refl refl (inl refl))
 
 -- what a chain that touched nothing left
-module _ (words : List (List ℕ)) (name : List ℕ) (r s : Reach) (outcome : Result ℕ Refusal) where
+module _ (words : List (List ℕ)) (name : List ℕ) (r s : Reach) (outcome : Result StreamEnd Refusal) where
   same_ways : s ≡ r → SaysMissing r.site s.site (code_of outcome) → Ways words (IsAbsent name r.site.told) (file_pipe name 0 r) (file_pipe name 0 s) outcome → FileWays words name r s outcome
   same_ways same says ways = record {
     rest = rest_same name r s same;
@@ -57,7 +58,7 @@ module _ (words : List (List ℕ)) (name : List ℕ) (r s : Reach) (outcome : Re
     ways = ways;
   }
 
-module _ (words : List (List ℕ)) (r s : Reach) (outcome : Result ℕ Refusal) where
+module _ (words : List (List ℕ)) (r s : Reach) (outcome : Result StreamEnd Refusal) where
   memory_ways : (name : List ℕ) (none : NoMemory) → outcome ≡ Err (Memory none) → (tool_of words ≡ None → ⊥) → s ≡ r → FileWays words name r s outcome
   memory_ways name none err some same = same_ways words name r s outcome same (inr (inr (ap code_of err))) (by_memory none err some (ap (file_pipe name 0) same))
 
@@ -66,7 +67,7 @@ module _ (words : List (List ℕ)) (r s : Reach) (outcome : Result ℕ Refusal) 
   memory_course (Some name) is none err some same = by_name name is (memory_ways name none err some same)
 
   file_ways : (a b : Pipe) (asked : Asked) (name : List ℕ) (told : Option Files) (fault : FileFault) → a.input.told ≡ left_of_file name 0 told → AsksFor words asked → text_unread words ≡ None → outcome ≡ Err (File name fault)
-      → SaysWhether name told (Err fault) → FiltersFile (sees_by (writing_of asked)) (ends_by (writing_of asked)) a b (Err fault) → Ways words (IsAbsent name told) a b outcome
+      → SaysWhether name told (Err fault) → FiltersFile (inside_by (writing_of asked)) (sees_by (writing_of asked)) (ends_by (writing_of asked)) a b (Err fault) → Ways words (IsAbsent name told) a b outcome
   file_ways a b asked name told file_fault.Read left asks reads is found p = by_file_read asked name is asks reads p
   file_ways a b asked name told file_fault.NoFile left asks reads is found p = by_no_file asked name is asks reads p (left ∙ absent_untold name told 0 found) found
   file_ways a b asked name told file_fault.TooLong left asks reads is found p = by_file_length asked name is asks reads p
@@ -74,7 +75,7 @@ module _ (words : List (List ℕ)) (r s : Reach) (outcome : Result ℕ Refusal) 
   file_ways a b asked name told file_fault.NoMemory left asks reads is found p = by_file_room asked name is asks reads p
 
   -- the patterns are good, and the filter is made
-  fed_ways : (asked : Asked) (name : List ℕ) → AsksFor words asked → text_unread words ≡ None → FeedsNamed name (sees_by (writing_of asked)) (ends_by (writing_of asked)) r s outcome → FileWays words name r s outcome
+  fed_ways : (asked : Asked) (name : List ℕ) → AsksFor words asked → text_unread words ≡ None → FeedsNamed name (inside_by (writing_of asked)) (sees_by (writing_of asked)) (ends_by (writing_of asked)) r s outcome → FileWays words name r s outcome
   fed_ways asked name asks reads (stops fault err step) = record {
     rest = step.rest;
     missing = subst (λ (n : ℕ). IfSome r.site.told (λ files. files name ≡ None → SaysMissing r.site s.site n)) (sym (ap code_of err)) (file_missing name r s _ _ fault step);
@@ -82,21 +83,21 @@ module _ (words : List (List ℕ)) (r s : Reach) (outcome : Result ℕ Refusal) 
     place = step.place;
     ways = file_ways (file_pipe name 0 r) (file_pipe name step.place s) asked name r.site.told fault refl asks reads err step.found step.fed;
   }
-  fed_ways asked name asks reads (goes_on status between step next) =
-      let fed : FeedsFile name (sees_by (writing_of asked)) (ends_by (writing_of asked)) r s (Ok status) =
-      subst (λ (x : Reach). FeedsFile name (sees_by (writing_of asked)) (ends_by (writing_of asked)) r x (Ok status)) (sym next.same) step in
+  fed_ways asked name asks reads (goes_on end between step next) =
+      let fed : FeedsFile name (inside_by (writing_of asked)) (sees_by (writing_of asked)) (ends_by (writing_of asked)) r s (Ok end) =
+      subst (λ (x : Reach). FeedsFile name (inside_by (writing_of asked)) (sees_by (writing_of asked)) (ends_by (writing_of asked)) r x (Ok end)) (sym next.same) step in
       record {
         rest = fed.rest;
         missing = none_there name r.site.told _ fed.found;
         nothing = λ bad. absurd (asks_no_bad words asked asks bad);
         place = fed.place;
-        ways = passed asked status next.answer asks reads fed.fed;
+        ways = passed asked end next.answer asks reads fed.fed;
       }
 
-  made_ways : (asked : Asked) (name : List ℕ) → AsksFor words asked → text_unread words ≡ None → (tool_of words ≡ None → ⊥) → MakesAndFeeds name (sees_by (writing_of asked)) (ends_by (writing_of asked)) r s outcome → FileWays words name r s outcome
+  made_ways : (asked : Asked) (name : List ℕ) → AsksFor words asked → text_unread words ≡ None → (tool_of words ≡ None → ⊥) → MakesAndFeeds name (inside_by (writing_of asked)) (sees_by (writing_of asked)) (ends_by (writing_of asked)) r s outcome → FileWays words name r s outcome
   made_ways asked name asks reads some (stops none err step) = memory_ways name none err some step.same
   made_ways asked name asks reads some (goes_on value between step next) =
-      fed_ways asked name asks reads (subst (λ (x : Reach). FeedsNamed name (sees_by (writing_of asked)) (ends_by (writing_of asked)) x s outcome) step.same next)
+      fed_ways asked name asks reads (subst (λ (x : Reach). FeedsNamed name (inside_by (writing_of asked)) (sees_by (writing_of asked)) (ends_by (writing_of asked)) x s outcome) step.same next)
 
   file_course : (asked : Asked) (name : List ℕ) → asked_of words ≡ Some asked → text_unread words ≡ None → (tool_of words ≡ None → ⊥) → Takes (Some name) asked r s outcome → FileWays words name r s outcome
   file_course asked name named reads some (stops (patterns_fault.Bad text) err step) =
@@ -104,7 +105,7 @@ module _ (words : List (List ℕ)) (r s : Reach) (outcome : Result ℕ Refusal) 
   file_course asked name named reads some (stops patterns_fault.NoMemory err step) =
       same_ways words name r s outcome step.same (inr (inr (ap code_of err))) (by_want asked err named (ap (file_pipe name 0) step.same))
   file_course asked name named reads some (goes_on value between step next) =
-      made_ways asked name (record { named = named; good = step.says }) reads some (subst (λ (x : Reach). MakesAndFeeds name (sees_by (writing_of asked)) (ends_by (writing_of asked)) x s outcome) step.same next)
+      made_ways asked name (record { named = named; good = step.says }) reads some (subst (λ (x : Reach). MakesAndFeeds name (inside_by (writing_of asked)) (sees_by (writing_of asked)) (ends_by (writing_of asked)) x s outcome) step.same next)
 
   takes_course : (file : Option (List ℕ)) (asked : Asked) → asked_of words ≡ Some asked → file_in words ≡ file → text_unread words ≡ unread_with file asked → Takes file asked r s outcome → Course words r s outcome
   takes_course None asked named is own step =

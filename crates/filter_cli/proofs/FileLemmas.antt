@@ -1,5 +1,5 @@
 -- The reads of a file as those of an input.
-use Rattle.std.proofs.Common.{◌≡◌, ◌⊎◌, inl, inr, ℕ, ◌+◌, ◌<◌, ◌≤◌, Option, Some, None, IfSome, Result, Ok, Err, List, [], ◌++◌, take, drop, length, refl, sym, ap, subst, ◌∙◌, arith, append-nil}
+use Rattle.std.proofs.Common.{◌≡◌, ◌⊎◌, inl, inr, ℕ, ◌+◌, ◌<◌, ◌≤◌, Bool, Option, Some, None, IfSome, Result, Ok, Err, List, [], ◌++◌, take, drop, length, refl, sym, ap, subst, ◌∙◌, arith, append-nil}
 use Rattle.std.specs.Option.{option_map}
 use Rattle.std.specs.Result.{IsErrAnd}
 use Rattle.std.specs.Io.KnownBytes.{Consumes, Appends, IsAtEnd}
@@ -13,6 +13,7 @@ use Rattle.filter_cli.specs.FileReads.{left_of_file, file_input, ReadsOn, IsAbse
 use Rattle.filter_cli.specs.Outside.{Reach}
 use Rattle.filter_cli.specs.Pipe.{Pipe, pipe}
 use Rattle.filter_cli.specs.Pumping.{StopsBefore, most_bytes}
+use Rattle.filter_cli.specs.declared.filter.StreamEnd.{StreamEnd}
 use Rattle.filter_cli.specs.declared.file_loop.FileFault.{FileFault}
 use Rattle.filter_cli.specs.declared.file_loop.FileFault.TheVariants as file_fault
 use Rattle.filter_cli.proofs.PipeLemmas.{rose_later}
@@ -84,10 +85,10 @@ refused_says name first before after file_fault.Output cause same = absurd cause
 refused_says name first before after file_fault.NoMemory cause same = absurd cause
 
 -- a read that gave no bytes, where these were fed and this text was written
-pub read_refused : (name : List ℕ) (sees : List ℕ → List ℕ → Type 0) (ends : List ℕ → List ℕ → ℕ → Type 0) (first before after : Seen Files) (old new : Seen (List ℕ)) (place : ℕ) (fed shown : List ℕ) (fault : FileFault) → HasReadCause name before after fault → after.told ≡ before.told → before.faults ≡ first.faults
+pub read_refused : (inside : List ℕ → Bool) (name : List ℕ) (sees : List ℕ → List ℕ → Type 0) (ends : List ℕ → List ℕ → ℕ → Type 0) (first before after : Seen Files) (old new : Seen (List ℕ)) (place : ℕ) (fed shown : List ℕ) (fault : FileFault) → HasReadCause name before after fault → after.told ≡ before.told → before.faults ≡ first.faults
     → Consumes (left_of_file name 0 first.told) (left_of_file name place before.told) fed → Appends old.told new.told shown → length fed ≤ most_bytes → sees fed shown → new.faults ≡ old.faults
-    → FiltersFile sees ends (pipe (file_input name 0 first) old) (pipe (file_input name place after) new) (Err fault)
-read_refused name sees ends first before after old new place fed shown file_fault.Read cause later count took wrote size seen out = record {
+    → FiltersFile inside sees ends (pipe (file_input name 0 first) old) (pipe (file_input name place after) new) (Err fault)
+read_refused inside name sees ends first before after old new place fed shown file_fault.Read cause later count took wrote size seen out = record {
   bytes = fed;
   text = shown;
   moved = record { took = subst (λ (o : Option Files). Consumes (left_of_file name 0 first.told) (left_of_file name place o) fed) (sym later) took; wrote = wrote };
@@ -96,7 +97,7 @@ read_refused name sees ends first before after old new place fed shown file_faul
   rose = rose_later _ _ _ count cause;
   out = out;
 }
-read_refused name sees ends first before after old new place fed shown file_fault.NoFile cause later count took wrote size seen out = record {
+read_refused inside name sees ends first before after old new place fed shown file_fault.NoFile cause later count took wrote size seen out = record {
   front = fed;
   few = size;
   piece = [];
@@ -106,16 +107,16 @@ read_refused name sees ends first before after old new place fed shown file_faul
   seen = seen;
   faults = record { input = cause.1 ∙ count; out = out };
 }
-read_refused name sees ends first before after old new place fed shown file_fault.TooLong cause later count took wrote size seen out = absurd cause
-read_refused name sees ends first before after old new place fed shown file_fault.Output cause later count took wrote size seen out = absurd cause
-read_refused name sees ends first before after old new place fed shown file_fault.NoMemory cause later count took wrote size seen out = absurd cause
+read_refused inside name sees ends first before after old new place fed shown file_fault.TooLong cause later count took wrote size seen out = absurd cause
+read_refused inside name sees ends first before after old new place fed shown file_fault.Output cause later count took wrote size seen out = absurd cause
+read_refused inside name sees ends first before after old new place fed shown file_fault.NoMemory cause later count took wrote size seen out = absurd cause
 
 -- an exit by `?` is for want of memory, and the file is there
-pub stopped_says : (name : List ℕ) (told : Option Files) (result : Result ℕ FileFault) → IsErrAnd result (λ fault. fault ≡ file_fault.NoMemory) → IsThere name told → SaysWhether name told result
-stopped_says name told (Ok status) is there = absurd is
+pub stopped_says : (name : List ℕ) (told : Option Files) (result : Result StreamEnd FileFault) → IsErrAnd result (λ fault. fault ≡ file_fault.NoMemory) → IsThere name told → SaysWhether name told result
+stopped_says name told (Ok end) is there = absurd is
 stopped_says name told (Err fault) is there = subst (λ (f : FileFault). SaysWhether name told (Err f)) (sym is) there
 
 -- what an exit by `?` did
-pub stopped_file : (sees : List ℕ → List ℕ → Type 0) (ends : List ℕ → List ℕ → ℕ → Type 0) (a b : Pipe) (result : Result ℕ FileFault) → IsErrAnd result (λ fault. fault ≡ file_fault.NoMemory) → StopsBefore sees a b → FiltersFile sees ends a b result
-stopped_file sees ends a b (Ok status) is s = absurd is
-stopped_file sees ends a b (Err fault) is s = subst (λ (f : FileFault). FiltersFile sees ends a b (Err f)) (sym is) s
+pub stopped_file : (inside : List ℕ → Bool) (sees : List ℕ → List ℕ → Type 0) (ends : List ℕ → List ℕ → ℕ → Type 0) (a b : Pipe) (result : Result StreamEnd FileFault) → IsErrAnd result (λ fault. fault ≡ file_fault.NoMemory) → StopsBefore sees a b → FiltersFile inside sees ends a b result
+stopped_file inside sees ends a b (Ok end) is s = absurd is
+stopped_file inside sees ends a b (Err fault) is s = subst (λ (f : FileFault). FiltersFile inside sees ends a b (Err f)) (sym is) s

@@ -1,5 +1,5 @@
 -- Cases that are gathered by route, row by row.
-use Rattle.std.proofs.Common.{◌≡◌, ℕ, zero, suc, ◌+◌, ◌<◌, Bool, true, false, true≢false, ◌||◌, cond, List, [], ◌∷◌, ◌++◌, Option, Some, None, map, is_some, take, length, get_or, refl, sym, ◌∙◌, ap, append-nil, length-append, arith}
+use Rattle.std.proofs.Common.{◌≡◌, ℕ, zero, suc, ◌+◌, ◌<◌, Bool, true, false, true≢false, ◌||◌, cond, List, [], ◌∷◌, ◌++◌, Option, Some, None, map, is_some, take, length, get_or, refl, sym, ◌∙◌, ap, append-nil, length-append, map-id, arith}
 use Rattle.std.specs.FinMap as fin
 use Rattle.std.specs.FinMap.{put, entries-insert, len-entries, len-empty}
 use Rattle.std.specs.FinMap.Entries.{by_order}
@@ -9,8 +9,13 @@ use Rattle.std.specs.Cmp.{IsTotalOrder, eq_by_cmp_equiv}
 use Rattle.std.specs.Ordering.{eq_by_cmp}
 use Rattle.std.specs.declared.cmp.Ordering.{Ordering}
 use Rattle.std.specs.declared.cmp.Ordering.TheVariants.{Less, Equal, Greater}
-use Rattle.std.specs.List.{filter, list_any, flat_map, count_by, sum_by}
+use Rattle.std.specs.Iterator.{Drains}
+use Rattle.std.specs.List.{filter, list_any, flat_map, count_by, sum_by, splice}
 use Rattle.std.specs.Option.{unwrap_or}
+use Rattle.std.specs.Vec.Iter.{into_iter_items, into_iter_len, into_iter_steps}
+use Rattle.std.specs.declared.vec.IntoIter.{IntoIter}
+use Rattle.std.proofs.lemmas.Iterator.{items_from_drains}
+use Rattle.std.proofs.lemmas.Iterator.Adapters.{YieldsList-from_vec}
 use Rattle.std.proofs.lemmas.List.{take_more}
 use Rattle.std.proofs.lemmas.List.Concat.{flat_map-append}
 use Rattle.std.proofs.lemmas.List.Elements.{filter-append}
@@ -134,6 +139,11 @@ texts_joined (group ∷ groups) = ap (λ l. flat_map case_of group ++ l) (texts_
 -- the values of entries that are in order
 pub values_are : (es : Entries) → (fin.entries (fin.from_entries {R = route_cmp} es) ≡ es) → map (λ e. e.1) es ≡ fin.values (fin.from_entries {R = route_cmp} es)
 values_are es is = ap (map (λ e. e.1)) (sym is)
+
+-- what is spliced in at the front stands before what was there
+pub stands_before : {Z : Type 0} (s : IntoIter ℕ Z) (xs front old new : List ℕ) → into_iter_items s ≡ front → into_iter_len s ≡ length front → Drains (into_iter_steps {X = ℕ} {Z = Z}) s xs → new ≡ splice old 0 0 xs → new ≡ front ++ old
+stands_before s xs front old new items len drains is =
+    is ∙ ap (λ l. l ++ old) (sym (map-id xs) ∙ items_from_drains xs (drains.1.0, drains.1.1, λ _. (drains.0, drains.1.2)) (YieldsList-from_vec front items len))
 
 -- the document of all
 pub document_is : (rows : List Row) (routes : List Cases) (counts : Counts) (old head texts new : List ℕ) → routes ≡ fin.values (case_table rows)

@@ -19,6 +19,7 @@ pub mod FileLemmas
 mod Ways
 mod Courses
 pub mod UnreadLemmas
+pub mod EndLemmas
 pub mod WritingLaws
 pub mod PromiseLemmas
 pub mod TallyLemmas

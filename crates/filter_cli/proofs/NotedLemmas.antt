@@ -1,5 +1,6 @@
 -- A filter of notes at work.
 use Rattle.std.proofs.Common.{◌≡◌, ℕ, Option, ◌<◌, length, length-append, Bool, true, false, List, [], ◌∷◌, ◌++◌, take, refl, sym, ap, subst, ◌∙◌, append_assoc, append-nil, arith}
+use Rattle.std.proofs.lemmas.List.Elements.{All-nil}
 use Rattle.packet_codec.specs.Grammar.{AreBytes}
 use Rattle.packet_codec.specs.Header.{BeginsWithPacket}
 use Rattle.packet_codec.specs.Packet.{SpellsEvent}
@@ -9,17 +10,55 @@ use Rattle.stream_reader.specs.declared.note.Note.TheVariants as note
 use Rattle.stream_reader.specs.declared.first.First.{First}
 use Rattle.stream_reader.specs.declared.first.First.TheVariants as found
 use Rattle.stream_reader.specs.First.{FirstIs, IsMadeBy}
-use Rattle.stream_reader.specs.Stream.{Held, GivesNote, IsSpent}
+use Rattle.stream_reader.specs.Stream.{Held, HasGiven, GivesNote, IsSpent}
 use Rattle.stream_reader.proofs.TurnLemmas.{notes_none, notes_more, begin_more, whole_at_end, gives_none}
 use Rattle.stream_reader.proofs.GivingLemmas.{spent_empty}
+use Rattle.stream_reader.proofs.FrontLemmas.{are_behind, are_both}
+use Rattle.stream_end.specs.Inside.{ends_inside}
+use Rattle.stream_end.proofs.InsideLemmas.{given_alike}
 use Rattle.filter_cli.specs.Pipe.{Adds}
 use Rattle.filter_cli.specs.Plan.{Plan, IsSeen, IsFiltered}
 use Rattle.filter_cli.specs.Script.{given_by}
-use Rattle.filter_cli.specs.Noted.{HasFiltered, TakesFirst, TakesNext, TakesNotes}
+use Rattle.filter_cli.specs.Noted.{EndsAsHeld, HasFiltered, TakesFirst, TakesNext, TakesNotes}
 use Rattle.filter_cli.specs.ScriptLaws.{given_more}
 
+-- ---- how the bytes fed and those held end
+
+ends_same : (bytes : List ℕ) → AreBytes bytes → EndsAsHeld bytes bytes
+ends_same bytes are = record { are = are; left = are; alike = λ more are_more. refl }
+
+ends_then : (a b c : List ℕ) → EndsAsHeld a b → EndsAsHeld b c → EndsAsHeld a c
+ends_then a b c first second = record { are = first.are; left = second.left; alike = λ more are_more. first.alike more are_more ∙ second.alike more are_more }
+
+ends_fed : (fed held piece : List ℕ) → AreBytes piece → EndsAsHeld fed held → EndsAsHeld (fed ++ piece) (held ++ piece)
+ends_fed fed held piece are e = record {
+  are = are_both fed piece e.are are;
+  left = are_both held piece e.left are;
+  alike = λ more are_more.
+      ap ends_inside (append_assoc fed piece more)
+      ∙ e.alike (piece ++ more) (are_both piece more are are_more)
+      ∙ ap ends_inside (sym (append_assoc held piece more));
+}
+
+-- a note was given
+ends_given : (before after : Held) (note : Note) → GivesNote before note after → before.ended ≡ false → AreBytes before.bytes → EndsAsHeld before.bytes after.bytes
+ends_given before after note g going_on are =
+    let first : HasGiven false before.bytes (note ∷ []) after.bytes = rw going_on at g.first in
+    let parted : AreBytes (g.front ++ after.bytes) = rw (g.parts) at are in
+    record {
+      are = are;
+      left = are_behind g.front after.bytes parted;
+      alike = λ more are_more. ap (λ (l : List ℕ). ends_inside (l ++ more)) g.parts ∙ given_alike g.front after.bytes more note g.made (rw (g.parts) at first) parted are_more;
+    }
+
+-- all bytes end as those do that are held
+pub held_tells : (fed held : List ℕ) → EndsAsHeld fed held → ends_inside held ≡ ends_inside fed
+held_tells fed held e = ap ends_inside (sym (append-nil held)) ∙ sym (e.alike [] (All-nil (λ byte. byte < 256))) ∙ ap ends_inside (append-nil fed)
+
+-- ---- its notes
+
 pub filtered_none : (takes : List Note → Type 0) (plan : Plan) → takes [] → HasFiltered takes plan [] [] []
-filtered_none takes plan none = record { notes = []; taken = none; begins = gives_none false []; spent = spent_empty false [] (omega arith); made = refl }
+filtered_none takes plan none = record { notes = []; taken = none; begins = gives_none false []; spent = spent_empty false [] (omega arith); ends = ends_same [] (All-nil (λ byte. byte < 256)); made = refl }
 
 -- of no bytes nothing is decided
 pub seen_none : (plan : Plan) → IsSeen plan [] []
@@ -30,6 +69,7 @@ takes_none takes plan notes held text taken = record {
   all = notes;
   given = notes_none held notes;
   taken = taken;
+  ends = λ going_on are. ends_same held.bytes are;
   more = [];
   grown = sym (append-nil text);
   made = sym (append-nil (given_by plan notes));
@@ -46,6 +86,7 @@ takes_more takes later plan now notes before held after old mid new note same t 
       all = t.all ++ note ∷ [];
       given = notes_more before held after notes t.all note t.given step ended;
       taken = goes_on t.all t.taken;
+      ends = λ going_on are. let so_far = t.ends going_on are in ends_then before.bytes held.bytes after.bytes so_far (ends_given held after note step (t.given.ended ∙ going_on) so_far.left);
       more = t.more ++ piece;
       grown = writes t.all t.taken ∙ ap (λ (l : List ℕ). mid ++ l) is ∙ ap (λ (l : List ℕ). l ++ piece) t.grown ∙ append_assoc old t.more piece;
       made = given_more plan t.all note ∙ ap (λ (l : List ℕ). l ++ piece) t.made ∙ append_assoc (given_by plan notes) t.more piece;
@@ -68,6 +109,11 @@ filtered_more takes later plan now rest piece fed shown held after old new same 
         taken = t.taken;
         begins = begin_more fed piece rest h.notes t.all held after are h.begins is t.given;
         spent = subst (λ (e : Bool). IsSpent e after.bytes) going_on spent;
+        ends =
+            let fed_so : EndsAsHeld (fed ++ piece) (rest ++ piece) = ends_fed fed rest piece are h.ends in
+            let held_is : held.bytes ≡ rest ++ piece = ap (λ (s : Held). s.bytes) is in
+            let at_held : EndsAsHeld (fed ++ piece) held.bytes = subst (EndsAsHeld (fed ++ piece)) (sym held_is) fed_so in
+            ends_then (fed ++ piece) held.bytes after.bytes at_held (t.ends (ap (λ (s : Held). s.ended) is) at_held.left);
         made = shown_more plan h.notes t.all shown t.more h.made t.made;
       });
     }

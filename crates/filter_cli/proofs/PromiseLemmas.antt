@@ -5,21 +5,23 @@ use Rattle.packet_codec.specs.Grammar.{AreBytes}
 use Rattle.edge_io.specs.Bytes.{AppendsPrefix}
 use Rattle.edge_io.specs.Seen.{Seen}
 use Rattle.filter_cli.specs.Pipe.{Pipe, NoFault}
-use Rattle.filter_cli.specs.Pumping.{PumpsAll, ReadFails, WriteFails, IsDue, IsTooLong, Pumps, most_bytes}
+use Rattle.filter_cli.specs.Pumping.{PumpsAll, PumpsToEnd, ReadFails, WriteFails, IsDue, IsTooLong, Pumps, most_bytes}
 use Rattle.filter_cli.specs.Tools.{tool_of}
 use Rattle.filter_cli.specs.Words.{asked_of, file_in}
-use Rattle.filter_cli.specs.Streams.{writing_of, unread_text, text_unread, sees_by, ends_by, AsksFor, HasBadPattern, IsSeenBy, IsFilteredBy}
+use Rattle.filter_cli.specs.Streams.{writing_of, unread_text, text_unread, inside_by, inside_asked, is_inside_for, sees_by, ends_by, AsksFor, HasBadPattern, IsSeenBy, IsFilteredBy}
 use Rattle.filter_cli.specs.FileReads.{file_pipe, IsAbsent}
 use Rattle.filter_cli.specs.Outside.{Outside, Reach, reach_of, SomeRose}
-use Rattle.filter_cli.specs.Refusals.{code_of}
-use Rattle.filter_cli.specs.Program.{Answers, LeavesUnread}
+use Rattle.filter_cli.specs.Refusals.{code_of, name_in}
+use Rattle.filter_cli.specs.Program.{Answers, LeavesUnread, TellsInside}
 use Rattle.filter_cli.specs.Promises.{CanFilter, FaultsOf, IsDone, OutputFails, GivesAll, GivesFirst, GiveFails, feed_of, Rests, IsMissing, RefusesMissing, Feeds, Promises}
 use Rattle.filter_cli.specs.declared.asked.Asked.{Asked}
 use Rattle.filter_cli.specs.declared.refusal.Refusal.{Refusal}
+use Rattle.filter_cli.specs.declared.filter.StreamEnd.{StreamEnd}
 use Rattle.filter_cli.specs.declared.pass.PumpFault.{PumpFault}
 use Rattle.filter_cli.specs.declared.pass.PumpFault.TheVariants as pump_fault
 use Rattle.filter_cli.proofs.PumpLemmas.{pumped_prefix, if_told}
 use Rattle.filter_cli.proofs.BadLemmas.{same_asked, asks_no_bad}
+use Rattle.filter_cli.proofs.EndLemmas.{passed_inside, gave_inside, told_inside}
 use Rattle.filter_cli.proofs.StatusLemmas.{status_at_most}
 use Rattle.filter_cli.proofs.UnreadLemmas.{unread_own, named_asks, unread_whole, gives_first, gives_none, gives_all}
 use Rattle.filter_cli.proofs.WritingLaws.{by_front, by_one}
@@ -71,13 +73,13 @@ module _ (words : List (List ℕ)) (asked : Asked) (asks : AsksFor words asked) 
     input = p.input;
   }
 
-  first_of : (result : Result ℕ PumpFault) → Pumps (sees_by (writing_of asked)) (ends_by (writing_of asked)) a b result → (bytes : List ℕ) → a.input.told ≡ Some bytes → AreBytes bytes → (text : List ℕ) (status : ℕ) → IsFilteredBy words bytes text status → AppendsPrefix a.out.told b.out.told text
+  first_of : (result : Result StreamEnd PumpFault) → Pumps (inside_by (writing_of asked)) (sees_by (writing_of asked)) (ends_by (writing_of asked)) a b result → (bytes : List ℕ) → a.input.told ≡ Some bytes → AreBytes bytes → (text : List ℕ) (status : ℕ) → IsFilteredBy words bytes text status → AppendsPrefix a.out.told b.out.told text
   first_of result pumps bytes told are text status e =
       let whole = subst (λ (x : Asked). ends_by (writing_of x) bytes text status) (same_asked words e.asked asked e.asks.named asks.named) e.whole in
-      pumped_prefix _ _ (by_front (writing_of asked)) (by_one (writing_of asked)) a b result bytes text status told are whole pumps
+      pumped_prefix (inside_by (writing_of asked)) _ _ (by_front (writing_of asked)) (by_one (writing_of asked)) a b result bytes text status told are whole pumps
 
   -- of words that leave the input unread
-  alone_of : (shown : List ℕ) (result : Result ℕ PumpFault) → text_unread words ≡ Some shown → LeavesUnread shown a b result → (bytes text : List ℕ) (status : ℕ) → IsFilteredBy words bytes text status → AppendsPrefix a.out.told b.out.told text
+  alone_of : (shown : List ℕ) (result : Result StreamEnd PumpFault) → text_unread words ≡ Some shown → LeavesUnread shown a b result → (bytes text : List ℕ) (status : ℕ) → IsFilteredBy words bytes text status → AppendsPrefix a.out.told b.out.told text
   alone_of shown result leaves p bytes text status e =
       let whole = subst (λ (x : Asked). ends_by (writing_of x) bytes text status) (same_asked words e.asked asked e.asks.named asks.named) e.whole in
       let own = unread_own words asked shown asks.named leaves in
@@ -119,18 +121,24 @@ asked_not_none words asked some none = let both : Some asked ≡ None = sym some
 
 -- ---- the promises
 
-module _ (words : List (List ℕ)) (missing : Type 0) (a b : Pipe) (answer : ℕ) (outcome : Result ℕ Refusal) (code : answer ≡ code_of outcome) where
-  few : (asked : Asked) (status : ℕ) → outcome ≡ Ok status → PumpsAll (ends_by (writing_of asked)) a b status → answer ≤ 1
-  few asked status is p =
-      let same : answer ≡ status = code ∙ ap code_of is in
-      omega (arith, same, status_at_most asked p.bytes p.text status p.whole)
+module _ (words : List (List ℕ)) (missing : Type 0) (a b : Pipe) (answer : ℕ) (outcome : Result StreamEnd Refusal) (code : answer ≡ code_of outcome) where
+  same_end : (end other : StreamEnd) → outcome ≡ Ok end → outcome ≡ Ok other → end ≡ other
+  same_end end other one another = let both : Ok end ≡ Ok other = sym one ∙ another in cc
+
+  no_end : (refusal : Refusal) (end : StreamEnd) → outcome ≡ Err refusal → outcome ≡ Ok end → ⊥
+  no_end refusal end err done = let both : Err refusal ≡ Ok end = sym err ∙ done in cc
+
+  few : (asked : Asked) (end : StreamEnd) → outcome ≡ Ok end → PumpsToEnd (inside_by (writing_of asked)) (ends_by (writing_of asked)) a b end → answer ≤ 1
+  few asked end is p =
+      let same : answer ≡ end.status = code ∙ ap code_of is in
+      omega (arith, same, status_at_most asked p.all.bytes p.all.text end.status p.all.whole)
 
   most_of : Ways words missing a b outcome → answer ≤ 5
   most_of (by_usage is named same) = let two = code ∙ ap code_of is in omega (arith, two)
   most_of (by_memory none is some same) = let five = code ∙ ap code_of is in omega (arith, five)
   most_of (by_bad text is bad same) = let three = code ∙ ap code_of is in omega (arith, three)
   most_of (by_want asked is named same) = let five = code ∙ ap code_of is in omega (arith, five)
-  most_of (passed asked status is asks reads p) = omega (arith, few asked status is p)
+  most_of (passed asked end is asks reads p) = omega (arith, few asked end is p)
   most_of (by_input asked is asks reads p) = let four = code ∙ ap code_of is in omega (arith, four)
   most_of (by_file_read asked name is asks reads p) = let four = code ∙ ap code_of is in omega (arith, four)
   most_of (by_length asked is asks reads p) = let three = code ∙ ap code_of is in omega (arith, three)
@@ -140,7 +148,7 @@ module _ (words : List (List ℕ)) (missing : Type 0) (a b : Pipe) (answer : ℕ
   most_of (by_room asked is asks reads p) = let five = code ∙ ap code_of is in omega (arith, five)
   most_of (by_file_room asked name is asks reads p) = let five = code ∙ ap code_of is in omega (arith, five)
   most_of (by_no_file asked name is asks reads p untold none) = let three = code ∙ ap code_of is in omega (arith, three)
-  most_of (gave asked text status is asks leaves p) = let zero_is = code ∙ ap code_of is ∙ p.written.0 in omega (arith, zero_is)
+  most_of (gave asked text end is asks leaves p) = let zero_is = code ∙ ap code_of is ∙ ap (λ (e : StreamEnd). e.status) p.written.0 in omega (arith, zero_is)
   most_of (by_sink asked text is asks leaves p) = let four = code ∙ ap code_of is in omega (arith, four)
   most_of (by_space asked text is asks leaves p) = let five = code ∙ ap code_of is in omega (arith, five)
 
@@ -149,9 +157,9 @@ module _ (words : List (List ℕ)) (missing : Type 0) (a b : Pipe) (answer : ℕ
   done_of (by_memory none is some same) le = let five = code ∙ ap code_of is in absurd (omega (arith, five, le))
   done_of (by_bad text is bad same) le = let three = code ∙ ap code_of is in absurd (omega (arith, three, le))
   done_of (by_want asked is named same) le = let five = code ∙ ap code_of is in absurd (omega (arith, five, le))
-  done_of (passed asked status is asks reads p) le =
-      let same : answer ≡ status = code ∙ ap code_of is in
-      done_as words None a b answer reads (subst (PumpsAll (IsFilteredBy words) a b) (sym same) (all_as words asked asks a b status p))
+  done_of (passed asked end is asks reads p) le =
+      let same : answer ≡ end.status = code ∙ ap code_of is in
+      done_as words None a b answer reads (subst (PumpsAll (IsFilteredBy words) a b) (sym same) (all_as words asked asks a b end.status p.all))
   done_of (by_input asked is asks reads p) le = let four = code ∙ ap code_of is in absurd (omega (arith, four, le))
   done_of (by_file_read asked name is asks reads p) le = let four = code ∙ ap code_of is in absurd (omega (arith, four, le))
   done_of (by_length asked is asks reads p) le = let three = code ∙ ap code_of is in absurd (omega (arith, three, le))
@@ -161,9 +169,9 @@ module _ (words : List (List ℕ)) (missing : Type 0) (a b : Pipe) (answer : ℕ
   done_of (by_room asked is asks reads p) le = let five = code ∙ ap code_of is in absurd (omega (arith, five, le))
   done_of (by_file_room asked name is asks reads p) le = let five = code ∙ ap code_of is in absurd (omega (arith, five, le))
   done_of (by_no_file asked name is asks reads p untold none) le = let three = code ∙ ap code_of is in absurd (omega (arith, three, le))
-  done_of (gave asked text status is asks leaves p) le =
-      let same : answer ≡ status = code ∙ ap code_of is in
-      done_as words (Some text) a b answer leaves (subst (GivesAll text a b) (sym same) (gives_all text a b status p))
+  done_of (gave asked text end is asks leaves p) le =
+      let same : answer ≡ end.status = code ∙ ap code_of is in
+      done_as words (Some text) a b answer leaves (subst (GivesAll text a b) (sym same) (gives_all text a b end p))
   done_of (by_sink asked text is asks leaves p) le = let four = code ∙ ap code_of is in absurd (omega (arith, four, le))
   done_of (by_space asked text is asks leaves p) le = let five = code ∙ ap code_of is in absurd (omega (arith, five, le))
 
@@ -172,7 +180,7 @@ module _ (words : List (List ℕ)) (missing : Type 0) (a b : Pipe) (answer : ℕ
   unread_of (by_memory none is some_tool same) text some = gives_none text a b same
   unread_of (by_bad bad_one is bad same) text some = gives_none text a b same
   unread_of (by_want asked is named same) text some = gives_none text a b same
-  unread_of (passed asked status is asks reads p) text some = absurd (not_reads words text some reads)
+  unread_of (passed asked end is asks reads p) text some = absurd (not_reads words text some reads)
   unread_of (by_input asked is asks reads p) text some = absurd (not_reads words text some reads)
   unread_of (by_file_read asked name is asks reads p) text some = absurd (not_reads words text some reads)
   unread_of (by_length asked is asks reads p) text some = absurd (not_reads words text some reads)
@@ -182,7 +190,7 @@ module _ (words : List (List ℕ)) (missing : Type 0) (a b : Pipe) (answer : ℕ
   unread_of (by_room asked is asks reads p) text some = absurd (not_reads words text some reads)
   unread_of (by_file_room asked name is asks reads p) text some = absurd (not_reads words text some reads)
   unread_of (by_no_file asked name is asks reads p untold none) text some = absurd (not_reads words text some reads)
-  unread_of (gave asked shown status is asks leaves p) text some = subst (λ (t : List ℕ). GivesFirst t a b) (same_text words shown text leaves some) (gives_first shown a b (Ok status) p)
+  unread_of (gave asked shown end is asks leaves p) text some = subst (λ (t : List ℕ). GivesFirst t a b) (same_text words shown text leaves some) (gives_first shown a b (Ok end) p)
   unread_of (by_sink asked shown is asks leaves p) text some = subst (λ (t : List ℕ). GivesFirst t a b) (same_text words shown text leaves some) (gives_first shown a b (Err pump_fault.Output) p)
   unread_of (by_space asked shown is asks leaves p) text some = subst (λ (t : List ℕ). GivesFirst t a b) (same_text words shown text leaves some) (gives_first shown a b (Err pump_fault.NoMemory) p)
 
@@ -191,7 +199,7 @@ module _ (words : List (List ℕ)) (missing : Type 0) (a b : Pipe) (answer : ℕ
   prefix_of (by_memory none is some same) bytes told are text status e = none_first a b text same
   prefix_of (by_bad bad_one is bad same) bytes told are text status e = none_first a b text same
   prefix_of (by_want asked is named same) bytes told are text status e = none_first a b text same
-  prefix_of (passed asked another is asks reads p) bytes told are text status e = first_of words asked asks a b (Ok another) p bytes told are text status e
+  prefix_of (passed asked end is asks reads p) bytes told are text status e = first_of words asked asks a b (Ok end) p bytes told are text status e
   prefix_of (by_input asked is asks reads p) bytes told are text status e = first_of words asked asks a b (Err pump_fault.Input) p bytes told are text status e
   prefix_of (by_file_read asked name is asks reads p) bytes told are text status e = first_of words asked asks a b (Err pump_fault.Input) p bytes told are text status e
   prefix_of (by_length asked is asks reads p) bytes told are text status e = first_of words asked asks a b (Err pump_fault.TooLong) p bytes told are text status e
@@ -214,7 +222,7 @@ module _ (words : List (List ℕ)) (missing : Type 0) (a b : Pipe) (answer : ℕ
   nothing_of (by_memory want is some same) none = same
   nothing_of (by_bad text is bad same) none = same
   nothing_of (by_want asked is named same) none = same
-  nothing_of (passed asked status is asks reads p) none = absurd (no_text asked asks none)
+  nothing_of (passed asked end is asks reads p) none = absurd (no_text asked asks none)
   nothing_of (by_input asked is asks reads p) none = absurd (no_text asked asks none)
   nothing_of (by_file_read asked name is asks reads p) none = absurd (no_text asked asks none)
   nothing_of (by_length asked is asks reads p) none = absurd (no_text asked asks none)
@@ -224,7 +232,7 @@ module _ (words : List (List ℕ)) (missing : Type 0) (a b : Pipe) (answer : ℕ
   nothing_of (by_room asked is asks reads p) none = absurd (no_text asked asks none)
   nothing_of (by_file_room asked name is asks reads p) none = absurd (no_text asked asks none)
   nothing_of (by_no_file asked name is asks reads p untold absent) none = absurd (no_text asked asks none)
-  nothing_of (gave asked text status is asks leaves p) none = absurd (no_text asked asks none)
+  nothing_of (gave asked text end is asks leaves p) none = absurd (no_text asked asks none)
   nothing_of (by_sink asked text is asks leaves p) none = absurd (no_text asked asks none)
   nothing_of (by_space asked text is asks leaves p) none = absurd (no_text asked asks none)
 
@@ -233,7 +241,7 @@ module _ (words : List (List ℕ)) (missing : Type 0) (a b : Pipe) (answer : ℕ
   usage_of (by_memory none is some same) two = let five = code ∙ ap code_of is in absurd (omega (arith, five, two))
   usage_of (by_bad text is bad same) two = let three = code ∙ ap code_of is in absurd (omega (arith, three, two))
   usage_of (by_want asked is named same) two = let five = code ∙ ap code_of is in absurd (omega (arith, five, two))
-  usage_of (passed asked status is asks reads p) two = absurd (omega (arith, two, few asked status is p))
+  usage_of (passed asked end is asks reads p) two = absurd (omega (arith, two, few asked end is p))
   usage_of (by_input asked is asks reads p) two = let four = code ∙ ap code_of is in absurd (omega (arith, four, two))
   usage_of (by_file_read asked name is asks reads p) two = let four = code ∙ ap code_of is in absurd (omega (arith, four, two))
   usage_of (by_length asked is asks reads p) two = let three = code ∙ ap code_of is in absurd (omega (arith, three, two))
@@ -243,7 +251,7 @@ module _ (words : List (List ℕ)) (missing : Type 0) (a b : Pipe) (answer : ℕ
   usage_of (by_room asked is asks reads p) two = let five = code ∙ ap code_of is in absurd (omega (arith, five, two))
   usage_of (by_file_room asked name is asks reads p) two = let five = code ∙ ap code_of is in absurd (omega (arith, five, two))
   usage_of (by_no_file asked name is asks reads p untold none) two = let three = code ∙ ap code_of is in absurd (omega (arith, three, two))
-  usage_of (gave asked text status is asks leaves p) two = let zero_is = code ∙ ap code_of is ∙ p.written.0 in absurd (omega (arith, zero_is, two))
+  usage_of (gave asked text end is asks leaves p) two = let zero_is = code ∙ ap code_of is ∙ ap (λ (e : StreamEnd). e.status) p.written.0 in absurd (omega (arith, zero_is, two))
   usage_of (by_sink asked text is asks leaves p) two = let four = code ∙ ap code_of is in absurd (omega (arith, four, two))
   usage_of (by_space asked text is asks leaves p) two = let five = code ∙ ap code_of is in absurd (omega (arith, five, two))
 
@@ -252,7 +260,7 @@ module _ (words : List (List ℕ)) (missing : Type 0) (a b : Pipe) (answer : ℕ
   refused_of (by_memory want is some same) none = inr (code ∙ ap code_of is, some)
   refused_of (by_bad text is bad same) none = absurd (asked_not_none words bad.asked bad.named none)
   refused_of (by_want asked is named same) none = absurd (asked_not_none words asked named none)
-  refused_of (passed asked status is asks reads p) none = absurd (asked_not_none words asked asks.named none)
+  refused_of (passed asked end is asks reads p) none = absurd (asked_not_none words asked asks.named none)
   refused_of (by_input asked is asks reads p) none = absurd (asked_not_none words asked asks.named none)
   refused_of (by_file_read asked name is asks reads p) none = absurd (asked_not_none words asked asks.named none)
   refused_of (by_length asked is asks reads p) none = absurd (asked_not_none words asked asks.named none)
@@ -262,7 +270,7 @@ module _ (words : List (List ℕ)) (missing : Type 0) (a b : Pipe) (answer : ℕ
   refused_of (by_room asked is asks reads p) none = absurd (asked_not_none words asked asks.named none)
   refused_of (by_file_room asked name is asks reads p) none = absurd (asked_not_none words asked asks.named none)
   refused_of (by_no_file asked name is asks reads p untold absent) none = absurd (asked_not_none words asked asks.named none)
-  refused_of (gave asked text status is asks leaves p) none = absurd (asked_not_none words asked asks.named none)
+  refused_of (gave asked text end is asks leaves p) none = absurd (asked_not_none words asked asks.named none)
   refused_of (by_sink asked text is asks leaves p) none = absurd (asked_not_none words asked asks.named none)
   refused_of (by_space asked text is asks leaves p) none = absurd (asked_not_none words asked asks.named none)
 
@@ -271,7 +279,7 @@ module _ (words : List (List ℕ)) (missing : Type 0) (a b : Pipe) (answer : ℕ
   named_of (by_memory none is some same) three = let five = code ∙ ap code_of is in absurd (omega (arith, five, three))
   named_of (by_bad text is bad same) three = inl bad
   named_of (by_want asked is named same) three = let five = code ∙ ap code_of is in absurd (omega (arith, five, three))
-  named_of (passed asked status is asks reads p) three = absurd (omega (arith, three, few asked status is p))
+  named_of (passed asked end is asks reads p) three = absurd (omega (arith, three, few asked end is p))
   named_of (by_input asked is asks reads p) three = let four = code ∙ ap code_of is in absurd (omega (arith, four, three))
   named_of (by_file_read asked name is asks reads p) three = let four = code ∙ ap code_of is in absurd (omega (arith, four, three))
   named_of (by_length asked is asks reads p) three = inr (reads, inl p.told)
@@ -281,19 +289,19 @@ module _ (words : List (List ℕ)) (missing : Type 0) (a b : Pipe) (answer : ℕ
   named_of (by_room asked is asks reads p) three = let five = code ∙ ap code_of is in absurd (omega (arith, five, three))
   named_of (by_file_room asked name is asks reads p) three = let five = code ∙ ap code_of is in absurd (omega (arith, five, three))
   named_of (by_no_file asked name is asks reads p untold none) three = inr (reads, inr none)
-  named_of (gave asked text status is asks leaves p) three = let zero_is = code ∙ ap code_of is ∙ p.written.0 in absurd (omega (arith, zero_is, three))
+  named_of (gave asked text end is asks leaves p) three = let zero_is = code ∙ ap code_of is ∙ ap (λ (e : StreamEnd). e.status) p.written.0 in absurd (omega (arith, zero_is, three))
   named_of (by_sink asked text is asks leaves p) three = let four = code ∙ ap code_of is in absurd (omega (arith, four, three))
   named_of (by_space asked text is asks leaves p) three = let five = code ∙ ap code_of is in absurd (omega (arith, five, three))
 
-  faults_as : (known : Result ℕ Refusal) → outcome ≡ known → FaultsOf words known a b → FaultsOf words outcome a b
-  faults_as known is faults = subst (λ (o : Result ℕ Refusal). FaultsOf words o a b) (sym is) faults
+  faults_as : (known : Result StreamEnd Refusal) → outcome ≡ known → FaultsOf words known a b → FaultsOf words outcome a b
+  faults_as known is faults = subst (λ (o : Result StreamEnd Refusal). FaultsOf words o a b) (sym is) faults
 
   faults_of : Ways words missing a b outcome → FaultsOf words outcome a b
   faults_of (by_usage is named same) = faults_as _ is (none_fault a b same)
   faults_of (by_memory none is some same) = faults_as _ is (none_fault a b same)
   faults_of (by_bad text is bad same) = faults_as _ is (none_fault a b same)
   faults_of (by_want asked is named same) = faults_as _ is (none_fault a b same)
-  faults_of (passed asked status is asks reads p) = faults_as _ is p.faults
+  faults_of (passed asked end is asks reads p) = faults_as _ is p.all.faults
   faults_of (by_input asked is asks reads p) = faults_as _ is (reads_as words asked asks a b p)
   faults_of (by_file_read asked name is asks reads p) = faults_as _ is (reads_as words asked asks a b p)
   faults_of (by_length asked is asks reads p) = faults_as _ is p.stops.faults
@@ -303,7 +311,7 @@ module _ (words : List (List ℕ)) (missing : Type 0) (a b : Pipe) (answer : ℕ
   faults_of (by_room asked is asks reads p) = faults_as _ is p.faults
   faults_of (by_file_room asked name is asks reads p) = faults_as _ is p.faults
   faults_of (by_no_file asked name is asks reads p untold none) = faults_as _ is p.faults
-  faults_of (gave asked text status is asks leaves p) = faults_as _ is (gives_all text a b status p).faults
+  faults_of (gave asked text end is asks leaves p) = faults_as _ is (gives_all text a b end p).faults
   faults_of (by_sink asked text is asks leaves p) = faults_as _ is (fails_as words (Some text) a b leaves (give_fails text a b p))
   faults_of (by_space asked text is asks leaves p) = faults_as _ is (record { input = ap (λ (s : Seen (List ℕ)). s.faults) p.unread; out = ap (λ (s : Seen (List ℕ)). s.faults) p.written })
 
@@ -312,7 +320,7 @@ module _ (words : List (List ℕ)) (missing : Type 0) (a b : Pipe) (answer : ℕ
   fault_of (by_memory none is some same) four = let five = code ∙ ap code_of is in absurd (omega (arith, five, four))
   fault_of (by_bad text is bad same) four = let three = code ∙ ap code_of is in absurd (omega (arith, three, four))
   fault_of (by_want asked is named same) four = let five = code ∙ ap code_of is in absurd (omega (arith, five, four))
-  fault_of (passed asked status is asks reads p) four = absurd (omega (arith, four, few asked status is p))
+  fault_of (passed asked end is asks reads p) four = absurd (omega (arith, four, few asked end is p))
   fault_of (by_input asked is asks reads p) four = inl (reads, reads_as words asked asks a b p)
   fault_of (by_file_read asked name is asks reads p) four = inl (reads, reads_as words asked asks a b p)
   fault_of (by_length asked is asks reads p) four = let three = code ∙ ap code_of is in absurd (omega (arith, three, four))
@@ -322,7 +330,7 @@ module _ (words : List (List ℕ)) (missing : Type 0) (a b : Pipe) (answer : ℕ
   fault_of (by_room asked is asks reads p) four = let five = code ∙ ap code_of is in absurd (omega (arith, five, four))
   fault_of (by_file_room asked name is asks reads p) four = let five = code ∙ ap code_of is in absurd (omega (arith, five, four))
   fault_of (by_no_file asked name is asks reads p untold none) four = let three = code ∙ ap code_of is in absurd (omega (arith, three, four))
-  fault_of (gave asked text status is asks leaves p) four = let zero_is = code ∙ ap code_of is ∙ p.written.0 in absurd (omega (arith, zero_is, four))
+  fault_of (gave asked text end is asks leaves p) four = let zero_is = code ∙ ap code_of is ∙ ap (λ (e : StreamEnd). e.status) p.written.0 in absurd (omega (arith, zero_is, four))
   fault_of (by_sink asked text is asks leaves p) four = inr (fails_as words (Some text) a b leaves (give_fails text a b p))
   fault_of (by_space asked text is asks leaves p) four = let five = code ∙ ap code_of is in absurd (omega (arith, five, four))
 
@@ -331,7 +339,7 @@ module _ (words : List (List ℕ)) (missing : Type 0) (a b : Pipe) (answer : ℕ
   complete_of (by_memory none is some same) can still = inr (code ∙ ap code_of is)
   complete_of (by_bad text is bad same) can still = absurd (asks_no_bad words can.asked can.asks bad)
   complete_of (by_want asked is named same) can still = inr (code ∙ ap code_of is)
-  complete_of (passed asked status is asks reads p) can still = inl (few asked status is p)
+  complete_of (passed asked end is asks reads p) can still = inl (few asked end is p)
   complete_of (by_input asked is asks reads p) can still = absurd (still (inl p.rose))
   complete_of (by_file_read asked name is asks reads p) can still = absurd (still (inl p.rose))
   complete_of (by_length asked is asks reads p) can still = absurd (not_too_long a.input.told (can.short reads) p.told)
@@ -341,11 +349,31 @@ module _ (words : List (List ℕ)) (missing : Type 0) (a b : Pipe) (answer : ℕ
   complete_of (by_room asked is asks reads p) can still = inr (code ∙ ap code_of is)
   complete_of (by_file_room asked name is asks reads p) can still = inr (code ∙ ap code_of is)
   complete_of (by_no_file asked name is asks reads p untold none) can still = absurd (not_untold a.input.told (can.short reads) untold)
-  complete_of (gave asked text status is asks leaves p) can still = let zero_is = code ∙ ap code_of is ∙ p.written.0 in inl (omega (arith, zero_is))
+  complete_of (gave asked text end is asks leaves p) can still = let zero_is = code ∙ ap code_of is ∙ ap (λ (e : StreamEnd). e.status) p.written.0 in inl (omega (arith, zero_is))
   complete_of (by_sink asked text is asks leaves p) can still = absurd (still (inr p.written.1))
   complete_of (by_space asked text is asks leaves p) can still = inr (code ∙ ap code_of is)
 
-module _ (words : List (List ℕ)) (answer : ℕ) (outcome : Result ℕ Refusal) (code : answer ≡ code_of outcome) where
+  -- at an end it is told whether what was read ends inside a packet
+  inside_of : Ways words missing a b outcome → (bytes : List ℕ) → a.input.told ≡ Some bytes → (end : StreamEnd) → outcome ≡ Ok end → end.inside ≡ is_inside_for words bytes
+  inside_of (passed asked other is asks reads p) bytes told end done = ap (λ (e : StreamEnd). e.inside) (same_end end other done is) ∙ passed_inside words asked a b other bytes asks p told
+  inside_of (gave asked text other is asks leaves p) bytes told end done = ap (λ (e : StreamEnd). e.inside) (same_end end other done is) ∙ gave_inside words asked text a b other bytes asks leaves p
+  inside_of (by_usage is named same) bytes told end done = absurd (no_end _ end is done)
+  inside_of (by_memory none is some same) bytes told end done = absurd (no_end _ end is done)
+  inside_of (by_bad text is bad same) bytes told end done = absurd (no_end _ end is done)
+  inside_of (by_want asked is named same) bytes told end done = absurd (no_end _ end is done)
+  inside_of (by_input asked is asks reads p) bytes told end done = absurd (no_end _ end is done)
+  inside_of (by_file_read asked name is asks reads p) bytes told end done = absurd (no_end _ end is done)
+  inside_of (by_length asked is asks reads p) bytes told end done = absurd (no_end _ end is done)
+  inside_of (by_file_length asked name is asks reads p) bytes told end done = absurd (no_end _ end is done)
+  inside_of (by_output asked is asks reads p) bytes told end done = absurd (no_end _ end is done)
+  inside_of (by_file_output asked name is asks reads p) bytes told end done = absurd (no_end _ end is done)
+  inside_of (by_room asked is asks reads p) bytes told end done = absurd (no_end _ end is done)
+  inside_of (by_file_room asked name is asks reads p) bytes told end done = absurd (no_end _ end is done)
+  inside_of (by_no_file asked name is asks reads p untold none) bytes told end done = absurd (no_end _ end is done)
+  inside_of (by_sink asked text is asks leaves p) bytes told end done = absurd (no_end _ end is done)
+  inside_of (by_space asked text is asks leaves p) bytes told end done = absurd (no_end _ end is done)
+
+module _ (words : List (List ℕ)) (answer : ℕ) (outcome : Result StreamEnd Refusal) (code : answer ≡ code_of outcome) where
   feeds_of : (missing : Type 0) (a b : Pipe) → Ways words missing a b outcome → Feeds words outcome a b answer
   feeds_of missing a b ways = record {
     done = done_of words missing a b answer outcome code ways;
@@ -362,6 +390,7 @@ module _ (words : List (List ℕ)) (answer : ℕ) (outcome : Result ℕ Refusal)
     place : ℕ
     feeds : Feeds words outcome (feed_of file 0 before) (feed_of file place after) answer
     rests : Rests file before after
+    ends : (bytes : List ℕ) → (feed_of file 0 before).input.told ≡ Some bytes → (end : StreamEnd) → outcome ≡ Ok end → end.inside ≡ is_inside_for words bytes
     missing : RefusesMissing file before after answer
     nothing : (asked_of words ≡ None) ⊎ HasBadPattern words → reach_of after ≡ reach_of before
     usage : answer ≡ 2 → asked_of words ≡ None
@@ -380,6 +409,7 @@ module _ (words : List (List ℕ)) (answer : ℕ) (outcome : Result ℕ Refusal)
         place = 0;
         feeds = feeds_of ⊥ a b ways;
         rests = site;
+        ends = inside_of words ⊥ a b answer outcome code ways;
         missing = tt;
         nothing = λ none. same_reach before after site (nothing_of words ⊥ a b answer outcome code ways none);
         usage = usage_of words ⊥ a b answer outcome code ways;
@@ -402,6 +432,7 @@ module _ (words : List (List ℕ)) (answer : ℕ) (outcome : Result ℕ Refusal)
         place = w.place;
         feeds = feeds_of absent a b w.ways;
         rests = w.rest;
+        ends = inside_of words absent a b answer outcome code w.ways;
         missing = subst (λ (n : ℕ). RefusesMissing (Some name) before after n) (sym code) w.missing;
         nothing = nothing_named name is (reach_of before) (reach_of after) w;
         usage = usage_of words absent a b answer outcome code w.ways;
@@ -423,6 +454,8 @@ promises words before after answer answers =
       place = rest.place;
       feeds = rest.feeds;
       rests = rest.rests;
+      inside = λ le. if_told (feed_of (file_in words) 0 before).input.told (λ bytes. TellsInside (name_in words) (is_inside_for words bytes) before.errors after.errors)
+          (λ bytes told. told_inside (name_in words) o before.errors after.errors answer (is_inside_for words bytes) answers.told.line answers.told.code le (rest.ends bytes told));
       missing = rest.missing;
       nothing = rest.nothing;
       usage = rest.usage;

@@ -1,5 +1,5 @@
 -- What the exits of a pump have in common.
-use Rattle.std.proofs.Common.{◌≡◌, ℕ, Option, None, Some, IfSome, List, [], ◌++◌, take, drop, refl, sym, ap, subst, ◌∙◌, inl, inr, append_assoc, append-nil}
+use Rattle.std.proofs.Common.{◌≡◌, ℕ, Bool, Option, None, Some, IfSome, List, [], ◌++◌, take, drop, refl, sym, ap, subst, ◌∙◌, inl, inr, append_assoc, append-nil}
 use Rattle.std.specs.Io.KnownBytes.{Consumes}
 use Rattle.std.specs.Prelude.{Result, Ok, Err}
 use Rattle.std.specs.Result.{IsErrAnd}
@@ -8,6 +8,7 @@ use Rattle.packet_codec.specs.Grammar.{AreBytes}
 use Rattle.edge_io.specs.Bytes.{AppendsPrefix}
 use Rattle.filter_cli.specs.Pipe.{Pipe}
 use Rattle.filter_cli.specs.Pumping.{StopsBefore, WriteFails, IsDue, Pumps}
+use Rattle.filter_cli.specs.declared.filter.StreamEnd.{StreamEnd}
 use Rattle.filter_cli.specs.declared.pass.PumpFault.{PumpFault}
 use Rattle.filter_cli.specs.declared.pass.PumpFault.TheVariants.{Input, TooLong, Output, NoMemory}
 use Rattle.filter_cli.proofs.PipeLemmas.{told_front, told_all, prefix_by}
@@ -47,24 +48,25 @@ failed_prefix sees ends first one before after bytes all status told are whole s
     (front ∙ ap (λ (l : List ℕ). l ++ behind) part ∙ append_assoc (s.shown ++ take s.count s.more) (drop s.count s.more) behind) s.moved.wrote
 
 -- at every exit a front of the whole text was written
-pub pumped_prefix : (sees : List ℕ → List ℕ → Type 0) (ends : List ℕ → List ℕ → ℕ → Type 0) → ComesFirst sees ends → IsOne ends → (before after : Pipe) (result : Result ℕ PumpFault) (bytes all : List ℕ) (status : ℕ) → before.input.told ≡ Some bytes → AreBytes bytes → ends bytes all status → Pumps sees ends before after result → AppendsPrefix before.out.told after.out.told all
-pumped_prefix sees ends first one before after (Ok another) bytes all status told are whole p =
-    let is = told_all _ _ bytes p.bytes told p.moved.took p.at_end in
-    let same = one bytes all p.text status another are whole (subst (λ (l : List ℕ). ends l p.text another) (sym is) p.whole) in
-    prefix_by _ _ all p.text [] (same.0 ∙ sym (append-nil p.text)) p.moved.wrote
-pumped_prefix sees ends first one before after (Err Input) bytes all status told are whole p =
+pub pumped_prefix : (inside : List ℕ → Bool) (sees : List ℕ → List ℕ → Type 0) (ends : List ℕ → List ℕ → ℕ → Type 0) → ComesFirst sees ends → IsOne ends → (before after : Pipe) (result : Result StreamEnd PumpFault) (bytes all : List ℕ) (status : ℕ) → before.input.told ≡ Some bytes → AreBytes bytes → ends bytes all status → Pumps inside sees ends before after result → AppendsPrefix before.out.told after.out.told all
+pumped_prefix inside sees ends first one before after (Ok end) bytes all status told are whole p =
+    let q = p.all in
+    let is = told_all _ _ bytes q.bytes told q.moved.took q.at_end in
+    let same = one bytes all q.text status end.status are whole (subst (λ (l : List ℕ). ends l q.text end.status) (sym is) q.whole) in
+    prefix_by _ _ all q.text [] (same.0 ∙ sym (append-nil q.text)) q.moved.wrote
+pumped_prefix inside sees ends first one before after (Err Input) bytes all status told are whole p =
     let (rest, is) = told_front _ _ bytes p.bytes told p.moved.took in
     let (behind, front) = first_of sees ends first bytes p.bytes rest p.text all status is are p.seen whole in
     prefix_by _ _ all p.text behind front p.moved.wrote
-pumped_prefix sees ends first one before after (Err TooLong) bytes all status told are whole p = stopped_prefix sees ends first before after bytes all status told are whole p.stops
-pumped_prefix sees ends first one before after (Err Output) bytes all status told are whole p = failed_prefix sees ends first one before after bytes all status told are whole p
-pumped_prefix sees ends first one before after (Err NoMemory) bytes all status told are whole p = stopped_prefix sees ends first before after bytes all status told are whole p
+pumped_prefix inside sees ends first one before after (Err TooLong) bytes all status told are whole p = stopped_prefix sees ends first before after bytes all status told are whole p.stops
+pumped_prefix inside sees ends first one before after (Err Output) bytes all status told are whole p = failed_prefix sees ends first one before after bytes all status told are whole p
+pumped_prefix inside sees ends first one before after (Err NoMemory) bytes all status told are whole p = stopped_prefix sees ends first before after bytes all status told are whole p
 
 pub if_told : (a : Option (List ℕ)) (P : List ℕ → Type 0) → ((bytes : List ℕ) → a ≡ Some bytes → P bytes) → IfSome a P
 if_told None P holds = tt
 if_told (Some bytes) P holds = holds bytes refl
 
 -- an exit by `?`
-pub stopped_by : (sees : List ℕ → List ℕ → Type 0) (ends : List ℕ → List ℕ → ℕ → Type 0) (before after : Pipe) (result : Result ℕ PumpFault) → IsErrAnd result (λ fault. fault ≡ NoMemory) → StopsBefore sees before after → Pumps sees ends before after result
-stopped_by sees ends before after (Ok status) is s = absurd is
-stopped_by sees ends before after (Err fault) is s = subst (λ (f : PumpFault). Pumps sees ends before after (Err f)) (sym is) s
+pub stopped_by : (inside : List ℕ → Bool) (sees : List ℕ → List ℕ → Type 0) (ends : List ℕ → List ℕ → ℕ → Type 0) (before after : Pipe) (result : Result StreamEnd PumpFault) → IsErrAnd result (λ fault. fault ≡ NoMemory) → StopsBefore sees before after → Pumps inside sees ends before after result
+stopped_by inside sees ends before after (Ok end) is s = absurd is
+stopped_by inside sees ends before after (Err fault) is s = subst (λ (f : PumpFault). Pumps inside sees ends before after (Err f)) (sym is) s

@@ -21,6 +21,7 @@ use Rattle.filter_cli.specs.declared.tool.Tool.{Tool}
 use Rattle.filter_cli.specs.declared.asked.Asked.{Asked}
 use Rattle.filter_cli.specs.declared.asked.Request.{Request}
 use Rattle.filter_cli.specs.declared.asked.Asked.TheVariants.{Filter, Tags, Ls, Stats, FromTap, ToTap, ToCsv, ToJunit, Output, FromV1, ToV1, Tracing}
+use Rattle.filter_cli.specs.declared.filter.StreamEnd.{StreamEnd}
 use Rattle.filter_cli.specs.declared.pass.PumpFault.{PumpFault}
 use Rattle.filter_cli.specs.declared.pass.PumpFault.TheVariants as pump_fault
 use Rattle.filter_cli.proofs.Prefixes.{prefix_all}
@@ -111,24 +112,24 @@ asks_tool (first ∷ words) asked named none = asks_named first words asked (too
 
 -- ---- what stands at each exit
 
-written_first : (text : List ℕ) (before after : Seen (List ℕ)) (result : Result ℕ PumpFault) → WritesAlone text before after result → AppendsPrefix before.told after.told text
-written_first text before after (Ok status) w = prefix_all before.told after.told text w.1
+written_first : (text : List ℕ) (before after : Seen (List ℕ)) (result : Result StreamEnd PumpFault) → WritesAlone text before after result → AppendsPrefix before.told after.told text
+written_first text before after (Ok end) w = prefix_all before.told after.told text w.1
 written_first text before after (Err pump_fault.Input) w = absurd w
 written_first text before after (Err pump_fault.TooLong) w = absurd w
 written_first text before after (Err pump_fault.Output) w = w.0
 written_first text before after (Err pump_fault.NoMemory) w = subst (λ (s : Seen (List ℕ)). AppendsPrefix before.told s.told text) (sym w) (0, omega arith, Appends-nil before.told)
 
-pub gives_first : (text : List ℕ) (a b : Pipe) (result : Result ℕ PumpFault) → LeavesUnread text a b result → GivesFirst text a b
+pub gives_first : (text : List ℕ) (a b : Pipe) (result : Result StreamEnd PumpFault) → LeavesUnread text a b result → GivesFirst text a b
 gives_first text a b result p = record { unread = p.unread; wrote = written_first text a.out b.out result p.written }
 
 -- no byte was read, and nothing was written
 pub gives_none : (text : List ℕ) (a b : Pipe) → b ≡ a → GivesFirst text a b
 gives_none text a b same = subst (GivesFirst text a) (sym same) (record { unread = refl; wrote = (0, omega arith, Appends-nil a.out.told) })
 
-pub gives_all : (text : List ℕ) (a b : Pipe) (status : ℕ) → LeavesUnread text a b (Ok status) → GivesAll text a b status
-gives_all text a b status p = record {
+pub gives_all : (text : List ℕ) (a b : Pipe) (end : StreamEnd) → LeavesUnread text a b (Ok end) → GivesAll text a b end.status
+gives_all text a b end p = record {
   unread = p.unread;
   wrote = p.written.1;
-  passed = p.written.0;
+  passed = ap (λ (e : StreamEnd). e.status) p.written.0;
   faults = record { input = ap (λ (s : Seen (List ℕ)). s.faults) p.unread; out = p.written.2 };
 }

@@ -1,9 +1,10 @@
 -- The events of a job whose file is the input (docs/COMMANDS.md, "subunit-output").
-use Rattle.std.specs.Prelude.{◌≡◌, ℕ, ◌<◌, List, ◌++◌, length, Result, Ok, Err}
+use Rattle.std.specs.Prelude.{◌≡◌, ℕ, ◌<◌, false, List, ◌++◌, length, Result, Ok, Err}
 use Rattle.std.specs.Io.KnownBytes.{Appends}
 use Rattle.edge_io.specs.Bytes.{AppendsPrefix}
 use Rattle.edge_io.specs.Causes.{Rose}
 use Rattle.edge_io.specs.Seen.{Seen}
+use Rattle.filter_cli.specs.declared.filter.StreamEnd.{StreamEnd}
 use Rattle.filter_cli.specs.declared.pass.PumpFault.{PumpFault}
 use Rattle.filter_cli.specs.declared.pass.PumpFault.TheVariants.{Input, TooLong, Output, NoMemory}
 use Rattle.std.specs.List.{concat, filter, flat_map}
@@ -15,13 +16,16 @@ use Rattle.filter_cli.specs.Events.{packets_of}
 use Rattle.filter_cli.specs.Tap.{is_full}
 use Rattle.filter_cli.specs.Tapped.{AreFull}
 
+-- the events of these pieces of the file that the job attaches, in order; where it attaches none, there are no events
 abbrev pub events_of_pieces : Job → List (List ℕ) → List Event
 events_of_pieces job pieces = flat_map (λ piece. option_to_list (piece_event job piece)) pieces
 
--- the first bytes decide the events of their full pieces
+-- the text that first bytes of the file decide, whatever follows: the packets of their full pieces
 abbrev pub IsOutputSeen : Job → List ℕ → List ℕ → Type 0
 IsOutputSeen job bytes text = text ≡ packets_of (events_of_pieces job (filter is_full (pieces_of bytes)))
 
+-- the text of the whole file, and its status: the packets of its pieces, and that of the job's last event; the status is
+-- 0
 abbrev pub IsOutput : Job → List ℕ → List ℕ → ℕ → Type 0
 IsOutput job bytes text status = (text ≡ packets_of (output_events job bytes)) × (status ≡ 0)
 
@@ -34,8 +38,8 @@ pub record HasAttached (job : Job) (held fed shown : List ℕ) : Type 0 where
   pub made : shown ≡ packets_of (events_of_pieces job pieces)
 
 -- What is done with the output where the input is left unread: this text is written.
-abbrev pub WritesAlone : List ℕ → Seen (List ℕ) → Seen (List ℕ) → Result ℕ PumpFault → Type 0
-WritesAlone text before after (Ok status) = (status ≡ 0) × Appends before.told after.told text × (after.faults ≡ before.faults)
+abbrev pub WritesAlone : List ℕ → Seen (List ℕ) → Seen (List ℕ) → Result StreamEnd PumpFault → Type 0
+WritesAlone text before after (Ok end) = (end ≡ record { status = 0; inside = false }) × Appends before.told after.told text × (after.faults ≡ before.faults)
 WritesAlone text before after (Err Input) = ⊥
 WritesAlone text before after (Err TooLong) = ⊥
 WritesAlone text before after (Err Output) = AppendsPrefix before.told after.told text × Rose before.faults after.faults

@@ -13,16 +13,20 @@ use Rattle.filter_cli.specs.Tap.{is_full}
 use Rattle.filter_cli.specs.TapLaws.{behind_pieces, full_are, some_pieces}
 use Rattle.filter_cli.specs.Attached.{events_of_pieces, IsOutputSeen, IsOutput, HasAttached}
 
+-- what a job has written of the bytes fed is the text that they decide
 pub attached_seen : (job : Job) (held fed shown : List ℕ) → HasAttached job held fed shown → IsOutputSeen job fed shown
 attached_seen job held fed shown h =
     h.made ∙ ap (λ (l : List (List ℕ)). packets_of (events_of_pieces job l)) (sym (ap (λ (l : List ℕ). filter is_full (pieces_of l)) h.joined ∙ full_are h.pieces held h.full h.short))
 
+-- the events of some pieces and of others are those of the first ones, and then those of the others
 pub events_then : (job : Job) (pieces others : List (List ℕ)) → events_of_pieces job (pieces ++ others) ≡ events_of_pieces job pieces ++ events_of_pieces job others
 events_then job pieces others = flat_map-append (λ (piece : List ℕ). option_to_list (piece_event job piece)) pieces others
 
+-- the packets of some events and of others are those of the first ones, and then those of the others
 pub packets_then : (events others : List Event) → packets_of (events ++ others) ≡ packets_of events ++ packets_of others
 packets_then events others = flat_map-append canonical events others
 
+-- the text that first bytes decide is a first part of the text of each file that begins with them
 pub attached_front : (job : Job) (bytes more shown all : List ℕ) (status : ℕ) → AreBytes (bytes ++ more) → IsOutputSeen job bytes shown → IsOutput job (bytes ++ more) all status → (rest : List ℕ) × (all ≡ shown ++ rest)
 attached_front job bytes more shown all status are s w =
     let (pieces, left, is, full, short) = some_pieces (length bytes) bytes (omega arith) in
@@ -35,5 +39,6 @@ attached_front job bytes more shown all status are s w =
     ∙ append_assoc (events_of_pieces job pieces) (events_of_pieces job (pieces_of (left ++ more))) (last_event job ∷ []) in
     (packets_of rest, w.0 ∙ ap packets_of events ∙ packets_then (events_of_pieces job pieces) rest ∙ ap (λ (l : List ℕ). l ++ packets_of rest) (sym first))
 
+-- a file has one text and one status
 pub attached_one : (job : Job) (bytes all other : List ℕ) (status another : ℕ) → AreBytes bytes → IsOutput job bytes all status → IsOutput job bytes other another → (all ≡ other) × (status ≡ another)
 attached_one job bytes all other status another are w v = (w.0 ∙ sym v.0, w.1 ∙ sym v.1)

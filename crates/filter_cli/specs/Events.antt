@@ -14,6 +14,7 @@ abbrev pub event_in : Note → List Event
 event_in (note.Event event) = event ∷ []
 event_in (note.Foreign bytes) = []
 
+-- the events among the notes, in order, without foreign bytes
 abbrev pub events_in : List Note → List Event
 events_in notes = flat_map event_in notes
 

@@ -25,9 +25,11 @@ csv_plan kept = record {
   status = λ notes. 0;
 }
 
--- the head is written once a byte was read, or at the end
+-- the text that first bytes decide: none before the first byte, and then the head and the records of the parts completed
+-- so far
 abbrev pub IsCsvSeen : Rules → List ℕ → List ℕ → Type 0
 IsCsvSeen rules = IsSeenBelow csv_head_text (IsSeen (csv_plan (keeps rules)))
 
+-- the text of a whole stream, and its status: the head, also where the stream is empty, all records, and 0
 abbrev pub IsCsvFiltered : Rules → List ℕ → List ℕ → ℕ → Type 0
 IsCsvFiltered rules = IsWholeBelow csv_head_text (IsFiltered (csv_plan (keeps rules)))

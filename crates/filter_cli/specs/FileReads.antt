@@ -1,5 +1,5 @@
 -- A file that a filter reads by its name (docs/COMMANDS.md, "Filters", and the refusals of filters).
-use Rattle.std.specs.Prelude.{◌≡◌, ◌⊎◌, ℕ, ◌+◌, ◌<◌, ⊤, Option, None, IfSome, List, length, take, drop, Result, Ok, Err}
+use Rattle.std.specs.Prelude.{◌≡◌, ◌⊎◌, ℕ, ◌+◌, ◌<◌, ⊤, Bool, Option, None, IfSome, List, length, take, drop, Result, Ok, Err}
 use Rattle.std.specs.Option.{option_map, option_and_then}
 use Rattle.std.specs.Io.KnownBytes.{Consumes, IsAtEnd}
 use Rattle.edge_io.specs.Causes.{Rose}
@@ -7,8 +7,9 @@ use Rattle.edge_io.specs.Disk.{Files}
 use Rattle.edge_io.specs.Seen.{Seen}
 use Rattle.filter_cli.specs.Outside.{Reach}
 use Rattle.filter_cli.specs.Pipe.{Pipe, pipe}
-use Rattle.filter_cli.specs.Pumping.{PumpsAll, ReadFails, WriteFails, PassesLimit, StopsBefore}
+use Rattle.filter_cli.specs.Pumping.{PumpsToEnd, ReadFails, WriteFails, PassesLimit, StopsBefore}
 use Rattle.filter_cli.specs.declared.file_loop.FileFault.{FileFault}
+use Rattle.filter_cli.specs.declared.filter.StreamEnd.{StreamEnd}
 use Rattle.filter_cli.specs.declared.file_loop.FileFault.TheVariants.{Read, NoFile, TooLong, Output, NoMemory}
 
 -- ---- a file as an input
@@ -36,8 +37,8 @@ abbrev pub IsThere : List ℕ → Option Files → Type 0
 IsThere name told = IfSome told (λ files. files name ≡ None → ⊥)
 
 -- The outcome says whether the file is there. Only where a read failed it leaves that open.
-abbrev pub SaysWhether : (name : List ℕ) → Option Files → Result ℕ FileFault → Type 0
-SaysWhether name told (Ok status) = IsThere name told
+abbrev pub SaysWhether : (name : List ℕ) → Option Files → Result StreamEnd FileFault → Type 0
+SaysWhether name told (Ok end) = IsThere name told
 SaysWhether name told (Err Read) = ⊤
 SaysWhether name told (Err NoFile) = IsAbsent name told
 SaysWhether name told (Err TooLong) = IsThere name told
@@ -63,13 +64,13 @@ HasReadCause name before after NoMemory = ⊥
 -- ---- all of it
 
 -- what is filtered of the file, whatever the filter: as of an input (`Pumps`), and where it is not there it stops
-abbrev pub FiltersFile : (sees : List ℕ → List ℕ → Type 0) (ends : List ℕ → List ℕ → ℕ → Type 0) → Pipe → Pipe → Result ℕ FileFault → Type 0
-FiltersFile sees ends before after (Ok status) = PumpsAll ends before after status
-FiltersFile sees ends before after (Err Read) = ReadFails sees before after
-FiltersFile sees ends before after (Err NoFile) = StopsBefore sees before after
-FiltersFile sees ends before after (Err TooLong) = PassesLimit sees before after
-FiltersFile sees ends before after (Err Output) = WriteFails sees ends before after
-FiltersFile sees ends before after (Err NoMemory) = StopsBefore sees before after
+abbrev pub FiltersFile : (inside : List ℕ → Bool) (sees : List ℕ → List ℕ → Type 0) (ends : List ℕ → List ℕ → ℕ → Type 0) → Pipe → Pipe → Result StreamEnd FileFault → Type 0
+FiltersFile inside sees ends before after (Ok end) = PumpsToEnd inside ends before after end
+FiltersFile inside sees ends before after (Err Read) = ReadFails sees before after
+FiltersFile inside sees ends before after (Err NoFile) = StopsBefore sees before after
+FiltersFile inside sees ends before after (Err TooLong) = PassesLimit sees before after
+FiltersFile inside sees ends before after (Err Output) = WriteFails sees ends before after
+FiltersFile inside sees ends before after (Err NoMemory) = StopsBefore sees before after
 
 -- Input and files stay as they were. Where there is no file of this name, nothing is written.
 pub record LeavesRest (name : List ℕ) (before after : Reach) : Type 0 where
@@ -83,8 +84,8 @@ abbrev pub SaysMissing : (before after : Seen Files) → ℕ → Type 0
 SaysMissing before after answer = (answer ≡ 3) ⊎ (((answer ≡ 4) × Rose before.faults after.faults) ⊎ (answer ≡ 5))
 
 -- The file was read up to some place, and filtered: a site does not tell how far it was read.
-pub record FeedsFile (name : List ℕ) (sees : List ℕ → List ℕ → Type 0) (ends : List ℕ → List ℕ → ℕ → Type 0) (before after : Reach) (result : Result ℕ FileFault) : Type 0 where
+pub record FeedsFile (name : List ℕ) (inside : List ℕ → Bool) (sees : List ℕ → List ℕ → Type 0) (ends : List ℕ → List ℕ → ℕ → Type 0) (before after : Reach) (result : Result StreamEnd FileFault) : Type 0 where
   pub rest : LeavesRest name before after
   pub found : SaysWhether name before.site.told result
   pub place : ℕ
-  pub fed : FiltersFile sees ends (file_pipe name 0 before) (file_pipe name place after) result
+  pub fed : FiltersFile inside sees ends (file_pipe name 0 before) (file_pipe name place after) result

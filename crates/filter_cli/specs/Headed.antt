@@ -8,6 +8,7 @@ abbrev pub IsSeenBelow : (head : List ℕ) (sees : List ℕ → List ℕ → Typ
 IsSeenBelow head sees [] text = text ≡ []
 IsSeenBelow head sees (byte ∷ bytes) text = Adds head text (sees (byte ∷ bytes))
 
+-- the text of a whole stream is the head and the filter's text behind it, also where the stream is empty
 abbrev pub IsWholeBelow : (head : List ℕ) (ends : List ℕ → List ℕ → ℕ → Type 0) → (bytes text : List ℕ) (status : ℕ) → Type 0
 IsWholeBelow head ends bytes text status = Adds head text (λ more. ends bytes more status)
 

@@ -28,6 +28,7 @@ next_word value word = if value then word else long_word word
 abbrev pub asks_next : (value : Bool) → List ℕ → Bool
 asks_next value word = if value then false else is_addition (long_word word)
 
+-- the words that stand for these, in their order, where the first of them may be the value of an option before it
 abbrev pub long_words_behind : (value : Bool) → List (List ℕ) → List (List ℕ)
 long_words_behind value [] = []
 long_words_behind value (word ∷ words) = next_word value word ∷ long_words_behind (asks_next value word) words

@@ -53,4 +53,3 @@ pub mod V1Fed
 pub mod V1Laws
 pub mod V1Parts
 pub mod JunitCases
-pub mod JunitKept

@@ -34,6 +34,7 @@ plain_front (x ∷ bytes) more (y ∷ l) a p is =
     let (rest, same) = plain_front bytes more l a p.1 tail in
     (rest, cc)
 
+-- lines that ended, and what follows them, begin with the first line and its newline
 behind : (l : List ℕ) (ls : List (List ℕ)) (rest : List ℕ) → flat_map ended (l ∷ ls) ++ rest ≡ l ++ 10 ∷ (flat_map ended ls ++ rest)
 behind l ls rest = append_assoc (ended l) (flat_map ended ls) rest ∙ append_assoc l (10 ∷ []) (flat_map ended ls ++ rest)
 
@@ -99,13 +100,16 @@ all_same (l ∷ ls) (m ∷ ms) rest last p q unended plain is =
     let tail = same.0 in
     (cc, same.1)
 
+-- two splits of the same bytes have the same lines and the same rest
 pub one_split : (bytes : List ℕ) (ls ms : List (List ℕ)) (rest last : List ℕ) → IsSplit bytes ls rest → IsSplit bytes ms last → (ls ≡ ms) × (rest ≡ last)
 one_split bytes ls ms rest last s w = all_same ls ms rest last s.plain w.plain s.open_line w.open_line (sym s.joined ∙ w.joined)
 
+-- what a test decides either holds or does not
 by_test : (r : Bool) (P : Type 0) → Decides r P → P ⊎ (P → ⊥)
 by_test true P d = inl (d.0 refl)
 by_test false P d = inr (λ p. let wrong = d.1 p in cc)
 
+-- a byte is a newline or is none
 is_newline : (byte : ℕ) → (byte ≡ 10) ⊎ (byte ≡ 10 → ⊥)
 is_newline byte = by_test (byte == 10) (byte ≡ 10) (Decides-eqb byte 10)
 

@@ -7,6 +7,7 @@ abbrev pub IsPlain : List ℕ → Type 0
 IsPlain [] = ⊤
 IsPlain (byte ∷ bytes) = (byte ≡ 10 → ⊥) × IsPlain bytes
 
+-- no newline is in any of the lines
 abbrev pub ArePlain : List (List ℕ) → Type 0
 ArePlain [] = ⊤
 ArePlain (line ∷ lines) = IsPlain line × ArePlain lines

@@ -1,5 +1,7 @@
 -- A filter of notes at work. `takes` says which notes it has taken.
-use Rattle.std.specs.Prelude.{◌≡◌, ℕ, List, [], ◌∷◌, ◌++◌}
+use Rattle.std.specs.Prelude.{◌≡◌, ℕ, false, List, [], ◌∷◌, ◌++◌}
+use Rattle.packet_codec.specs.Grammar.{AreBytes}
+use Rattle.stream_end.specs.Inside.{ends_inside}
 use Rattle.stream_reader.specs.declared.note.Note.{Note}
 use Rattle.stream_reader.specs.declared.first.First.{First}
 use Rattle.stream_reader.specs.Notes.{HasDecided}
@@ -8,12 +10,19 @@ use Rattle.stream_reader.specs.Stream.{Held, BeginsWithNotes, GivesNote, GivesNo
 use Rattle.filter_cli.specs.Plan.{Plan}
 use Rattle.filter_cli.specs.Script.{given_by}
 
+-- These are bytes, and so are those that are held of them. Whatever follows, both end inside a packet, or neither does.
+pub record EndsAsHeld (fed held : List ℕ) : Type 0 where
+  pub are : AreBytes fed
+  pub left : AreBytes held
+  pub alike : (more : List ℕ) → AreBytes more → ends_inside (fed ++ more) ≡ ends_inside (held ++ more)
+
 -- With these bytes fed, of which so many are held, it has taken all notes that they decide, and this text was appended.
 pub record HasFiltered (takes : List Note → Type 0) (plan : Plan) (held fed shown : List ℕ) : Type 0 where
   pub notes : List Note
   pub taken : takes notes
   pub begins : BeginsWithNotes fed notes held
   pub spent : HasDecided held []
+  pub ends : EndsAsHeld fed held
   pub made : shown ≡ given_by plan notes
 
 -- a note was taken that is made of what is first, and what it gives was appended
@@ -35,6 +44,7 @@ pub record TakesNotes (takes : List Note → Type 0) (plan : Plan) (notes : List
   pub all : List Note
   pub given : GivesNotes before notes after all
   pub taken : takes all
+  pub ends : before.ended ≡ false → AreBytes before.bytes → EndsAsHeld before.bytes after.bytes
   pub more : List ℕ
   pub grown : new ≡ old ++ more
   pub made : given_by plan all ≡ given_by plan notes ++ more

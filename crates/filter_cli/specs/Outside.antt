@@ -6,12 +6,15 @@ use Rattle.edge_io.specs.Disk.{Files}
 use Rattle.edge_io.specs.Seen.{Seen}
 use Rattle.filter_cli.specs.Pipe.{Pipe, pipe}
 
+-- what is seen of all that a filter's call is given: files that are only read, the input, the output, and the errors'
+-- sink
 pub record Outside : Type 0 where
   pub site : Seen Files
   pub input : Seen (List ℕ)
   pub out : Seen (List ℕ)
   pub errors : Seen (List ℕ)
 
+-- the outside of which these four parts are seen
 abbrev pub outside : Seen Files → Seen (List ℕ) → Seen (List ℕ) → Seen (List ℕ) → Outside
 outside site input out errors = record { site = site; input = input; out = out; errors = errors }
 
@@ -20,9 +23,11 @@ pub record Reach : Type 0 where
   pub site : Seen Files
   pub pipe : Pipe
 
+-- the reach of which these parts are seen: files, input and output
 abbrev pub reach : Seen Files → Seen (List ℕ) → Seen (List ℕ) → Reach
 reach site input out = record { site = site; pipe = pipe input out }
 
+-- what a filter may touch of this outside
 abbrev pub reach_of : Outside → Reach
 reach_of w = reach w.site w.input w.out
 

@@ -32,10 +32,12 @@ Compiles patterns (Err fault) = AreRefused patterns fault
 
 -- ---- the status, and the line behind the filter's name
 
+-- the exit status where patterns are refused: 3 for a bad one, 5 where memory was wanting
 abbrev pub patterns_code : PatternsFault → ℕ
 patterns_code (Bad text) = 3
 patterns_code NoMemory = 5
 
+-- what the line of that refusal says behind the filter's name; it ends with a newline
 abbrev pub patterns_text : PatternsFault → List ℕ
 patterns_text (Bad text) = codes ": bad pattern: " ++ (text ++ 10 ∷ [])
 patterns_text NoMemory = codes ": out of memory\n"

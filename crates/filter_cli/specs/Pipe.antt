@@ -3,10 +3,12 @@ use Rattle.std.specs.Prelude.{◌≡◌, ℕ, List, ◌++◌}
 use Rattle.std.specs.Io.KnownBytes.{Consumes, Appends}
 use Rattle.edge_io.specs.Seen.{Seen}
 
+-- what is seen of an input and of an output at one moment
 pub record Pipe : Type 0 where
   pub input : Seen (List ℕ)
   pub out : Seen (List ℕ)
 
+-- the pipe of which this input and this output are seen
 abbrev pub pipe : Seen (List ℕ) → Seen (List ℕ) → Pipe
 pipe input out = record { input = input; out = out }
 

@@ -4,6 +4,7 @@ use Rattle.stream_reader.specs.declared.note.Note.{Note}
 use Rattle.filter_cli.specs.Script.{Script, given_by}
 use Rattle.stream_reader.specs.Notes.{HasNotes, HasDecided}
 
+-- what a filter writes at each note and at the end of a stream, and its status, each by the notes so far
 abbrev pub Plan : Type 0
 Plan = Script Note
 

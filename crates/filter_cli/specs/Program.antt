@@ -1,5 +1,5 @@
 -- What a filter does, step by step: its words, its patterns, its input or its file.
-use Rattle.std.specs.Prelude.{◌≡◌, ◌⊎◌, ℕ, ⊤, Option, Some, None, List, Result, Ok, Err}
+use Rattle.std.specs.Prelude.{◌≡◌, ◌⊎◌, ℕ, ⊤, Bool, true, false, Option, Some, None, List, Result, Ok, Err}
 use Rattle.std.specs.Io.KnownBytes.{Appends}
 use Rattle.edge_io.specs.Bytes.{AppendsPrefix}
 use Rattle.edge_io.specs.Causes.{Rose}
@@ -12,73 +12,88 @@ use Rattle.filter_cli.specs.Attached.{WritesAlone}
 use Rattle.filter_cli.specs.declared.pass.PumpFault.{PumpFault}
 use Rattle.filter_cli.specs.Patterns.{Compiles}
 use Rattle.filter_cli.specs.Words.{Reads}
-use Rattle.filter_cli.specs.Streams.{Writing, writing_of, unread_text, sees_by, ends_by, patterns_of}
-use Rattle.filter_cli.specs.Refusals.{usage_fault, name_in, refusal_line, code_of}
+use Rattle.filter_cli.specs.Streams.{Writing, writing_of, unread_text, inside_by, sees_by, ends_by, patterns_of}
+use Rattle.filter_cli.specs.Refusals.{usage_fault, name_in, refusal_line, inside_line, code_of}
 use Rattle.filter_cli.specs.FileReads.{FeedsFile}
 use Rattle.filter_cli.specs.Outside.{Outside, Reach, reach_of, reach_pipe}
 use Rattle.filter_cli.specs.declared.asked.Asked.{Asked}
+use Rattle.filter_cli.specs.declared.filter.StreamEnd.{StreamEnd}
 use Rattle.filter_cli.specs.declared.asked.Request.{Request}
 use Rattle.filter_cli.specs.declared.refusal.UsageFault.{UsageFault}
 use Rattle.filter_cli.specs.declared.refusal.Refusal.{Refusal}
 use Rattle.filter_cli.specs.declared.refusal.Refusal.TheVariants.{Usage, Memory, Patterns, Pump, File}
 
 -- words that are no filter are refused, and touch nothing
-pub record Refuses (fault : UsageFault) (before after : Reach) (outcome : Result ℕ Refusal) : Type 0 where
+pub record Refuses (fault : UsageFault) (before after : Reach) (outcome : Result StreamEnd Refusal) : Type 0 where
   pub usage : outcome ≡ Err (Usage fault)
   pub same : after ≡ before
 
 -- the input stays as it was, and this text is written
-pub record LeavesUnread (text : List ℕ) (before after : Pipe) (result : Result ℕ PumpFault) : Type 0 where
+pub record LeavesUnread (text : List ℕ) (before after : Pipe) (result : Result StreamEnd PumpFault) : Type 0 where
   pub unread : after.input ≡ before.input
   pub written : WritesAlone text before.out after.out result
 
 -- the input is filtered, or left unread where there is a text that it does not decide
-abbrev pub PumpsOrLeaves : Option (List ℕ) → Writing → Step Pipe ℕ PumpFault
-PumpsOrLeaves None writing = Pumps (sees_by writing) (ends_by writing)
+abbrev pub PumpsOrLeaves : Option (List ℕ) → Writing → Step Pipe StreamEnd PumpFault
+PumpsOrLeaves None writing = Pumps (inside_by writing) (sees_by writing) (ends_by writing)
 PumpsOrLeaves (Some text) writing = LeavesUnread text
 
 -- making a filter touches nothing, and needs memory alone
 abbrev pub MayBeMade : Result (Unit {0}) NoMemory → Type 0
 MayBeMade made = ⊤
 
-abbrev pub Passes : Asked → Step Pipe ℕ Refusal
-Passes asked = Then Pump (PumpsOrLeaves (unread_text asked) (writing_of asked)) (λ status. Gives status)
+-- the input is filtered or left unread, which gives how it ended, or the refusal `Pump` where the pump stopped
+abbrev pub Passes : Asked → Step Pipe StreamEnd Refusal
+Passes asked = Then Pump (PumpsOrLeaves (unread_text asked) (writing_of asked)) (λ end. Gives end)
 
 -- first its patterns are checked
-abbrev pub Checked : Asked → Step Pipe ℕ Refusal
+abbrev pub Checked : Asked → Step Pipe StreamEnd Refusal
 Checked asked = Then Patterns (Still (Compiles {A = Unit {0}} (patterns_of asked))) (λ _. Passes asked)
 
 -- the file of this name is filtered
-abbrev pub FeedsNamed : (name : List ℕ) (sees : List ℕ → List ℕ → Type 0) (ends : List ℕ → List ℕ → ℕ → Type 0) → Step Reach ℕ Refusal
-FeedsNamed name sees ends = Then (File name) (FeedsFile name sees ends) (λ status. Gives status)
+abbrev pub FeedsNamed : (name : List ℕ) (inside : List ℕ → Bool) (sees : List ℕ → List ℕ → Type 0) (ends : List ℕ → List ℕ → ℕ → Type 0) → Step Reach StreamEnd Refusal
+FeedsNamed name inside sees ends = Then (File name) (FeedsFile name inside sees ends) (λ end. Gives end)
 
 -- First the filter is made, for which there may be no memory. The file is not looked at before.
-abbrev pub MakesAndFeeds : (name : List ℕ) (sees : List ℕ → List ℕ → Type 0) (ends : List ℕ → List ℕ → ℕ → Type 0) → Step Reach ℕ Refusal
-MakesAndFeeds name sees ends = Then Memory (Still MayBeMade) (λ _. FeedsNamed name sees ends)
+abbrev pub MakesAndFeeds : (name : List ℕ) (inside : List ℕ → Bool) (sees : List ℕ → List ℕ → Type 0) (ends : List ℕ → List ℕ → ℕ → Type 0) → Step Reach StreamEnd Refusal
+MakesAndFeeds name inside sees ends = Then Memory (Still MayBeMade) (λ _. FeedsNamed name inside sees ends)
 
 -- A file that is read by its name stands in the place of the input. Its patterns are checked before it is looked at.
-abbrev pub Takes : Option (List ℕ) → Asked → Step Reach ℕ Refusal
+abbrev pub Takes : Option (List ℕ) → Asked → Step Reach StreamEnd Refusal
 Takes None asked = At reach_pipe (Checked asked)
-Takes (Some name) asked = Then Patterns (Still (Compiles {A = Unit {0}} (patterns_of asked))) (λ _. MakesAndFeeds name (sees_by (writing_of asked)) (ends_by (writing_of asked)))
+Takes (Some name) asked = Then Patterns (Still (Compiles {A = Unit {0}} (patterns_of asked))) (λ _. MakesAndFeeds name (inside_by (writing_of asked)) (sees_by (writing_of asked)) (ends_by (writing_of asked)))
 
-abbrev pub Performs : UsageFault → Option Request → Step Reach ℕ Refusal
+-- what is asked for is done; where the words ask for nothing, they are refused with this fault
+abbrev pub Performs : UsageFault → Option Request → Step Reach StreamEnd Refusal
 Performs fault None = Refuses fault
 Performs fault (Some request) = Takes request.file request.asked
 
-abbrev pub Filters : List (List ℕ) → Step Reach ℕ Refusal
+-- all that a filter does, but for the line that it may tell: it reads its words, which takes memory, and does what they ask
+-- for
+abbrev pub Filters : List (List ℕ) → Step Reach StreamEnd Refusal
 Filters words = Then Memory (Still (Reads words)) (λ request. Performs (usage_fault words) request)
 
--- the line of a refusal went to the errors' sink: whole, or in part where that sink failed
-abbrev pub TellsLine : (name : List ℕ) → Result ℕ Refusal → Seen (List ℕ) → Seen (List ℕ) → Type 0
-TellsLine name (Ok status) before after = after ≡ before
-TellsLine name (Err refusal) before after = AppendsPrefix before.told after.told (refusal_line name refusal) × (Appends before.told after.told (refusal_line name refusal) ⊎ Rose before.faults after.faults)
+-- a line went to the errors' sink: whole, or in part where that sink failed
+abbrev pub TakesLine : (line : List ℕ) → Seen (List ℕ) → Seen (List ℕ) → Type 0
+TakesLine line before after = AppendsPrefix before.told after.told line × (Appends before.told after.told line ⊎ Rose before.faults after.faults)
 
-pub record Tells (name : List ℕ) (outcome : Result ℕ Refusal) (before after : Seen (List ℕ)) (answer : ℕ) : Type 0 where
+-- the line went there that what was read ends inside a packet, where it does
+abbrev pub TellsInside : (name : List ℕ) → (inside : Bool) → Seen (List ℕ) → Seen (List ℕ) → Type 0
+TellsInside name true before after = TakesLine (inside_line name) before after
+TellsInside name false before after = after ≡ before
+
+-- the line of a refusal went there, or that of the end
+abbrev pub TellsLine : (name : List ℕ) → Result StreamEnd Refusal → Seen (List ℕ) → Seen (List ℕ) → Type 0
+TellsLine name (Ok end) before after = TellsInside name end.inside before after
+TellsLine name (Err refusal) before after = TakesLine (refusal_line name refusal) before after
+
+-- the line of a refusal was told, or that of an end inside a packet, where there is one; the answer is the status of the outcome
+pub record Tells (name : List ℕ) (outcome : Result StreamEnd Refusal) (before after : Seen (List ℕ)) (answer : ℕ) : Type 0 where
   pub line : TellsLine name outcome before after
   pub code : answer ≡ code_of outcome
 
 -- one outcome, which the steps made, and its line and its status
 pub record Answers (words : List (List ℕ)) (before after : Outside) (answer : ℕ) : Type 0 where
-  pub outcome : Result ℕ Refusal
+  pub outcome : Result StreamEnd Refusal
   pub done : Filters words (reach_of before) (reach_of after) outcome
   pub told : Tells (name_in words) outcome before.errors after.errors answer

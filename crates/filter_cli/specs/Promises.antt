@@ -10,10 +10,12 @@ use Rattle.filter_cli.specs.Pipe.{Pipe, pipe, NoFault}
 use Rattle.filter_cli.specs.Pumping.{PumpsAll, ReadFails, WriteFails, IsTooLong, most_bytes}
 use Rattle.filter_cli.specs.Tools.{tool_of}
 use Rattle.filter_cli.specs.Words.{asked_of, file_in}
-use Rattle.filter_cli.specs.Streams.{AsksFor, HasBadPattern, IsSeenBy, IsFilteredBy, text_unread}
+use Rattle.filter_cli.specs.Streams.{AsksFor, HasBadPattern, IsSeenBy, IsFilteredBy, is_inside_for, text_unread}
 use Rattle.filter_cli.specs.Outside.{Outside, reach_of, SomeRose}
-use Rattle.filter_cli.specs.Program.{Answers}
+use Rattle.filter_cli.specs.Refusals.{name_in}
+use Rattle.filter_cli.specs.Program.{Answers, TellsInside}
 use Rattle.filter_cli.specs.declared.asked.Asked.{Asked}
+use Rattle.filter_cli.specs.declared.filter.StreamEnd.{StreamEnd}
 use Rattle.filter_cli.specs.declared.refusal.Refusal.{Refusal}
 use Rattle.filter_cli.specs.declared.refusal.Refusal.TheVariants.{Pump, File}
 use Rattle.filter_cli.specs.declared.file_loop.FileFault.TheVariants as file_fault
@@ -53,7 +55,7 @@ OutputFails words (Some text) = GiveFails text
 -- Where a read failed, what was written is exactly what the bytes that the reads gave decide. Where a write failed, it is
 -- at least what the reads before the last piece decide, or a first part of the text that the input does not decide. Else no
 -- call failed.
-abbrev pub FaultsOf : List (List ℕ) → Result ℕ Refusal → Pipe → Pipe → Type 0
+abbrev pub FaultsOf : List (List ℕ) → Result StreamEnd Refusal → Pipe → Pipe → Type 0
 FaultsOf words (Err (Pump pump_fault.Input)) = ReadFails (IsSeenBy words)
 FaultsOf words (Err (Pump pump_fault.Output)) = OutputFails words (text_unread words)
 FaultsOf words (Err (File name file_fault.Read)) = ReadFails (IsSeenBy words)
@@ -93,7 +95,7 @@ RefusesMissing (Some name) before after answer = IfSome before.site.told (λ fil
 
 -- What each call of the filters promises of what these words read and write, by its outcome. `before` and `after` have what
 -- they read in the place of the input.
-pub record Feeds (words : List (List ℕ)) (outcome : Result ℕ Refusal) (before after : Pipe) (answer : ℕ) : Type 0 where
+pub record Feeds (words : List (List ℕ)) (outcome : Result StreamEnd Refusal) (before after : Pipe) (answer : ℕ) : Type 0 where
   -- all that is read was read, and the text of it was written; the status is its status; or words that leave the input
   -- unread wrote their text
   pub done : answer ≤ 1 → IsDone words (text_unread words) before after answer
@@ -116,6 +118,8 @@ pub record Promises (words : List (List ℕ)) (before after : Outside) (answer :
   pub place : ℕ
   pub feeds : Feeds words answers.outcome (feed_of (file_in words) 0 before) (feed_of (file_in words) place after) answer
   pub rests : Rests (file_in words) before after
+  -- where it was done, and what it read is told, the errors' sink has the line of its end exactly where that is inside a packet
+  pub inside : answer ≤ 1 → IfSome (feed_of (file_in words) 0 before).input.told (λ bytes. TellsInside (name_in words) (is_inside_for words bytes) before.errors after.errors)
   -- a file that is not there is refused
   pub missing : RefusesMissing (file_in words) before after answer
   -- words that are no filter, and bad patterns, touch nothing

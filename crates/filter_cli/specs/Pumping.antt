@@ -1,11 +1,12 @@
--- What a pump does, whatever the filter. `sees` and `ends` are the filter's: the text that first bytes decide, and the
--- text and status of a whole stream.
-use Rattle.std.specs.Prelude.{◌≡◌, ◌⊎◌, ℕ, ◌<◌, ◌≤◌, ◌^◌, Option, IfSome, List, ◌++◌, length, take, Result, Ok, Err}
+-- What a pump does, whatever the filter. `sees`, `ends` and `inside` are the filter's: the text that first bytes decide, the
+-- text and status of a whole stream, and whether that ends inside a packet.
+use Rattle.std.specs.Prelude.{◌≡◌, ◌⊎◌, ℕ, ◌<◌, ◌≤◌, ◌^◌, Bool, false, Option, IfSome, List, ◌++◌, length, take, Result, Ok, Err}
 use Rattle.std.specs.Io.KnownBytes.{IsAtEnd}
 use Rattle.packet_codec.specs.Grammar.{AreBytes}
 use Rattle.edge_io.specs.Bytes.{AppendsPrefix}
 use Rattle.edge_io.specs.Causes.{Rose}
 use Rattle.filter_cli.specs.Pipe.{Pipe, Moves, NoFault}
+use Rattle.filter_cli.specs.declared.filter.StreamEnd.{StreamEnd}
 use Rattle.filter_cli.specs.declared.pass.PumpFault.{PumpFault}
 use Rattle.filter_cli.specs.declared.pass.PumpFault.TheVariants.{Input, TooLong, Output, NoMemory}
 
@@ -26,6 +27,15 @@ pub record PumpsAll (ends : List ℕ → List ℕ → ℕ → Type 0) (before af
   pub size : length bytes ≤ most_bytes
   pub whole : ends bytes text status
   pub faults : NoFault before after
+
+-- of an input that is not read as packets: it ends inside none
+abbrev pub in_no_packet : List ℕ → Bool
+in_no_packet bytes = false
+
+-- the same, and it is told at the end whether the input ends inside a packet
+pub record PumpsToEnd (inside : List ℕ → Bool) (ends : List ℕ → List ℕ → ℕ → Type 0) (before after : Pipe) (end : StreamEnd) : Type 0 where
+  pub all : PumpsAll ends before after end.status
+  pub told : end.inside ≡ inside all.bytes
 
 -- A read failed. What was written is exactly what is decided by the bytes that the reads gave.
 pub record ReadFails (sees : List ℕ → List ℕ → Type 0) (before after : Pipe) : Type 0 where
@@ -77,12 +87,13 @@ pub record PassesLimit (sees : List ℕ → List ℕ → Type 0) (before after :
   pub longer : most_bytes < length (stops.front ++ stops.piece)
   pub told : IsTooLong before
 
-abbrev pub Pumps : (sees : List ℕ → List ℕ → Type 0) (ends : List ℕ → List ℕ → ℕ → Type 0) → Pipe → Pipe → Result ℕ PumpFault → Type 0
-Pumps sees ends before after (Ok status) = PumpsAll ends before after status
-Pumps sees ends before after (Err Input) = ReadFails sees before after
-Pumps sees ends before after (Err TooLong) = PassesLimit sees before after
-Pumps sees ends before after (Err Output) = WriteFails sees ends before after
-Pumps sees ends before after (Err NoMemory) = StopsBefore sees before after
+-- what a pump has done of a pipe, for each result: it came to the end, or stopped for this fault
+abbrev pub Pumps : (inside : List ℕ → Bool) (sees : List ℕ → List ℕ → Type 0) (ends : List ℕ → List ℕ → ℕ → Type 0) → Pipe → Pipe → Result StreamEnd PumpFault → Type 0
+Pumps inside sees ends before after (Ok end) = PumpsToEnd inside ends before after end
+Pumps inside sees ends before after (Err Input) = ReadFails sees before after
+Pumps inside sees ends before after (Err TooLong) = PassesLimit sees before after
+Pumps inside sees ends before after (Err Output) = WriteFails sees ends before after
+Pumps inside sees ends before after (Err NoMemory) = StopsBefore sees before after
 
 -- The stream has a text, and of that text a first part was written.
 pub record HasWrittenFirst (ends : List ℕ → List ℕ → ℕ → Type 0) (old new : Option (List ℕ)) (bytes : List ℕ) : Type 0 where

@@ -1,4 +1,5 @@
--- The refusals, each of one step, with its status and its line (docs/COMMANDS.md, "Refusals").
+-- The refusals, each of one step, with its status and its line, and the line of an input that ends inside a packet
+-- (docs/COMMANDS.md, "Refusals").
 use Rattle.std.specs.Prelude.{ℕ, Option, None, Some, List, [], ◌∷◌, ◌++◌, codes, Result, Ok, Err}
 use Rattle.filter_cli.specs.declared.refusal.UsageFault.{UsageFault}
 use Rattle.filter_cli.specs.declared.refusal.UsageFault.TheVariants.{Tool, Words}
@@ -9,6 +10,7 @@ use Rattle.filter_cli.specs.declared.pass.PumpFault.TheVariants as pump_fault
 use Rattle.filter_cli.specs.declared.file_loop.FileFault.{FileFault}
 use Rattle.filter_cli.specs.declared.file_loop.FileFault.TheVariants as file_fault
 use Rattle.filter_cli.specs.declared.tool.Tool.{Tool as ATool}
+use Rattle.filter_cli.specs.declared.filter.StreamEnd.{StreamEnd}
 use Rattle.filter_cli.specs.Tools.{tool_of}
 use Rattle.filter_cli.specs.Patterns.{patterns_code, patterns_text}
 
@@ -17,6 +19,7 @@ abbrev pub usage_with : Option ATool → UsageFault
 usage_with None = Tool
 usage_with (Some t) = Words
 
+-- why these words are no filter, by the filter that the first one names, if it names one
 abbrev pub usage_fault : List (List ℕ) → UsageFault
 usage_fault words = usage_with (tool_of words)
 
@@ -25,22 +28,28 @@ abbrev pub name_in : List (List ℕ) → List ℕ
 name_in [] = []
 name_in (name ∷ words) = name
 
+-- the whole line of wrong usage, which has the filter's name only where the first word names a filter
 abbrev pub usage_line : (name : List ℕ) → UsageFault → List ℕ
 usage_line name Tool = codes "usage: testr COMMAND or a subunit filter\n"
 usage_line name Words = name ++ codes ": wrong usage\n"
 
+-- the exit status where a pump stopped: 3 for an input that is too long, 4 where a call failed, 5 where memory was
+-- wanting
 abbrev pub pump_code : PumpFault → ℕ
 pump_code pump_fault.Input = 4
 pump_code pump_fault.TooLong = 3
 pump_code pump_fault.Output = 4
 pump_code pump_fault.NoMemory = 5
 
+-- what the line of that refusal says behind the filter's name
 abbrev pub pump_text : PumpFault → List ℕ
 pump_text pump_fault.Input = codes ": fault reading standard input\n"
 pump_text pump_fault.TooLong = codes ": standard input is too long\n"
 pump_text pump_fault.Output = codes ": fault writing output\n"
 pump_text pump_fault.NoMemory = codes ": out of memory\n"
 
+-- the exit status where a named file was not filtered whole: 3 where it is not there or too long, 4 where a call failed,
+-- 5 where memory was wanting
 abbrev pub file_code : FileFault → ℕ
 file_code file_fault.Read = 4
 file_code file_fault.NoFile = 3
@@ -48,6 +57,7 @@ file_code file_fault.TooLong = 3
 file_code file_fault.Output = 4
 file_code file_fault.NoMemory = 5
 
+-- what the line of that refusal says behind the filter's name; a file that is not there or too long is named
 abbrev pub file_text : (file : List ℕ) → FileFault → List ℕ
 file_text file file_fault.Read = codes ": fault reading a file\n"
 file_text file file_fault.NoFile = codes ": no file " ++ (file ++ codes "\n")
@@ -55,6 +65,8 @@ file_text file file_fault.TooLong = codes ": " ++ (file ++ codes " is too long\n
 file_text file file_fault.Output = codes ": fault writing output\n"
 file_text file file_fault.NoMemory = codes ": out of memory\n"
 
+-- the exit status of a refusal: 2 for wrong usage, 3 for a pattern, input or file that is not taken, 4 where a call
+-- failed, 5 for want of memory
 abbrev pub refusal_code : Refusal → ℕ
 refusal_code (Usage fault) = 2
 refusal_code (Memory fault) = 5
@@ -62,6 +74,7 @@ refusal_code (Patterns fault) = patterns_code fault
 refusal_code (Pump fault) = pump_code fault
 refusal_code (File file fault) = file_code fault
 
+-- the whole line of a refusal, which begins with the filter's name where the words name a filter
 abbrev pub refusal_line : (name : List ℕ) → Refusal → List ℕ
 refusal_line name (Usage fault) = usage_line name fault
 refusal_line name (Memory fault) = name ++ codes ": out of memory\n"
@@ -69,6 +82,11 @@ refusal_line name (Patterns fault) = name ++ patterns_text fault
 refusal_line name (Pump fault) = name ++ pump_text fault
 refusal_line name (File file fault) = name ++ file_text file fault
 
-abbrev pub code_of : Result ℕ Refusal → ℕ
-code_of (Ok status) = status
+-- the line that tells that what was read ends inside a packet; it is no refusal
+abbrev pub inside_line : (name : List ℕ) → List ℕ
+inside_line name = name ++ codes ": the input ends inside a packet\n"
+
+-- the exit status of an outcome: the filter's own, or that of the refusal
+abbrev pub code_of : Result StreamEnd Refusal → ℕ
+code_of (Ok end) = end.status
 code_of (Err refusal) = refusal_code refusal

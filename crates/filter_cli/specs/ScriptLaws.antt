@@ -2,6 +2,7 @@
 use Rattle.std.proofs.Common.{◌≡◌, ℕ, List, [], ◌∷◌, ◌++◌, sym, ap, ◌∙◌, append_assoc, append-nil}
 use Rattle.filter_cli.specs.Script.{Script, given_behind, given_by}
 
+-- some units and others behind them give what the first ones give, and then what the others give behind these
 pub given_then : {U : Type 0} → (script : Script U) (before units others : List U) → given_behind script before (units ++ others) ≡ given_behind script before units ++ given_behind script (before ++ units) others
 given_then {U = U} script before [] others = ap (λ (l : List U). given_behind script l others) (sym (append-nil before))
 given_then {U = U} script before (u ∷ units) others =

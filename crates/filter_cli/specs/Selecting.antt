@@ -28,6 +28,7 @@ says switch.Skip given = set_by false (is_or_genuine given (codes "--no-skip"))
 says switch.XFail given = set_by (bytes_eq given (codes "--xfail")) (is_or_genuine given (codes "--no-xfail"))
 says switch.Hidden given = set_by (is_or_genuine given (codes "--no-passthrough")) false
 
+-- how an item sets a switch: only a flag can, and no value or name
 abbrev pub said : Switch → Item → Option Bool
 said s (flag given) = says s given
 said s (valued option value) = None
@@ -65,6 +66,7 @@ value_added a (name word) = None
 abbrev pub values_added : Added → List Item → List (List ℕ)
 values_added a items = flat_map (λ item. option_to_list (value_added a item)) items
 
+-- the patterns of both kinds, in the order of the words, which is the order in which they are checked
 abbrev pub patterns_in : List Item → List (List ℕ)
 patterns_in items = values_added added.Pattern items
 

@@ -1,8 +1,9 @@
 -- What the words write of a stream.
-use Rattle.std.specs.Prelude.{◌≡◌, ℕ, All, Option, Some, None, List, []}
+use Rattle.std.specs.Prelude.{◌≡◌, ℕ, Bool, false, All, Option, Some, None, List, []}
 use Rattle.std.specs.Option.{option_and_then}
 use Rattle.event_sift.specs.Keeping.{keeps}
 use Rattle.packet_codec.specs.Canonical.{canonical}
+use Rattle.stream_end.specs.Inside.{ends_inside}
 use Rattle.sub_export.specs.declared.job.Attachment.{Attachment}
 use Rattle.sub_export.specs.declared.job.Job.{Job}
 use Rattle.sub_export.specs.Output.{last_event}
@@ -15,6 +16,7 @@ use Rattle.filter_cli.specs.Attached.{IsOutputSeen, IsOutput}
 use Rattle.filter_cli.specs.Exporting.{csv_plan}
 use Rattle.filter_cli.specs.Headed.{IsSeenBelow, IsWholeBelow}
 use Rattle.filter_cli.specs.Plan.{Plan, IsSeen, IsFiltered}
+use Rattle.filter_cli.specs.Pumping.{in_no_packet}
 use Rattle.filter_cli.specs.Ls.{ls_plan}
 use Rattle.filter_cli.specs.Stats.{stats_plan}
 use Rattle.filter_cli.specs.Junit.{junit_plan}
@@ -36,6 +38,7 @@ pub data Writing : Type 0 where
   below_head : List ℕ → Plan → Writing
   of_job : Job → Writing
 
+-- what each filter writes, by what its words ask for
 abbrev pub writing_of : Asked → Writing
 writing_of (Filter selection) = of_notes (filter_plan (rules_of selection) selection.hidden)
 writing_of (Tags retagging) = of_notes (tags_plan_of retagging.add retagging.remove)
@@ -66,6 +69,14 @@ ends_by of_v1_lines = IsV1Filtered
 ends_by (below_head head plan) = IsWholeBelow head (IsFiltered plan)
 ends_by (of_job job) = IsOutput job
 
+-- whether a whole stream ends inside a packet: only notes are read from packets
+abbrev pub inside_by : Writing → List ℕ → Bool
+inside_by (of_notes plan) = ends_inside
+inside_by of_tap_lines = in_no_packet
+inside_by of_v1_lines = in_no_packet
+inside_by (below_head head plan) = ends_inside
+inside_by (of_job job) = in_no_packet
+
 -- the patterns that a filter is given, in the order of the words
 abbrev pub patterns_of : Asked → List (List ℕ)
 patterns_of (Filter selection) = selection.patterns
@@ -83,6 +94,7 @@ patterns_of (Tracing trace) = []
 
 -- ---- what is written where the input is left unread
 
+-- the packet of the job's only event, where it attaches no file; none where it attaches one, for then that is read
 abbrev pub unread_by : Job → Option Attachment → Option (List ℕ)
 unread_by job None = Some (canonical (last_event job))
 unread_by job (Some attachment) = None
@@ -124,6 +136,15 @@ pub record HasBadPattern (words : List (List ℕ)) : Type 0 where
   pub named : asked_of words ≡ Some asked
   pub text : List ℕ
   pub bad : IsFirstBadText (patterns_of asked) text
+
+-- whether a whole stream ends inside a packet for what is asked
+abbrev pub inside_asked : Option Asked → List ℕ → Bool
+inside_asked None bytes = false
+inside_asked (Some asked) bytes = inside_by (writing_of asked) bytes
+
+-- the same for these words
+abbrev pub is_inside_for : List (List ℕ) → List ℕ → Bool
+is_inside_for words = inside_asked (asked_of words)
 
 -- the text that the first bytes of a stream decide for these words, whatever follows
 pub record IsSeenBy (words : List (List ℕ)) (bytes text : List ℕ) : Type 0 where

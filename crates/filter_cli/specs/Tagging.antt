@@ -15,5 +15,6 @@ tags_plan_of add remove = record {
   status = λ notes. 0;
 }
 
+-- the same with the tags that a tagger adds and removes
 abbrev pub tags_plan : Tagger → Plan
 tags_plan tagger = tags_plan_of tagger.add tagger.remove

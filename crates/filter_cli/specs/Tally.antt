@@ -13,6 +13,7 @@ use Rattle.filter_cli.specs.declared.tally.Kind.TheVariants as kind
 abbrev pub is_pass : Ended → Bool
 is_pass how = not (is_failure how || is_skip how || is_existing how)
 
+-- a test that ended so is counted under this kind; under `Run` are all but those that are only known to exist
 abbrev pub is_of : Kind → Ended → Bool
 is_of kind.Run how = not (is_existing how)
 is_of kind.Passed how = is_pass how

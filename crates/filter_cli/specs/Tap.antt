@@ -6,6 +6,7 @@ use Rattle.tap_bridge.specs.Events.{longest_line, pieces_of, events_so_far, tap_
 use Rattle.filter_cli.specs.Events.{packets_of}
 use Rattle.filter_cli.specs.Lines.{IsSplit, last_line}
 
+-- the piece has as many bytes as a piece may have, which is as many as the longest line has
 abbrev pub is_full : List ℕ → Bool
 is_full piece = nat_eq (length piece) longest_line
 

@@ -32,12 +32,14 @@ behind_pieces (piece ∷ pieces) left full =
     front [] is = ap pieces_of (append-nil piece) ∙ one_piece piece (omega (arith, full.0)) (omega (arith, full.0))
     front (byte ∷ bytes) is = piece_in_front piece (byte ∷ bytes) full.0 (omega arith)
 
+-- of full pieces none is dropped where only full ones are kept
 all_full : (pieces : List (List ℕ)) → AreFull pieces → filter is_full pieces ≡ pieces
 all_full [] full = refl
 all_full (piece ∷ pieces) full =
     let is : is_full piece ≡ true = eq-eqb (length piece) longest_line full.0 in
     ap (λ b. cond b (piece ∷ filter is_full pieces) (filter is_full pieces)) is ∙ ap (λ (l : List (List ℕ)). piece ∷ l) (all_full pieces full.1)
 
+-- fewer bytes than a full piece has give no full piece
 none_full : (left : List ℕ) → length left < longest_line → filter is_full (pieces_of left) ≡ []
 none_full [] few = refl
 none_full (byte ∷ left) few =
@@ -46,6 +48,7 @@ none_full (byte ∷ left) few =
     not_full : (n : ℕ) → n < longest_line → nat_eq n longest_line ≡ false
     not_full n less = ne_eqb n longest_line (λ is. absurd (omega (arith, less, is)))
 
+-- the full pieces of bytes that are cut into full pieces and fewer bytes than one has are those pieces
 pub full_are : (pieces : List (List ℕ)) (left : List ℕ) → AreFull pieces → length left < longest_line → filter is_full (pieces_of (concat pieces ++ left)) ≡ pieces
 full_are pieces left full few =
     ap (filter is_full) (behind_pieces pieces left full) ∙ filter-append is_full pieces (pieces_of left)
@@ -67,6 +70,7 @@ some_pieces (suc n) bytes few =
 
 -- Events.
 
+-- what lines and others behind them give, behind the lines before all of these
 events_then : (before : List Input) (lines others : List Input) → events_behind before (lines ++ others) ≡ events_behind before lines ++ events_behind (before ++ lines) others
 events_then before [] others = ap (λ (l : List Input). events_behind l others) (sym (append-nil before))
 events_then before (this ∷ lines) others =
@@ -78,11 +82,13 @@ events_then before (this ∷ lines) others =
 so_far_then : (lines others : List (List ℕ)) → events_so_far (lines ++ others) ≡ events_so_far lines ++ events_behind (map input_of lines) (map input_of others)
 so_far_then lines others = ap (events_behind []) (map-append input_of lines others) ∙ events_then [] (map input_of lines) (map input_of others)
 
+-- the packets of some events and of others are those of the first ones, and then those of the others
 pub packets_then : (events others : List Event) → packets_of (events ++ others) ≡ packets_of events ++ packets_of others
 packets_then events others = flat_map-append canonical events others
 
 -- The full pieces of a line come first, however it goes on.
 
+-- of a line that is cut into the full pieces that it gave and what is held of it, the decided pieces are those
 pub full_pieces_are : (long : Bool) (rest : List ℕ) (pieces : List (List ℕ)) (held : List ℕ) → rest ≡ concat pieces ++ held → AreFull pieces → length held ≤ most_open long → GivesPieces long rest pieces → full_pieces rest ≡ pieces
 full_pieces_are false rest pieces held is full short none =
     let all : rest ≡ held = is ∙ ap (λ (l : List (List ℕ)). concat l ++ held) none in
@@ -90,6 +96,7 @@ full_pieces_are false rest pieces held is full short none =
 full_pieces_are true rest pieces held is full short longer =
     cond-true _ _ _ (lt-ltb longest_line (length rest) longer) ∙ ap (λ (l : List ℕ). filter is_full (pieces_of l)) is ∙ full_are pieces held full (omega (arith, short))
 
+-- what a line gives begins with the full pieces of its first bytes, whatever bytes end it
 pieces_first : (before : List Input) (rest tail : List ℕ) → (events : List Event) × (events_at before (input_of (rest ++ tail)) ≡ map stdout_event (full_pieces rest) ++ events)
 pieces_first before rest tail =
     ⊎_elim
@@ -117,6 +124,7 @@ pieces_first before rest tail =
 
 -- The laws.
 
+-- what a reader of lines has written of the bytes fed is the text that they decide
 pub tap_seen : (reader : TapReader) (held : List ℕ) (long : Bool) (fed shown : List ℕ) → HasTapped reader held long fed shown → IsTapSeen fed shown
 tap_seen reader held long fed shown h = record {
   lines = h.lines;
@@ -150,6 +158,7 @@ seen_first lines others rest (inr (tail, later, is)) =
           ∙ append_assoc (events_so_far lines ++ shown) (events ++ after) at_end,
     )
 
+-- the text that first bytes decide is a first part of the text of each stream that begins with them
 pub tap_front : (bytes more shown all : List ℕ) (status : ℕ) → AreBytes (bytes ++ more) → IsTapSeen bytes shown → IsTapFiltered (bytes ++ more) all status → (rest : List ℕ) × (all ≡ shown ++ rest)
 tap_front bytes more shown all status are s w =
     let (others, is, next) = next_line bytes more s.lines w.lines s.rest w.rest s.split w.split in
@@ -160,23 +169,27 @@ tap_front bytes more shown all status are s w =
           ∙ ap (λ (l : List ℕ). l ++ packets_of events) (sym s.made),
     )
 
+-- a stream has one text and one status
 pub tap_one : (bytes all other : List ℕ) (status another : ℕ) → AreBytes bytes → IsTapFiltered bytes all status → IsTapFiltered bytes other another → (all ≡ other) × (status ≡ another)
 tap_one bytes all other status another are w v =
     let same = one_split bytes w.lines v.lines w.rest v.rest w.split v.split in
     let lines : w.lines ++ last_line w.rest ≡ v.lines ++ last_line v.rest = ap (λ (l : List (List ℕ)). l ++ last_line w.rest) same.0 ∙ ap (λ (l : List ℕ). v.lines ++ last_line l) same.1 in
     (w.made ∙ ap (λ (l : List (List ℕ)). packets_of (tap_events l)) lines ∙ sym v.made, w.status ∙ sym v.status)
 
+-- first bytes decide one text
 pub tap_one_seen : (bytes shown other : List ℕ) → AreBytes bytes → IsTapSeen bytes shown → IsTapSeen bytes other → shown ≡ other
 tap_one_seen bytes shown other are s t =
     let same = one_split bytes s.lines t.lines s.rest t.rest s.split t.split in
     let text = λ (lines : List (List ℕ)) (rest : List ℕ). packets_of (events_so_far lines ++ map stdout_event (full_pieces rest)) in
     s.made ∙ ap (λ (l : List (List ℕ)). text l s.rest) same.0 ∙ ap (λ (l : List ℕ). text t.lines l) same.1 ∙ sym t.made
 
+-- each stream has some text, and the status 0
 pub tap_some : (bytes : List ℕ) → (all : List ℕ) × IsTapFiltered bytes all 0
 tap_some bytes =
     let (lines, rest, split) = some_split bytes in
     (packets_of (tap_events (lines ++ last_line rest)), record { lines = lines; rest = rest; split = split; made = refl; status = refl })
 
+-- any first bytes decide some text
 pub tap_some_seen : (bytes : List ℕ) → (text : List ℕ) × IsTapSeen bytes text
 tap_some_seen bytes =
     let (lines, rest, split) = some_split bytes in

@@ -8,6 +8,7 @@ use Rattle.tap_bridge.specs.Kept.{HasRead}
 use Rattle.filter_cli.specs.Lines.{IsSplit}
 use Rattle.filter_cli.specs.Events.{packets_of}
 
+-- each of the pieces has as many bytes as a piece may have
 abbrev pub AreFull : List (List ℕ) → Type 0
 AreFull [] = ⊤
 AreFull (piece ∷ pieces) = (length piece ≡ longest_line) × AreFull pieces

@@ -23,6 +23,7 @@ converter_named name =
     else (if bytes_eq name (codes "subunit-output") then Some tool.Output
     else v1_tool_named name))))
 
+-- the filter of this name, of all that there are
 abbrev pub tool_named : List ℕ → Option Tool
 tool_named name =
     if bytes_eq name (codes "subunit-filter") then Some tool.Filter
@@ -59,9 +60,11 @@ is_addition name =
     || (bytes_eq name (codes "--with-id")
     || bytes_eq name (codes "--without-id")))
 
+-- the options of `subunit-filter`: its flags, and those with a value
 abbrev pub filter_kind : List ℕ → Option Kind
 filter_kind name = if is_switch name then Some Flag else (if is_addition name then Some Valued else None)
 
+-- the options of `subunit-ls`, which are all flags
 abbrev pub ls_kind : List ℕ → Option Kind
 ls_kind name = if bytes_eq name (codes "--times") || (bytes_eq name (codes "--exists") || bytes_eq name (codes "--no-passthrough")) then Some Flag else None
 
@@ -73,6 +76,7 @@ is_csv_switch name =
     || (bytes_eq name (codes "--no-skip")
     || bytes_eq name (codes "--no-xfail")))
 
+-- the options of `subunit2csv`: its flags, and the options with a value of `subunit-filter`
 abbrev pub csv_kind : List ℕ → Option Kind
 csv_kind name = if is_csv_switch name then Some Flag else (if is_addition name then Some Valued else None)
 

@@ -29,10 +29,12 @@ shifted front rest k full =
     let place : longest_line * (k + 1) ≡ length front + longest_line * k = omega (arith, full) in
     ap (λ n. take longest_line (drop n (front ++ rest))) place ∙ ap (take longest_line) (drop-append-add front rest (longest_line * k))
 
+-- the same of so many pieces, from one place on
 all_shifted : (front rest : List ℕ) (n from : ℕ) → length front ≡ longest_line → map (piece_at (front ++ rest)) (range_with_len (from + 1) n) ≡ map (piece_at rest) (range_with_len from n)
 all_shifted front rest zero from full = refl
 all_shifted front rest (suc n) from full = λ i. shifted front rest from full i ∷ all_shifted front rest n (from + 1) full i
 
+-- the first full piece is what stands in front, where that is as long, and the others are those of the rest
 piece_first : (front rest : List ℕ) → length front ≡ longest_line → full_pieces (front ++ rest) ≡ front ∷ full_pieces rest
 piece_first front rest full =
     let count : length (front ++ rest) / longest_line ≡ suc (length rest / longest_line) = omega (arith, full, length-append front rest) in
@@ -40,6 +42,7 @@ piece_first front rest full =
     ap (λ n. map (piece_at (front ++ rest)) (range_with_len 0 n)) count
     ∙ (λ i. this i ∷ all_shifted front rest (length rest / longest_line) 0 full i)
 
+-- fewer bytes than a full piece has give no full piece
 no_pieces : (rest : List ℕ) → length rest < longest_line → full_pieces rest ≡ []
 no_pieces rest few =
     let none : length rest / longest_line ≡ 0 = omega (arith, few) in
@@ -52,6 +55,7 @@ pieces_then (front ∷ pieces) left full =
     ap full_pieces (append_assoc front (concat pieces) left) ∙ piece_first front (concat pieces ++ left) full.0
     ∙ ap (λ (l : List (List ℕ)). front ∷ l) (pieces_then pieces left full.1)
 
+-- the full pieces of bytes that are cut into full pieces and fewer bytes than one has are those pieces
 pub pieces_are : (pieces : List (List ℕ)) (left : List ℕ) → AreFull pieces → length left < longest_line → full_pieces (concat pieces ++ left) ≡ pieces
 pieces_are pieces left full few = pieces_then pieces left full ∙ ap (λ (l : List (List ℕ)). pieces ++ l) (no_pieces left few) ∙ append-nil pieces
 
@@ -69,6 +73,7 @@ size_of (front ∷ pieces) left full few =
 
 -- ---- newlines
 
+-- bytes without a newline do not end with one
 plain_end : (bytes : List ℕ) → IsPlain bytes → ends_with nat_eq bytes (10 ∷ []) ≡ false
 plain_end [] plain = refl
 plain_end (byte ∷ []) plain = ap (λ b. b && true) (ne_eqb 10 byte (λ is. plain.0 (sym is)))
@@ -165,6 +170,7 @@ short_line rest tail says short = cond-false _ _ _ (le-ltb longest_line (length 
 
 -- ---- the laws
 
+-- what a reader of lines has written of the bytes fed is the text that they decide
 pub v1_seen : (reader : V1Reader) (held : List ℕ) (long : Bool) (fed shown : List ℕ) → HasFed reader held long fed shown → IsV1Seen fed shown
 v1_seen reader held long fed shown h = record {
   lines = h.lines;
@@ -183,6 +189,7 @@ inputs_first others rest plain (inr (tail, later, is)) =
       ap (flat_map inputs_of) is ∙ ap (λ (l : List Input). l ++ flat_map inputs_of later) first ∙ append_assoc (pieces_seen rest) more (flat_map inputs_of later),
     )
 
+-- the text that first bytes decide is a first part of the text of each stream that begins with them
 pub v1_front : (bytes more shown all : List ℕ) (status : ℕ) → AreBytes (bytes ++ more) → IsV1Seen bytes shown → IsV1Filtered (bytes ++ more) all status → (rest : List ℕ) × (all ≡ shown ++ rest)
 v1_front bytes more shown all status are s w =
     let (others, is, next) = next_ended bytes more s.lines w.lines s.rest w.rest s.split w.split in
@@ -199,23 +206,27 @@ v1_front bytes more shown all status are s w =
           ∙ ap (λ (l : List ℕ). l ++ packets_of later) (sym s.made),
     )
 
+-- a stream has one text and one status
 pub v1_one : (bytes all other : List ℕ) (status another : ℕ) → AreBytes bytes → IsV1Filtered bytes all status → IsV1Filtered bytes other another → (all ≡ other) × (status ≡ another)
 v1_one bytes all other status another are w v =
     let same = one_split bytes w.lines v.lines w.rest v.rest w.split v.split in
     let lines : map ended w.lines ++ last_line w.rest ≡ map ended v.lines ++ last_line v.rest = ap (λ (l : List (List ℕ)). map ended l ++ last_line w.rest) same.0 ∙ ap (λ (l : List ℕ). map ended v.lines ++ last_line l) same.1 in
     (w.made ∙ ap (λ (l : List (List ℕ)). packets_of (v1_events l)) lines ∙ sym v.made, w.status ∙ sym v.status)
 
+-- first bytes decide one text
 pub v1_one_seen : (bytes shown other : List ℕ) → AreBytes bytes → IsV1Seen bytes shown → IsV1Seen bytes other → shown ≡ other
 v1_one_seen bytes shown other are s t =
     let same = one_split bytes s.lines t.lines s.rest t.rest s.split t.split in
     let text = λ (lines : List (List ℕ)) (rest : List ℕ). packets_of (events_so_far (inputs_of_lines lines ++ pieces_seen rest)) in
     s.made ∙ ap (λ (l : List (List ℕ)). text l s.rest) same.0 ∙ ap (λ (l : List ℕ). text t.lines l) same.1 ∙ sym t.made
 
+-- each stream has some text, and the status 0
 pub v1_some : (bytes : List ℕ) → (all : List ℕ) × IsV1Filtered bytes all 0
 v1_some bytes =
     let (lines, rest, split) = some_split bytes in
     (packets_of (v1_events (map ended lines ++ last_line rest)), record { lines = lines; rest = rest; split = split; made = refl; status = refl })
 
+-- any first bytes decide some text
 pub v1_some_seen : (bytes : List ℕ) → (text : List ℕ) × IsV1Seen bytes text
 v1_some_seen bytes =
     let (lines, rest, split) = some_split bytes in

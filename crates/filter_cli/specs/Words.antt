@@ -53,6 +53,8 @@ file_named names = text_of_only (only_of names)
 abbrev pub with_file : Option Asked → Option (Option (List ℕ)) → Option Request
 with_file asked file = option_and_then (λ a. option_map (λ f. record { asked = a; file = f }) file) asked
 
+-- how the flags of `subunit-ls` have tests listed: with times or not, and whether also those that are only known to
+-- exist; and whether output of no test is hidden
 abbrev pub listing_of : List Item → Listing
 listing_of items = record {
   times = has_flag (codes "--times") items;
@@ -99,9 +101,11 @@ asked_tags words = with_file (asked_change (before_first is_separator words)) (f
 abbrev pub job_request : Job → Request
 job_request job = record { asked = Output job; file = path_of job }
 
+-- what the words of `subunit-output` ask for: the job that they tell, with the file that it reads, if any
 abbrev pub asked_output : List (List ℕ) → Option Request
 asked_output words = option_map job_request (job_of words)
 
+-- what a filter is asked by words that are options of its own, if it has any, and at most one name of a file
 abbrev pub asked_by_options : Tool → List (List ℕ) → Option Request
 asked_by_options t words = option_and_then (asked_with t) (items_of (kind_in t) words)
 

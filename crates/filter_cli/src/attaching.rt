@@ -1,14 +1,14 @@
 //! The input as the file of a job.
 
 ghost use Rattle.std.specs.Prelude.{◌≡◌, ◌∷◌, [], ◌++◌, ◌<◌, ◌≤◌, ℕ, List, length, OnOk, IfSome};
-ghost use Rattle.filter_cli.specs.Pumping.{Pumps, WritesFirst};
+ghost use Rattle.filter_cli.specs.Pumping.{Pumps, in_no_packet, WritesFirst};
 ghost use Rattle.packet_codec.specs.Canonical.{canonical};
 ghost use Rattle.sub_export.specs.Output.{last_event, piece_size, pieces_of};
 ghost use Rattle.filter_cli.specs.Attached.{events_of_pieces, HasAttached, IsOutput, IsOutputSeen, WritesAlone};
 ghost use Rattle.filter_cli.specs.Events.{packets_of};
 ghost use Rattle.filter_cli.specs.Pipe.{Adds, pipe};
 
-use crate::filter::Filter;
+use crate::filter::{Filter, StreamEnd};
 use crate::pass::{PumpFault, pump};
 use edge_io::{Sink, Source, write_whole};
 use packet_codec::encode;
@@ -93,12 +93,15 @@ fn put_last(job: &OutputJob, text: &mut Vec<u8>) -> Result<(), NoMemory>
 }
 
 impl Filter for Attaching {
+    ghost use Rattle.filter_cli.specs.Pumping.{in_no_packet};
     ghost use Rattle.filter_cli.specs.Attached.{IsOutputSeen, IsOutput};
     ghost use Rattle.filter_cli.specs.AttachedLaws.{attached_seen, attached_front, attached_one};
 
     ghost seen = { λ f. IsOutputSeen f.job };
 
     ghost whole = { λ f. IsOutput f.job };
+
+    ghost inside = { in_no_packet };
 
     ghost has = { λ f. HasAttached f.job f.held.items };
 
@@ -108,10 +111,13 @@ impl Filter for Attaching {
         self.add(piece, text)
     }
 
-    fn close(self, text: &mut Vec<u8>) -> Result<u8, NoMemory> {
+    fn close(self, text: &mut Vec<u8>) -> Result<StreamEnd, NoMemory> {
         put_rest(&self.job, &self.held, text)?;
         put_last(&self.job, text)?;
-        Ok(0)
+        Ok(StreamEnd {
+            status: 0,
+            inside: false,
+        })
     }
 
     fn let_go(self) {}
@@ -129,8 +135,8 @@ pub fn attach_stream<I: Source, O: Sink>(
     job: OutputJob,
     input: &mut I,
     out: &mut O,
-) -> Result<u8, PumpFault>
-    ensures pumps { Pumps (IsOutputSeen job) (IsOutput job) (pipe (I.seen input.old) (O.seen out.old)) (pipe (I.seen input.new) (O.seen out.new)) result }
+) -> Result<StreamEnd, PumpFault>
+    ensures pumps { Pumps in_no_packet (IsOutputSeen job) (IsOutput job) (pipe (I.seen input.old) (O.seen out.old)) (pipe (I.seen input.new) (O.seen out.new)) result }
     // At every exit a first part of the input's text was written, and nothing else.
     ensures prefix { IfSome (I.seen input.old).told (WritesFirst (IsOutput job) (O.seen out.old).told (O.seen out.new).told) }
 {
@@ -138,7 +144,11 @@ pub fn attach_stream<I: Source, O: Sink>(
 }
 
 /// Gives the one event of a job that attaches nothing. No input is read. The status is 0.
-pub fn give_event<O: Sink>(alloc: Global, job: &OutputJob, out: &mut O) -> Result<u8, PumpFault>
+pub fn give_event<O: Sink>(
+    alloc: Global,
+    job: &OutputJob,
+    out: &mut O,
+) -> Result<StreamEnd, PumpFault>
     ensures { WritesAlone (canonical (last_event job.now)) (O.seen out.old) (O.seen out.new) result }
 {
     let mut text = Vec::new(alloc);
@@ -146,5 +156,8 @@ pub fn give_event<O: Sink>(alloc: Global, job: &OutputJob, out: &mut O) -> Resul
     let Ok(()) = write_whole(out, &text) else {
         return Err(PumpFault::Output);
     };
-    Ok(0)
+    Ok(StreamEnd {
+        status: 0,
+        inside: false,
+    })
 }

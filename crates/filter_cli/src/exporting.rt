@@ -7,9 +7,11 @@ ghost use Rattle.filter_cli.specs.Events.{events_in};
 ghost use Rattle.std.specs.List.{flat_map};
 ghost use Rattle.sub_export.specs.Records.{csv_row_of, csv_text};
 ghost use Rattle.filter_cli.specs.Pipe.{pipe};
+ghost use Rattle.stream_end.specs.Inside.{ends_inside};
 ghost use Rattle.filter_cli.specs.Pumping.{Pumps, WritesFirst};
 ghost use Rattle.filter_cli.specs.Exporting.{IsCsvSeen, IsCsvFiltered};
 
+use crate::filter::StreamEnd;
 use crate::headed::pass_below;
 use crate::notes::NoteFilter;
 use crate::pass::PumpFault;
@@ -106,8 +108,8 @@ pub fn export_stream<I: Source, O: Sink>(
     rules: &Rules,
     input: &mut I,
     out: &mut O,
-) -> Result<u8, PumpFault>
-    ensures pumps { Pumps (IsCsvSeen rules.now) (IsCsvFiltered rules.now) (pipe (I.seen input.old) (O.seen out.old)) (pipe (I.seen input.new) (O.seen out.new)) result }
+) -> Result<StreamEnd, PumpFault>
+    ensures pumps { Pumps ends_inside (IsCsvSeen rules.now) (IsCsvFiltered rules.now) (pipe (I.seen input.old) (O.seen out.old)) (pipe (I.seen input.new) (O.seen out.new)) result }
     ensures prefix { IfSome (I.seen input.old).told (WritesFirst (IsCsvFiltered rules.now) (O.seen out.old).told (O.seen out.new).told) }
 {
     let mut head = Vec::new(alloc);

@@ -7,7 +7,7 @@ ghost use Rattle.filter_cli.specs.FileReads.{ReadsOn, HasReadCause, FeedsFile};
 ghost use Rattle.filter_cli.specs.Outside.{reach};
 ghost use Rattle.filter_cli.specs.declared.file_loop.FileFault.TheVariants.{NoMemory};
 
-use crate::filter::Filter;
+use crate::filter::{Filter, StreamEnd};
 use edge_io::{Found, MOST_BYTES, PIECE, Sink, Site, write_whole};
 use std::alloc::Global;
 
@@ -63,10 +63,10 @@ pub fn pump_file<F: Filter, S: Site, O: Sink>(
     name: &str,
     site: &mut S,
     out: &mut O,
-) -> Result<u8, FileFault>
+) -> Result<StreamEnd, FileFault>
     requires ready { F.ready filter }
     requires has { F.has filter [] [] }
-    ensures { (input : Seen (List ℕ)) → FeedsFile name.now (F.seen filter) (F.whole filter) (reach (S.seen site.old) input (O.seen out.old)) (reach (S.seen site.new) input (O.seen out.new)) result }
+    ensures { (input : Seen (List ℕ)) → FeedsFile name.now F.inside (F.seen filter) (F.whole filter) (reach (S.seen site.old) input (O.seen out.old)) (reach (S.seen site.new) input (O.seen out.new)) result }
 {
     let mut text = Vec::new(alloc);
     let mut piece = [0u8; PIECE];
@@ -97,9 +97,9 @@ pub fn pump_file<F: Filter, S: Site, O: Sink>(
         };
         text.clear();
     }
-    let status = filter.close(&mut text)?;
+    let end = filter.close(&mut text)?;
     let Ok(()) = write_whole(out, &text) else {
         return Err(FileFault::Output);
     };
-    Ok(status)
+    Ok(end)
 }

@@ -1,9 +1,18 @@
 // What a filter is.
-ghost use Rattle.std.specs.Prelude.{◌≡◌, ◌++◌, ◌≤◌, ℕ, List, length, IfOk, OnOk};
+ghost use Rattle.std.specs.Prelude.{◌≡◌, ◌++◌, ◌≤◌, ℕ, Bool, List, length, IfOk, OnOk};
 ghost use Rattle.packet_codec.specs.Grammar.{AreBytes};
 ghost use Rattle.filter_cli.specs.Pipe.{Adds};
 
 use sub_number::NoMemory;
+
+/// What is told at the end of a stream.
+#[derive(Clone, Copy, Debug, PartialEq, Eq)]
+pub struct StreamEnd {
+    /// The exit status.
+    pub status: u8,
+    /// The stream ends inside a packet. So it is only of a stream that is read as packets.
+    pub inside: bool,
+}
 
 /// A filter is fed a stream piece by piece, and appends what each piece decides of its text.
 pub trait Filter {
@@ -12,6 +21,9 @@ pub trait Filter {
 
     /// The text of a whole stream, and its status.
     ghost whole: { Self → List ℕ → List ℕ → ℕ → Type 0 };
+
+    /// Whether a whole stream ends inside a packet.
+    ghost inside: { List ℕ → Bool };
 
     /// These bytes were fed, and this text was appended.
     ghost has: { Self → List ℕ → List ℕ → Type 0 };
@@ -28,10 +40,11 @@ pub trait Filter {
         ensures seen { OnOk result ((fed shown : List ℕ) → seen self.new fed shown → seen self.old fed shown) }
         ensures whole { OnOk result ((fed all : List ℕ) (status : ℕ) → whole self.new fed all status → whole self.old fed all status) };
 
-    /// The stream has ended: appends the rest of the text, and gives the status.
-    fn close(self, text: &mut Vec<u8>) -> Result<u8, NoMemory>
+    /// The stream has ended: appends the rest of the text, and gives the status, and whether it ends inside a packet.
+    fn close(self, text: &mut Vec<u8>) -> Result<StreamEnd, NoMemory>
         requires { ready self }
-        ensures { (fed shown : List ℕ) → has self fed shown → IfOk result (λ status. Adds text.old.items text.new.items (λ more. whole self fed (shown ++ more) status)) };
+        ensures text { (fed shown : List ℕ) → has self fed shown → IfOk result (λ end. Adds text.old.items text.new.items (λ more. whole self fed (shown ++ more) end.status)) }
+        ensures inside { (fed shown : List ℕ) → has self fed shown → IfOk result (λ end. end.inside ≡ inside fed) };
 
     /// Gives it up.
     fn let_go(self);

@@ -3,9 +3,10 @@ ghost use Rattle.std.specs.Prelude.{◌≡◌, ◌++◌, [], false, if◌then◌
 ghost use Rattle.filter_cli.specs.Headed.{IsSeenBelow as SeenBelow, IsWholeBelow as WholeBelow};
 ghost use Rattle.filter_cli.specs.Pipe.{pipe};
 ghost use Rattle.filter_cli.specs.Plan.{IsSeen, IsFiltered};
+ghost use Rattle.stream_end.specs.Inside.{ends_inside};
 ghost use Rattle.filter_cli.specs.Pumping.{Pumps, WritesFirst};
 
-use crate::filter::Filter;
+use crate::filter::{Filter, StreamEnd};
 use crate::notes::NoteFilter;
 use crate::of_notes::OfNotes;
 use crate::pass::{PumpFault, pump};
@@ -54,6 +55,8 @@ impl<F: Filter> Filter for Headed<F> {
 
     ghost whole = { λ f. IsWholeBelow f.head.items (F.whole f.filter) };
 
+    ghost inside = { F.inside };
+
     ghost has = { λ f. HasBelow f.head.items f.begun (F.has f.filter) };
 
     ghost ready = { λ f. F.ready f.filter };
@@ -68,7 +71,7 @@ impl<F: Filter> Filter for Headed<F> {
         Ok(())
     }
 
-    fn close(self, text: &mut Vec<u8>) -> Result<u8, NoMemory> {
+    fn close(self, text: &mut Vec<u8>) -> Result<StreamEnd, NoMemory> {
         let Headed {
             head,
             begun,
@@ -78,8 +81,8 @@ impl<F: Filter> Filter for Headed<F> {
             filter.let_go();
             return Err(NoMemory);
         };
-        let status = filter.close(text)?;
-        Ok(status)
+        let end = filter.close(text)?;
+        Ok(end)
     }
 
     fn let_go(self) {
@@ -105,10 +108,10 @@ pub fn pass_below<F: NoteFilter, I: Source, O: Sink>(
     filter: F,
     input: &mut I,
     out: &mut O,
-) -> Result<u8, PumpFault>
+) -> Result<StreamEnd, PumpFault>
     requires ready { F.ready filter }
     requires has { F.has filter [] }
-    ensures pumps { Pumps (SeenBelow head.items (IsSeen (F.plan filter))) (WholeBelow head.items (IsFiltered (F.plan filter))) (pipe (I.seen input.old) (O.seen out.old)) (pipe (I.seen input.new) (O.seen out.new)) result }
+    ensures pumps { Pumps ends_inside (SeenBelow head.items (IsSeen (F.plan filter))) (WholeBelow head.items (IsFiltered (F.plan filter))) (pipe (I.seen input.old) (O.seen out.old)) (pipe (I.seen input.new) (O.seen out.new)) result }
     // At every exit a first part of the stream's text was written, and nothing else.
     ensures prefix { IfSome (I.seen input.old).told (WritesFirst (WholeBelow head.items (IsFiltered (F.plan filter))) (O.seen out.old).told (O.seen out.new).told) }
 {

@@ -7,8 +7,7 @@ ghost use Rattle.outcome_fold.specs.declared.row.Row.{Row as ARow};
 ghost use Rattle.outcome_fold.specs.Answers.{counts_of};
 ghost use Rattle.outcome_fold.specs.Rows.{by_route};
 ghost use Rattle.junit_xml.specs.Documents.{junit_of};
-ghost use Rattle.filter_cli.specs.JunitCases.{cases_of, joined_times, joined_counts};
-ghost use Rattle.filter_cli.specs.JunitKept.{HasCases, cases_in};
+ghost use Rattle.filter_cli.specs.JunitCases.{cases_of, HasCases, joined_times, joined_counts};
 
 use junit_xml::{junit_case, junit_head, junit_tail};
 use outcome_fold::{Counts, Row, count_with};
@@ -16,6 +15,7 @@ use packet_codec::Tags;
 use std::alloc::Global;
 use std::collections::BTreeMap;
 use std::marker::Model;
+use std::mem;
 use sub_number::{NoMemory, Text};
 
 // The cases of one route.
@@ -69,8 +69,9 @@ impl RouteCases {
         ensures { (rows : List ARow) → self.old ≡ cases_of rows → OnOk result (self.new ≡ cases_of (rows ++ row.now ∷ [])) }
     {
         let alloc = *self.text.allocator();
-        self.counts = counted(alloc, self.counts, row)?;
+        let counts = counted(alloc, self.counts, row)?;
         junit_case(row, &mut self.text)?;
+        self.counts = counts;
         Ok(())
     }
 
@@ -94,6 +95,19 @@ pub(crate) struct JunitCases {
     by_route: BTreeMap<Option<Text>, RouteCases>,
 }
 
+impl Model for JunitCases {
+    ghost use Rattle.std.specs.FinMap as fin;
+    ghost use Rattle.std.specs.Coded.{coded_ℕ, coded_list, coded_option};
+    ghost use Rattle.outcome_fold.specs.Order.{route_cmp};
+    ghost use Rattle.filter_cli.specs.JunitCases.{Cases, coded_cases};
+
+    ghost Value = { fin.FinMap route_cmp Cases };
+
+    ghost coded = { fin.code (coded_option (coded_list coded_ℕ)) coded_cases };
+
+    ghost view = { λ c. fin.from_entries {R = route_cmp} c.by_route.entries };
+}
+
 impl JunitCases {
     /// Of no row. They take no memory yet.
     pub(crate) fn new(alloc: Global) -> Self
@@ -107,7 +121,7 @@ impl JunitCases {
 
     // Puts the first row of a route.
     fn start(&mut self, row: Row) -> Result<(), NoMemory>
-        ensures { OnOk result (cases_in self.new ≡ fin.insert (cases_in self.old) row.route (cases_of (row ∷ []))) }
+        ensures { OnOk result (self.new ≡ fin.insert self.old row.route (cases_of (row ∷ []))) }
     {
         let cases = RouteCases::one(self.alloc, &row)?;
         let Row { route, .. } = row;
@@ -127,7 +141,7 @@ impl JunitCases {
 
     // The cases of the routes, in the order of these.
     fn into_routes(self) -> Result<Vec<RouteCases>, NoMemory>
-        ensures { IfOk result (λ routes. routes.items ≡ fin.values (cases_in self)) }
+        ensures { IfOk result (λ routes. routes.items ≡ fin.values self) }
     {
         let mut routes = Vec::new(self.alloc);
         for (_, cases) in self.by_route {
@@ -142,7 +156,7 @@ impl JunitCases {
     {
         let routes = self.into_routes()?;
         junit_head(counts_in(&routes)?, out)?;
-        put_texts(&routes, out)?;
+        put_texts(routes, out)?;
         junit_tail(out)?;
         Ok(())
     }
@@ -194,11 +208,31 @@ fn counts_in(routes: &[RouteCases]) -> Result<Counts, NoMemory>
 }
 
 // The cases of all routes, one after another.
-fn put_texts(routes: &[RouteCases], out: &mut Vec<u8>) -> Result<(), NoMemory>
-    ensures { OnOk result (out.new.items ≡ out.old.items ++ flat_map (λ cases. cases.text) routes.now) }
+fn put_texts(routes: Vec<RouteCases>, out: &mut Vec<u8>) -> Result<(), NoMemory>
+    ensures { OnOk result (out.new.items ≡ out.old.items ++ flat_map (λ cases. cases.text) routes.items) }
 {
     for cases in routes {
-        out.extend_from_slice(&cases.text)?;
+        put_text(cases.text, out)?;
     }
+    Ok(())
+}
+
+// Puts the text behind what is there. The longer of the two is not copied: it stays in its memory.
+fn put_text(mut text: Vec<u8>, out: &mut Vec<u8>) -> Result<(), NoMemory>
+    ensures { OnOk result (out.new.items ≡ out.old.items ++ text.items) }
+{
+    if text.len() <= out.len() {
+        out.extend_from_slice(&text)?;
+        return Ok(());
+    }
+    mem::swap(out, &mut text);
+    put_before(text, out)
+}
+
+// Puts the front before the text, which is moved once, and all at once.
+fn put_before(front: Vec<u8>, text: &mut Vec<u8>) -> Result<(), NoMemory>
+    ensures { OnOk result (text.new.items ≡ front.items ++ text.old.items) }
+{
+    text.splice(0..0, front)?;
     Ok(())
 }

@@ -65,7 +65,7 @@ pub use attaching::{attach_stream, give_event};
 pub use event_laws::packets_of_streams;
 pub use exporting::{export_stream, records_of_streams};
 pub use file_loop::{FileFault, pump_file};
-pub use filter::Filter;
+pub use filter::{Filter, StreamEnd};
 pub use headed::Headed;
 pub use laws::{filtered_streams, lines_of_streams, streams_as_events};
 pub use ls::Listing;

@@ -2,6 +2,7 @@
 
 ghost use Rattle.std.specs.Prelude.{◌≡◌, ℕ, List, [], Some};
 ghost use Rattle.edge_io.specs.Seen.{Seen};
+ghost use Rattle.stream_end.specs.Inside.{ends_inside};
 ghost use Rattle.filter_cli.specs.Exporting.{IsCsvSeen, IsCsvFiltered};
 ghost use Rattle.filter_cli.specs.Filtering.{filter_plan};
 ghost use Rattle.filter_cli.specs.Headed.{IsSeenBelow as SeenBelow, IsWholeBelow as WholeBelow};
@@ -15,7 +16,7 @@ use crate::asked::Asked;
 use crate::attaching::Attaching;
 use crate::exporting::Exporting;
 use crate::file_loop::pump_file;
-use crate::filter::Filter;
+use crate::filter::{Filter, StreamEnd};
 use crate::headed::Headed;
 use crate::ls::{Listing, Ls};
 use crate::notes::NoteFilter;
@@ -47,7 +48,7 @@ pub(crate) fn pass_named<S: Site, O: Sink>(
     name: Text,
     site: &mut S,
     out: &mut O,
-) -> Result<u8, Refusal>
+) -> Result<StreamEnd, Refusal>
     ensures { (input : Seen (List ℕ)) → Takes (Some name) asked (reach (S.seen site.old) input (O.seen out.old)) (reach (S.seen site.new) input (O.seen out.new)) result }
 {
     match asked {
@@ -73,13 +74,13 @@ fn pump_named<F: Filter, S: Site, O: Sink>(
     name: Text,
     site: &mut S,
     out: &mut O,
-) -> Result<u8, Refusal>
+) -> Result<StreamEnd, Refusal>
     requires ready { F.ready filter }
     requires has { F.has filter [] [] }
-    ensures { (input : Seen (List ℕ)) → MakesAndFeeds name (F.seen filter) (F.whole filter) (reach (S.seen site.old) input (O.seen out.old)) (reach (S.seen site.new) input (O.seen out.new)) result }
+    ensures { (input : Seen (List ℕ)) → MakesAndFeeds name F.inside (F.seen filter) (F.whole filter) (reach (S.seen site.old) input (O.seen out.old)) (reach (S.seen site.new) input (O.seen out.new)) result }
 {
     match pump_file(alloc, filter, word_of(&name), site, out) {
-        Ok(status) => Ok(status),
+        Ok(end) => Ok(end),
         Err(fault) => Err(Refusal::File(name, fault)),
     }
 }
@@ -91,10 +92,10 @@ fn notes_named<F: NoteFilter, S: Site, O: Sink>(
     name: Text,
     site: &mut S,
     out: &mut O,
-) -> Result<u8, Refusal>
+) -> Result<StreamEnd, Refusal>
     requires ready { F.ready filter }
     requires has { F.has filter [] }
-    ensures { (input : Seen (List ℕ)) → MakesAndFeeds name (IsSeen (F.plan filter)) (IsFiltered (F.plan filter)) (reach (S.seen site.old) input (O.seen out.old)) (reach (S.seen site.new) input (O.seen out.new)) result }
+    ensures { (input : Seen (List ℕ)) → MakesAndFeeds name ends_inside (IsSeen (F.plan filter)) (IsFiltered (F.plan filter)) (reach (S.seen site.old) input (O.seen out.old)) (reach (S.seen site.new) input (O.seen out.new)) result }
 {
     let notes = OfNotes::new(alloc, filter)?;
     pump_named(alloc, notes, name, site, out)
@@ -108,10 +109,10 @@ fn below_named<F: NoteFilter, S: Site, O: Sink>(
     name: Text,
     site: &mut S,
     out: &mut O,
-) -> Result<u8, Refusal>
+) -> Result<StreamEnd, Refusal>
     requires ready { F.ready filter }
     requires has { F.has filter [] }
-    ensures { (input : Seen (List ℕ)) → MakesAndFeeds name (SeenBelow head.items (IsSeen (F.plan filter))) (WholeBelow head.items (IsFiltered (F.plan filter))) (reach (S.seen site.old) input (O.seen out.old)) (reach (S.seen site.new) input (O.seen out.new)) result }
+    ensures { (input : Seen (List ℕ)) → MakesAndFeeds name ends_inside (SeenBelow head.items (IsSeen (F.plan filter))) (WholeBelow head.items (IsFiltered (F.plan filter))) (reach (S.seen site.old) input (O.seen out.old)) (reach (S.seen site.new) input (O.seen out.new)) result }
 {
     let notes = OfNotes::new(alloc, filter)?;
     pump_named(alloc, Headed::new(head, notes), name, site, out)
@@ -124,7 +125,7 @@ fn filter_named<S: Site, O: Sink>(
     name: Text,
     site: &mut S,
     out: &mut O,
-) -> Result<u8, Refusal>
+) -> Result<StreamEnd, Refusal>
     ensures { (input : Seen (List ℕ)) → Takes (Some name) (wanted.Filter selection) (reach (S.seen site.old) input (O.seen out.old)) (reach (S.seen site.new) input (O.seen out.new)) result }
 {
     let hidden = selection.hidden;
@@ -140,8 +141,8 @@ fn sift_named<S: Site, O: Sink>(
     name: Text,
     site: &mut S,
     out: &mut O,
-) -> Result<u8, Refusal>
-    ensures { (input : Seen (List ℕ)) → MakesAndFeeds name (IsSeen (filter_plan rules.now hidden)) (IsFiltered (filter_plan rules.now hidden)) (reach (S.seen site.old) input (O.seen out.old)) (reach (S.seen site.new) input (O.seen out.new)) result }
+) -> Result<StreamEnd, Refusal>
+    ensures { (input : Seen (List ℕ)) → MakesAndFeeds name ends_inside (IsSeen (filter_plan rules.now hidden)) (IsFiltered (filter_plan rules.now hidden)) (reach (S.seen site.old) input (O.seen out.old)) (reach (S.seen site.new) input (O.seen out.new)) result }
 {
     let predicate = ByRules::new(alloc, rules)?;
     let sifting = Sifting::new(alloc, rules, hidden, predicate);
@@ -155,7 +156,7 @@ fn retag_named<S: Site, O: Sink>(
     name: Text,
     site: &mut S,
     out: &mut O,
-) -> Result<u8, Refusal>
+) -> Result<StreamEnd, Refusal>
     ensures { (input : Seen (List ℕ)) → Takes (Some name) (wanted.Tags retagging) (reach (S.seen site.old) input (O.seen out.old)) (reach (S.seen site.new) input (O.seen out.new)) result }
 {
     let tagger = Tagger::new(alloc, retagging.add, retagging.remove);
@@ -169,8 +170,8 @@ fn tag_named<S: Site, O: Sink>(
     name: Text,
     site: &mut S,
     out: &mut O,
-) -> Result<u8, Refusal>
-    ensures { (input : Seen (List ℕ)) → MakesAndFeeds name (IsSeen (tags_plan tagger.now)) (IsFiltered (tags_plan tagger.now)) (reach (S.seen site.old) input (O.seen out.old)) (reach (S.seen site.new) input (O.seen out.new)) result }
+) -> Result<StreamEnd, Refusal>
+    ensures { (input : Seen (List ℕ)) → MakesAndFeeds name ends_inside (IsSeen (tags_plan tagger.now)) (IsFiltered (tags_plan tagger.now)) (reach (S.seen site.old) input (O.seen out.old)) (reach (S.seen site.new) input (O.seen out.new)) result }
 {
     let tagging = Tagging::new(alloc, tagger)?;
     notes_named(alloc, tagging, name, site, out)
@@ -183,7 +184,7 @@ fn list_named<S: Site, O: Sink>(
     name: Text,
     site: &mut S,
     out: &mut O,
-) -> Result<u8, Refusal>
+) -> Result<StreamEnd, Refusal>
     ensures { (input : Seen (List ℕ)) → Takes (Some name) (wanted.Ls listing) (reach (S.seen site.old) input (O.seen out.old)) (reach (S.seen site.new) input (O.seen out.new)) result }
 {
     notes_named(alloc, Ls::new(alloc, listing), name, site, out)
@@ -196,7 +197,7 @@ fn count_named<S: Site, O: Sink>(
     name: Text,
     site: &mut S,
     out: &mut O,
-) -> Result<u8, Refusal>
+) -> Result<StreamEnd, Refusal>
     ensures { (input : Seen (List ℕ)) → Takes (Some name) (wanted.Stats counting) (reach (S.seen site.old) input (O.seen out.old)) (reach (S.seen site.new) input (O.seen out.new)) result }
 {
     notes_named(alloc, Stats::new(alloc, counting), name, site, out)
@@ -208,7 +209,7 @@ fn tap_named<S: Site, O: Sink>(
     name: Text,
     site: &mut S,
     out: &mut O,
-) -> Result<u8, Refusal>
+) -> Result<StreamEnd, Refusal>
     ensures { (input : Seen (List ℕ)) → Takes (Some name) wanted.FromTap (reach (S.seen site.old) input (O.seen out.old)) (reach (S.seen site.new) input (O.seen out.new)) result }
 {
     let lines = TapToSubunit::new(alloc);
@@ -221,7 +222,7 @@ fn v1_named<S: Site, O: Sink>(
     name: Text,
     site: &mut S,
     out: &mut O,
-) -> Result<u8, Refusal>
+) -> Result<StreamEnd, Refusal>
     ensures { (input : Seen (List ℕ)) → Takes (Some name) wanted.FromV1 (reach (S.seen site.old) input (O.seen out.old)) (reach (S.seen site.new) input (O.seen out.new)) result }
 {
     let lines = V1ToSubunit::new(alloc);
@@ -235,7 +236,7 @@ fn export_named<S: Site, O: Sink>(
     name: Text,
     site: &mut S,
     out: &mut O,
-) -> Result<u8, Refusal>
+) -> Result<StreamEnd, Refusal>
     ensures { (input : Seen (List ℕ)) → Takes (Some name) (wanted.ToCsv selection) (reach (S.seen site.old) input (O.seen out.old)) (reach (S.seen site.new) input (O.seen out.new)) result }
 {
     let rules = rules_of(alloc, selection)?;
@@ -249,8 +250,8 @@ fn records_named<S: Site, O: Sink>(
     name: Text,
     site: &mut S,
     out: &mut O,
-) -> Result<u8, Refusal>
-    ensures { (input : Seen (List ℕ)) → MakesAndFeeds name (IsCsvSeen rules.now) (IsCsvFiltered rules.now) (reach (S.seen site.old) input (O.seen out.old)) (reach (S.seen site.new) input (O.seen out.new)) result }
+) -> Result<StreamEnd, Refusal>
+    ensures { (input : Seen (List ℕ)) → MakesAndFeeds name ends_inside (IsCsvSeen rules.now) (IsCsvFiltered rules.now) (reach (S.seen site.old) input (O.seen out.old)) (reach (S.seen site.new) input (O.seen out.new)) result }
 {
     let mut head = Vec::new(alloc);
     csv_head(alloc, &mut head)?;
@@ -266,7 +267,7 @@ fn attach_named<S: Site, O: Sink>(
     name: Text,
     site: &mut S,
     out: &mut O,
-) -> Result<u8, Refusal>
+) -> Result<StreamEnd, Refusal>
     ensures { (input : Seen (List ℕ)) → Takes (Some name) (wanted.Output job) (reach (S.seen site.old) input (O.seen out.old)) (reach (S.seen site.new) input (O.seen out.new)) result }
 {
     let attaching = Attaching::new(alloc, job);
@@ -280,7 +281,7 @@ fn trace_named<S: Site, O: Sink>(
     name: Text,
     site: &mut S,
     out: &mut O,
-) -> Result<u8, Refusal>
+) -> Result<StreamEnd, Refusal>
     ensures { (input : Seen (List ℕ)) → Takes (Some name) (wanted.Tracing trace) (reach (S.seen site.old) input (O.seen out.old)) (reach (S.seen site.new) input (O.seen out.new)) result }
 {
     let filter = Tracing::new(alloc, trace)?;

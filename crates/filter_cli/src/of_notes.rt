@@ -1,10 +1,12 @@
 // A filter of notes as a filter of bytes.
 ghost use Rattle.std.specs.Prelude.{◌≡◌, false};
+ghost use Rattle.stream_end.specs.Inside.{ends_inside as is_inside};
 
-use crate::filter::Filter;
+use crate::filter::{Filter, StreamEnd};
 use crate::notes::NoteFilter;
 use crate::taking::take_notes;
 use std::alloc::Global;
+use stream_end::ends_inside;
 use stream_reader::Reader;
 use sub_number::NoMemory;
 
@@ -37,9 +39,17 @@ impl<F: NoteFilter> OfNotes<F> {
     }
 }
 
+// Whether the stream ends inside a packet, where it ends behind what the reader holds.
+fn stands_inside(reader: &Reader) -> bool
+    ensures { result ≡ is_inside reader.now.bytes }
+{
+    ends_inside(reader.front(reader.held()))
+}
+
 impl<F: NoteFilter> Filter for OfNotes<F> {
     ghost use Rattle.std.specs.Prelude.{◌≤◌, length};
     ghost use Rattle.stream_reader.specs.Room.{most_held};
+    ghost use Rattle.stream_end.specs.Inside.{ends_inside};
     ghost use Rattle.filter_cli.specs.Plan.{IsSeen, IsFiltered};
     ghost use Rattle.filter_cli.specs.Noted.{HasFiltered};
     ghost use Rattle.filter_cli.specs.PlanLaws.{plan_seen, plan_front, plan_one};
@@ -50,6 +60,8 @@ impl<F: NoteFilter> Filter for OfNotes<F> {
 
     ghost ready = { λ f. F.ready f.filter × (length f.reader.bytes ≤ most_held) };
 
+    ghost inside = { ends_inside };
+
     ghost has = { λ f. HasFiltered (F.has f.filter) (F.plan f.filter) f.reader.bytes };
 
     fn feed(&mut self, piece: &[u8], text: &mut Vec<u8>) -> Result<(), NoMemory> {
@@ -58,18 +70,19 @@ impl<F: NoteFilter> Filter for OfNotes<F> {
         Ok(())
     }
 
-    fn close(self, text: &mut Vec<u8>) -> Result<u8, NoMemory> {
+    fn close(self, text: &mut Vec<u8>) -> Result<StreamEnd, NoMemory> {
         let OfNotes {
             mut reader,
             mut filter,
         } = self;
+        let inside = stands_inside(&reader);
         reader.finish();
         let Ok(()) = take_notes(&mut reader, &mut filter, text) else {
             filter.let_go();
             return Err(NoMemory);
         };
         let status = filter.close(text)?;
-        Ok(status)
+        Ok(StreamEnd { status, inside })
     }
 
     fn let_go(self) {

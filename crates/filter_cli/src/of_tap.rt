@@ -9,7 +9,7 @@ ghost use Rattle.filter_cli.specs.Pumping.{most_at_once};
 ghost use Rattle.filter_cli.specs.Events.{packets_of};
 ghost use Rattle.filter_cli.specs.Tapped.{most_open, HasTapped, HasTaken};
 
-use crate::filter::Filter;
+use crate::filter::{Filter, StreamEnd};
 use crate::open_line::OpenLine;
 use crate::packets::put_events;
 use memchr::memchr;
@@ -129,12 +129,15 @@ fn give_line(
 }
 
 impl Filter for TapToSubunit {
+    ghost use Rattle.filter_cli.specs.Pumping.{in_no_packet};
     ghost use Rattle.filter_cli.specs.Tap.{IsTapSeen, IsTapFiltered};
     ghost use Rattle.filter_cli.specs.TapLaws.{tap_seen, tap_front, tap_one};
 
     ghost seen = { λ f. IsTapSeen };
 
     ghost whole = { λ f. IsTapFiltered };
+
+    ghost inside = { in_no_packet };
 
     ghost has = { λ f. HasTapped f.reader f.line.held.items f.line.long };
 
@@ -151,7 +154,7 @@ impl Filter for TapToSubunit {
         Ok(())
     }
 
-    fn close(self, text: &mut Vec<u8>) -> Result<u8, NoMemory> {
+    fn close(self, text: &mut Vec<u8>) -> Result<StreamEnd, NoMemory> {
         let mut filter = self;
         filter.end_last(text)?;
         let TapToSubunit {
@@ -161,7 +164,10 @@ impl Filter for TapToSubunit {
         } = filter;
         let events = reader.close()?;
         put_events(&events, text)?;
-        Ok(0)
+        Ok(StreamEnd {
+            status: 0,
+            inside: false,
+        })
     }
 
     fn let_go(self) {}

@@ -12,7 +12,7 @@ ghost use Rattle.filter_cli.specs.Tapped.{most_open};
 ghost use Rattle.filter_cli.specs.V1.{all_inputs};
 ghost use Rattle.filter_cli.specs.V1Fed.{HasHeard, Hears, HasFed, IsAddedTo, last_input};
 
-use crate::filter::Filter;
+use crate::filter::{Filter, StreamEnd};
 use crate::packets::put_events;
 use memchr::memchr;
 use packet_codec::Event;
@@ -246,12 +246,15 @@ fn take_piece(
 }
 
 impl Filter for V1ToSubunit {
+    ghost use Rattle.filter_cli.specs.Pumping.{in_no_packet};
     ghost use Rattle.filter_cli.specs.V1.{IsV1Seen, IsV1Filtered};
     ghost use Rattle.filter_cli.specs.V1Laws.{v1_seen, v1_front, v1_one};
 
     ghost seen = { λ f. IsV1Seen };
 
     ghost whole = { λ f. IsV1Filtered };
+
+    ghost inside = { in_no_packet };
 
     ghost has = { λ f. HasFed f.reader f.held.items f.long };
 
@@ -268,7 +271,7 @@ impl Filter for V1ToSubunit {
         Ok(())
     }
 
-    fn close(self, text: &mut Vec<u8>) -> Result<u8, NoMemory> {
+    fn close(self, text: &mut Vec<u8>) -> Result<StreamEnd, NoMemory> {
         let mut filter = self;
         filter.end_last(text)?;
         let V1ToSubunit {
@@ -279,7 +282,10 @@ impl Filter for V1ToSubunit {
         } = filter;
         let events = reader.close()?;
         put_events(&events, text)?;
-        Ok(0)
+        Ok(StreamEnd {
+            status: 0,
+            inside: false,
+        })
     }
 
     fn let_go(self) {}

@@ -6,7 +6,7 @@ ghost use Rattle.filter_cli.specs.declared.pass.PumpFault.TheVariants.{Input, Ou
 ghost use Rattle.filter_cli.specs.Pipe.{pipe};
 ghost use Rattle.filter_cli.specs.Pumping.{Pumps};
 
-use crate::filter::Filter;
+use crate::filter::{Filter, StreamEnd};
 use edge_io::{Failed, MOST_BYTES, PIECE, Sink, Source, write_whole};
 use std::alloc::Global;
 
@@ -37,10 +37,10 @@ pub fn pump<F: Filter, I: Source, O: Sink>(
     filter: F,
     input: &mut I,
     out: &mut O,
-) -> Result<u8, PumpFault>
+) -> Result<StreamEnd, PumpFault>
     requires ready { F.ready filter }
     requires has { F.has filter [] [] }
-    ensures pumps { Pumps (F.seen filter) (F.whole filter) (pipe (I.seen input.old) (O.seen out.old)) (pipe (I.seen input.new) (O.seen out.new)) result }
+    ensures pumps { Pumps F.inside (F.seen filter) (F.whole filter) (pipe (I.seen input.old) (O.seen out.old)) (pipe (I.seen input.new) (O.seen out.new)) result }
     // At every exit a part of the whole text was written, from its front.
     ensures prefix { IfSome (I.seen input.old).told (λ bytes. AreBytes bytes → (all : List ℕ) (status : ℕ) → F.whole filter bytes all status → AppendsPrefix (O.seen out.old).told (O.seen out.new).told all) }
 {
@@ -52,10 +52,10 @@ fn pump_pieces<F: Filter, I: Source, O: Sink>(
     mut filter: F,
     input: &mut I,
     out: &mut O,
-) -> Result<u8, PumpFault>
+) -> Result<StreamEnd, PumpFault>
     requires ready { F.ready filter }
     requires has { F.has filter [] [] }
-    ensures { Pumps (F.seen filter) (F.whole filter) (pipe (I.seen input.old) (O.seen out.old)) (pipe (I.seen input.new) (O.seen out.new)) result }
+    ensures { Pumps F.inside (F.seen filter) (F.whole filter) (pipe (I.seen input.old) (O.seen out.old)) (pipe (I.seen input.new) (O.seen out.new)) result }
 {
     let mut text = Vec::new(alloc);
     let mut piece = [0u8; PIECE];
@@ -83,9 +83,9 @@ fn pump_pieces<F: Filter, I: Source, O: Sink>(
         };
         text.clear();
     }
-    let status = filter.close(&mut text)?;
+    let end = filter.close(&mut text)?;
     let Ok(()) = write_whole(out, &text) else {
         return Err(PumpFault::Output);
     };
-    Ok(status)
+    Ok(end)
 }

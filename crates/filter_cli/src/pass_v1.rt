@@ -2,9 +2,10 @@
 
 ghost use Rattle.std.specs.Prelude.{IfSome};
 ghost use Rattle.filter_cli.specs.Pipe.{pipe};
-ghost use Rattle.filter_cli.specs.Pumping.{Pumps, WritesFirst};
+ghost use Rattle.filter_cli.specs.Pumping.{Pumps, in_no_packet, WritesFirst};
 ghost use Rattle.filter_cli.specs.V1.{IsV1Seen, IsV1Filtered};
 
+use crate::filter::StreamEnd;
 use crate::of_v1::V1ToSubunit;
 use crate::pass::{PumpFault, pump};
 use edge_io::{Sink, Source};
@@ -17,8 +18,8 @@ pub fn v1_to_subunit<I: Source, O: Sink>(
     alloc: Global,
     input: &mut I,
     out: &mut O,
-) -> Result<u8, PumpFault>
-    ensures pumps { Pumps IsV1Seen IsV1Filtered (pipe (I.seen input.old) (O.seen out.old)) (pipe (I.seen input.new) (O.seen out.new)) result }
+) -> Result<StreamEnd, PumpFault>
+    ensures pumps { Pumps in_no_packet IsV1Seen IsV1Filtered (pipe (I.seen input.old) (O.seen out.old)) (pipe (I.seen input.new) (O.seen out.new)) result }
     // At every exit a first part of the input's text was written, and nothing else.
     ensures prefix { IfSome (I.seen input.old).told (WritesFirst IsV1Filtered (O.seen out.old).told (O.seen out.new).told) }
 {

@@ -3,9 +3,11 @@
 ghost use Rattle.std.specs.Prelude.{◌≡◌, IfSome};
 ghost use Rattle.filter_cli.specs.Pipe.{pipe};
 ghost use Rattle.filter_cli.specs.Plan.{IsSeen, IsFiltered};
+ghost use Rattle.stream_end.specs.Inside.{ends_inside};
 ghost use Rattle.filter_cli.specs.Pumping.{Pumps, WritesFirst};
 ghost use Rattle.filter_cli.specs.Filtering.{filter_plan};
 
+use crate::filter::StreamEnd;
 use crate::loose::{is_hidden, put_foreign};
 use crate::notes::NoteFilter;
 use crate::pass::PumpFault;
@@ -100,8 +102,8 @@ pub fn filter_stream<I: Source, O: Sink>(
     hidden: bool,
     input: &mut I,
     out: &mut O,
-) -> Result<u8, PumpFault>
-    ensures pumps { Pumps (IsSeen (filter_plan rules.now hidden)) (IsFiltered (filter_plan rules.now hidden)) (pipe (I.seen input.old) (O.seen out.old)) (pipe (I.seen input.new) (O.seen out.new)) result }
+) -> Result<StreamEnd, PumpFault>
+    ensures pumps { Pumps ends_inside (IsSeen (filter_plan rules.now hidden)) (IsFiltered (filter_plan rules.now hidden)) (pipe (I.seen input.old) (O.seen out.old)) (pipe (I.seen input.new) (O.seen out.new)) result }
     ensures prefix { IfSome (I.seen input.old).told (WritesFirst (IsFiltered (filter_plan rules.now hidden)) (O.seen out.old).told (O.seen out.new).told) }
 {
     let predicate = ByRules::new(alloc, rules)?;

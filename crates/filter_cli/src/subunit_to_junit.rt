@@ -5,7 +5,7 @@ ghost use Rattle.std.specs.List.{list_any};
 ghost use Rattle.std.specs.Option.{option_to_list};
 ghost use Rattle.outcome_fold.specs.declared.row.Row.{Row as ARow};
 ghost use Rattle.outcome_fold.specs.Answers.{row_fails};
-ghost use Rattle.filter_cli.specs.JunitKept.{HasCases};
+ghost use Rattle.filter_cli.specs.JunitCases.{HasCases};
 
 use crate::junit_cases::JunitCases;
 use crate::ls::{any_failed, failed_after};

@@ -8,9 +8,11 @@ ghost use Rattle.packet_codec.specs.declared.event.Event.{Event as AnEvent};
 ghost use Rattle.event_sift.specs.Tagging.{plain_tags, tagged, tags_with, where_fits};
 ghost use Rattle.filter_cli.specs.Pipe.{pipe};
 ghost use Rattle.filter_cli.specs.Plan.{IsSeen, IsFiltered};
+ghost use Rattle.stream_end.specs.Inside.{ends_inside};
 ghost use Rattle.filter_cli.specs.Pumping.{Pumps, WritesFirst};
 ghost use Rattle.filter_cli.specs.Tagging.{tags_plan};
 
+use crate::filter::StreamEnd;
 use crate::notes::NoteFilter;
 use crate::pass::PumpFault;
 use crate::through::pass_notes;
@@ -133,8 +135,8 @@ pub fn tag_stream<I: Source, O: Sink>(
     tagger: Tagger,
     input: &mut I,
     out: &mut O,
-) -> Result<u8, PumpFault>
-    ensures pumps { Pumps (IsSeen (tags_plan tagger)) (IsFiltered (tags_plan tagger)) (pipe (I.seen input.old) (O.seen out.old)) (pipe (I.seen input.new) (O.seen out.new)) result }
+) -> Result<StreamEnd, PumpFault>
+    ensures pumps { Pumps ends_inside (IsSeen (tags_plan tagger)) (IsFiltered (tags_plan tagger)) (pipe (I.seen input.old) (O.seen out.old)) (pipe (I.seen input.new) (O.seen out.new)) result }
     ensures prefix { IfSome (I.seen input.old).told (WritesFirst (IsFiltered (tags_plan tagger)) (O.seen out.old).told (O.seen out.new).told) }
 {
     let tagging = Tagging::new(alloc, &tagger)?;

@@ -2,8 +2,10 @@
 ghost use Rattle.std.specs.Prelude.{[], IfSome};
 ghost use Rattle.filter_cli.specs.Pipe.{pipe};
 ghost use Rattle.filter_cli.specs.Plan.{IsSeen, IsFiltered};
+ghost use Rattle.stream_end.specs.Inside.{ends_inside};
 ghost use Rattle.filter_cli.specs.Pumping.{Pumps, WritesFirst};
 
+use crate::filter::StreamEnd;
 use crate::notes::NoteFilter;
 use crate::of_notes::OfNotes;
 use crate::pass::{PumpFault, pump};
@@ -16,10 +18,10 @@ pub fn pass_notes<F: NoteFilter, I: Source, O: Sink>(
     filter: F,
     input: &mut I,
     out: &mut O,
-) -> Result<u8, PumpFault>
+) -> Result<StreamEnd, PumpFault>
     requires ready { F.ready filter }
     requires has { F.has filter [] }
-    ensures pumps { Pumps (IsSeen (F.plan filter)) (IsFiltered (F.plan filter)) (pipe (I.seen input.old) (O.seen out.old)) (pipe (I.seen input.new) (O.seen out.new)) result }
+    ensures pumps { Pumps ends_inside (IsSeen (F.plan filter)) (IsFiltered (F.plan filter)) (pipe (I.seen input.old) (O.seen out.old)) (pipe (I.seen input.new) (O.seen out.new)) result }
     // At every exit a first part of the stream's text was written, and nothing else.
     ensures prefix { IfSome (I.seen input.old).told (WritesFirst (IsFiltered (F.plan filter)) (O.seen out.old).told (O.seen out.new).told) }
 {

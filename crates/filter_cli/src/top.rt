@@ -5,7 +5,7 @@ ghost use Rattle.edge_io.specs.Seen.{Seen};
 ghost use Rattle.command_words.specs.Items.{texts};
 ghost use Rattle.filter_cli.specs.Outside.{outside, reach};
 ghost use Rattle.filter_cli.specs.Pipe.{pipe};
-ghost use Rattle.filter_cli.specs.Program.{Filters, Performs, Takes, Checked, Tells};
+ghost use Rattle.filter_cli.specs.Program.{Filters, Performs, Takes, Checked, Tells, TellsInside};
 ghost use Rattle.filter_cli.specs.Promises.{Promises};
 ghost use Rattle.filter_cli.specs.Refusals.{usage_fault, name_in};
 ghost use Rattle.filter_cli.specs.declared.asked.Asked.TheVariants as wanted;
@@ -13,6 +13,7 @@ ghost use Rattle.filter_cli.specs.declared.asked.Asked.TheVariants as wanted;
 use crate::asked::{Asked, Request, read_request};
 use crate::attaching::{attach_stream, give_event};
 use crate::exporting::export_stream;
+use crate::filter::StreamEnd;
 use crate::ls::{Listing, Ls};
 use crate::named::pass_named;
 use crate::pass_tap::tap_to_subunit;
@@ -27,7 +28,7 @@ use crate::subunit_to_junit::SubunitToJunit;
 use crate::subunit_to_tap::SubunitToTap;
 use crate::subunit_to_v1::SubunitToV1;
 use crate::tagging::tag_stream;
-use crate::telling::tell;
+use crate::telling::{Line, tell};
 use crate::through::pass_notes;
 use crate::tool::tool_of;
 use crate::tracing::{Trace, trace_stream};
@@ -42,7 +43,8 @@ use sub_export::OutputJob;
 ///
 /// The input is read to its end in pieces of 65,536 bytes, and what each piece decides is written before the next one is
 /// read; where the words attach no input to their events, it is left unread. A file that they name is read in its place, in
-/// the same way. A refusal prints one line to `err`. Words that are no filter, and bad patterns, touch neither input nor output.
+/// the same way. A refusal prints one line to `err`, and so does a stream that was read as packets and ends inside one; the
+/// status is as of any other stream then. Words that are no filter, and bad patterns, touch neither input nor output.
 pub fn filters<S: Site, I: Source, O: Sink, E: Sink>(
     alloc: Global,
     words: &[String],
@@ -67,7 +69,7 @@ fn filter<S: Site, I: Source, O: Sink>(
     site: &mut S,
     input: &mut I,
     out: &mut O,
-) -> Result<u8, Refusal>
+) -> Result<StreamEnd, Refusal>
     ensures { Filters (texts words.now) (reach (S.seen site.old) (I.seen input.old) (O.seen out.old)) (reach (S.seen site.new) (I.seen input.new) (O.seen out.new)) result }
 {
     let request = read_request(alloc, words)?;
@@ -82,7 +84,7 @@ fn perform<S: Site, I: Source, O: Sink>(
     site: &mut S,
     input: &mut I,
     out: &mut O,
-) -> Result<u8, Refusal>
+) -> Result<StreamEnd, Refusal>
     ensures { Performs fault request (reach (S.seen site.old) (I.seen input.old) (O.seen out.old)) (reach (S.seen site.new) (I.seen input.new) (O.seen out.new)) result }
 {
     match request {
@@ -98,7 +100,7 @@ fn pass<S: Site, I: Source, O: Sink>(
     site: &mut S,
     input: &mut I,
     out: &mut O,
-) -> Result<u8, Refusal>
+) -> Result<StreamEnd, Refusal>
     ensures { Takes request.file request.asked (reach (S.seen site.old) (I.seen input.old) (O.seen out.old)) (reach (S.seen site.new) (I.seen input.new) (O.seen out.new)) result }
 {
     let Request { asked, file } = request;
@@ -114,7 +116,7 @@ fn pass_input<I: Source, O: Sink>(
     asked: Asked,
     input: &mut I,
     out: &mut O,
-) -> Result<u8, Refusal>
+) -> Result<StreamEnd, Refusal>
     ensures { Checked asked (pipe (I.seen input.old) (O.seen out.old)) (pipe (I.seen input.new) (O.seen out.new)) result }
 {
     match asked {
@@ -139,13 +141,13 @@ fn filter_tests<I: Source, O: Sink>(
     selection: Selection,
     input: &mut I,
     out: &mut O,
-) -> Result<u8, Refusal>
+) -> Result<StreamEnd, Refusal>
     ensures { Checked (wanted.Filter selection) (pipe (I.seen input.old) (O.seen out.old)) (pipe (I.seen input.new) (O.seen out.new)) result }
 {
     let hidden = selection.hidden;
     let rules = rules_of(alloc, selection)?;
-    let status = filter_stream(alloc, &rules, hidden, input, out)?;
-    Ok(status)
+    let end = filter_stream(alloc, &rules, hidden, input, out)?;
+    Ok(end)
 }
 
 // `subunit-tags`
@@ -154,12 +156,12 @@ fn retag<I: Source, O: Sink>(
     retagging: Retagging,
     input: &mut I,
     out: &mut O,
-) -> Result<u8, Refusal>
+) -> Result<StreamEnd, Refusal>
     ensures { Checked (wanted.Tags retagging) (pipe (I.seen input.old) (O.seen out.old)) (pipe (I.seen input.new) (O.seen out.new)) result }
 {
     let tagger = Tagger::new(alloc, retagging.add, retagging.remove);
-    let status = tag_stream(alloc, tagger, input, out)?;
-    Ok(status)
+    let end = tag_stream(alloc, tagger, input, out)?;
+    Ok(end)
 }
 
 // `subunit-ls`
@@ -168,11 +170,11 @@ fn list<I: Source, O: Sink>(
     listing: Listing,
     input: &mut I,
     out: &mut O,
-) -> Result<u8, Refusal>
+) -> Result<StreamEnd, Refusal>
     ensures { Checked (wanted.Ls listing) (pipe (I.seen input.old) (O.seen out.old)) (pipe (I.seen input.new) (O.seen out.new)) result }
 {
-    let status = pass_notes(alloc, Ls::new(alloc, listing), input, out)?;
-    Ok(status)
+    let end = pass_notes(alloc, Ls::new(alloc, listing), input, out)?;
+    Ok(end)
 }
 
 // `subunit-stats`
@@ -181,51 +183,71 @@ fn count<I: Source, O: Sink>(
     counting: Counting,
     input: &mut I,
     out: &mut O,
-) -> Result<u8, Refusal>
+) -> Result<StreamEnd, Refusal>
     ensures { Checked (wanted.Stats counting) (pipe (I.seen input.old) (O.seen out.old)) (pipe (I.seen input.new) (O.seen out.new)) result }
 {
-    let status = pass_notes(alloc, Stats::new(alloc, counting), input, out)?;
-    Ok(status)
+    let end = pass_notes(alloc, Stats::new(alloc, counting), input, out)?;
+    Ok(end)
 }
 
 // `tap2subunit`
-fn read_tap<I: Source, O: Sink>(alloc: Global, input: &mut I, out: &mut O) -> Result<u8, Refusal>
+fn read_tap<I: Source, O: Sink>(
+    alloc: Global,
+    input: &mut I,
+    out: &mut O,
+) -> Result<StreamEnd, Refusal>
     ensures { Checked wanted.FromTap (pipe (I.seen input.old) (O.seen out.old)) (pipe (I.seen input.new) (O.seen out.new)) result }
 {
-    let status = tap_to_subunit(alloc, input, out)?;
-    Ok(status)
+    let end = tap_to_subunit(alloc, input, out)?;
+    Ok(end)
 }
 
 // `subunit2tap`
-fn write_tap<I: Source, O: Sink>(alloc: Global, input: &mut I, out: &mut O) -> Result<u8, Refusal>
+fn write_tap<I: Source, O: Sink>(
+    alloc: Global,
+    input: &mut I,
+    out: &mut O,
+) -> Result<StreamEnd, Refusal>
     ensures { Checked wanted.ToTap (pipe (I.seen input.old) (O.seen out.old)) (pipe (I.seen input.new) (O.seen out.new)) result }
 {
-    let status = pass_notes(alloc, SubunitToTap::new(alloc), input, out)?;
-    Ok(status)
+    let end = pass_notes(alloc, SubunitToTap::new(alloc), input, out)?;
+    Ok(end)
 }
 
 // `subunit2junitxml`
-fn write_junit<I: Source, O: Sink>(alloc: Global, input: &mut I, out: &mut O) -> Result<u8, Refusal>
+fn write_junit<I: Source, O: Sink>(
+    alloc: Global,
+    input: &mut I,
+    out: &mut O,
+) -> Result<StreamEnd, Refusal>
     ensures { Checked wanted.ToJunit (pipe (I.seen input.old) (O.seen out.old)) (pipe (I.seen input.new) (O.seen out.new)) result }
 {
-    let status = pass_notes(alloc, SubunitToJunit::new(alloc), input, out)?;
-    Ok(status)
+    let end = pass_notes(alloc, SubunitToJunit::new(alloc), input, out)?;
+    Ok(end)
 }
 
 // `subunit-1to2`
-fn read_v1<I: Source, O: Sink>(alloc: Global, input: &mut I, out: &mut O) -> Result<u8, Refusal>
+fn read_v1<I: Source, O: Sink>(
+    alloc: Global,
+    input: &mut I,
+    out: &mut O,
+) -> Result<StreamEnd, Refusal>
     ensures { Checked wanted.FromV1 (pipe (I.seen input.old) (O.seen out.old)) (pipe (I.seen input.new) (O.seen out.new)) result }
 {
-    let status = v1_to_subunit(alloc, input, out)?;
-    Ok(status)
+    let end = v1_to_subunit(alloc, input, out)?;
+    Ok(end)
 }
 
 // `subunit-2to1`
-fn write_v1<I: Source, O: Sink>(alloc: Global, input: &mut I, out: &mut O) -> Result<u8, Refusal>
+fn write_v1<I: Source, O: Sink>(
+    alloc: Global,
+    input: &mut I,
+    out: &mut O,
+) -> Result<StreamEnd, Refusal>
     ensures { Checked wanted.ToV1 (pipe (I.seen input.old) (O.seen out.old)) (pipe (I.seen input.new) (O.seen out.new)) result }
 {
-    let status = pass_notes(alloc, SubunitToV1::new(alloc), input, out)?;
-    Ok(status)
+    let end = pass_notes(alloc, SubunitToV1::new(alloc), input, out)?;
+    Ok(end)
 }
 
 // `subunit-trace`
@@ -234,11 +256,11 @@ fn trace_tests<I: Source, O: Sink>(
     trace: Trace,
     input: &mut I,
     out: &mut O,
-) -> Result<u8, Refusal>
+) -> Result<StreamEnd, Refusal>
     ensures { Checked (wanted.Tracing trace) (pipe (I.seen input.old) (O.seen out.old)) (pipe (I.seen input.new) (O.seen out.new)) result }
 {
-    let status = trace_stream(alloc, trace, input, out)?;
-    Ok(status)
+    let end = trace_stream(alloc, trace, input, out)?;
+    Ok(end)
 }
 
 // `subunit2csv`
@@ -247,12 +269,12 @@ fn export<I: Source, O: Sink>(
     selection: Selection,
     input: &mut I,
     out: &mut O,
-) -> Result<u8, Refusal>
+) -> Result<StreamEnd, Refusal>
     ensures { Checked (wanted.ToCsv selection) (pipe (I.seen input.old) (O.seen out.old)) (pipe (I.seen input.new) (O.seen out.new)) result }
 {
     let rules = rules_of(alloc, selection)?;
-    let status = export_stream(alloc, &rules, input, out)?;
-    Ok(status)
+    let end = export_stream(alloc, &rules, input, out)?;
+    Ok(end)
 }
 
 // `subunit-output`
@@ -261,7 +283,7 @@ fn give<I: Source, O: Sink>(
     job: OutputJob,
     input: &mut I,
     out: &mut O,
-) -> Result<u8, Refusal>
+) -> Result<StreamEnd, Refusal>
     ensures { Checked (wanted.Output job) (pipe (I.seen input.old) (O.seen out.old)) (pipe (I.seen input.new) (O.seen out.new)) result }
 {
     if job.attaches() {
@@ -276,33 +298,45 @@ fn attach<I: Source, O: Sink>(
     job: OutputJob,
     input: &mut I,
     out: &mut O,
-) -> Result<u8, Refusal>
+) -> Result<StreamEnd, Refusal>
     requires { IsTrue (is_some job.attachment) }
     ensures { Checked (wanted.Output job) (pipe (I.seen input.old) (O.seen out.old)) (pipe (I.seen input.new) (O.seen out.new)) result }
 {
-    let status = attach_stream(alloc, job, input, out)?;
-    Ok(status)
+    let end = attach_stream(alloc, job, input, out)?;
+    Ok(end)
 }
 
 // The same, without one, whatever the input is.
-fn give_alone<O: Sink>(alloc: Global, job: OutputJob, out: &mut O) -> Result<u8, Refusal>
+fn give_alone<O: Sink>(alloc: Global, job: OutputJob, out: &mut O) -> Result<StreamEnd, Refusal>
     requires { job.attachment ≡ None }
     ensures { (input : Seen (List ℕ)) → Checked (wanted.Output job) (pipe input (O.seen out.old)) (pipe input (O.seen out.new)) result }
 {
-    let status = give_event(alloc, &job, out)?;
-    Ok(status)
+    let end = give_event(alloc, &job, out)?;
+    Ok(end)
 }
 
-// Tells of a refusal, and gives the status.
-fn answer<E: Sink>(name: &str, outcome: Result<u8, Refusal>, err: &mut E) -> u8
+// Tells of a refusal, or that what was read ends inside a packet, and gives the status.
+fn answer<E: Sink>(name: &str, outcome: Result<StreamEnd, Refusal>, err: &mut E) -> u8
     ensures { Tells name.now outcome (E.seen err.old) (E.seen err.new) result }
 {
     match outcome {
-        Ok(status) => status,
+        Ok(end) => {
+            tell_inside(name, end.inside, err);
+            end.status
+        }
         Err(refusal) => {
             let _ = tell(err, refusal.line(name));
             refusal.code()
         }
+    }
+}
+
+// Tells that what was read ends inside a packet, where it does. Where that cannot be told nothing else changes.
+fn tell_inside<E: Sink>(name: &str, inside: bool, err: &mut E)
+    ensures { TellsInside name.now inside (E.seen err.old) (E.seen err.new) }
+{
+    if inside {
+        let _ = tell(err, Line::of(name, ": the input ends inside a packet\n"));
     }
 }
 

@@ -12,9 +12,11 @@ ghost use Rattle.live_text.specs.Written.{HasWritten};
 ghost use Rattle.live_text.specs.declared.live.Live.{Live as ALive};
 ghost use Rattle.filter_cli.specs.Pipe.{pipe};
 ghost use Rattle.filter_cli.specs.Plan.{IsSeen, IsFiltered};
+ghost use Rattle.stream_end.specs.Inside.{ends_inside};
 ghost use Rattle.filter_cli.specs.Pumping.{Pumps, WritesFirst};
 ghost use Rattle.filter_cli.specs.Tracing as tracing;
 
+use crate::filter::StreamEnd;
 use crate::notes::NoteFilter;
 use crate::pass::PumpFault;
 use crate::through::pass_notes;
@@ -199,8 +201,8 @@ pub(crate) fn trace_stream<I: Source, O: Sink>(
     trace: Trace,
     input: &mut I,
     out: &mut O,
-) -> Result<u8, PumpFault>
-    ensures pumps { Pumps (IsSeen (tracing.trace_plan trace)) (IsFiltered (tracing.trace_plan trace)) (pipe (I.seen input.old) (O.seen out.old)) (pipe (I.seen input.new) (O.seen out.new)) result }
+) -> Result<StreamEnd, PumpFault>
+    ensures pumps { Pumps ends_inside (IsSeen (tracing.trace_plan trace)) (IsFiltered (tracing.trace_plan trace)) (pipe (I.seen input.old) (O.seen out.old)) (pipe (I.seen input.new) (O.seen out.new)) result }
     ensures prefix { IfSome (I.seen input.old).told (WritesFirst (IsFiltered (tracing.trace_plan trace)) (O.seen out.old).told (O.seen out.new).told) }
 {
     let filter = Tracing::new(alloc, trace)?;

@@ -19,6 +19,7 @@ pub record Outside : Type 0 where
   pub files : Seen Files
   pub errors : Seen (List ℕ)
 
+-- the outside of which these four parts are seen
 abbrev pub outside : Seen Files → Seen (List ℕ) → Seen Files → Seen (List ℕ) → Outside
 outside site input files errors = record { site = site; input = input; files = files; errors = errors }
 
@@ -65,6 +66,7 @@ pub record IsGivenUp (status : ℕ) (before after : Seen Files) (told now : Seen
   pub errors : now ≡ told
   pub code : answer ≡ status
 
+-- what became of the draft: it took its name, or it could not take it, or it was given up
 abbrev pub Finishes : (words : List (List ℕ)) (name : List ℕ) (status : ℕ) (written : Seen (List ℕ)) (before after : Seen Files) (told now : Seen (List ℕ)) (answer : ℕ) → Type 0
 Finishes words name status written before after told now answer =
     IsNamed name status written before after told now answer

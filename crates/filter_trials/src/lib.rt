@@ -19,6 +19,8 @@ mod tests_filter_cli_export;
 #[cfg(test)]
 mod tests_filter_cli_files;
 #[cfg(test)]
+mod tests_filter_cli_inside;
+#[cfg(test)]
 mod tests_filter_cli_junit;
 #[cfg(test)]
 mod tests_filter_cli_loose;

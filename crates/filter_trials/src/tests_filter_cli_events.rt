@@ -3,7 +3,7 @@
 use crate::sources::source;
 use edge_io::{ListSink, ListSource};
 use event_sift::{Rules, Tagger};
-use filter_cli::{PumpFault, filter_stream, tag_stream};
+use filter_cli::{PumpFault, StreamEnd, filter_stream, tag_stream};
 use packet_codec::Tags;
 use partition_times::Filters;
 use std::alloc::Global;
@@ -36,6 +36,12 @@ const SORTED: &[u8] =
 const RETAGGED: &[u8] =
     b"\xb3\x21\xc0\x15\x01\x01\x63\x06\x73\x74\x64\x6f\x75\x74\x02\x78\x0a\xf2\x9d\xcf\x10\xb3\x29\x83\x10\x02\x74\x31\x02\x01\x62\x01\x63\xf5\x2d\x01\xff";
 
+// The whole stream was read, and ends inside no packet.
+const WHOLE: StreamEnd = StreamEnd {
+    status: 0,
+    inside: false,
+};
+
 // What is kept where these tags are asked for, and nothing else is.
 fn rules(alloc: Global, with_tags: &[u8]) -> Option<Rules> {
     let with_tags = tags_of(alloc, with_tags)?;
@@ -55,10 +61,10 @@ fn rules(alloc: Global, with_tags: &[u8]) -> Option<Rules> {
 
 // What came of the stream, where this was written.
 fn came(
-    status: Result<u8, PumpFault>,
+    status: Result<StreamEnd, PumpFault>,
     out: &ListSink,
     wanted: &[u8],
-) -> Option<Result<u8, PumpFault>> {
+) -> Option<Result<StreamEnd, PumpFault>> {
     if out.taken() == wanted {
         Some(status)
     } else {
@@ -72,7 +78,7 @@ fn filtered(
     hidden: bool,
     input: &mut ListSource,
     wanted: &[u8],
-) -> Option<Result<u8, PumpFault>> {
+) -> Option<Result<StreamEnd, PumpFault>> {
     let mut out = ListSink::new(alloc, Vec::new(alloc));
     let status = filter_stream(alloc, rules, hidden, input, &mut out);
     came(status, &out, wanted)
@@ -86,7 +92,7 @@ type Kept = (
     &'static [u8],
     &'static [u64],
     &'static [u8],
-    Result<u8, PumpFault>,
+    Result<StreamEnd, PumpFault>,
 );
 
 fn is_kept_from(alloc: Global, input: &mut ListSource, row: &Kept) -> Option<bool> {
@@ -101,11 +107,11 @@ fn is_kept(alloc: Global, row: &Kept) -> Option<bool> {
 
 const STREAMS: [Kept; 5] = [
     // A test without a wanted tag is not let through.
-    (b"a", false, FAILED, &[], b"", Ok(0)),
-    (b"", false, FAILED, &[], FAILED, Ok(0)),
+    (b"a", false, FAILED, &[], b"", Ok(WHOLE)),
+    (b"", false, FAILED, &[], FAILED, Ok(WHOLE)),
     // The events of kept tests stand where the test completes.
-    (b"", false, MIXED, &[], KEPT, Ok(0)),
-    (b"", true, MIXED, &[], KEPT_ALONE, Ok(0)),
+    (b"", false, MIXED, &[], KEPT, Ok(WHOLE)),
+    (b"", true, MIXED, &[], KEPT_ALONE, Ok(WHOLE)),
     // The fourth read fails: so `s` was read to its end, and the line is written before the next read.
     (b"", false, MIXED, &[3], b"x\n", Err(PumpFault::Input)),
 ];
@@ -130,7 +136,7 @@ fn is_retagged_from(alloc: Global, input: &mut ListSource, row: &Retagged) -> Op
     let tagger = tagger_of(alloc, row.0, row.1)?;
     let mut out = ListSink::new(alloc, Vec::new(alloc));
     let status = tag_stream(alloc, tagger, input, &mut out);
-    Some(came(status, &out, row.2) == Some(Ok(0)))
+    Some(came(status, &out, row.2) == Some(Ok(WHOLE)))
 }
 
 fn is_retagged(alloc: Global, row: &Retagged) -> Option<bool> {

@@ -17,6 +17,21 @@ const FAILED: &[u8] =
 const FAILED_TEXT: &[u8] =
     b"<?xml version=\"1.0\" encoding=\"utf-8\"?>\n<testsuite name=\"\" tests=\"2\" failures=\"1\" errors=\"0\" skipped=\"0\" time=\"0.000\">\n<testcase classname=\"\" name=\"a,b\" time=\"0.000\">\n</testcase>\n<testcase classname=\"\" name=\"c\" time=\"0.000\">\n<failure type=\"fail\"></failure>\n</testcase>\n</testsuite>\n";
 
+// `b` passed under the route `1`, and then `a` failed without a route.
+const ROUTED: &[u8] =
+    b"\xb3\x2d\x03\x0c\x01b\x011\x6b\x7f\x80\x8e\xb3\x29\x06\x0a\x01a\xea\x1f\x37\x88";
+
+const ROUTED_TEXT: &[u8] =
+    b"<?xml version=\"1.0\" encoding=\"utf-8\"?>\n<testsuite name=\"\" tests=\"2\" failures=\"1\" errors=\"0\" skipped=\"0\" time=\"0.000\">\n<testcase classname=\"\" name=\"a\" time=\"0.000\">\n<failure type=\"fail\"></failure>\n</testcase>\n<testcase classname=\"\" name=\"b\" time=\"0.000\">\n</testcase>\n</testsuite>\n";
+
+// Under the route `1` `b` failed with a text that is longer than all else; `a` passed without a route, and `c` under the
+// route `2`.
+const LONG: &[u8] =
+    b"\xb3\x2d\x66\x40\xc4\x01b\x0atext/plain\x09traceback\x40\xa0a line of a text that is rather long, 1\na line of a text that is rather long, 2\na line of a text that is rather long, 3\na line of a text that is rather long, 4\n\x011\x0a\x2f\x68\x0d\xb3\x29\x03\x0a\x01a\xdd\xc1\xc7\xba\xb3\x2d\x03\x0c\x01c\x012\xf3\xb4\xbb\x03";
+
+const LONG_TEXT: &[u8] =
+    b"<?xml version=\"1.0\" encoding=\"utf-8\"?>\n<testsuite name=\"\" tests=\"3\" failures=\"1\" errors=\"0\" skipped=\"0\" time=\"0.000\">\n<testcase classname=\"\" name=\"a\" time=\"0.000\">\n</testcase>\n<testcase classname=\"\" name=\"b\" time=\"0.000\">\n<failure type=\"fail\">a line of a text that is rather long, 1\na line of a text that is rather long, 2\na line of a text that is rather long, 3\na line of a text that is rather long, 4\n</failure>\n</testcase>\n<testcase classname=\"\" name=\"c\" time=\"0.000\">\n</testcase>\n</testsuite>\n";
+
 const NOTHING_TEXT: &[u8] =
     b"<?xml version=\"1.0\" encoding=\"utf-8\"?>\n<testsuite name=\"\" tests=\"0\" failures=\"0\" errors=\"0\" skipped=\"0\" time=\"0.000\">\n</testsuite>\n";
 
@@ -35,7 +50,7 @@ type Row = (
     u8,
 );
 
-const ROWS: [Row; 8] = [
+const ROWS: [Row; 10] = [
     (
         &["subunit2junitxml"],
         TIMED,
@@ -54,6 +69,16 @@ const ROWS: [Row; 8] = [
         0,
         1,
     ),
+    (
+        &["subunit2junitxml"],
+        ROUTED,
+        NO_FAULT,
+        ROUTED_TEXT,
+        b"",
+        0,
+        1,
+    ),
+    (&["subunit2junitxml"], LONG, NO_FAULT, LONG_TEXT, b"", 0, 1),
     (
         &["subunit2junitxml"],
         b"x",

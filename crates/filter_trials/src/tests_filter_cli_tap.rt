@@ -14,7 +14,7 @@ fn gives(alloc: Global, lines: &[u8], packets: &[u8]) -> Option<bool> {
     let mut input = ListSource::new(lines, 7, Vec::new(alloc));
     let mut out = ListSink::new(alloc, Vec::new(alloc));
     let status = tap_to_subunit(alloc, &mut input, &mut out);
-    Some(matches!(status, Ok(0)) && out.taken() == packets)
+    Some(matches!(status, Ok(end) if end.status == 0 && !end.inside) && out.taken() == packets)
 }
 
 const THREE: &[u8] =

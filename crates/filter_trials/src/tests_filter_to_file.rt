@@ -50,9 +50,9 @@ fn holds<S: Site>(site: &mut S, wanted: Option<&[u8]>) -> bool {
 }
 
 // Whether the words give what the row says, over the stream.
-fn does(alloc: Global, row: &Row) -> Option<bool> {
+fn does(alloc: Global, stream: &[u8], row: &Row) -> Option<bool> {
     let words = owned(alloc, row.0)?;
-    let mut input = source(alloc, FAILED, &[])?;
+    let mut input = source(alloc, stream, &[])?;
     let mut files = MemNewFiles::new(alloc, row.1.to_vec(alloc).ok()?, row.2.to_vec(alloc).ok()?);
     let mut site = MapSite::new(alloc, Vec::new(alloc));
     let mut err = ListSink::new(alloc, Vec::new(alloc));
@@ -66,6 +66,21 @@ fn does(alloc: Global, row: &Row) -> Option<bool> {
 #[test]
 fn a_file_has_its_name_where_the_output_is_whole(rt: HostRuntime) {
     for row in &ROWS {
-        assert_eq!(rt; does(rt.alloc(), row), Some(true));
+        assert_eq!(rt; does(rt.alloc(), FAILED, row), Some(true));
     }
+}
+
+// The line of an input that ends inside a packet does not keep the file from its name.
+const INSIDE: Row = (
+    &["subunit-ls"],
+    &[],
+    &[],
+    Some(b"\xb3\x29"),
+    b"subunit-ls: the input ends inside a packet\n",
+    0,
+);
+
+#[test]
+fn an_input_that_ends_inside_a_packet_is_told_of(rt: HostRuntime) {
+    assert_eq!(rt; does(rt.alloc(), b"\xb3\x29", &INSIDE), Some(true));
 }

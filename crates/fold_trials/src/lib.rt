@@ -7,6 +7,8 @@
 
 pub mod rows;
 #[cfg(test)]
+mod tests_build_notes;
+#[cfg(test)]
 mod tests_event_sift;
 #[cfg(test)]
 mod tests_event_sift_events;
@@ -20,6 +22,8 @@ mod tests_outcome_fold_hearing;
 mod tests_outcome_fold_reasons;
 #[cfg(test)]
 mod tests_outcome_fold_summing;
+#[cfg(test)]
+mod tests_outcome_fold_texts;
 #[cfg(test)]
 mod tests_sub_export;
 #[cfg(test)]

@@ -108,9 +108,10 @@ Keeps test results as numbered runs in the folder .testrepository of the current
                             runs the tests of the project, as its configuration says, and keeps what they print as the next run
   testr list-tests [OPTION..] [PATTERN..]
                             prints the ids of the tests of the project
-  testr last [--skips | --subunit]
+  testr last [--skips] [--format=KIND] | [--subunit]
                             prints the report of the last run, or the run itself
-  testr failing [--list]    prints the tests that fail by all runs, or their ids alone
+  testr failing [--list | --full | --subunit]
+                            prints the tests that fail by all runs, or their ids alone, or how each failed last
   testr slowest [--all]     prints the slowest ten tests of the last run, or all
   testr stats               prints how many runs there are
   testr upgrade             makes a folder of the original testr a repository of its runs
@@ -129,11 +130,18 @@ Example: testr init
 ";
 
 const LOAD: &str = "\
-usage: testr load [--partial] [--force-init] [-q] [FILE ..]
+usage: testr load [--partial] [--force-init] [--expect=FILE] [--live=KIND] [--format=KIND] [--subunit] [-q] [FILE ..]
 Reads a Subunit v2 stream from standard input, keeps it as the next run, and prints its report. Status 0 where no test
 failed, 1 where one did.
   --partial    the run is marked as one of a part of the tests
   --force-init makes a repository first where there is none
+  --expect=FILE
+               tells on standard error which tests that the file lists, one a line, did not run; status 1 where one did not
+  --live=KIND  tells on standard error of each test that completes: tests, failures, dots or none; on a terminal it is
+               tests where nothing is said, unless -q is
+  --format=KIND
+               github prints behind the report a note for each test that failed, which a build server shows at its line
+  --subunit    prints the run itself as it is kept, a stream of packets, and no report; status 0 where it is kept
   -q, --quiet  prints no report; the status says whether a test failed
   FILE ..      reads these files in place of standard input, at most 64, one after another, as one run; what is kept of
                the first is under the route 0, of the next one under 1, and so on
@@ -143,7 +151,8 @@ Example: testr load < stream
 const RUN: &str = "\
 usage: testr run [OPTION..] [PATTERN..] [-- WORD..]
 Runs the tests of the project, as the file .testr.conf, .stestr.conf or pyproject.toml of the current folder says, keeps
-what they print as the next run, and prints its report. Status 0 where no test failed, 1 where one did.
+what they print as the next run, and prints its report. Status 0 where no test failed, 1 where one did, or where none ran
+that was asked for. Tests that were asked for and did not run are told of on standard error.
   --partial         the run is marked as one of a part of the tests; so it is with each option or PATTERN that chooses tests
   --failing         only tests that fail by all runs
   --load-list=FILE  only tests whose ids the file lists, one a line
@@ -164,6 +173,10 @@ what they print as the next run, and prints its report. Status 0 where no test f
                     stand before these settings of stestr, the last one before that of any project
   -- WORD..         puts these words behind the command of each worker
   --find-causes     behind the report, looks for the test that makes each failing one fail, by runs of some of the tests
+  --live=KIND       tells on standard error of each test that completes: tests, failures, dots or none; on a terminal it is
+                    tests where nothing is said, unless -q is
+  --format=KIND     github prints behind the report a note for each test that failed, which a build server shows at its line
+  --subunit         prints the run itself as it goes on, a stream of packets, and no report; status 0 where it is kept
   -q, --quiet       prints no report, and nothing behind it; the status says whether a test failed
 Example: testr run --parallel
 ";
@@ -179,18 +192,22 @@ Example: testr list-tests '^core'
 ";
 
 const LAST: &str = "\
-usage: testr last [--skips | --subunit] [-q]
+usage: testr last [--skips] [--format=KIND] [-q], or testr last --subunit
 Prints the report of the last run. Status 0 where no test of it failed, 1 where one did.
   --skips      prints behind it why tests were skipped, and how many for each reason
+  --format=KIND
+               github prints behind it a note for each test that failed, which a build server shows at its line; text does not
   --subunit    prints the last run itself, a stream of packets; status 0
   -q, --quiet  prints no report; the status says whether a test of it failed
 Example: testr last
 ";
 
 const FAILING: &str = "\
-usage: testr failing [--list]
+usage: testr failing [--list | --full | --subunit]
 Prints the tests that fail by all runs, and their number. Status 0 where there are none, else 1.
   --list       prints their ids alone, as a list for other programs
+  --full       prints of each how it failed last, with its text, as a report does
+  --subunit    prints of each how it failed last, a stream of packets; status 0
 Example: testr failing --list > ids
 ";
 

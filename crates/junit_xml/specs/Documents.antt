@@ -43,7 +43,7 @@ name_of id = if class_size id == 0 then id else drop (class_size id + 1) id
 abbrev pub attribute : List ℕ → List ℕ → List ℕ
 attribute name value = codes " " ++ name ++ codes "=\"" ++ value ++ codes "\""
 
--- a tag
+-- a tag: what stands in it, between `<` and `>`
 abbrev pub tag : List ℕ → List ℕ
 tag inside = codes "<" ++ inside ++ codes ">"
 
@@ -110,6 +110,6 @@ head_of counts = declaration ++ suite_begin counts
 abbrev pub tail_text : List ℕ
 tail_text = tag_line (codes "/testsuite")
 
--- the document of some rows
+-- the document of some rows: one suite with their counts, and the cases in the order of the rows
 abbrev pub junit_of : List Row → List ℕ
 junit_of rows = head_of (counts_of [] rows) ++ flat_map case_of rows ++ tail_text

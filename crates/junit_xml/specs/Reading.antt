@@ -65,7 +65,7 @@ values_among [] = []
 values_among (piece ∷ []) = []
 values_among (piece ∷ value ∷ pieces) = value ∷ values_among pieces
 
--- both, where both are there
+-- the values with this one in front, where it and they were read
 abbrev pub with_first : Option (List ℕ) → Option (List (List ℕ)) → Option (List (List ℕ))
 with_first None rest = None
 with_first (Some first) None = None
@@ -127,7 +127,7 @@ pub data Tag : Type 0 where
 abbrev pub read_number : List ℕ → Option ℕ
 read_number text = if nat_le 1 (length text) && list_all is_ascii_digit text then Some (digits_value 10 text) else None
 
--- version 1.0 in UTF-8
+-- the declaration, where its values are those of version 1.0 in UTF-8
 abbrev pub declaration_with : List (List ℕ) → Option Tag
 declaration_with (version ∷ encoding ∷ []) = if bytes_eq version (codes "1.0") && bytes_eq encoding (codes "utf-8") then Some declares else None
 declaration_with values = None
@@ -162,12 +162,12 @@ failure_named kind =
     else (if bytes_eq kind (codes "unfinished") then Some ended.Open
     else None))
 
--- a failure, and its text
+-- the tag that begins a failure of this kind, with the text behind it
 abbrev pub failure_with : List (List ℕ) → List ℕ → Option Tag
 failure_with (kind ∷ []) text = option_map (λ how. begins_failure how text) (failure_named kind)
 failure_with values text = None
 
--- a skip, and its reason
+-- the tag that tells that a test was skipped, with its reason
 abbrev pub skip_with : List (List ℕ) → Option Tag
 skip_with (reason ∷ []) = Some (skips reason)
 skip_with values = None
@@ -228,7 +228,7 @@ pub data Reading : Type 0 where
   in_told_case : Heading → List Case → Case → Reading
   at_end : Document → Reading
 
--- which tag may stand where
+-- how far a document was read with this tag more; none where the tag may not stand there
 abbrev pub read_on : Reading → Tag → Option Reading
 read_on at_front declares = Some is_declared
 read_on is_declared (begins_suite heading) = Some (in_suite heading [])
@@ -241,7 +241,8 @@ read_on (in_failure heading cases told) ends_failure = Some (in_told_case headin
 read_on (in_told_case heading cases told) ends_case = Some (in_suite heading (cases ++ told ∷ []))
 read_on reading tag = None
 
--- one tag more
+-- how far a document was read with the bytes of one tag more, which follow a `<`; none where these or bytes before them
+-- are refused
 abbrev pub read_next : Option Reading → List ℕ → Option Reading
 read_next None bytes = None
 read_next (Some reading) bytes = option_and_then (read_on reading) (read_tag bytes)

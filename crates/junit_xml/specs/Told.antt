@@ -21,11 +21,11 @@ verdict_of ended.Fail text reason = failed ended.Fail (shown text)
 verdict_of ended.XFail text reason = passed
 verdict_of ended.Open text reason = failed ended.Open (shown text)
 
--- what is told of a row
+-- what the case of a row tells, its id and its texts in characters that XML 1.0 allows
 abbrev pub told_case : Row → Case
 told_case row = record { id = shown row.id; seconds = seconds_of row.nanos; verdict = verdict_of row.ended row.text row.reason }
 
--- what is told of counts
+-- what the suite of a document tells of its counts
 abbrev pub told_counts : Counts → Heading
 told_counts counts = record { tests = counts.total; failures = counts.failed; skipped = counts.skipped; seconds = seconds_of counts.nanos }
 

@@ -11,7 +11,7 @@ ghost use Rattle.junit_xml.specs.Documents as spec;
 
 use crate::escaping::{Place, put_value, put_written};
 use crate::names::names_of;
-use crate::seconds::put_seconds;
+use crate::seconds::{put_all_seconds, put_seconds};
 use itoa::Buffer;
 use outcome_fold::{Counts, Ended, Row, Rows};
 use packet_codec::Tags;
@@ -46,13 +46,13 @@ fn put_count(name: &[u8], count: u64, text: &mut Vec<u8>) -> Result<(), NoMemory
     Ok(())
 }
 
-// The attribute of the time, which ends a tag and its line.
+// The attribute of the time of all tests, which ends a tag and its line.
 fn put_time(nanos: u128, text: &mut Vec<u8>) -> Result<(), NoMemory>
     ensures ok { OnOk result (text.new.items ≡ text.old.items ++ spec.attribute (codes "time") (printed_seconds nanos) ++ codes ">\n") }
     ensures kept { take (length text.old.items) text.new.items ≡ text.old.items }
 {
     text.extend_from_slice(b" time=\"")?;
-    put_seconds(nanos, text)?;
+    put_all_seconds(nanos, text)?;
     text.extend_from_slice(b"\">\n")?;
     Ok(())
 }
@@ -68,7 +68,7 @@ fn put_case_begin(row: &Row, text: &mut Vec<u8>) -> Result<(), NoMemory>
     text.extend_from_slice(b"\" name=\"")?;
     put_value(name, text)?;
     text.extend_from_slice(b"\" time=\"")?;
-    put_seconds(u128::from(row.nanos.unwrap_or(0)), text)?;
+    put_seconds(row.nanos.unwrap_or(0), text)?;
     text.extend_from_slice(b"\">\n")?;
     Ok(())
 }

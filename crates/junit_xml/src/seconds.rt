@@ -7,7 +7,19 @@ use itoa::Buffer;
 use sub_number::NoMemory;
 
 // In thousandths of a second, halves up.
-fn millis_of(nanos: u128) -> u128
+fn millis_of(nanos: u64) -> u64
+    ensures { result ≡ millis_of nanos }
+{
+    let millis = nanos / 1_000_000;
+    if nanos % 1_000_000 < 500_000 {
+        millis
+    } else {
+        millis + 1
+    }
+}
+
+// The same of a sum of times, which takes more steps to divide.
+fn all_millis_of(nanos: u128) -> u128
     ensures { result ≡ millis_of nanos }
 {
     let millis = nanos / 1_000_000;
@@ -31,31 +43,9 @@ fn places(number: u32) -> [u8; 4]
     ]
 }
 
-// The same of fewer nanoseconds, which are divided in fewer steps.
-fn few_millis_of(nanos: u64) -> u64
-    ensures { result ≡ millis_of nanos }
-{
-    let millis = nanos / 1_000_000;
-    if nanos % 1_000_000 < 500_000 {
-        millis
-    } else {
-        millis + 1
-    }
-}
-
-// Appends fewer nanoseconds than 2^64, as most times are.
-fn put_few_seconds(nanos: u64, text: &mut Vec<u8>) -> Result<(), NoMemory>
-    ensures ok { OnOk result (text.new.items ≡ text.old.items ++ printed_seconds nanos) }
-    ensures kept { take (length text.old.items) text.new.items ≡ text.old.items }
-{
-    let millis = few_millis_of(nanos);
-    text.extend_from_slice(Buffer::new().format(millis / 1000).as_bytes())?;
-    text.extend_from_slice(&places((millis % 1000) as u32))?;
-    Ok(())
-}
-
-// Appends any nanoseconds.
-fn put_many_seconds(nanos: u128, text: &mut Vec<u8>) -> Result<(), NoMemory>
+/// Appends the nanoseconds that one test took as seconds with a point and three places, halves up. What stands in the text
+/// stays, also where there is not enough memory.
+pub(crate) fn put_seconds(nanos: u64, text: &mut Vec<u8>) -> Result<(), NoMemory>
     ensures ok { OnOk result (text.new.items ≡ text.old.items ++ printed_seconds nanos) }
     ensures kept { take (length text.old.items) text.new.items ≡ text.old.items }
 {
@@ -65,15 +55,13 @@ fn put_many_seconds(nanos: u128, text: &mut Vec<u8>) -> Result<(), NoMemory>
     Ok(())
 }
 
-/// Appends the nanoseconds as seconds with a point and three places, halves up. What stands in the text stays, also where
-/// there is not enough memory.
-pub(crate) fn put_seconds(nanos: u128, text: &mut Vec<u8>) -> Result<(), NoMemory>
+/// Appends a sum of such times in the same way.
+pub(crate) fn put_all_seconds(nanos: u128, text: &mut Vec<u8>) -> Result<(), NoMemory>
     ensures ok { OnOk result (text.new.items ≡ text.old.items ++ printed_seconds nanos) }
     ensures kept { take (length text.old.items) text.new.items ≡ text.old.items }
 {
-    if nanos < 18_446_744_073_709_551_616 {
-        put_few_seconds(nanos as u64, text)
-    } else {
-        put_many_seconds(nanos, text)
-    }
+    let millis = all_millis_of(nanos);
+    text.extend_from_slice(Buffer::new().format(millis / 1000).as_bytes())?;
+    text.extend_from_slice(&places((millis % 1000) as u32))?;
+    Ok(())
 }

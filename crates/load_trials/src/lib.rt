@@ -14,6 +14,10 @@ mod tests_ask;
 #[cfg(test)]
 mod tests_copying;
 #[cfg(test)]
+mod tests_expect;
+#[cfg(test)]
+mod tests_failing;
+#[cfg(test)]
 mod tests_files;
 #[cfg(test)]
 mod tests_force;
@@ -21,6 +25,8 @@ mod tests_force;
 mod tests_from;
 #[cfg(test)]
 mod tests_from_faults;
+#[cfg(test)]
+mod tests_live;
 #[cfg(test)]
 mod tests_load;
 #[cfg(test)]

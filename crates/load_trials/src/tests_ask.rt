@@ -6,7 +6,7 @@ use std::sync::Wait;
 use std::test::Fail;
 use std::thread::Threads;
 use trial_calls::{
-    FAIL, FAIL_KEPT, FOO, NOTHING, SHELF_FAULT, Told, call, load, repository, source,
+    FAIL, FAIL_KEPT, FOO, NOTHING, SHELF_FAULT, Told, call, load, repository, source, tells_of,
 };
 
 const FAIL_REPORT: &[u8] =
@@ -104,6 +104,97 @@ fn each_reason_of_a_skip_is_told_and_the_most_frequent_first(rt: HostRuntime) ->
     assert!(rt; tells_alone(&rt, &mut shelf, &["testr", "last", "--skips"], 0, SKIPS)?);
     let words = ["testr", "last", "--skips", "--subunit"];
     assert!(rt; tells_alone(&rt, &mut shelf, &words, 0, SKIPPED_KEPT)?);
+    Ok(())
+}
+
+// The test `a%`, a newline and `::b` failed with a text of two places, and `s` was skipped.
+const PLACED: &[u8] =
+    b"\xb3\x29\x66\x40\x54\x06\x61\x25\x0a\x3a\x3a\x62\x0a\x74\x65\x78\x74\x2f\x70\x6c\x61\x69\x6e\x09\x74\x72\x61\x63\x65\x62\x61\x63\x6b\x2e\x20\x20\x46\x69\x6c\x65\x20\x22\x78\x2e\x70\x79\x22\x2c\x20\x6c\x69\x6e\x65\x20\x33\x0a\x20\x20\x46\x69\x6c\x65\x20\x22\x79\x2c\x7a\x2e\x70\x79\x22\x2c\x20\x6c\x69\x6e\x65\x20\x34\x30\x9a\x7d\x21\x05\xb3\x29\x45\x18\x01\x73\x06\x72\x65\x61\x73\x6f\x6e\x06\x6e\x6f\x20\x6e\x65\x74\x60\xde\xaa\x0d";
+
+// They are kept under lane 0.
+const PLACED_KEPT: &[u8] =
+    b"\xb3\x2d\x66\x40\x56\x06\x61\x25\x0a\x3a\x3a\x62\x0a\x74\x65\x78\x74\x2f\x70\x6c\x61\x69\x6e\x09\x74\x72\x61\x63\x65\x62\x61\x63\x6b\x2e\x20\x20\x46\x69\x6c\x65\x20\x22\x78\x2e\x70\x79\x22\x2c\x20\x6c\x69\x6e\x65\x20\x33\x0a\x20\x20\x46\x69\x6c\x65\x20\x22\x79\x2c\x7a\x2e\x70\x79\x22\x2c\x20\x6c\x69\x6e\x65\x20\x34\x30\x01\x30\x03\x44\x4c\xf2\xb3\x2d\x45\x1a\x01\x73\x06\x72\x65\x61\x73\x6f\x6e\x06\x6e\x6f\x20\x6e\x65\x74\x01\x30\x9b\xfb\x45\x3d";
+
+const PLACED_REPORT: &[u8] =
+    b"======================================================================\nFAIL: a%\n::b\n----------------------------------------------------------------------\n  File \"x.py\", line 3\n  File \"y,z.py\", line 40\nRan 2 tests\nFAILED (id=0, failures=1, skips=1)\n";
+
+const PLACED_NOTED: &[u8] =
+    b"======================================================================\nFAIL: a%\n::b\n----------------------------------------------------------------------\n  File \"x.py\", line 3\n  File \"y,z.py\", line 40\nRan 2 tests\nFAILED (id=0, failures=1, skips=1)\n::error file=y%2Cz.py,line=40,title=a%25%0A%3A%3Ab::  File \"x.py\", line 3%0A  File \"y,z.py\", line 40\n";
+
+const PLACED_SKIPS_NOTED: &[u8] =
+    b"======================================================================\nFAIL: a%\n::b\n----------------------------------------------------------------------\n  File \"x.py\", line 3\n  File \"y,z.py\", line 40\nRan 2 tests\nFAILED (id=0, failures=1, skips=1)\nSKIP 1: no net\n::error file=y%2Cz.py,line=40,title=a%25%0A%3A%3Ab::  File \"x.py\", line 3%0A  File \"y,z.py\", line 40\n";
+
+// What is told of a repository of this run.
+const TOLD_OF_PLACED: [(&[&str], u8, &[u8]); 7] = [
+    (&["testr", "last", "--format=github"], 1, PLACED_NOTED),
+    (
+        &["testr", "last", "--format", "github", "--skips"],
+        1,
+        PLACED_SKIPS_NOTED,
+    ),
+    (
+        &["testr", "last", "--format=github", "--format=text"],
+        1,
+        PLACED_REPORT,
+    ),
+    (
+        &["testr", "last", "--format=text", "--format=github"],
+        1,
+        PLACED_NOTED,
+    ),
+    (
+        &["testr", "last", "--format=github", "--subunit"],
+        0,
+        PLACED_KEPT,
+    ),
+    (&["testr", "last", "--format=github", "-q"], 1, NOTHING),
+    (&["stestr", "last", "--format=github"], 1, PLACED_NOTED),
+];
+
+fn tells_of_placed<R: Threads + Wait + Sync + AllocGlobal + Abort>(
+    rt: &R,
+    shelf: &mut MemShelf,
+) -> Result<(), Fail> {
+    for (row, (words, status, text)) in TOLD_OF_PLACED.iter().enumerate() {
+        assert!(rt; tells_alone(rt, shelf, words, *status, text)?, "row {row}");
+    }
+    Ok(())
+}
+
+#[test]
+fn notes_of_failures_stand_behind_a_report(rt: HostRuntime) -> Result<(), Fail> {
+    let mut shelf = repository(rt.alloc(), &[])?;
+    load(&rt, &mut shelf, PLACED)?;
+    tells_of_placed(&rt, &mut shelf)
+}
+
+// What is told as this run is loaded as the first one.
+const LOADED_PLACED: [(&[&str], &[u8]); 4] = [
+    (&["testr", "load", "--format=github"], PLACED_NOTED),
+    (&["stestr", "load", "--format", "github"], PLACED_NOTED),
+    (&["testr", "load", "--format=text"], PLACED_REPORT),
+    (&["testr", "load", "--format=github", "-q"], NOTHING),
+];
+
+#[test]
+fn notes_of_failures_stand_behind_the_report_of_a_load(rt: HostRuntime) -> Result<(), Fail> {
+    for (row, (words, text)) in LOADED_PLACED.iter().enumerate() {
+        let mut shelf = repository(rt.alloc(), &[])?;
+        assert!(rt;
+            tells_of(&rt, words, &mut shelf, PLACED, 7, (1, *text, NOTHING))?,
+            "row {row}"
+        );
+    }
+    Ok(())
+}
+
+// Without a failure there are none.
+#[test]
+fn a_run_that_passed_has_no_notes(rt: HostRuntime) -> Result<(), Fail> {
+    let mut shelf = repository(rt.alloc(), &[])?;
+    load(&rt, &mut shelf, SKIPPED)?;
+    let words = ["testr", "last", "--format=github", "--skips"];
+    assert!(rt; tells_alone(&rt, &mut shelf, &words, 0, SKIPS)?);
     Ok(())
 }
 

@@ -26,6 +26,16 @@ const BOOM_KEPT: &[u8] =
 const BOOM_REPORT: &[u8] =
     b"======================================================================\nFAIL: foo\n----------------------------------------------------------------------\nboom\nRan 1 tests\nFAILED (id=0, failures=1)\n";
 
+// `foo` was begun with a log, and failed as before.
+const LOGGED: &[u8] =
+    b"\xb3\x29\x62\x1d\x03foo\x0atext/plain\x03log\x01a\x50\x20\xac\x07\xb3\x29\x66\x26\x03foo\x0atext/plain\x09traceback\x04boom\x2f\x8c\x22\xda";
+
+const LOGGED_KEPT: &[u8] =
+    b"\xb3\x2d\x62\x1f\x03foo\x0atext/plain\x03log\x01a\x01\x30\x1d\x95\x60\xe7\xb3\x2d\x66\x28\x03foo\x0atext/plain\x09traceback\x04boom\x01\x30\x82\xfc\xe0\xbe";
+
+const LOGGED_REPORT: &[u8] =
+    b"======================================================================\nFAIL: foo\n----------------------------------------------------------------------\nlog: {{{\na\n}}}\nboom\nRan 1 tests\nFAILED (id=0, failures=1)\n";
+
 // `foo` was begun.
 const OPEN: &[u8] = b"\xb3\x29\x02\x0c\x03foo\x8e\xc1\x2d\xb5";
 
@@ -88,11 +98,12 @@ const CUT_REPORT: &[u8] =
     b"======================================================================\nFAIL: subunit.parser\n----------------------------------------------------------------------\nthe output ends inside a packet\nRan 2 tests\nFAILED (id=0, failures=1)\n";
 
 // Streams, and the run, the report and the status of each.
-const STREAMS: [(&[u8], &[u8], &[u8], u8); 12] = [
+const STREAMS: [(&[u8], &[u8], &[u8], u8); 13] = [
     (FOO, FOO_KEPT, PASSED_AS_0, 0),
     (NOTHING, NOTHING, NO_TESTS, 0),
     (FAIL, FAIL_KEPT, FAIL_REPORT, 1),
     (BOOM, BOOM_KEPT, BOOM_REPORT, 1),
+    (LOGGED, LOGGED_KEPT, LOGGED_REPORT, 1),
     (OPEN, OPEN_KEPT, OPEN_REPORT, 1),
     (UNEXPECTED, UNEXPECTED_KEPT, UNEXPECTED_REPORT, 1),
     (TIMED, TIMED_KEPT, TIMED_REPORT, 0),

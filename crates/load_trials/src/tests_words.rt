@@ -2,7 +2,7 @@
 
 use std::alloc::Global;
 use sub_number::Text;
-use testr_cli::{Command, Face, Verb, reads, reads_as};
+use testr_cli::{Command, Face, FormatKind, LiveKind, Question, Verb, reads, reads_as};
 
 fn push_words(alloc: Global, list: &mut Vec<String>, words: &[&str]) -> Option<()> {
     for word in words {
@@ -462,7 +462,173 @@ fn a_report_may_be_left_out(rt: HostRuntime) {
     assert!(rt; is_no_command(alloc, &["run", "--load-list=a", "-q", "-x"]));
 }
 
-const NO_COMMANDS: [&[&str]; 44] = [
+// For whom a report is printed, as these words ask.
+const FORMATS: [(&[&str], FormatKind); 10] = [
+    (&["last"], FormatKind::Plain),
+    (&["last", "--format=text"], FormatKind::Plain),
+    (&["last", "--format=github"], FormatKind::Github),
+    (
+        &["last", "--format", "github", "--skips"],
+        FormatKind::Github,
+    ),
+    // The last one stands.
+    (
+        &["last", "--format=github", "--format=text"],
+        FormatKind::Plain,
+    ),
+    (
+        &["last", "--format=text", "--format=github"],
+        FormatKind::Github,
+    ),
+    (&["last", "--format=github", "-q"], FormatKind::Github),
+    (&["load", "a", "--format=github"], FormatKind::Github),
+    (&["run", "--format=github", "a"], FormatKind::Github),
+    (
+        &["run", "--format=github", "--", "--format=text"],
+        FormatKind::Github,
+    ),
+];
+
+fn format_of(alloc: Global, words: &[&str]) -> Option<FormatKind> {
+    Some(read(alloc, words)?.format)
+}
+
+#[test]
+fn the_last_format_stands(rt: HostRuntime) {
+    let alloc = rt.alloc();
+    for (row, (words, wanted)) in FORMATS.iter().enumerate() {
+        assert!(rt; format_of(alloc, words) == Some(*wanted), "row {row}");
+    }
+}
+
+// What `failing` asks, as these words ask.
+const FAILING_QUESTIONS: [(&[&str], Question); 7] = [
+    (&["failing"], Question::Failing { list: false }),
+    (&["failing", "--list"], Question::Failing { list: true }),
+    (&["failing", "--full"], Question::LastFailures),
+    (&["failing", "--subunit"], Question::FailurePackets),
+    (
+        &["failing", "--full", "--subunit", "--list"],
+        Question::FailurePackets,
+    ),
+    (
+        &["failing", "--full", "--list"],
+        Question::Failing { list: true },
+    ),
+    (
+        &["failing", "--list", "--full"],
+        Question::Failing { list: true },
+    ),
+];
+
+fn failing_asked(alloc: Global, words: &[&str]) -> Option<Question> {
+    Some(read(alloc, words)?.failing_question())
+}
+
+#[test]
+fn a_list_stands_before_last_failures(rt: HostRuntime) {
+    let alloc = rt.alloc();
+    for (row, (words, wanted)) in FAILING_QUESTIONS.iter().enumerate() {
+        assert!(rt; failing_asked(alloc, words) == Some(*wanted), "row {row}");
+    }
+}
+
+// What `last` asks, as these words ask.
+const LAST_QUESTIONS: [(&[&str], Question); 6] = [
+    (&["last"], Question::Last { subunit: false }),
+    (&["last", "--skips"], Question::Skips),
+    (
+        &["last", "--format=github"],
+        Question::Notes { skips: false },
+    ),
+    (
+        &["last", "--format=github", "--skips"],
+        Question::Notes { skips: true },
+    ),
+    (
+        &["last", "--format=github", "--subunit"],
+        Question::Last { subunit: true },
+    ),
+    (
+        &["last", "--format=text", "--skips", "--subunit"],
+        Question::Last { subunit: true },
+    ),
+];
+
+fn last_asked(alloc: Global, words: &[&str]) -> Option<Question> {
+    Some(read(alloc, words)?.last_question())
+}
+
+#[test]
+fn notes_are_asked_for_where_no_bytes_are(rt: HostRuntime) {
+    let alloc = rt.alloc();
+    for (row, (words, wanted)) in LAST_QUESTIONS.iter().enumerate() {
+        assert!(rt; last_asked(alloc, words) == Some(*wanted), "row {row}");
+    }
+}
+
+// Which lines a run or a load says, and whether it prints its packets, as these words ask.
+const SAYS: [(&[&str], LiveKind, bool); 14] = [
+    (&["run"], LiveKind::Nothing, false),
+    (&["run", "--live=none"], LiveKind::Nothing, false),
+    (&["run", "--live=tests"], LiveKind::Tests, false),
+    (&["run", "--live", "failures"], LiveKind::Failures, false),
+    (
+        &["run", "a", "--live=dots", "--subunit"],
+        LiveKind::Dots,
+        true,
+    ),
+    // The last one stands.
+    (
+        &["run", "--live=dots", "--live=tests"],
+        LiveKind::Tests,
+        false,
+    ),
+    (
+        &["run", "--live=dots", "--live=none"],
+        LiveKind::Nothing,
+        false,
+    ),
+    (&["run", "--subunit", "-q"], LiveKind::Nothing, true),
+    (
+        &["run", "--load-list", "--subunit"],
+        LiveKind::Nothing,
+        false,
+    ),
+    (
+        &["run", "--", "--live=dots", "--subunit"],
+        LiveKind::Nothing,
+        false,
+    ),
+    (&["load"], LiveKind::Nothing, false),
+    (&["load", "--live=dots", "a"], LiveKind::Dots, false),
+    (
+        &["load", "--subunit", "--live", "tests"],
+        LiveKind::Tests,
+        true,
+    ),
+    // These are a run's bytes that is there.
+    (&["last", "--subunit"], LiveKind::Nothing, false),
+];
+
+// Whether the words ask for these lines, and for packets or not.
+fn says(alloc: Global, words: &[&str], live: LiveKind, stream: bool) -> Option<bool> {
+    let command = read(alloc, words)?;
+    Some(command.live_kind() == live && command.streams() == stream)
+}
+
+#[test]
+fn a_run_may_be_said(rt: HostRuntime) {
+    let alloc = rt.alloc();
+    for (row, (words, live, stream)) in SAYS.iter().enumerate() {
+        assert!(rt;
+            says(alloc, words, *live, *stream) == Some(true),
+            "row {row}"
+        );
+    }
+}
+
+const NO_COMMANDS: [&[&str]; 64] = [
     &["runn"],
     &["Run"],
     &["list"],
@@ -478,7 +644,27 @@ const NO_COMMANDS: [&[&str]; 44] = [
     &["run", "--concurrency"],
     &["run", "--load-list"],
     &["run", "--load"],
-    &["run", "--subunit"],
+    &["run", "--subunit=1"],
+    &["run", "--live"],
+    &["run", "--live=all"],
+    &["run", "--live=all", "--live=dots"],
+    &["run", "--live", "--subunit"],
+    &["load", "--live"],
+    &["load", "--live=all"],
+    &["load", "--subunit=1"],
+    &["last", "--live=dots"],
+    &["last", "--format"],
+    &["last", "--format="],
+    &["last", "--format=junit"],
+    &["last", "--format=GitHub", "--format=text"],
+    &["failing", "--format=text"],
+    &["failing", "--full=1"],
+    &["failing", "x"],
+    &["last", "--full"],
+    &["run", "--format=html"],
+    &["load", "--format"],
+    &["list-tests", "--format=github"],
+    &["list-tests", "--subunit"],
     &["run", "-p"],
     &["run", "a\0"],
     &["run", "--load-list=a\0"],

@@ -46,5 +46,6 @@ pub record HasHeard (failing : OldFailing) (bytes : List ℕ) : Type 0 where
   pub fed : HasFed failing.file bytes events
   pub folded : HasFolded failing.outcomes events
 
+-- some bytes were fed, or none yet, and the events that they tell so far were folded
 abbrev pub IsHeard : OldFailing → Type 0
 IsHeard failing = (bytes : List ℕ) × HasHeard failing bytes

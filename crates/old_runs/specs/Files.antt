@@ -33,9 +33,11 @@ AreFailingIn bytes ids = (events : List Event) × IsOldFile bytes events × (ids
 
 -- ---- damage
 
+-- the event is one of a test: it has an id
 abbrev pub has_id : Event → Bool
 has_id e = is_some e.id
 
+-- the event is none of a test, as output that stands beside them
 abbrev pub lacks_id : Event → Bool
 lacks_id e = not (has_id e)
 
@@ -68,5 +70,7 @@ pub record TellsNoTest (bytes : List ℕ) : Type 0 where
   pub told : IsOldFile bytes events
   pub none : list_any has_id events ≡ false
 
+-- the file is refused as a damaged run: parts of a test of version 1 are not closed in it, or it has bytes and tells of
+-- no test
 abbrev pub IsDamaged : List ℕ → Type 0
 IsDamaged bytes = IsCutOff bytes ⊎ TellsNoTest bytes

@@ -25,6 +25,7 @@ IsPlain (byte ∷ bytes) = (byte ≡ 10 → ⊥) × IsPlain bytes
 abbrev pub line_front : List ℕ → List ℕ
 line_front bytes = take (line_size bytes) bytes
 
+-- what follows the first line and its newline
 abbrev pub line_behind : List ℕ → List ℕ
 line_behind bytes = drop (line_size bytes) bytes
 
@@ -52,6 +53,7 @@ most_held true = 65535
 
 -- ---- the reader
 
+-- the place is among the parts of a test, whose line `]` is still to come
 abbrev pub is_parts : Place → Bool
 is_parts Outside = false
 is_parts Lines = false

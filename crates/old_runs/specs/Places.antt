@@ -15,16 +15,20 @@ use Rattle.old_runs.specs.declared.place.Place.TheVariants.{Outside, Lines, Part
 
 -- ---- what is known behind some lines tells the place
 
+-- where the next line stands while details are read: among lines up to a bracket, or among parts, whatever of a part was
+-- read
 abbrev pub place_at : Stage → Place
 place_at (stage.Lines p) = Lines
 place_at stage.Between = Parts
 place_at (stage.Typed mime) = Parts
 place_at (stage.Bytes p place) = Parts
 
+-- the same of a test's details, where there may be none: then it stands outside of details
 abbrev pub place_in : Option Details → Place
 place_in None = Outside
 place_in (Some d) = place_at d.stage
 
+-- the same of the test that is open, where there may be none
 abbrev pub place_of : Option OpenTest → Place
 place_of None = Outside
 place_of (Some t) = place_in t.details
@@ -58,6 +62,8 @@ place_begun bytes = if is_some (outcome_of bytes) then (if ends_with nat_eq byte
 abbrev pub outside : Place
 outside = Outside
 
+-- Where the next line stands behind a line, or a piece of one, that stood here and gave these events. Details go on
+-- until an event with a status comes, which ends their test.
 abbrev pub place_behind : Place → List ℕ → List Event → Place
 place_behind Outside bytes given = if length given == 0 then place_begun (content bytes) else Outside
 place_behind Lines bytes given = if list_any has_status given then Outside else Lines
@@ -69,8 +75,10 @@ place_behind Parts bytes given = if list_any has_status given then Outside else 
 abbrev pub HasOutcome : Details → Type 0
 HasOutcome d = is_unset d.how ≡ false
 
+-- the same of an open test, where its details are being read
 abbrev pub HasOutcomeIn : OpenTest → Type 0
 HasOutcomeIn t = IfSome t.details HasOutcome
 
+-- the same of what is known behind some lines, where a test is open
 abbrev pub HasOutcomes : State → Type 0
 HasOutcomes s = IfSome s.open_test HasOutcomeIn

@@ -1,5 +1,5 @@
 -- The part that an event completes, and what it says.
-use Rattle.std.proofs.Common.{◌≡◌, ℕ, Option, Some, None, List, sym, ap, ◌∙◌, refl}
+use Rattle.std.proofs.Common.{◌≡◌, ℕ, true, false, cond, Option, Some, None, List, [], sym, ap, ◌∙◌, refl, true≢false}
 use Rattle.std.specs.FinMap as fin
 use Rattle.std.specs.Option.{option_map}
 use Rattle.packet_codec.specs.declared.event.Event.{Event}
@@ -8,11 +8,12 @@ use Rattle.outcome_fold.specs.declared.test_key.TestKey.{TestKey}
 use Rattle.outcome_fold.specs.declared.part.Started.{Started}
 use Rattle.outcome_fold.specs.declared.part.EndedPart.{EndedPart}
 use Rattle.outcome_fold.specs.Order.{test_cmp}
-use Rattle.outcome_fold.specs.Parts.{test_of, ended_by, instant, events_of_test, last_part}
+use Rattle.outcome_fold.specs.Parts.{test_of, text_in, ended_by, instant, events_of_test, last_part}
 use Rattle.outcome_fold.specs.Rows.{part_with, row_completing, completed_row}
 use Rattle.outcome_fold.specs.Started.{started_of, open_table}
-use Rattle.outcome_fold.specs.Folded.{extended}
-use Rattle.outcome_fold.specs.EndedParts.{part_completing, completed_part, row_of_part}
+use Rattle.outcome_fold.specs.Files.{name_in, text_shown, with_piece}
+use Rattle.outcome_fold.specs.Folded.{extended, files_in, fails_by, gives_failure}
+use Rattle.outcome_fold.specs.EndedParts.{part_completing, completed_part, row_of_part, text_told}
 use Rattle.outcome_fold.specs.declared.row.Row.{Row}
 use Rattle.outcome_fold.proofs.FoldLemmas.{get-open_table}
 use Rattle.outcome_fold.proofs.StepLemmas.{started_push}
@@ -40,3 +41,33 @@ row_completed (Some test) (Some how) seen e = refl
 -- the row of the part that the event completes is the row that it completes
 pub row_is : (seen : List Event) (e : Event) (part : Option EndedPart) (row : Option Row) → part ≡ completed_part seen e → row ≡ option_map row_of_part part → row ≡ completed_row seen e
 row_is seen e part row gives is = is ∙ ap (option_map row_of_part) gives ∙ row_completed (test_of e) (ended_by e.status) seen e
+
+-- the files of a part with one event more
+more_files : (o : Option Started) (e : Event) → (extended o e).files ≡ with_piece (files_in o) (name_in e.file) (text_in e.mime e.file)
+more_files None e = refl
+more_files (Some s) e = refl
+
+failure_at : (how : Option Ended) (seen : List Event) (e : Event) (t : TestKey) (text : List ℕ) → fails_by how ≡ true → text ≡ text_shown (started_of (part_with t seen e)).files → text ≡ text_told (part_completing (Some t) how seen e)
+failure_at None seen e t text fails is = absurd (true≢false (sym fails))
+failure_at (Some how) seen e t text fails is = is ∙ sym (ap (λ b. cond b (text_shown (started_of (part_with t seen e)).files) []) fails)
+
+-- the text of the row that an event gives, which fails
+pub text_gives : (seen : List Event) (e : Event) (kept : fin.FinMap test_cmp Started) (t : TestKey) (text : List ℕ) → kept ≡ open_table seen → Some t ≡ test_of e → gives_failure e.status ≡ true
+    → text ≡ text_shown (with_piece (files_in (fin.get kept t)) (name_in e.file) (text_in e.mime e.file)) → text ≡ text_told (completed_part seen e)
+text_gives seen e kept t text has test fails is =
+    failure_at (ended_by e.status) seen e t text fails
+    (is ∙ ap (λ (k : fin.FinMap test_cmp Started). text_shown (with_piece (files_in (fin.get k t)) (name_in e.file) (text_in e.mime e.file))) has
+    ∙ ap text_shown (sym (more_files (fin.get (open_table seen) t) e)) ∙ ap (λ (s : Started). text_shown s.files) (started_is seen e t))
+    ∙ (λ i. text_told (part_completing (test i) (ended_by e.status) seen e))
+
+no_failure_at : (test : Option TestKey) (how : Option Ended) (seen : List Event) (e : Event) → fails_by how ≡ false → [] ≡ text_told (part_completing test how seen e)
+no_failure_at None how seen e passes = refl
+no_failure_at (Some t) None seen e passes = refl
+no_failure_at (Some t) (Some how) seen e passes = sym (ap (λ b. cond b (text_shown (started_of (part_with t seen e)).files) []) passes)
+
+-- there is none where the event gives no row that fails
+pub gives_no_text : (seen : List Event) (e : Event) (text : List ℕ) → text ≡ [] → gives_failure e.status ≡ false → text ≡ text_told (completed_part seen e)
+gives_no_text seen e text none passes = none ∙ no_failure_at (test_of e) (ended_by e.status) seen e passes
+
+pub no_test_no_text : (seen : List Event) (e : Event) (text : List ℕ) → text ≡ [] → None ≡ test_of e → text ≡ text_told (completed_part seen e)
+no_test_no_text seen e text none test = none ∙ ap text_told (no_part seen e test)

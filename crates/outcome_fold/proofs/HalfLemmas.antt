@@ -17,7 +17,8 @@ use Rattle.outcome_fold.specs.declared.row.Row.{Row}
 use Rattle.outcome_fold.specs.declared.test_key.TestKey.{TestKey}
 use Rattle.outcome_fold.specs.declared.part.Started.{Started}
 use Rattle.outcome_fold.specs.Order.{test_cmp, table}
-use Rattle.outcome_fold.specs.Parts.{test_of, events_of_test, ended_by, instant, elapsed, is_text_type, text_in, text_limit, reason_in, reason_limit, last_part}
+use Rattle.outcome_fold.specs.Parts.{test_of, events_of_test, ended_by, instant, elapsed, is_text_type, text_in, reason_in, reason_limit, last_part}
+use Rattle.outcome_fold.specs.Files.{name_in, with_piece}
 use Rattle.outcome_fold.specs.Rows.{row_of, completed_row, completed_behind, is_part, open_tests, open_rows, by_route, rows_of}
 use Rattle.outcome_fold.specs.Started.{after, fresh, open_table}
 use Rattle.outcome_fold.specs.Folded.{extended, row_at}
@@ -27,6 +28,7 @@ use Rattle.outcome_fold.proofs.TableLemmas.{get-table}
 use Rattle.outcome_fold.proofs.FoldLemmas.{append_none, among_open, part_at, said, get-open_table}
 use Rattle.outcome_fold.proofs.OpenLemmas.{remove_insert}
 use Rattle.outcome_fold.proofs.RouteLemmas.{same_says}
+use Rattle.outcome_fold.proofs.FileLemmas.{piece_twice}
 use Rattle.outcome_fold.proofs.StepLemmas.{take_again, stays, goes, ends, gives, gives_none, gives_nothing}
 
 abbrev Open : Type 0
@@ -112,6 +114,10 @@ text_joined None file = refl
 text_joined (Some mime) None = refl
 text_joined (Some mime) (Some file) = text_halves (is_text_type mime) file.bytes
 
+half_name : (half : List ℕ → List ℕ) (file : Option FilePart) → name_in (option_map (with_part half) file) ≡ name_in file
+half_name half None = refl
+half_name half (Some file) = refl
+
 reason_joined : (file : Option FilePart) → reason_in (option_map (with_part half_of) file) ++ reason_in (option_map (with_part other_half_of) file) ≡ reason_in file
 reason_joined None = refl
 reason_joined (Some file) = text_halves (bytes_eq file.name (codes "reason")) file.bytes
@@ -120,15 +126,15 @@ after_both : (s : Started) (e : Event) → after (after s (first_half e)) (secon
 after_both s e =
     let first = text_in e.mime (option_map (with_part half_of) e.file) in
     let second = text_in e.mime (option_map (with_part other_half_of) e.file) in
-    let text : take text_limit (take text_limit (s.text ++ first) ++ second) ≡ take text_limit (s.text ++ text_in e.mime e.file) =
-    take_again text_limit (s.text ++ first) second
-    ∙ ap (take text_limit) (append_assoc s.text first second ∙ ap (λ (l : List ℕ). s.text ++ l) (text_joined e.mime e.file)) in
+    let files : with_piece (with_piece s.files (name_in (option_map (with_part half_of) e.file)) first) (name_in (option_map (with_part other_half_of) e.file)) second ≡ with_piece s.files (name_in e.file) (text_in e.mime e.file) =
+    (λ i. with_piece (with_piece s.files (half_name half_of e.file i) first) (half_name other_half_of e.file i) second)
+    ∙ piece_twice s.files (name_in e.file) first second ∙ ap (with_piece s.files (name_in e.file)) (text_joined e.mime e.file) in
     let front = reason_in (option_map (with_part half_of) e.file) in
     let behind = reason_in (option_map (with_part other_half_of) e.file) in
     let reason : take reason_limit (take reason_limit (s.reason ++ front) ++ behind) ≡ take reason_limit (s.reason ++ reason_in e.file) =
     take_again reason_limit (s.reason ++ front) behind
     ∙ ap (take reason_limit) (append_assoc s.reason front behind ∙ ap (λ (l : List ℕ). s.reason ++ l) (reason_joined e.file)) in
-    λ i. record { start = s.start; tags = unwrap_or e.tags s.tags; text = text i; reason = reason i }
+    λ i. record { start = s.start; tags = unwrap_or e.tags s.tags; files = files i; reason = reason i }
 
 extended_both : (o : Option Started) (e : Event) → extended (Some (extended o (first_half e))) (second_half e) ≡ extended o e
 extended_both None e = after_both (fresh e) e

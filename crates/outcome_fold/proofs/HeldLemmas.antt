@@ -32,6 +32,17 @@ held_part held others h is =
     ap (λ (o : Option Held). fin.get (with_held o others) h.key) is ∙ get-insert tests_total others h.key h.part h.key
     ∙ ap (λ b. cond b (Some h.part) (fin.get others h.key)) ((eq_by_cmp_equiv tests_total).refl h.key)
 
+-- the same of another test, which is the held one or not
+pub held_here : (held : Option Held) (others : Kept) (h : Held) (t : TestKey) → held ≡ Some h → eq_by_cmp test_cmp t h.key ≡ true → fin.get (with_held held others) t ≡ Some h.part
+held_here held others h t is tie =
+    ap (λ (o : Option Held). fin.get (with_held o others) t) is ∙ get-insert tests_total others h.key h.part t
+    ∙ ap (λ b. cond b (Some h.part) (fin.get others t)) tie
+
+pub held_elsewhere : (held : Option Held) (others : Kept) (h : Held) (t : TestKey) → held ≡ Some h → eq_by_cmp test_cmp t h.key ≡ false → fin.get (with_held held others) t ≡ fin.get others t
+held_elsewhere held others h t is other =
+    ap (λ (o : Option Held). fin.get (with_held o others) t) is ∙ get-insert tests_total others h.key h.part t
+    ∙ ap (λ b. cond b (Some h.part) (fin.get others t)) other
+
 again_at : (b : Bool) (p s : Started) (o : Option Started) → cond b (Some s) o ≡ cond b (Some s) (cond b (Some p) o)
 again_at true p s o = refl
 again_at false p s o = refl

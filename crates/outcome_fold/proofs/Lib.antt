@@ -13,6 +13,7 @@ pub mod OpenLemmas
 pub mod HeldLemmas
 pub mod HalfLemmas
 pub mod TextLemmas
+pub mod FileLemmas
 pub mod TotalLemmas
 pub mod LawLemmas
 pub mod RouteLemmas

@@ -6,26 +6,30 @@ use Rattle.packet_codec.specs.declared.event.Event.{Event}
 use Rattle.outcome_fold.specs.declared.test_key.TestKey.{TestKey}
 use Rattle.outcome_fold.specs.declared.part.Started.{Started}
 use Rattle.outcome_fold.specs.declared.part.Said.{Said}
-use Rattle.outcome_fold.specs.Parts.{test_of, text_by, text_in, text_limit, reason_by, reason_in, reason_limit}
+use Rattle.outcome_fold.specs.Parts.{test_of, text_by, text_in, reason_by, reason_in, reason_limit}
+use Rattle.outcome_fold.specs.Files.{name_in, no_files, with_piece}
 use Rattle.outcome_fold.specs.Started.{after, Says, fresh_said, after_said}
 use Rattle.outcome_fold.specs.Folded.{extended, extended_by}
 
 said_is : (s : Started) (said : Said) (e : Event) → Says said e → after_said s said ≡ after s e
 said_is s said e says =
     let tags = ap (λ (t : Option (List (List ℕ))). unwrap_or t s.tags) says.tags in
-    let text = ap (λ (t : List ℕ). take text_limit (s.text ++ t)) says.text in
     let reason = ap (λ (t : List ℕ). take reason_limit (s.reason ++ t)) says.reason in
-    λ i. record { start = s.start; tags = tags i; text = text i; reason = reason i }
+    λ i. record { start = s.start; tags = tags i; files = with_piece s.files (says.name i) (says.text i); reason = reason i }
 
 pub extended_is : (o : Option Started) (said : Said) (e : Event) → Says said e → extended_by o said ≡ extended o e
 extended_is None said e says =
     said_is (fresh_said said) said e says
-    ∙ ap (λ (start : Option ℕ). after (record { start = start; tags = []; text = []; reason = [] }) e) says.instant
+    ∙ ap (λ (start : Option ℕ). after (record { start = start; tags = []; files = no_files; reason = [] }) e) says.instant
 extended_is (Some s) said e says = said_is s said e says
 
 -- the text of an event whose MIME type and whose file's bytes are these
 pub text_said : (mime bytes : Option (List ℕ)) (text : List ℕ) (e : Event) → text ≡ text_by mime bytes → mime ≡ e.mime → bytes ≡ option_map (λ (file : FilePart). file.bytes) e.file → text ≡ text_in e.mime e.file
 text_said mime bytes text e is type piece = is ∙ ap (λ (m : Option (List ℕ)). text_by m bytes) type ∙ ap (text_by e.mime) piece
+
+-- the name of the file of an event, where it stands and where there is none
+pub name_said : (name : Option (List ℕ)) (e : Event) → name ≡ option_map (λ (file : FilePart). file.name) e.file → unwrap_or name [] ≡ name_in e.file
+name_said name e own = ap (λ (n : Option (List ℕ)). unwrap_or n []) own
 
 -- the reason of an event whose file has this name and these bytes
 pub reason_said : (name bytes : Option (List ℕ)) (reason : List ℕ) (e : Event) → reason ≡ reason_by name bytes → name ≡ option_map (λ (file : FilePart). file.name) e.file → bytes ≡ option_map (λ (file : FilePart). file.bytes) e.file → reason ≡ reason_in e.file

@@ -1,5 +1,5 @@
 -- What one event does to the table of open tests, and the row that it completes.
-use Rattle.std.proofs.Common.{◌≡◌, ℕ, suc, zero, Bool, true, false, cond, List, [], ◌∷◌, ◌++◌, Option, Some, None, take, is_some, refl, sym, ◌∙◌, ap, append_assoc}
+use Rattle.std.proofs.Common.{◌≡◌, ℕ, Bool, true, false, cond, List, [], ◌∷◌, ◌++◌, Option, Some, None, take, is_some, refl, sym, ◌∙◌, ap, append_assoc}
 use Rattle.std.specs.FinMap as fin
 use Rattle.std.specs.FinMap.{same_map, get-insert, get-remove}
 use Rattle.std.specs.Ordering.{eq_by_cmp}
@@ -10,18 +10,16 @@ use Rattle.outcome_fold.specs.declared.row.Ended.{Ended}
 use Rattle.outcome_fold.specs.declared.test_key.TestKey.{TestKey}
 use Rattle.outcome_fold.specs.declared.part.Started.{Started}
 use Rattle.outcome_fold.specs.Order.{test_cmp}
-use Rattle.outcome_fold.specs.Parts.{test_of, speaks_of, events_of_test, ended_by, completes, last_part, instant, elapsed, last_tags, text_in, text_limit, reason_in, reason_limit}
+use Rattle.outcome_fold.specs.Parts.{test_of, speaks_of, events_of_test, ended_by, completes, last_part, instant, elapsed, last_tags, text_in, reason_in, reason_limit}
+use Rattle.outcome_fold.specs.Files.{name_in, with_piece}
 use Rattle.outcome_fold.specs.Rows.{completed_row, row_completing}
 use Rattle.outcome_fold.specs.Started.{started_of, open_table}
 use Rattle.outcome_fold.specs.Folded.{extended, row_at}
 use Rattle.outcome_fold.proofs.OrderLemmas.{tests_total, exact_tests}
 use Rattle.outcome_fold.proofs.TableLemmas.{tied_is, any_push}
+pub use Rattle.outcome_fold.proofs.TextLemmas.{take_again}
+use Rattle.outcome_fold.proofs.FileLemmas.{files_none, files_push}
 use Rattle.outcome_fold.proofs.FoldLemmas.{filter_push, append_none, last_part_ends, last_part_goes, part_at, said, get-open_table}
-
-pub take_again : (n : ℕ) (xs ys : List ℕ) → take n (take n xs ++ ys) ≡ take n (xs ++ ys)
-take_again zero xs ys = refl
-take_again (suc n) [] ys = refl
-take_again (suc n) (x ∷ xs) ys = ap (λ l. x ∷ l) (take_again n xs ys)
 
 pub flat_map_push : (f : Event → List ℕ) (es : List Event) (e : Event) → flat_map f (es ++ e ∷ []) ≡ flat_map f es ++ f e
 flat_map_push f [] e = append_none (f e)
@@ -40,18 +38,16 @@ last_tags_at (Some tags) (x ∷ es) e is =
 pub started_push : (part : List Event) (e : Event) → started_of (part ++ e ∷ []) ≡ extended (said part) e
 started_push [] e =
     let tags = last_tags_at e.tags [] e refl in
-    let text : take text_limit (text_in e.mime e.file ++ []) ≡ take text_limit (text_in e.mime e.file) = ap (take text_limit) (append_none (text_in e.mime e.file)) in
+    let files = files_push [] e ∙ ap (λ files. with_piece files (name_in e.file) (text_in e.mime e.file)) files_none in
     let reason : take reason_limit (reason_in e.file ++ []) ≡ take reason_limit (reason_in e.file) = ap (take reason_limit) (append_none (reason_in e.file)) in
-    λ i. record { start = option_map instant e.stamp; tags = tags i; text = text i; reason = reason i }
+    λ i. record { start = option_map instant e.stamp; tags = tags i; files = files i; reason = reason i }
 started_push (x ∷ es) e =
     let tags = last_tags_at e.tags (x ∷ es) e refl in
-    let piece = λ (e : Event). text_in e.mime e.file in
-    let text : take text_limit (flat_map piece (x ∷ es ++ e ∷ [])) ≡ take text_limit (take text_limit (flat_map piece (x ∷ es)) ++ piece e) =
-    ap (take text_limit) (flat_map_push piece (x ∷ es) e) ∙ sym (take_again text_limit (flat_map piece (x ∷ es)) (piece e)) in
+    let files = files_push (x ∷ es) e in
     let told = λ (e : Event). reason_in e.file in
     let reason : take reason_limit (flat_map told (x ∷ es ++ e ∷ [])) ≡ take reason_limit (take reason_limit (flat_map told (x ∷ es)) ++ told e) =
     ap (take reason_limit) (flat_map_push told (x ∷ es) e) ∙ sym (take_again reason_limit (flat_map told (x ∷ es)) (told e)) in
-    λ i. record { start = option_map instant x.stamp; tags = tags i; text = text i; reason = reason i }
+    λ i. record { start = option_map instant x.stamp; tags = tags i; files = files i; reason = reason i }
 
 said_push : (part : List Event) (e : Event) → said (part ++ e ∷ []) ≡ Some (extended (said part) e)
 said_push [] e = ap Some (started_push [] e)

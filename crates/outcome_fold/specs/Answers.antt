@@ -12,9 +12,11 @@ use Rattle.outcome_fold.specs.declared.row.Counts.{Counts}
 use Rattle.outcome_fold.specs.Order.{text_cmp, in_byte_order, table}
 use Rattle.outcome_fold.specs.Rows.{is_failure, is_skip}
 
+-- the row counts as failed: its test failed, passed where it was to fail, or was left open
 abbrev pub row_fails : Row → Bool
 row_fails row = is_failure row.ended
 
+-- the test is only known to exist: this is no end of a test that ran
 abbrev pub is_existing : Ended → Bool
 is_existing ended.Exists = true
 is_existing ended.Success = false
@@ -28,6 +30,7 @@ is_existing ended.Open = false
 abbrev pub is_run : Row → Bool
 is_run row = not (is_existing row.ended)
 
+-- the ids of the rows, in the order of the rows, as often as they come
 abbrev pub ids_of : List Row → List (List ℕ)
 ids_of rows = map (λ row. row.id) rows
 
@@ -39,6 +42,7 @@ status_of rows = if list_any row_fails rows then 1 else 0
 abbrev pub failing_of : List Row → List (List ℕ)
 failing_of rows = in_byte_order (ids_of (filter row_fails rows))
 
+-- one of the rows of this id fails, under whatever route it is
 abbrev pub has_failure : List Row → List ℕ → Bool
 has_failure rows id = list_any (λ row. row_fails row && eq_by_cmp text_cmp id row.id) rows
 
@@ -67,6 +71,7 @@ times_of rows = longest_times (timed_rows rows)
 abbrev pub seen_tags_of : List Row → List (List ℕ)
 seen_tags_of rows = in_byte_order (flat_map (λ row. row.tags) (filter is_run rows))
 
+-- the row has at least one of these tags
 abbrev pub has_one_of : List (List ℕ) → Row → Bool
 has_one_of tags row = list_any (λ tag. list_any (λ own. pointwise nat_eq own tag) row.tags) tags
 
@@ -74,6 +79,7 @@ has_one_of tags row = list_any (λ tag. list_any (λ own. pointwise nat_eq own t
 abbrev pub is_counted : List (List ℕ) → Row → Bool
 is_counted filter_tags row = is_run row && (row_fails row || not (has_one_of filter_tags row))
 
+-- the rows that are counted, in their order
 abbrev pub counted_rows : List (List ℕ) → List Row → List Row
 counted_rows filter_tags rows = filter (is_counted filter_tags) rows
 
@@ -81,12 +87,16 @@ counted_rows filter_tags rows = filter (is_counted filter_tags) rows
 abbrev pub total_time : List Row → Option ℕ
 total_time rows = if list_any (λ row. is_some row.nanos) rows then Some (sum_by (λ row. unwrap_or row.nanos 0) rows) else None
 
+-- the row is of a test that was skipped
 abbrev pub is_skipped : Row → Bool
 is_skipped row = is_skip row.ended
 
+-- the row neither fails nor was skipped, as that of a success or of a failure that was expected; asked only of rows that
+-- are counted
 abbrev pub passes : Row → Bool
 passes row = not (row_fails row || is_skipped row)
 
+-- how many rows these are, how many of them pass, fail and were skipped, and the sum of their times
 abbrev pub counts_in : List Row → Counts
 counts_in rows = record {
   total = length rows;
@@ -96,5 +106,6 @@ counts_in rows = record {
   nanos = total_time rows;
 }
 
+-- the same of those of the rows that are counted, where these are the filter tags
 abbrev pub counts_of : List (List ℕ) → List Row → Counts
 counts_of filter_tags rows = counts_in (counted_rows filter_tags rows)

@@ -1,5 +1,5 @@
 -- What a part of a test says that has ended, or that is open at the end (docs/FORMATS.md, "The fold").
-use Rattle.std.specs.Prelude.{Option, None, Some, List}
+use Rattle.std.specs.Prelude.{ℕ, Option, None, Some, List, []}
 use Rattle.std.specs.FinMap as fin
 use Rattle.std.specs.Option.{option_map}
 use Rattle.packet_codec.specs.declared.event.Event.{Event}
@@ -13,7 +13,7 @@ use Rattle.outcome_fold.specs.Order.{test_cmp, table}
 use Rattle.outcome_fold.specs.Parts.{test_of, events_of_test, ended_by, last_part, instant, elapsed}
 use Rattle.outcome_fold.specs.Rows.{part_with, open_tests}
 use Rattle.outcome_fold.specs.Started.{started_of}
-use Rattle.outcome_fold.specs.Folded.{row_at}
+use Rattle.outcome_fold.specs.Folded.{row_at, text_at}
 
 -- what the part says that the event completes, by the test it speaks of and how it ends it
 abbrev pub part_completing : Option TestKey → Option Ended → List Event → Event → Option EndedPart
@@ -37,3 +37,8 @@ open_parts es = fin.values (table {R = test_cmp} (λ test. part_of_open test (st
 -- the row of a part that says this
 abbrev pub row_of_part : EndedPart → Row
 row_of_part p = row_at p.key p.ended (elapsed p.started.start p.end) p.started
+
+-- the text of the row of the part, where there is one
+abbrev pub text_told : Option EndedPart → List ℕ
+text_told None = []
+text_told (Some p) = text_at p.ended p.started.files

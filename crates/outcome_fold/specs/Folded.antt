@@ -1,7 +1,8 @@
 -- What a fold has seen, and how one event changes it (docs/FORMATS.md, "The fold").
-use Rattle.std.specs.Prelude.{◌≡◌, ℕ, Option, None, Some, List, [], is_some, if◌then◌else◌}
+use Rattle.std.specs.Prelude.{◌≡◌, ℕ, Bool, false, Option, None, Some, List, [], is_some, if◌then◌else◌}
 use Rattle.std.specs.FinMap as map
 use Rattle.std.specs.FinMap.{FinMap}
+use Rattle.packet_codec.specs.declared.status.Status.{Status}
 use Rattle.packet_codec.specs.declared.event.Event.{Event}
 use Rattle.outcome_fold.specs.declared.row.Ended.{Ended}
 use Rattle.outcome_fold.specs.declared.test_key.TestKey.{TestKey}
@@ -13,12 +14,15 @@ use Rattle.outcome_fold.specs.Order.{test_cmp, in_byte_order}
 use Rattle.outcome_fold.specs.Rows.{is_failure, is_skip}
 use Rattle.outcome_fold.specs.declared.part.Said.{Said}
 use Rattle.outcome_fold.specs.Parts.{test_of, ended_by, first_line}
+use Rattle.outcome_fold.specs.declared.files.KeptFiles.{KeptFiles}
+use Rattle.outcome_fold.specs.Files.{no_files, text_shown}
 use Rattle.outcome_fold.specs.Started.{fresh, after, open_table, Says, fresh_said, after_said}
 
 -- what the parts of the open tests say, by test, but for the one that is held
 abbrev pub others_in : Fold → FinMap test_cmp Started
 others_in fold = map.from_entries {R = test_cmp} fold.others.entries
 
+-- the table with the part that is held put into it, where there is one
 abbrev pub with_held : Option Held → FinMap test_cmp Started → FinMap test_cmp Started
 with_held None others = others
 with_held (Some held) others = map.insert others held.key held.part
@@ -51,6 +55,24 @@ pub record Speaks (e : Event) (test : TestKey) (how : Option Ended) (said : Said
   pub how_is : how ≡ ended_by e.status
   pub says : Says said e
 
+-- the files of text of the part of a test, which has none where it is not open
+abbrev pub files_in : Option Started → KeptFiles
+files_in None = no_files
+files_in (Some s) = s.files
+
+-- a part that ended so gives a row that fails, and one that has not ended gives none
+abbrev pub fails_by : Option Ended → Bool
+fails_by None = false
+fails_by (Some how) = is_failure how
+
+-- an event of this status gives a row that fails, where it speaks of a test
+abbrev pub gives_failure : Status → Bool
+gives_failure status = fails_by (ended_by status)
+
+-- the text of the row of a part that ended so: that of its files where it fails, else none
+abbrev pub text_at : Ended → KeptFiles → List ℕ
+text_at how files = if is_failure how then text_shown files else []
+
 -- the row of a part that says this
 abbrev pub row_at : TestKey → Ended → Option ℕ → Started → Row
 row_at test how nanos s = record {
@@ -59,6 +81,6 @@ row_at test how nanos s = record {
   ended = how;
   tags = in_byte_order s.tags;
   nanos = nanos;
-  text = if is_failure how then s.text else [];
+  text = text_at how s.files;
   reason = if is_skip how then first_line s.reason else [];
 }

@@ -8,9 +8,11 @@ use Rattle.outcome_fold.specs.declared.rows.Groups.{Groups}
 use Rattle.outcome_fold.specs.Order.{route_cmp, table}
 use Rattle.outcome_fold.specs.Rows.{is_under}
 
+-- the rows of each route, as they are kept
 abbrev pub groups_in : Groups → FinMap route_cmp (List Row)
 groups_in g = fin.from_entries {R = route_cmp} g.groups.entries
 
+-- the rows of all routes as one list, route by route
 abbrev pub joined_groups : FinMap route_cmp (List Row) → List Row
 joined_groups groups = flat_map (λ group. group) (fin.values groups)
 

@@ -18,6 +18,7 @@ use Rattle.outcome_fold.specs.Order.{test_cmp, in_byte_order}
 abbrev pub test_of : Event → Option TestKey
 test_of e = option_map (λ id. record { route = e.route; id = id }) e.id
 
+-- what an event speaks of, if it speaks of a test, is this test: the same id under the same route
 abbrev pub speaks_of : TestKey → Option TestKey → Bool
 speaks_of test None = false
 speaks_of test (Some other) = eq_by_cmp test_cmp test other
@@ -37,6 +38,7 @@ ended_by status.Skip = Some ended.Skip
 ended_by status.Fail = Some ended.Fail
 ended_by status.XFail = Some ended.XFail
 
+-- the event has a status that ends a test; whether it has an id is not asked
 abbrev pub completes : Event → Bool
 completes e = is_some (ended_by e.status)
 
@@ -65,9 +67,11 @@ abbrev pub last_tags : List Event → List (List ℕ)
 last_tags [] = []
 last_tags (e ∷ es) = if list_any (λ e. is_some e.tags) es then last_tags es else unwrap_or e.tags []
 
+-- the tags that a part tells, in the order of their bytes, each once
 abbrev pub tags_of : List Event → List (List ℕ)
 tags_of part = in_byte_order (last_tags part)
 
+-- files of this MIME type are text
 abbrev pub is_text_type : List ℕ → Bool
 is_text_type mime = starts_with nat_eq mime (codes "text/")
 
@@ -81,13 +85,9 @@ text_by (Some mime) (Some bytes) = if is_text_type mime then bytes else []
 abbrev pub text_in : Option (List ℕ) → Option FilePart → List ℕ
 text_in mime file = text_by mime (option_map (λ file. file.bytes) file)
 
--- the bytes of a text that are kept
+-- how many bytes are kept of a traceback, and of all other files of text together
 abbrev pub text_limit : ℕ
 text_limit = 65536
-
--- the first bytes of the part's files of text, joined
-abbrev pub text_of : List Event → List ℕ
-text_of part = take text_limit (flat_map (λ e. text_in e.mime e.file) part)
 
 -- the bytes of a file, where there is one and its name is `reason`
 abbrev pub reason_by : Option (List ℕ) → Option (List ℕ) → List ℕ

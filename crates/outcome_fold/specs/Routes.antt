@@ -7,6 +7,7 @@ use Rattle.outcome_fold.specs.Order.{route_cmp}
 use Rattle.outcome_fold.specs.Rows.{rows_of}
 use Rattle.outcome_fold.specs.Answers.{failing_of, passed_of, times_of, seen_tags_of, counts_of, status_of}
 
+-- the event has this route, or none where this is none
 abbrev pub is_of_route : Option (List ℕ) → Event → Bool
 is_of_route route e = eq_by_cmp route_cmp route e.route
 

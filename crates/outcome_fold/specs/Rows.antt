@@ -10,7 +10,8 @@ use Rattle.outcome_fold.specs.declared.row.Ended.TheVariants as ended
 use Rattle.outcome_fold.specs.declared.test_key.TestKey.{TestKey}
 use Rattle.outcome_fold.specs.declared.row.Row.{Row}
 use Rattle.outcome_fold.specs.Order.{route_cmp, test_cmp, table}
-use Rattle.outcome_fold.specs.Parts.{test_of, events_of_test, ended_by, last_part, instant, start_of, elapsed, tags_of, text_of, reason_of, first_line}
+use Rattle.outcome_fold.specs.Parts.{test_of, events_of_test, ended_by, last_part, instant, start_of, elapsed, tags_of, reason_of, first_line}
+use Rattle.outcome_fold.specs.Files.{text_of}
 
 -- a test that failed, passed where it was to fail, or was left open
 abbrev pub is_failure : Ended → Bool
@@ -48,6 +49,8 @@ row_of test how nanos part = record {
 abbrev pub part_with : TestKey → List Event → Event → List Event
 part_with test seen e = last_part (events_of_test test seen) ++ e ∷ []
 
+-- The row of the part that an event completes, where it speaks of this test and ends it so, and these events came before
+-- it. An event that speaks of no test, or ends none, gives no row.
 abbrev pub row_completing : Option TestKey → Option Ended → List Event → Event → Option Row
 row_completing None how seen e = None
 row_completing (Some test) None seen e = None
@@ -59,6 +62,7 @@ row_completing (Some test) (Some how) seen e =
 abbrev pub completed_row : List Event → Event → Option Row
 completed_row seen e = row_completing (test_of e) (ended_by e.status) seen e
 
+-- the rows of the parts that the later events complete, in the order of these, where the first events came before them
 abbrev pub completed_behind : List Event → List Event → List Row
 completed_behind seen [] = []
 completed_behind seen (e ∷ es) = option_to_list (completed_row seen e) ++ completed_behind (seen ++ e ∷ []) es
@@ -72,6 +76,7 @@ abbrev pub is_part : List Event → Bool
 is_part [] = false
 is_part (e ∷ es) = true
 
+-- the test's last part has an event, and none that completes it
 abbrev pub is_open : List Event → TestKey → Bool
 is_open es test = is_part (last_part (events_of_test test es))
 
@@ -83,6 +88,7 @@ open_tests es = filter (is_open es) (filter_map test_of es)
 abbrev pub open_rows : List Event → List Row
 open_rows es = fin.values (table {R = test_cmp} (λ test. row_of test ended.Open None (last_part (events_of_test test es))) (open_tests es))
 
+-- the row has this route, or none where this is none
 abbrev pub is_under : Option (List ℕ) → Row → Bool
 is_under route row = eq_by_cmp route_cmp route row.route
 

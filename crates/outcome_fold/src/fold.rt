@@ -3,24 +3,32 @@
 ghost use Rattle.outcome_fold.specs.Rows as rows_are;
 ghost use Rattle.std.specs.FinMap as map;
 ghost use Rattle.std.specs.Option.{option_map};
-ghost use Rattle.std.specs.Prelude.{◌≡◌, List, [], ◌∷◌, ◌++◌, Option, None, Some, false, IsTrue, IsSomeAnd, IfOk, OnOk, OnErr, is_some, if◌then◌else◌};
+ghost use Rattle.std.specs.Prelude.{◌≡◌, List, [], ◌∷◌, ◌++◌, Option, None, Some, true, false, IsTrue, IsSomeAnd, IfOk, OnOk, OnErr, is_some, if◌then◌else◌};
 ghost use Rattle.packet_codec.specs.Packet.{SpellsEvent};
 ghost use Rattle.packet_codec.specs.declared.event.Event.{Event as AnEvent};
-ghost use Rattle.outcome_fold.specs.Rows.{is_failure, is_skip, completed_row, open_rows};
+ghost use Rattle.outcome_fold.specs.Rows.{is_skip, completed_row, open_rows};
+ghost use Rattle.outcome_fold.specs.declared.row.Ended.TheVariants as ended;
 ghost use Rattle.outcome_fold.specs.Parts as parts;
 ghost use Rattle.outcome_fold.specs.Parts.{first_line};
 ghost use Rattle.outcome_fold.specs.Started.{after};
 ghost use Rattle.outcome_fold.specs.declared.fold.Held.{Held as AHeld};
-ghost use Rattle.outcome_fold.specs.Folded.{HasSeen, Speaks, open_in, others_in, extended_by, with_extended, row_at};
+ghost use Rattle.std.specs.Ordering.{eq_by_cmp};
+ghost use Rattle.outcome_fold.specs.Order.{test_cmp};
+ghost use Rattle.outcome_fold.specs.Files.{text_shown, with_piece};
+ghost use Rattle.outcome_fold.specs.Folded.{HasSeen, Speaks, open_in, others_in, extended_by, with_extended, files_in, gives_failure as gives_failure_by, text_at, row_at};
 ghost use Rattle.outcome_fold.specs.Outcome.{HasFolded};
-ghost use Rattle.outcome_fold.specs.EndedParts.{completed_part, open_parts, part_of_open as part_of_an_open, row_of_part as row_of_a_part};
+ghost use Rattle.outcome_fold.specs.EndedParts.{completed_part, open_parts, part_of_open as part_of_an_open, row_of_part as row_of_a_part, text_told};
 
-use crate::part::{EndedPart, KeptText, Said, Started, elapsed, instant_in, said_by, said_in};
+use crate::files::KeptFiles;
+use crate::part::{
+    EndedPart, KeptText, Said, Started, elapsed, file_name_heard, file_name_in, instant_in,
+    said_by, said_in, text_heard, text_in,
+};
 use crate::row::{Ended, Row, ended_by};
 use crate::rows::{Rows, by_route};
 use crate::test_key::{TestKey, key_in, key_of};
 use crate::text_set::in_order;
-use packet_codec::{Event, Packet};
+use packet_codec::{Event, Packet, Status};
 use std::alloc::Global;
 use std::collections::BTreeMap;
 use sub_number::{Bytes, NoMemory};
@@ -259,6 +267,78 @@ impl Fold {
     }
 }
 
+// The text of the row that an event gives is made before anything is taken of it, since that needs memory, and may want
+// it. It is made of what is kept of its test, for a row that fails alone.
+impl Fold {
+    // The text of the files of this test, with the piece of the file of this name.
+    fn text_with(&self, key: &TestKey, name: &[u8], piece: &[u8]) -> Result<Bytes, NoMemory>
+        ensures { IfOk result (λ text. text ≡ text_shown (with_piece (files_in (map.get (open_in self.now) key.now)) name.now piece.now)) }
+    {
+        match &self.held {
+            Some(held) => {
+                if is_same_test(key, &held.key) {
+                    held.part.files.shown_with(self.alloc, name, piece)
+                } else {
+                    self.text_among_others(key, name, piece)
+                }
+            }
+            None => self.text_among_others(key, name, piece),
+        }
+    }
+
+    // The same, where it is not the test that is held.
+    fn text_among_others(&self, key: &TestKey, name: &[u8], piece: &[u8]) -> Result<Bytes, NoMemory>
+        ensures { IfOk result (λ text. text ≡ text_shown (with_piece (files_in (map.get (others_in self.now) key.now)) name.now piece.now)) }
+    {
+        match self.others.get(key) {
+            Some(part) => part.files.shown_with(self.alloc, name, piece),
+            None => KeptFiles::new(self.alloc).shown_with(self.alloc, name, piece),
+        }
+    }
+
+    // The text of the row that the event gives.
+    fn text_by(&self, event: &Event) -> Result<Bytes, NoMemory>
+        ensures { (seen : List AnEvent) → HasSeen self.now seen → IfOk result (λ text. text ≡ text_told (completed_part seen event.now)) }
+    {
+        if gives_failure(event.status) {
+            return self.failure_by(event);
+        }
+        Ok(no_text(self.alloc))
+    }
+
+    // The same of an event that gives a failure.
+    fn failure_by(&self, event: &Event) -> Result<Bytes, NoMemory>
+        ensures { (seen : List AnEvent) → gives_failure_by event.now.status ≡ true → HasSeen self.now seen → IfOk result (λ text. text ≡ text_told (completed_part seen event.now)) }
+    {
+        match key_of(event)? {
+            Some(key) => self.text_with(&key, file_name_in(event), text_in(event)),
+            None => Ok(no_text(self.alloc)),
+        }
+    }
+
+    // The text of the row that the packet's event gives.
+    #[inline(always)]
+    fn text_spelled(&self, packet: &Packet<'_>) -> Result<Bytes, NoMemory>
+        ensures { (seen : List AnEvent) (e : AnEvent) → SpellsEvent packet.now e → HasSeen self.now seen → IfOk result (λ text. text ≡ text_told (completed_part seen e)) }
+    {
+        if gives_failure(packet.status()) {
+            return self.failure_spelled(packet);
+        }
+        Ok(no_text(self.alloc))
+    }
+
+    // The same of an event that gives a failure.
+    #[inline(never)]
+    fn failure_spelled(&self, packet: &Packet<'_>) -> Result<Bytes, NoMemory>
+        ensures { (seen : List AnEvent) (e : AnEvent) → SpellsEvent packet.now e → gives_failure_by e.status ≡ true → HasSeen self.now seen → IfOk result (λ text. text ≡ text_told (completed_part seen e)) }
+    {
+        match key_in(self.alloc, packet)? {
+            Some(key) => self.text_with(&key, file_name_heard(packet), text_heard(packet)),
+            None => Ok(no_text(self.alloc)),
+        }
+    }
+}
+
 impl Fold {
     /// Takes the event, and gives the part of its test that it completes, with all that the part's events say. `None`
     /// comes exactly where it completes none.
@@ -280,8 +360,9 @@ impl Fold {
         ensures ok { (seen : List AnEvent) → HasSeen self.old seen → OnOk result (HasSeen self.new (seen ++ event.now ∷ [])) }
         ensures err { OnErr result (open_in self.new ≡ open_in self.old) }
     {
+        let text = self.text_by(event)?;
         let part = self.add_part(event)?;
-        Ok(row_told(self.alloc, part))
+        Ok(row_told(self.alloc, part, text))
     }
 
     /// The same as `add_part` of the event that the packet spells, which is not made: what is needed of it is copied from
@@ -304,8 +385,9 @@ impl Fold {
         ensures ok { (seen : List AnEvent) (e : AnEvent) → SpellsEvent packet.now e → HasSeen self.old seen → OnOk result (HasSeen self.new (seen ++ e ∷ [])) }
         ensures err { OnErr result (open_in self.new ≡ open_in self.old) }
     {
+        let text = self.text_spelled(packet)?;
         let part = self.hear_part(packet)?;
-        Ok(row_told(self.alloc, part))
+        Ok(row_told(self.alloc, part, text))
     }
 
     /// Ends the fold, and gives the part of each open test, by route, no route first, and then by id.
@@ -329,21 +411,43 @@ impl Fold {
         fold.put_down()?;
         let mut rows = Vec::new(fold.alloc);
         for (key, started) in fold.others {
-            rows.push(row_of(fold.alloc, key, Ended::Open, None, started))?;
+            rows.push(open_row(fold.alloc, key, started)?)?;
         }
         Ok(rows)
     }
 }
 
-// The text of a row that ended so: all of it where the row fails, else none.
-fn row_text(alloc: Global, ended: Ended, text: KeptText) -> Bytes
-    ensures { result ≡ (if is_failure ended then text else []) }
+// Whether the two are one test.
+fn is_same_test(key: &TestKey, other: &TestKey) -> bool
+    ensures { result ≡ eq_by_cmp test_cmp key.now other.now }
 {
-    if ended.fails() {
-        text.into_bytes()
-    } else {
-        Bytes::from_vec(Vec::new(alloc))
+    key.cmp(other).is_eq()
+}
+
+// Whether an event of this status gives a row that fails, where it speaks of a test.
+#[inline(always)]
+fn gives_failure(status: Status) -> bool
+    ensures { result ≡ gives_failure_by status }
+{
+    match ended_by(status) {
+        Some(ended) => ended.fails(),
+        None => false,
     }
+}
+
+// No bytes. They take no memory.
+#[inline(always)]
+fn no_text(alloc: Global) -> Bytes
+    ensures { result ≡ [] }
+{
+    Bytes::from_vec(Vec::new(alloc))
+}
+
+// The text of a row that is not completed.
+fn open_text(alloc: Global, files: &KeptFiles) -> Result<Bytes, NoMemory>
+    ensures { IfOk result (λ text. text ≡ text_at ended.Open files.now) }
+{
+    files.shown(alloc)
 }
 
 // The reason of a row that ended so: its first line where the test was skipped, else none.
@@ -369,9 +473,9 @@ fn part_of_open(key: TestKey, started: Started) -> EndedPart
     }
 }
 
-// The row of a part. It takes no memory.
-fn row_of_part(alloc: Global, part: EndedPart) -> Row
-    ensures { result ≡ row_of_a_part part }
+// The row of a part that has this text. It takes no memory.
+fn row_of_part(alloc: Global, part: EndedPart, text: Bytes) -> Row
+    ensures { text ≡ text_told (Some part) → result ≡ row_of_a_part part }
 {
     let EndedPart {
         key,
@@ -380,28 +484,43 @@ fn row_of_part(alloc: Global, part: EndedPart) -> Row
         end,
     } = part;
     let nanos = elapsed(started.start, end);
-    row_of(alloc, key, ended, nanos, started)
+    row_of(alloc, key, ended, nanos, started, text)
 }
 
-// The row of a part, where there is one. It takes no memory.
-fn row_told(alloc: Global, part: Option<EndedPart>) -> Option<Row>
-    ensures { result ≡ option_map row_of_a_part part }
+// The row of a part that has this text, where there is one. It takes no memory.
+fn row_told(alloc: Global, part: Option<EndedPart>, text: Bytes) -> Option<Row>
+    ensures { text ≡ text_told part → result ≡ option_map row_of_a_part part }
 {
     match part {
-        Some(part) => Some(row_of_part(alloc, part)),
+        Some(part) => Some(row_of_part(alloc, part, text)),
         None => None,
     }
 }
 
-// The row of a part that says this. It takes no memory.
-fn row_of(alloc: Global, key: TestKey, ended: Ended, nanos: Option<u64>, started: Started) -> Row
-    ensures { result ≡ row_at key ended nanos started }
+// The row of a test that is open.
+fn open_row(alloc: Global, key: TestKey, started: Started) -> Result<Row, NoMemory>
+    ensures { IfOk result (λ row. row ≡ row_at key ended.Open None started) }
+{
+    let text = open_text(alloc, &started.files)?;
+    Ok(row_of(alloc, key, Ended::Open, None, started, text))
+}
+
+// The row of a part that says this, and has this text. It takes no memory.
+fn row_of(
+    alloc: Global,
+    key: TestKey,
+    ended: Ended,
+    nanos: Option<u64>,
+    started: Started,
+    text: Bytes,
+) -> Row
+    ensures { text ≡ text_at ended started.files → result ≡ row_at key ended nanos started }
 {
     let TestKey { route, id } = key;
     let Started {
         start: _,
         tags,
-        text,
+        files: _,
         reason,
     } = started;
     Row {
@@ -410,7 +529,7 @@ fn row_of(alloc: Global, key: TestKey, ended: Ended, nanos: Option<u64>, started
         ended,
         tags: in_order(tags),
         nanos,
-        text: row_text(alloc, ended, text),
+        text,
         reason: row_reason(alloc, ended, reason),
     }
 }

@@ -6,7 +6,8 @@
 //! before, where it does not say otherwise.
 //!
 //! - `test_key`: which test an event speaks of
-//! - `part`: what the events of a part of a test say together, and the text that is kept of it
+//! - `files`: the files of text of a part of a test, as far as they are kept, and the text that shows them
+//! - `part`: what the events of a part of a test say together
 //! - `row`: how a test ended, and what became of it
 //! - `fold`: the events folded into rows, as they come, and of a whole run
 //! - `rows`: the rows of a run, in their groups, how many there are, and what they say
@@ -16,6 +17,7 @@
 //! - `laws`, `half_laws`: what holds of the rows of all events, and where an event stands in two halves
 #![tactic(auto)]
 
+mod files;
 mod fold;
 mod half_laws;
 mod laws;
@@ -29,12 +31,13 @@ mod summing;
 mod test_key;
 mod text_set;
 
+pub use files::KeptFiles;
 pub use fold::{Fold, Outcomes};
 pub use half_laws::halves_say_the_same;
 pub use laws::{orders_of_maps, rows_are_by_route, rows_of_events};
 pub use part::{
-    EndedPart, KeptText, Started, elapsed, instant_in, instant_of, reason_heard, reason_in,
-    text_heard, text_in,
+    EndedPart, KeptText, Started, elapsed, file_name_in, instant_in, instant_of, reason_heard,
+    reason_in, text_heard, text_in,
 };
 pub use row::{Counts, Ended, Row, ended_by};
 pub use row_listener::RowListener;

@@ -1,15 +1,17 @@
-//! What the events of a part of a test say together, and the text that is kept of it.
+//! What the events of a part of a test say together.
 
 ghost use Rattle.outcome_fold.specs.Parts as parts;
 ghost use Rattle.std.specs.Prelude.{◌≡◌, IsTrue, IfOk, OnOk, OnErr, not, nat_eq, [], ◌++◌, take};
 ghost use Rattle.outcome_fold.specs.Parts.{text_by, text_limit, reason_by, reason_limit, first_line};
 ghost use Rattle.std.specs.List.{prefix_len};
 ghost use Rattle.std.specs.Option.{option_map, unwrap_or};
+ghost use Rattle.outcome_fold.specs.Files.{name_in};
 ghost use Rattle.outcome_fold.specs.Started.{Says, after, after_said, fresh_said};
 ghost use Rattle.packet_codec.specs.Packet.{SpellsEvent};
 ghost use Rattle.packet_codec.specs.Shapes.{bytes_of};
 ghost use Rattle.packet_codec.specs.declared.event.Event.{Event as AnEvent};
 
+use crate::files::KeptFiles;
 use crate::row::Ended;
 use crate::test_key::TestKey;
 use crate::text_set::copies_of;
@@ -110,11 +112,28 @@ impl KeptText {
         Bytes::from_vec(self.bytes)
     }
 
-    /// The bytes, moved out.
-    pub fn into_bytes(self) -> Bytes
-        ensures { result ≡ self }
+    // All of them, in order.
+    #[inline(always)]
+    pub(crate) fn bytes(&self) -> &[u8]
+        ensures { result.now ≡ self.now }
     {
-        Bytes::from_vec(self.bytes)
+        self.bytes.as_slice()
+    }
+
+    // The same, moved out.
+    pub(crate) fn into_vec(self) -> Vec<u8>
+        ensures { result.items ≡ self }
+    {
+        self.bytes
+    }
+
+    // The same bytes once more.
+    pub(crate) fn copy(&self, alloc: Global) -> Result<Self, NoMemory>
+        ensures { IfOk result (λ copy. copy ≡ self.now) }
+    {
+        Ok(KeptText {
+            bytes: Vec::from_slice(alloc, self.bytes())?,
+        })
     }
 }
 
@@ -137,8 +156,8 @@ pub struct Started {
     pub start: Option<u64>,
     /// The tags of the last event that has tags, as it has them.
     pub tags: Tags,
-    /// The first bytes of the files of text, joined.
-    pub text: KeptText,
+    /// The files of text, as far as they are kept.
+    pub files: KeptFiles,
     /// The first bytes of the files named `reason`, joined.
     pub reason: KeptText,
 }
@@ -223,6 +242,27 @@ pub fn text_heard<'p>(packet: &'p Packet<'_>) -> &'p [u8]
     text_at(packet.mime(), packet.file_bytes())
 }
 
+/// The name of the event's file, where it has one.
+pub fn file_name_in(event: &Event) -> &[u8]
+    ensures { result.now ≡ name_in event.now.file }
+{
+    match &event.file {
+        Some(file) => file.name.bytes(),
+        None => &[],
+    }
+}
+
+// The name of the file of the packet's event, where it has one. It is not copied.
+#[inline(always)]
+pub(crate) fn file_name_heard<'p>(packet: &'p Packet<'_>) -> &'p [u8]
+    ensures { (e : AnEvent) → SpellsEvent packet.now e → result.now ≡ name_in e.file }
+{
+    match packet.file_name() {
+        Some(name) => name,
+        None => &[],
+    }
+}
+
 /// The bytes of the event's file, where its name is `reason`, else none.
 pub fn reason_in(event: &Event) -> &[u8]
     ensures { result.now ≡ parts.reason_in event.now.file }
@@ -259,6 +299,8 @@ pub(crate) struct Said<'a> {
     pub(crate) instant: Option<u64>,
     /// Its tags, where it has tags.
     pub(crate) tags: Option<Tags>,
+    /// The name of its file, where it has one.
+    pub(crate) name: &'a [u8],
     /// The bytes of its file of text.
     pub(crate) text: &'a [u8],
     /// The bytes of its file named `reason`.
@@ -272,6 +314,7 @@ pub(crate) fn said_by(alloc: Global, event: &Event) -> Result<Said<'_>, NoMemory
     Ok(Said {
         instant: instant_of(event),
         tags: new_tags(alloc, &event.tags)?,
+        name: file_name_in(event),
         text: text_in(event),
         reason: reason_in(event),
     })
@@ -285,6 +328,7 @@ pub(crate) fn said_in<'p>(alloc: Global, packet: &'p Packet<'_>) -> Result<Said<
     Ok(Said {
         instant: instant_in(packet),
         tags: packet.tags(alloc)?,
+        name: file_name_heard(packet),
         text: text_heard(packet),
         reason: reason_heard(packet),
     })
@@ -331,7 +375,8 @@ impl Started {
     {
         let tags = other_tags(alloc, &self.tags, packet)?;
         let reason = other_reason(alloc, &self.reason, reason_heard(packet))?;
-        self.text.append(text_heard(packet))?;
+        self.files
+            .append(alloc, file_name_heard(packet), text_heard(packet))?;
         if let Some(tags) = tags {
             self.tags = tags;
         }
@@ -350,7 +395,7 @@ impl Started {
         let mut started = Started {
             start: said.instant,
             tags: Tags::new(alloc),
-            text: KeptText::new(alloc),
+            files: KeptFiles::new(alloc),
             reason: KeptText::new(alloc),
         };
         started.take(alloc, &mut said)?;
@@ -363,7 +408,7 @@ impl Started {
         ensures err { OnErr result ((self.new ≡ self.old) × (said.new ≡ said.old)) }
     {
         let reason = other_reason(alloc, &self.reason, said.reason)?;
-        self.text.append(said.text)?;
+        self.files.append(alloc, said.name, said.text)?;
         if let Some(tags) = said.tags.take() {
             self.tags = tags;
         }

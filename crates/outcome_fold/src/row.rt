@@ -66,7 +66,8 @@ pub struct Row {
     pub tags: Tags,
     /// How long it took, in nanoseconds, where its events tell.
     pub nanos: Option<u64>,
-    /// What its files of text say, at most their first 65,536 bytes. It is empty unless the row fails.
+    /// What its files of text say: one as it stands, or each under its name and the traceback behind them. Of the
+    /// traceback the first 65,536 bytes are kept, and as many of all others together. It is empty unless the row fails.
     pub text: Bytes,
     /// Why it was skipped: the first line, without its newline, of the first 1,024 bytes of its files named `reason`. It
     /// is empty unless the row is a skip.

@@ -1,6 +1,7 @@
 -- Events whose rows are summed up as their packets are written.
 use Rattle.std.proofs.Common.{◌≡◌, ℕ, ◌<◌, List, [], ◌∷◌, ◌++◌, Result, Ok, Err, IfOk, OnOk, All, length, drop, refl, sym, ap, ◌∙◌, append_assoc, subst, arith}
 use Rattle.std.specs.List.{flat_map}
+use Rattle.std.specs.Option.{option_to_list}
 use Rattle.std.proofs.lemmas.List.{length-append, append-nil, drop_at}
 use Rattle.std.proofs.lemmas.List.Concat.{flat_map-append}
 use Rattle.std.proofs.lemmas.List.Elements.{All-nil, All-cons, All-append, All-head, All-tail}
@@ -15,7 +16,8 @@ use Rattle.stream_reader.proofs.NotesLemmas.{packets_of, notes_of_packets, event
 use Rattle.stream_reader.specs.Notes.{HasEvents}
 use Rattle.outcome_fold.specs.declared.summary.Summary.{Summary}
 use Rattle.outcome_fold.specs.declared.summing.Summing.{Summing}
-use Rattle.outcome_fold.specs.Rows.{rows_of}
+use Rattle.outcome_fold.specs.Rows.{completed_behind, completed_row, rows_of}
+use Rattle.outcome_fold.specs.declared.row.Row.{Row}
 use Rattle.outcome_fold.specs.Summed.{Sums, HasSummed}
 use Rattle.run_ledger.specs.declared.written_run.WrittenRun.{WrittenRun}
 use Rattle.run_ledger.specs.Reading.{SumsRowsOf}
@@ -87,6 +89,55 @@ summed_all bytes left old now none so_far filter_tags seen events are summed = a
     all : (done : List Event) × (others : List Event) × (events ≡ done ++ others) × ArePacketsOf others left × HasSummed filter_tags now (seen ++ done) → HasSummed filter_tags now (seen ++ events)
     all (done, [], parts, rest, now_summed) = rw (parts ∙ append-nil done) now_summed
     all (done, event ∷ others, parts, rest, now_summed) = absurd (omega (arith, none, some_bytes event (All-head IsEvent event others rest.are_events) (All-head Fits event others rest.fit), ap length rest.packets, length-append (canonical event) (flat_map canonical others)))
+
+-- ---- and what an ear was told of their rows
+
+behind_push : (seen es : List Event) (e : Event) → completed_behind seen (es ++ e ∷ []) ≡ completed_behind seen es ++ option_to_list (completed_row (seen ++ es) e)
+behind_push seen [] e = append-nil (option_to_list (completed_row seen e)) ∙ ap (λ s. option_to_list (completed_row s e)) (sym (append-nil seen))
+behind_push seen (x ∷ es) e =
+    ap (λ l. option_to_list (completed_row seen x) ++ l) (behind_push (seen ++ x ∷ []) es e ∙ ap (λ s. completed_behind (seen ++ x ∷ []) es ++ option_to_list (completed_row s e)) (append_assoc seen (x ∷ []) es))
+    ∙ sym (append_assoc (option_to_list (completed_row seen x)) (completed_behind (seen ++ x ∷ []) es) (option_to_list (completed_row (seen ++ x ∷ es) e)))
+
+module _ {E : Type 0} (told : E → E → List Row → Type 0) where
+  -- some of the events were heard, and what is left is the packets of the others; the ear was told the rows
+  abbrev pub IsToldTo : (bytes left : List ℕ) (old now : Summing) (first ear : E) → Type 0
+  IsToldTo bytes left old now first ear = (filter_tags : List (List ℕ)) (seen events : List Event) (begun : E) (rows : List Row) → ArePacketsOf events bytes → HasSummed filter_tags old seen → told begun first rows
+      → (done : List Event) × (others : List Event) × (events ≡ done ++ others) × ArePacketsOf others left × HasSummed filter_tags now (seen ++ done) × told begun ear (rows ++ completed_behind seen done)
+
+  pub told_none : (bytes : List ℕ) (old : Summing) (first : E) → IsToldTo bytes bytes old old first first
+  told_none bytes old first filter_tags seen events begun rows are summed so_far = ([], events, refl, are, rw (append-nil seen) summed, rw (append-nil rows) so_far)
+
+  pub told_more : (bytes left : List ℕ) (old now new : Summing) (first ear next : E) (size : ℕ) → 0 < length left → IsFrontSize left size
+      → ((filter_tags : List (List ℕ)) (seen : List Event) (event : Event) (behind : List ℕ) → Found SpellsEvent left event behind → HasSummed filter_tags now seen → HasSummed filter_tags new (seen ++ event ∷ []))
+      → ((filter_tags : List (List ℕ)) (seen : List Event) (event : Event) (behind : List ℕ) (begun : E) (rows : List Row) → Found SpellsEvent left event behind → HasSummed filter_tags now seen → told begun ear rows → told begun next (rows ++ option_to_list (completed_row seen event)))
+      → IsToldTo bytes left old now first ear → IsToldTo bytes (drop size left) old new first next
+  told_more bytes left old now new first ear next size some is step tells so_far filter_tags seen events begun rows are summed has = more (so_far filter_tags seen events begun rows are summed has)
+    where
+      more : (done : List Event) × (others : List Event) × (events ≡ done ++ others) × ArePacketsOf others left × HasSummed filter_tags now (seen ++ done) × told begun ear (rows ++ completed_behind seen done)
+          → (done : List Event) × (others : List Event) × (events ≡ done ++ others) × ArePacketsOf others (drop size left) × HasSummed filter_tags new (seen ++ done) × told begun next (rows ++ completed_behind seen done)
+      more (done, [], parts, rest, now_summed, now_told) = absurd (no_event left some rest)
+      more (done, event ∷ others, parts, rest, now_summed, now_told) =
+          let found = first_found event others left rest in (
+            done ++ event ∷ [],
+            others,
+            parts ∙ sym (append_assoc done (event ∷ []) others),
+            others_are event others left size rest (is event (flat_map canonical others) found),
+            rw (← append_assoc seen done (event ∷ [])) (step filter_tags (seen ++ done) event (flat_map canonical others) found now_summed),
+            subst (told begun next)
+                (append_assoc rows (completed_behind seen done) (option_to_list (completed_row (seen ++ done) event)) ∙ ap (λ l. rows ++ l) (sym (behind_push seen done event)))
+                (tells filter_tags (seen ++ done) event (flat_map canonical others) begun (rows ++ completed_behind seen done) found now_summed now_told),
+          )
+
+  pub told_all : (bytes left : List ℕ) (old now : Summing) (first ear : E) → length left ≡ 0 → IsToldTo bytes left old now first ear
+      → (filter_tags : List (List ℕ)) (seen events : List Event) (begun : E) (rows : List Row) → ArePacketsOf events bytes → HasSummed filter_tags old seen → told begun first rows → told begun ear (rows ++ completed_behind seen events)
+  told_all bytes left old now first ear none so_far filter_tags seen events begun rows are summed has = all (so_far filter_tags seen events begun rows are summed has)
+    where
+      some_bytes : (event : Event) → IsEvent event → Fits event → 0 < length (canonical event)
+      some_bytes event is fits = packet_some (canonical event) event (canonical_spells event is fits)
+
+      all : (done : List Event) × (others : List Event) × (events ≡ done ++ others) × ArePacketsOf others left × HasSummed filter_tags now (seen ++ done) × told begun ear (rows ++ completed_behind seen done) → told begun ear (rows ++ completed_behind seen events)
+      all (done, [], parts, rest, now_summed, now_told) = rw (parts ∙ append-nil done) now_told
+      all (done, event ∷ others, parts, rest, now_summed, now_told) = absurd (omega (arith, none, some_bytes event (All-head IsEvent event others rest.are_events) (All-head Fits event others rest.fit), ap length rest.packets, length-append (canonical event) (flat_map canonical others)))
 
 -- ---- packets behind others
 

@@ -35,8 +35,8 @@ pub fn rows_of<H: Shelf>(
     ensures time { IfSome (H.seen store.old.shelf.now).told (ReadsOnce number (H.clock store.old.shelf.now) (H.clock store.new.shelf.now)) }
 {
     check_open(store)?;
-    let mut run = RunReader::new(alloc)?;
     let mut buf = piece_buffer(alloc)?;
+    let mut run = RunReader::new(alloc)?;
     read_pieces(store, number, &mut buf, &mut run)?;
     Ok(run.close()?)
 }

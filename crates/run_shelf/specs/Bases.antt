@@ -9,12 +9,15 @@ pub record Base : Type 0 where
   pub count : ℕ
   pub ids : List (List ℕ)
 
+-- the base of a folder that no other program began: no runs, and no ids
 abbrev pub no_base : Base
 no_base = record { count = 0; ids = [] }
 
+-- the name of the file that holds a base
 abbrev pub base_name : List ℕ
 base_name = codes "base.set"
 
+-- what the first line of that file says
 abbrev pub base_title : List ℕ
 base_title = codes "subunit-base 1"
 
@@ -25,11 +28,12 @@ pub record IsBase (bytes : List ℕ) (base : Base) : Type 0 where
 
 -- ---- the base, told by the bytes
 
--- what stands before the first newline, and behind it
+-- what stands before the first newline, or all bytes where there is none
 abbrev pub first_line : List ℕ → List ℕ
 first_line [] = []
 first_line (byte ∷ bytes) = if byte == 10 then [] else byte ∷ first_line bytes
 
+-- what stands behind the first newline, or nothing where there is none
 abbrev pub behind_line : List ℕ → List ℕ
 behind_line [] = []
 behind_line (byte ∷ bytes) = if byte == 10 then bytes else behind_line bytes
@@ -44,6 +48,8 @@ abbrev pub pieces : List ℕ → List (List ℕ)
 pieces [] = []
 pieces (byte ∷ bytes) = if byte == 0 then [] ∷ pieces bytes else onto_first byte (pieces bytes)
 
+-- what the bytes tell as a base: the number in their second line, and the ids behind that line; of bytes that hold a
+-- base it is that one
 unfoldable pub base_in : List ℕ → Base
 base_in bytes = record { count = digits_value 10 (first_line (behind_line bytes)); ids = pieces (behind_line (behind_line bytes)) }
 

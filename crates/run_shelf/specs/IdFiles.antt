@@ -36,6 +36,7 @@ pub record IsIdFile (title bytes : List ℕ) (number : ℕ) (ids : List (List �
 
 -- ---- its pieces
 
+-- the mark is none of the bytes
 abbrev pub Lacks : ℕ → List ℕ → Type 0
 Lacks mark bytes = All (λ byte. byte ≢ mark) bytes
 

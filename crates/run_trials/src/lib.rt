@@ -1,5 +1,5 @@
 //! Tests of `testr run` and `testr list-tests` over the forms in memory: the order of the steps, the jobs, the workers, the
-//! run that is kept, and files that are too long. No program uses it.
+//! run that is kept, what is said of it, and files that are too long. No program uses it.
 //!
 //! They use the public names of the program alone, and stand above it, so that the proofs of its crate are not made once
 //! more for them.
@@ -22,6 +22,10 @@ mod tests_children;
 mod tests_limits;
 #[cfg(test)]
 mod tests_listing;
+#[cfg(test)]
+mod tests_live;
+#[cfg(test)]
+mod tests_missing;
 #[cfg(test)]
 mod tests_projects;
 #[cfg(test)]

@@ -75,6 +75,8 @@ const C_KEPT: &[u8] = b"\xb3\x2d\x06\x0c\x01\x63\x01\x30\x4d\x77\x4b\x9c";
 
 const FIND: &[&str] = &["testr", "run", "--find-causes"];
 
+const FIND_NOTED: &[&str] = &["testr", "run", "--find-causes", "--format=github"];
+
 const FIND_HIDDEN: &[&str] = &["testr", "run", "--find-causes", "-q"];
 
 const FIND_FAILING: &[&str] = &["testr", "run", "--failing", "--find-causes"];
@@ -115,6 +117,15 @@ type Row<'a> = (
 );
 
 fn is_so<R: Threads + Wait + Sync + AllocGlobal>(rt: &R, row: &Row<'_>) -> Result<bool, Fail> {
+    is_so_with(rt, row, NOTHING)
+}
+
+// So it is, and these are the lines of errors.
+fn is_so_with<R: Threads + Wait + Sync + AllocGlobal>(
+    rt: &R,
+    row: &Row<'_>,
+    lines: &[u8],
+) -> Result<bool, Fail> {
     let (words, files, runs, outputs, (status, text), jobs) = *row;
     let scene = Scene {
         words,
@@ -127,7 +138,7 @@ fn is_so<R: Threads + Wait + Sync + AllocGlobal>(rt: &R, row: &Row<'_>) -> Resul
         writes: &[],
     };
     let played = play(rt, &scene)?;
-    Ok(played.told.is(status, text, NOTHING) && has_started(&played.project, jobs))
+    Ok(played.told.is(status, text, lines) && has_started(&played.project, jobs))
 }
 
 // `c` fails exactly where `b` ran before it.
@@ -214,6 +225,19 @@ const NOT_SEEN: Row<'static> = (
     &[ALL, C, A_AND_C],
 );
 
+// Notes stand in front of the lines of causes.
+const NOTED: Row<'static> = (
+    FIND_NOTED,
+    WITH_IDS,
+    NO_RUN,
+    &[(C_FAILED, ENDED), (C_PASSED, ENDED)],
+    (
+        1,
+        b"======================================================================\nFAIL: c\n----------------------------------------------------------------------\nRan 1 tests\nFAILED (id=0, failures=1)\n::error title=c::\nc: not reproduced\n",
+    ),
+    &[ALL, C],
+);
+
 // A test that only exists is no candidate.
 const NO_CANDIDATE: Row<'static> = (
     FIND,
@@ -296,9 +320,17 @@ const TWO_FAIL: Row<'static> = (
 
 #[test]
 fn the_cause_of_a_test_is_named(rt: HostRuntime) -> Result<(), Fail> {
-    for (number, row) in [CAUSED, HIDDEN, SEVERAL, ALONE, NOT_SEEN, NO_CANDIDATE]
-        .iter()
-        .enumerate()
+    for (number, row) in [
+        CAUSED,
+        HIDDEN,
+        SEVERAL,
+        ALONE,
+        NOT_SEEN,
+        NOTED,
+        NO_CANDIDATE,
+    ]
+    .iter()
+    .enumerate()
     {
         assert!(rt; is_so(&rt, row)?, "row {number}");
     }
@@ -343,7 +375,9 @@ const ON_TWO: Row<'static> = (
 
 #[test]
 fn a_test_is_searched_on_each_of_its_lanes(rt: HostRuntime) -> Result<(), Fail> {
-    assert!(rt; is_so(&rt, &ON_TWO)?);
+    // The workers ran another test than they were asked for.
+    let lines = b"testr: 2 of 2 tests that were asked for did not run\n  a\n  b\n";
+    assert!(rt; is_so_with(&rt, &ON_TWO, lines)?);
     Ok(())
 }
 

@@ -197,6 +197,9 @@ impl Spawner for Schedule {
 // A configuration and a list of two tests.
 const TWO_TESTS: NamedFiles<'static> = &[(b".testr.conf", CONF), (b"l", b"a\nb\n")];
 
+// The workers ran another test than they were asked for.
+const OTHERS_RAN: &[u8] = b"testr: 2 of 2 tests that were asked for did not run\n  a\n  b\n";
+
 #[test]
 fn in_whatever_order_packets_come_they_are_kept_so_and_say_the_same(
     rt: HostRuntime,
@@ -214,7 +217,7 @@ fn in_whatever_order_packets_come_they_are_kept_so_and_say_the_same(
             "--load-list=l",
         ];
         let told = call_with(&rt, &words, &mut shelf, &mut spawner, &mut site, &[])?;
-        assert!(rt; told.is(1, ONE_OF_TWO_REPORT, NOTHING));
+        assert!(rt; told.is(1, ONE_OF_TWO_REPORT, OTHERS_RAN));
         let run = run_of(alloc, &order)?;
         assert!(rt; has_file(&mut shelf, "0.part", &run)?);
         let words = ["testr", "failing", "--list"];
@@ -312,7 +315,7 @@ fn no_counts(alloc: Global) -> Result<Arc<Counts>, Fail> {
 }
 
 #[test]
-fn a_worker_is_read_to_its_end_though_the_folder_fails(rt: HostRuntime) -> Result<(), Fail> {
+fn an_endless_worker_is_stopped_where_the_folder_fails(rt: HostRuntime) -> Result<(), Fail> {
     let alloc = rt.alloc();
     // Four calls look at the runs, one begins the new one, and the third one behind it fails.
     let mut shelf = repository(alloc, &[7])?;
@@ -320,16 +323,16 @@ fn a_worker_is_read_to_its_end_though_the_folder_fails(rt: HostRuntime) -> Resul
     let mut site = site_with(alloc, TWO_TESTS)?;
     let counts = no_counts(alloc)?;
     let mut spawner = Longs {
-        size: 300_000,
+        size: usize::MAX,
         counts: Arc::try_clone(&counts)?,
         faults: 0,
     };
     let words = ["testr", "run"];
     let told = call_with(&rt, &words, &mut shelf, &mut spawner, &mut site, &[])?;
     assert!(rt; told.is(4, NOTHING, SHELF_FAULT));
-    assert_eq!(rt; counts.ends.load(Ordering::SeqCst), 1);
+    assert_eq!(rt; counts.ends.load(Ordering::SeqCst), 0);
     assert_eq!(rt; counts.waits.load(Ordering::SeqCst), 1);
-    assert_eq!(rt; counts.stops.load(Ordering::SeqCst), 0);
+    assert_eq!(rt; counts.stops.load(Ordering::SeqCst), 1);
     assert_eq!(rt; shelf.length("1")?, None);
     assert!(rt; has_file(&mut shelf, "0", FOO_KEPT)?);
     Ok(())

@@ -6,7 +6,7 @@ use std::sync::Wait;
 use std::test::Fail;
 use std::thread::Threads;
 use trial_calls::{
-    NOTHING, NamedFiles, Scene, WRONG_USAGE, has_started, play, project_with, repository, shows,
+    NOTHING, NamedFiles, Scene, WRONG_USAGE, call_in, has_started, play, project_with, repository,
 };
 
 const OWN: (&[u8], &[u8]) = (b".testr.conf", CONF);
@@ -31,7 +31,7 @@ const OUTPUTS: [(&[u8], Finish); 3] = [(A_AND_B, ENDED), (NOTHING, ENDED), (NOTH
 // A call: the files, the words, what is printed, and the jobs.
 type Called<'a> = (NamedFiles<'a>, &'a [&'a str], &'a [u8], &'a [[&'a [u8]; 3]]);
 
-// Whether the call ends with 0, prints this and starts these jobs.
+// Whether the call is done, prints this and starts these jobs.
 fn is_called<R: Threads + Wait + Sync + AllocGlobal>(
     rt: &R,
     shelf: &mut MemShelf,
@@ -39,7 +39,14 @@ fn is_called<R: Threads + Wait + Sync + AllocGlobal>(
 ) -> Result<bool, Fail> {
     let (files, words, text, jobs) = *called;
     let mut project = project_with(rt.alloc(), files, &OUTPUTS, &[], &[])?;
-    Ok(shows(rt, words, shelf, &mut project, (0, text, NOTHING))? && has_started(&project, jobs))
+    let told = call_in(rt, words, shelf, &mut project, &[])?;
+    // Where tests were asked for, none of them ran.
+    Ok(
+        told.status <= 1
+            && told.err.is_empty() == (told.status == 0)
+            && told.out.as_slice() == text
+            && has_started(&project, jobs),
+    )
 }
 
 fn is_called_first<R: Threads + Wait + Sync + AllocGlobal>(

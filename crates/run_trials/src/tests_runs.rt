@@ -88,8 +88,13 @@ fn is_run<R: Threads + Wait + Sync + AllocGlobal>(
     jobs: &[[&[u8]; 3]],
 ) -> Result<bool, Fail> {
     let (words, status, report, name, kept) = run;
+    // Where no test ran that was asked for, lines tell so.
+    let silent = status == 1 && kept.is_empty();
+    let told = call_in(rt, words, shelf, project, &[])?;
     Ok(
-        shows(rt, words, shelf, project, (status, report, NOTHING))?
+        told.status == status
+            && told.out.as_slice() == report
+            && told.err.is_empty() != silent
             && has_file(shelf, name, kept)?
             && has_started(project, jobs),
     )
@@ -124,6 +129,21 @@ fn a_worker_that_does_not_end_well_fails(rt: HostRuntime) -> Result<(), Fail> {
         let run = (words.as_slice(), 1, *report, "0", *kept);
         assert!(rt; is_first_run(&rt, CONF, &outputs, run, &ALL)?);
     }
+    Ok(())
+}
+
+// `foo` failed, and what is kept of it on lane 0.
+const FOO_FAILED_KEPT: &[u8] = b"\xb3-\x06\x0e\x03foo\x010\xecO\xd5\x84";
+
+const FOO_FAILED_NOTED: &[u8] =
+    b"======================================================================\nFAIL: foo\n----------------------------------------------------------------------\nRan 1 tests\nFAILED (id=0, failures=1)\n::error title=foo::\n";
+
+#[test]
+fn notes_of_failures_stand_behind_the_report_of_a_run(rt: HostRuntime) -> Result<(), Fail> {
+    let outputs = [(FAILED, ENDED)];
+    let words = ["testr", "run", "--format=github"];
+    let run = (words.as_slice(), 1, FOO_FAILED_NOTED, "0", FOO_FAILED_KEPT);
+    assert!(rt; is_first_run(&rt, CONF, &outputs, run, &ALL)?);
     Ok(())
 }
 
@@ -201,7 +221,9 @@ fn one_lane_fails<R: Threads + Wait + Sync + AllocGlobal + Abort>(
     shelf: &mut MemShelf,
     project: &mut Project,
 ) -> Result<(), Fail> {
-    let wanted = (1, ONE_OF_TWO_REPORT, NOTHING);
+    // The workers ran another test than they were asked for.
+    let lines = b"testr: 2 of 2 tests that were asked for did not run\n  a\n  b\n";
+    let wanted = (1, ONE_OF_TWO_REPORT, lines.as_slice());
     assert!(rt; shows(rt, &ON_TWO, shelf, project, wanted)?);
     assert!(rt; has_either(shelf)?);
     let words = ["testr", "failing", "--list"];
@@ -239,7 +261,7 @@ const DISCOVERED_JOBS: [[&[u8]; 3]; 3] = [
 
 #[test]
 fn the_jobs_of_a_listing_and_of_two_workers(rt: HostRuntime) -> Result<(), Fail> {
-    let run = (ON_TWO.as_slice(), 0, NO_TESTS, "0", NOTHING);
+    let run = (ON_TWO.as_slice(), 1, NO_TESTS, "0", NOTHING);
     assert!(rt; is_first_run(&rt, DISCOVERED, &TWO_EMPTY, run, &DISCOVERED_JOBS)?);
     Ok(())
 }
@@ -277,7 +299,7 @@ fn is_run_in<R: Threads + Wait + Sync + AllocGlobal>(
 
 #[test]
 fn files_of_ids_have_the_path_of_the_folder(rt: HostRuntime) -> Result<(), Fail> {
-    let run = (ON_TWO.as_slice(), 0, NO_TESTS, "0", NOTHING);
+    let run = (ON_TWO.as_slice(), 1, NO_TESTS, "0", NOTHING);
     assert!(rt; is_run_in(&rt, b"/srv/suite", run, &IN_FOLDER_JOBS)?);
     assert!(rt; is_run_in(&rt, b"/srv/my suite", run, &DISCOVERED_JOBS)?);
     Ok(())
@@ -304,7 +326,7 @@ fn counts_three<R: Threads + Wait + Sync + AllocGlobal>(
         (NOTHING, ENDED),
     ];
     let words = ["testr", "run", "--parallel"];
-    let run = (words.as_slice(), 0, NO_TESTS, "0", NOTHING);
+    let run = (words.as_slice(), 1, NO_TESTS, "0", NOTHING);
     is_first_run(rt, COUNTED, &outputs, run, &COUNTED_JOBS)
 }
 
@@ -330,7 +352,7 @@ fn a_listing_of_processors_gives_the_number_of_workers(rt: HostRuntime) -> Resul
     let mut project = project_beside(rt.alloc(), CONF, &THREE_LISTED, b"/proc/cpuinfo", table)?;
     let mut shelf = repository(rt.alloc(), &[])?;
     let words = ["testr", "run", "--parallel", "--concurrency=0"];
-    let run = (words.as_slice(), 0, NO_TESTS, "0", NOTHING);
+    let run = (words.as_slice(), 1, NO_TESTS, "0", NOTHING);
     assert!(rt; is_run(&rt, &mut shelf, &mut project, run, &JOBS_OF_THREE)?);
     Ok(())
 }
@@ -366,7 +388,7 @@ fn are_shared<R: Threads + Wait + Sync + AllocGlobal>(
     let outputs = [(NOTHING, ENDED), (NOTHING, ENDED)];
     let mut project = project_beside(rt.alloc(), conf, &outputs, b"l", ids)?;
     let mut shelf = loaded(rt, TIMED)?;
-    let run = (LIST_ON_TWO.as_slice(), 0, NO_TESTS_AS_1, "1.part", NOTHING);
+    let run = (LIST_ON_TWO.as_slice(), 1, NO_TESTS_AS_1, "1.part", NOTHING);
     is_run(rt, &mut shelf, &mut project, run, jobs)
 }
 
@@ -463,7 +485,7 @@ fn is_shard<R: Threads + Wait + Sync + AllocGlobal>(
     let outputs = [(NOTHING, ENDED), (NOTHING, ENDED)];
     let mut project = project_with(rt.alloc(), BESIDE_TIMES, &outputs, &[], &[])?;
     let mut shelf = loaded(rt, TIMED)?;
-    let run = (words, 0, NO_TESTS_AS_1, "1.part", NOTHING);
+    let run = (words, 1, NO_TESTS_AS_1, "1.part", NOTHING);
     is_run(rt, &mut shelf, &mut project, run, jobs)
 }
 
@@ -479,7 +501,7 @@ fn shards_go_by_the_times_of_a_file_alone(rt: HostRuntime) -> Result<(), Fail> {
 fn for_a_shard_the_tests_are_listed(rt: HostRuntime) -> Result<(), Fail> {
     let run = (
         ["testr", "run", "--shard=2/2"].as_slice(),
-        0,
+        1,
         NO_TESTS,
         "0.part",
         NOTHING,
@@ -509,7 +531,7 @@ fn are_chosen<R: Threads + Wait + Sync + AllocGlobal>(
     let outputs = [(NOTHING, ENDED)];
     let mut project = project_beside(rt.alloc(), CONF, &outputs, b"l", b" c\n\nb \r\nc")?;
     let mut shelf = loaded(rt, A_AND_B_FAILED)?;
-    let run = (words, 0, NO_TESTS_AS_1, "1.part", NOTHING);
+    let run = (words, 1, NO_TESTS_AS_1, "1.part", NOTHING);
     let jobs: [[&[u8]; 3]; 1] = [[b"run ", b".testr-ids.0", ids]];
     is_run(rt, &mut shelf, &mut project, run, &jobs)
 }
@@ -522,14 +544,16 @@ fn chosen_tests_are_a_partial_run_of_theirs(rt: HostRuntime) -> Result<(), Fail>
     Ok(())
 }
 
-// Words that choose no test, and how many programs they start.
-const NONE_LEFT: [(&[&str], usize); 5] = [
-    (&["testr", "run", "--load-list=l"], 0),
-    (&["testr", "run", "--failing"], 0),
-    (&["testr", "run", "--failing", "--parallel"], 0),
-    (&["testr", "run", "c", "^$"], 1),
-    (&["testr", "run", "--exclude-regex="], 1),
+// Words that choose no test, how many programs they start, the status, and the line.
+const NONE_LEFT: [(&[&str], usize, u8, &[u8]); 5] = [
+    (&["testr", "run", "--load-list=l"], 0, 0, NOTHING),
+    (&["testr", "run", "--failing"], 0, 0, NOTHING),
+    (&["testr", "run", "--failing", "--parallel"], 0, 0, NOTHING),
+    (&["testr", "run", "c", "^$"], 1, 1, NONE_RAN),
+    (&["testr", "run", "--exclude-regex="], 1, 1, NONE_RAN),
 ];
+
+const NONE_RAN: &[u8] = b"testr: no test ran\n";
 
 fn none_is_left<R: Threads + Wait + Sync + AllocGlobal>(
     rt: &R,
@@ -537,9 +561,11 @@ fn none_is_left<R: Threads + Wait + Sync + AllocGlobal>(
     shelf: &mut MemShelf,
     project: &mut Project,
     started: usize,
+    wanted: (u8, &[u8]),
 ) -> Result<bool, Fail> {
+    let (status, line) = wanted;
     Ok(
-        shows(rt, words, shelf, project, (0, NO_TESTS, NOTHING))?
+        shows(rt, words, shelf, project, (status, NO_TESTS, line))?
             && project.spawner.started().len() == started
             && shelf.length("0.part")? == Some(0),
     )
@@ -549,17 +575,21 @@ fn starts_only<R: Threads + Wait + Sync + AllocGlobal>(
     rt: &R,
     words: &[&str],
     started: usize,
+    wanted: (u8, &[u8]),
 ) -> Result<bool, Fail> {
     let outputs = [(A_AND_B, ENDED)];
     let mut project = project_beside(rt.alloc(), NO_ID_OPTION, &outputs, b"l", NOTHING)?;
     let mut shelf = repository(rt.alloc(), &[])?;
-    none_is_left(rt, words, &mut shelf, &mut project, started)
+    none_is_left(rt, words, &mut shelf, &mut project, started, wanted)
 }
 
 #[test]
 fn where_no_test_is_left_no_worker_starts(rt: HostRuntime) -> Result<(), Fail> {
-    for (row, (words, started)) in NONE_LEFT.iter().enumerate() {
-        assert!(rt; starts_only(&rt, words, *started)?, "row {row}");
+    for (row, (words, started, status, line)) in NONE_LEFT.iter().enumerate() {
+        assert!(rt;
+            starts_only(&rt, words, *started, (*status, line))?,
+            "row {row}"
+        );
     }
     Ok(())
 }

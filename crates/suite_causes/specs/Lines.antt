@@ -19,7 +19,7 @@ cause_of candidates found.NotSeen = []
 cause_of candidates found.Several = []
 cause_of candidates (found.Cause cause) = slice_index_or candidates cause []
 
--- the line of the test
+-- the line of a test: its id, what the search found, and the cause where it found one
 abbrev pub cause_line : (test : List ℕ) → (candidates : Ids) → Found → List ℕ
 cause_line test candidates found = test ++ said_of found ++ cause_of candidates found ++ 10 ∷ []
 

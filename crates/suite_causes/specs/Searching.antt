@@ -55,7 +55,7 @@ HasProbeCause settings ids Spawn s t = IsOk (probe_job settings ids) × Stays s 
 HasProbeCause settings ids Child s t = StartsProbe settings ids (λ output. IsBroken output.finish) s t
 HasProbeCause settings ids NoMemory s t = Stays s t ⊎ StartsProbe settings ids (λ output. ⊤) s t
 
--- a start failed
+-- a search or a probe was refused since a start failed
 abbrev pub search_failed : {T : Type 0} → Result T SearchFault → Bool
 search_failed (Ok value) = false
 search_failed (Err Spawn) = true

@@ -62,7 +62,7 @@ HasCallCause settings Child s t = StartsCounting settings (λ output. IsBroken o
 HasCallCause settings (NoNumber said) s t = StartsCounting settings (TellsNone said) s t
 HasCallCause settings NoMemory s t = Stays s t ⊎ StartsCounting settings (λ output. ⊤) s t
 
--- a start failed
+-- the number of workers was not told since a start failed
 abbrev pub call_failed : Result (Option ℕ) CallRefusal → Bool
 call_failed (Ok number) = false
 call_failed (Err Spawn) = true

@@ -51,7 +51,8 @@ unread_conf file read.Failed = Site
 unread_conf file read.TooLong = Bad file TooLong
 unread_conf file read.NoMemory = NoMemory
 
--- that of a file whose lines are refused
+-- the refusal of a file whose lines are refused: which file that is and what is wrong with it, or that memory was
+-- wanting
 abbrev pub refused_lines : ConfFile → ConfFault → ConfRefusal
 refused_lines file (fault.BadLine number) = Bad file (BadLine number)
 refused_lines file (fault.NoSection number) = Bad file (NoSection number)
@@ -60,12 +61,12 @@ refused_lines file (fault.NotKnown key) = Bad file (NotKnown key)
 refused_lines file fault.NoCommand = Bad file NoCommand
 refused_lines file fault.NoMemory = NoMemory
 
--- that of a file whose values give no settings
+-- the refusal of a file of stestr whose values give no settings, by the same rule
 abbrev pub refused_values : ConfFile → SettleFault → ConfRefusal
 refused_values file settle.NoTestPath = Bad file NoTestPath
 refused_values file settle.NoMemory = NoMemory
 
--- that of a `pyproject.toml`
+-- the refusal of a `pyproject.toml`: no TOML, no table where one should be, a bad value, or that memory was wanting
 abbrev pub refused_table : TableFault → ConfRefusal
 refused_table table.NotToml = Bad PyProject NotToml
 refused_table table.NotTable = Bad PyProject NotTable
@@ -116,7 +117,7 @@ file_says words file files = file_by words file (files (file_name file))
 
 -- ---- what the files say
 
--- what is said, or else what is said next
+-- what a file says of the configuration, and where it says nothing, what comes next; a refusal stands
 abbrev pub or_next : Result (Option Settings) ConfRefusal → Result (Option Settings) ConfRefusal → Result (Option Settings) ConfRefusal
 or_next (Ok None) next = next
 or_next (Ok (Some settings)) next = Ok (Some settings)
@@ -130,7 +131,7 @@ later_say face words files = or_next (file_says words (second_file face) files) 
 abbrev pub files_say : Face → ProjectWords → Files → Result (Option Settings) ConfRefusal
 files_say face words files = or_next (file_says words (first_file face) files) (later_say face words files)
 
--- something has to be said
+-- some file has to give settings; where none does, the configuration is refused as absent
 abbrev pub required : Result (Option Settings) ConfRefusal → Result Settings ConfRefusal
 required (Ok None) = Err Absent
 required (Ok (Some settings)) = Ok settings
@@ -160,7 +161,7 @@ HasConfCause said Absent = said ≡ Err Absent
 HasConfCause said (Bad file why) = said ≡ Err (Bad file why)
 HasConfCause said NoMemory = ⊤
 
--- whether a read failed
+-- the configuration was refused since a read of a file failed
 abbrev pub conf_failed : {T : Type 0} → Result T ConfRefusal → Bool
 conf_failed (Ok value) = false
 conf_failed (Err Site) = true

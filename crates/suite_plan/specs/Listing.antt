@@ -77,7 +77,7 @@ HasListingCause settings Child s t = StartsListing settings (λ output. IsBroken
 HasListingCause settings (Failed status said) s t = StartsListing settings (HasFailed status said) s t
 HasListingCause settings NoMemory s t = Stays s t ⊎ StartsListing settings (λ output. ⊤) s t
 
--- a start failed
+-- the tests were not listed since a start failed
 abbrev pub listing_failed : Result (List (List ℕ)) ListingRefusal → Bool
 listing_failed (Ok ids) = false
 listing_failed (Err NoListOption) = false

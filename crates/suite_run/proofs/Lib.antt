@@ -1,3 +1,4 @@
+pub mod EarLemmas
 pub mod HalfLemmas
 pub mod HeardLemmas
 pub mod NoneLostLemmas

@@ -13,7 +13,7 @@ use Rattle.worker_lane.specs.declared.lot.Ending.{Ending}
 abbrev pub FitsOrIsCut : (lane : ℕ) → Event → Type 0
 FitsOrIsCut lane e = (Fits (under lane e) → ⊥) → has_halves e ≡ true
 
--- so it is of each of the events
+-- each of the events fits under the lane, or may be cut in two
 abbrev pub FitOrAreCut : (lane : ℕ) → List Event → Type 0
 FitOrAreCut lane events = All (FitsOrIsCut lane) events
 

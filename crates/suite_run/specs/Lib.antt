@@ -1,3 +1,5 @@
+pub mod Aloud
+pub mod Closing
 pub mod Outputs
 pub mod Recording
 pub mod Starting

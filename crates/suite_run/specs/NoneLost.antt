@@ -25,7 +25,7 @@ LosesNone rows ids output = EndedWell output ⊎ AllByRecursion (HasRow rows) id
 abbrev pub AreAllShort : (asked : List (List (List ℕ))) → Type 0
 AreAllShort asked = All AreShort asked
 
--- so it is of each of the children, whose jobs name these ids
+-- each of the children ended with 0, or each of the ids that its job names is the id of a row
 abbrev pub LoseNone : List Row → (asked : List (List (List ℕ))) → List Output → Type 0
 LoseNone rows asked [] = ⊤
 LoseNone rows asked (output ∷ others) = LosesNone rows (first_ids asked) output × LoseNone rows (other_ids asked) others

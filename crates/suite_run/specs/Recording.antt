@@ -24,6 +24,7 @@ use Rattle.worker_lane.specs.declared.lot.Lot.{Lot}
 use Rattle.worker_mux.specs.Callers.{Tape}
 use Rattle.worker_mux.specs.Runs.{AddsMerge}
 
+-- the recording was refused since a call of the folder failed; want of memory is no such failure
 abbrev pub lanes_failed : {T : Type 0} → Result T LanesRefusal → Bool
 lanes_failed (Ok done) = false
 lanes_failed (Err (Shelf call)) = true
@@ -33,14 +34,6 @@ lanes_failed (Err NoMemory) = false
 abbrev pub TellsOfAppend : LanesRefusal → Type 0
 TellsOfAppend (Shelf call) = call ≡ Append
 TellsOfAppend NoMemory = ⊤
-
--- these pieces were heard, one after another
-abbrev pub HasHeard : (filter_tags : List (List ℕ)) → WrittenRun → List (List ℕ) → Type 0
-HasHeard filter_tags run pieces = HasWritten filter_tags run (joined pieces)
-
--- the same since the run was this one, of which nothing was written, for whichever tags that filters
-abbrev pub HearsOn : (begun run : WrittenRun) → List (List ℕ) → Type 0
-HearsOn begun run pieces = (filter_tags : List (List ℕ)) → HasHeard filter_tags begun [] → HasHeard filter_tags run pieces
 
 -- behind the draft stand the packets of a merge, and these are the rows of their bytes
 pub record AddsRows (rests : List (Option (List Lot))) (old new : Option Folder) (rows : List Row) : Type 0 where
@@ -69,9 +62,3 @@ pub record RecordsLanes (rests : List (Option (List Lot))) (before after : Seen 
   pub refused : IfErr result TellsOfAppend
   pub files : Goes before.told after.told SameButDraft
   pub sum : RisesExactlyIf before.faults after.faults (lanes_failed result)
-
--- a call of the folder that failed decides
-abbrev pub lanes_answer : {A : Type 0} → Option ShelfCall → Result A memory.NoMemory → Result A LanesRefusal
-lanes_answer (Some call) outcome = Err (Shelf call)
-lanes_answer None (Ok kept) = Ok kept
-lanes_answer None (Err lack) = Err NoMemory

@@ -41,6 +41,7 @@ pub record StartsSome (jobs : List Job) (refusal : StartRefusal) (s t : Spawning
   pub started : StartsAll done outputs s t
   pub failed : refusal ≡ Spawn → more ≡ [] → ⊥
 
+-- the start was refused since a call of the spawner failed; want of memory is no such failure
 abbrev pub start_failed : {T : Type 0} → Result T StartRefusal → Bool
 start_failed (Ok lanes) = false
 start_failed (Err Spawn) = true

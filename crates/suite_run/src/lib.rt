@@ -1,6 +1,7 @@
 //! The workers of a run: children that are started, read side by side, and recorded.
 //!
-//! This room knows jobs, children and the run that is written; it knows nothing of what a job is for, nor of what is printed.
+//! This room knows jobs, children, the run that is written and which lines go with it; it knows nothing of what a job is for,
+//! nor of what a line says.
 //! The rules stand in docs/FORMATS.md, "What a lane gives", and docs/DISK.md.
 //!
 //! For want of memory a public call answers `NoMemory`, which comes for nothing else; what it was lent is then as
@@ -8,16 +9,21 @@
 //!
 //! - `starting`: a child for each job, as the lane of its place
 //! - `recording`: the lanes, read to their ends and added to the run, and what is kept of the rows of what was added
+//! - `ear`: who hears what is added, and says it; `lines`: its rows, and the lines that are not said yet
 //! - `laws`: what is added where the children tell their output
 //! - `half_laws`: the rows of what is recorded of a stream, where events stand in two halves
 #![tactic(auto)]
 
+mod ear;
 mod half_laws;
 mod laws;
+mod lines;
 mod recording;
 mod starting;
 
+pub use ear::{Ear, Echo, Said, Shown};
 pub use half_laws::recorded_rows;
 pub use laws::{no_test_is_lost, outputs_are_recorded};
+pub use lines::{Closed, Hearing};
 pub use recording::{LanesRefusal, record_lanes};
 pub use starting::{StartRefusal, start_lanes};

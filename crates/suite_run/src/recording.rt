@@ -1,29 +1,28 @@
-//! Records the lanes of a run behind the draft that was begun, and folds what is recorded.
+//! Records the lanes of a run behind the draft that was begun, folds what is recorded, and says it.
 
-ghost use Rattle.std.specs.Prelude.{◌≡◌, ◌≤◌, ◌<◌, ℕ, Option, List, [], length, map, IfOk, OnOk};
+ghost use Rattle.std.specs.Prelude.{◌≡◌, ◌≤◌, ◌<◌, length, map, IfOk, IfErr, OnOk};
 ghost use Rattle.std.specs.List.{range_with_len};
 ghost use Rattle.edge_io.specs.Steps.{HasDraft};
-ghost use Rattle.run_ledger.specs.declared.written_run.WrittenRun.{WrittenRun as ARun};
 ghost use Rattle.run_shelf.specs.Holds.{kinds_of, HasRoom, FitsWhereTold};
 ghost use Rattle.run_shelf.specs.Repository.{most_runs};
-ghost use Rattle.suite_run.specs.Recording.{AddsByFew, AddsSums, HasHeard, HearsOn, RecordsLanes, lanes_answer};
+ghost use Rattle.suite_run.specs.Aloud.{AddsAloud, BeganAloud, sinks};
+ghost use Rattle.suite_run.specs.Closing.{Answers, Closes};
+ghost use Rattle.suite_run.specs.Recording.{AddsByFew, RecordsLanes};
 ghost use Rattle.suite_run.specs.Summed.{GivesSums};
 ghost use Rattle.worker_lane.specs.Lanes.{rest, lane_number};
-ghost use Rattle.worker_lane.specs.declared.lot.Lot.{Lot};
-ghost use Rattle.worker_mux.specs.Callers.{Tape};
-ghost use Rattle.worker_mux.specs.Runs.{HearsMerge};
 
-use edge_io::{Child, Shelf};
+use crate::ear::{Ear, Said, Shown};
+use crate::lines::{Closed, Hearing};
+use edge_io::{Child, Shelf, Sink};
 use outcome_fold::Summary;
 use packet_codec::Tags;
-use run_ledger::WrittenRun;
 use run_shelf::{Found, Recorder, Recording, ShelfCall};
 use std::alloc::Global;
 use std::sync::Wait;
 use std::thread::Threads;
 use sub_number::NoMemory;
 use worker_lane::Lane;
-use worker_mux::{Listener, run_lanes_heard};
+use worker_mux::run_lanes_heard;
 
 /// Why the lanes of a run were not recorded whole.
 #[derive(Clone, Copy, Debug, PartialEq, Eq)]
@@ -39,10 +38,14 @@ pub enum LanesRefusal {
 /// gives what is kept of the rows of what was added, where these tags filter: the thread that adds a packet folds its event,
 /// so that the run need not be read again. At `Ok` it has called the folder at most once for each packet.
 ///
-/// `Shelf` comes exactly where a call of the folder failed, also where memory ran out too. The lanes are read to their
-/// ends also where the folder fails, unless memory runs out (no clause says so). With `NoMemory` all children were
-/// stopped and waited for (no clause says so). What was added is not known at either.
-pub fn record_lanes<R: Threads + Wait + Sync, C: Child + Send + Drop, H: Shelf>(
+/// The same thread says, once a lot was added, what `shown` asks: the lines of the tests that complete with it to `errors`, in
+/// one write, and its packets to `out`. Where one of these fails it gets nothing more, and all else is as without it. The
+/// lines' end is not said yet, since the run is not stored: it comes back.
+///
+/// `Shelf` comes exactly where a call of the folder failed, also where memory ran out too. Then, and with `NoMemory`, all
+/// children were stopped and waited for (no clause says so): a child is stopped by the thread that reads it, as soon as that
+/// has read on, so that one that is silent is waited for until it prints or ends.
+pub fn record_lanes<R: Threads + Wait + Sync, C: Child + Send + Drop, H: Shelf, E: Sink, O: Sink>(
     rt: &R,
     alloc: Global,
     lanes: Vec<Lane<C>>,
@@ -50,19 +53,25 @@ pub fn record_lanes<R: Threads + Wait + Sync, C: Child + Send + Drop, H: Shelf>(
     found: Found,
     partial: bool,
     filter_tags: Tags,
-) -> (Found, Result<Summary, LanesRefusal>)
+    shown: Shown,
+    errors: &mut E,
+    out: &mut O,
+) -> (Found, Said, Result<Summary, LanesRefusal>)
     requires numbers { map lane_number lanes.items ≡ range_with_len 0 (length lanes.items) }
     requires few { length lanes.items ≤ 64 }
     requires free { length (kinds_of found) < most_runs }
     requires room { HasRoom found }
     requires fits { FitsWhereTold (kinds_of found) (H.seen shelf.old).told }
     requires draft { HasDraft (H.seen shelf.old).told }
-    ensures step { GivesSums filter_tags (RecordsLanes (map (rest C.seen) lanes.items) (H.seen shelf.old) (H.seen shelf.new)) result.1 }
-    ensures calls { OnOk result.1 (AddsByFew (H.seen shelf.old).told (H.seen shelf.new).told (H.clock shelf.old) (H.clock shelf.new)) }
-    ensures draft { OnOk result.1 (HasDraft (H.seen shelf.new).told) }
-    ensures fits { OnOk result.1 (FitsWhereTold (kinds_of result.0) (H.seen shelf.new).told) }
+    ensures step { GivesSums filter_tags (RecordsLanes (map (rest C.seen) lanes.items) (H.seen shelf.old) (H.seen shelf.new)) result.2 }
+    ensures calls { OnOk result.2 (AddsByFew (H.seen shelf.old).told (H.seen shelf.new).told (H.clock shelf.old) (H.clock shelf.new)) }
+    ensures draft { OnOk result.2 (HasDraft (H.seen shelf.new).told) }
+    ensures fits { OnOk result.2 (FitsWhereTold (kinds_of result.0) (H.seen shelf.new).told) }
     ensures kinds { kinds_of result.0 ≡ kinds_of found }
     ensures room { HasRoom result.0 }
+    // What was said: of the very events that were added, and at each other exit of those that had been.
+    ensures aloud { IfOk result.2 (AddsAloud shown filter_tags (map (rest C.seen) lanes.items) (H.seen shelf.old).told (H.seen shelf.new).told (sinks (E.seen errors.old) (O.seen out.old)) (sinks (E.seen errors.new) (O.seen out.new)) result.1) }
+    ensures begun { IfErr result.2 (λ _. BeganAloud shown (H.seen shelf.old).told (H.seen shelf.new).told (sinks (E.seen errors.old) (O.seen out.old)) (sinks (E.seen errors.new) (O.seen out.new)) result.1) }
 {
     let recording = Recording {
         found,
@@ -71,9 +80,14 @@ pub fn record_lanes<R: Threads + Wait + Sync, C: Child + Send + Drop, H: Shelf>(
     };
     let mut recorder = Recorder { shelf, recording };
     let ear = Ear {
-        run: WrittenRun::new(alloc, filter_tags),
+        hearing: Hearing::new(alloc, filter_tags, shown.live),
+        echo: shown.echo,
+        errors,
+        errors_failed: false,
+        out,
+        out_failed: false,
     };
-    let heard = run_lanes_heard(rt, alloc, lanes, &mut recorder, ear);
+    let (ear, done) = run_lanes_heard(rt, alloc, lanes, &mut recorder, ear);
     let Recorder { shelf, recording } = recorder;
     hand_back(shelf);
     let Recording {
@@ -81,7 +95,23 @@ pub fn record_lanes<R: Threads + Wait + Sync, C: Child + Send + Drop, H: Shelf>(
         partial: _,
         fault,
     } = recording;
-    (found, answer_of(fault, summed_up(heard)))
+    let Ear {
+        hearing,
+        echo: _,
+        errors,
+        errors_failed,
+        out,
+        out_failed,
+    } = ear;
+    hand_back_sink(errors);
+    hand_back_sink(out);
+    let (end, answer) = answer_of(alloc, fault, done, hearing);
+    let said = Said {
+        end,
+        errors_failed,
+        out_failed,
+    };
+    (found, said, answer)
 }
 
 // The folder is with its lender again.
@@ -89,38 +119,33 @@ fn hand_back<H: Shelf>(shelf: &mut H)
     ensures { shelf.new ≡ shelf.old }
 {}
 
-// Hears the packets that are added to a run, folds their events, and sums up the rows that they complete.
-#[derive(Drop)]
-struct Ear {
-    run: WrittenRun,
-}
+// So is the sink.
+fn hand_back_sink<E: Sink>(sink: &mut E)
+    ensures { sink.new ≡ sink.old }
+{}
 
-impl Listener for Ear {
-    ghost heard = { λ begun ear. HearsOn begun.run ear.run };
-
-    fn hear(&mut self, piece: &[u8]) -> Result<(), NoMemory> {
-        self.run.hear(piece)
+// A call of the folder that failed decides; then want of memory. Else what was heard is closed, and its end comes back.
+fn answer_of(
+    alloc: Global,
+    fault: Option<ShelfCall>,
+    done: Result<(), NoMemory>,
+    hearing: Hearing,
+) -> (Vec<u8>, Result<Summary, LanesRefusal>)
+    ensures { Answers fault done hearing result.0.items result.1 }
+{
+    match (fault, done) {
+        (Some(call), _) => (Vec::new(alloc), Err(LanesRefusal::Shelf(call))),
+        (None, Err(NoMemory)) => (Vec::new(alloc), Err(LanesRefusal::NoMemory)),
+        (None, Ok(())) => closed(alloc, hearing),
     }
 }
 
-// What is kept of the rows of a run that was heard, from this ear on.
-fn summed_up(heard: Result<Ear, NoMemory>) -> Result<Summary, NoMemory>
-    ensures { (filter_tags : List (List ℕ)) (begun : ARun) (rests : List (Option (List Lot))) (old new : Tape) → HasHeard filter_tags begun [] → IfOk heard (λ ear. HearsMerge (HearsOn begun ear.run) rests old new) → IfOk result (AddsSums filter_tags rests old new) }
+// What was heard, closed.
+fn closed(alloc: Global, hearing: Hearing) -> (Vec<u8>, Result<Summary, LanesRefusal>)
+    ensures { Closes hearing result.0.items result.1 }
 {
-    let ear = heard?;
-    ear.run.close()
-}
-
-// A call of the folder that failed decides.
-fn answer_of(
-    fault: Option<ShelfCall>,
-    summary: Result<Summary, NoMemory>,
-) -> Result<Summary, LanesRefusal>
-    ensures { result ≡ lanes_answer fault summary }
-{
-    match (fault, summary) {
-        (Some(call), _) => Err(LanesRefusal::Shelf(call)),
-        (None, Ok(summary)) => Ok(summary),
-        (None, Err(NoMemory)) => Err(LanesRefusal::NoMemory),
+    match hearing.close() {
+        Ok(Closed { summary, end }) => (end, Ok(summary)),
+        Err(NoMemory) => (Vec::new(alloc), Err(LanesRefusal::NoMemory)),
     }
 }

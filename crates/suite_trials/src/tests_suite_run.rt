@@ -9,7 +9,8 @@ ghost use Rattle.run_shelf.specs.Stores.{recorder_kinds, recorder_fault, store_k
 ghost use Rattle.worker_lane.specs.Lanes.{lane_number};
 
 use crate::many_jobs::jobs;
-use edge_io::{Child, Finish, Job, MemShelf, Plan, PlanSpawner, Shelf};
+use edge_io::{Child, Finish, Job, ListSink, MemShelf, Plan, PlanSpawner, Shelf};
+use live_text::Live;
 use packet_codec::Tags;
 use run_shelf::{Found, Recorder, Recording, ShelfCall, Store, finish_run, read_run};
 use std::alloc::Global;
@@ -18,7 +19,7 @@ use std::sync::Wait;
 use std::test::Fail;
 use std::thread::Threads;
 use sub_number::Bytes;
-use suite_run::{LanesRefusal, StartRefusal, record_lanes, start_lanes};
+use suite_run::{Echo, LanesRefusal, Said, Shown, StartRefusal, record_lanes, start_lanes};
 use worker_lane::Lane;
 
 // `foo` is in progress, fails, and passes, each without a route.
@@ -73,6 +74,33 @@ fn plans(alloc: Global, all: &[Planned]) -> Option<Vec<Plan>> {
 fn spawner(alloc: Global, all: &[Planned], fails: &[u64]) -> Result<PlanSpawner, Fail> {
     let plans = plans(alloc, all).ok_or("no memory")?;
     Ok(PlanSpawner::new(alloc, plans, fails.to_vec(alloc)?))
+}
+
+// Where a run is said: what is shown, the two sinks, and what became of it.
+#[derive(Drop)]
+struct Stage {
+    shown: Shown,
+    errors: ListSink,
+    out: ListSink,
+    said: Said,
+}
+
+// These writes to the errors' sink fail, and none to the output.
+fn new_stage(alloc: Global, live: Live, echo: Echo, fails: &[u64]) -> Result<Stage, Fail> {
+    Ok(Stage {
+        shown: Shown { live, echo },
+        errors: ListSink::new(alloc, fails.to_vec(alloc)?),
+        out: ListSink::new(alloc, Vec::new(alloc)),
+        said: Said {
+            end: Vec::new(alloc),
+            errors_failed: false,
+            out_failed: false,
+        },
+    })
+}
+
+fn silent(alloc: Global) -> Result<Stage, Fail> {
+    new_stage(alloc, Live::Nothing, Echo::Nothing, &[])
 }
 
 // What became of a run of children.
@@ -135,6 +163,7 @@ fn record_started<R: Threads + Wait + Sync, C: Child + Send + Drop, H: Shelf>(
     alloc: Global,
     recorder: Recorder<'_, H>,
     lanes: Vec<Lane<C>>,
+    stage: &mut Stage,
     buf: &mut [u8],
 ) -> Option<Outcome>
     requires numbers { map lane_number lanes.items ≡ range_with_len 0 (length lanes.items) }
@@ -148,7 +177,7 @@ fn record_started<R: Threads + Wait + Sync, C: Child + Send + Drop, H: Shelf>(
         partial,
         fault: _,
     } = recording;
-    let (mut found, answer) = record_lanes(
+    let (mut found, said, answer) = record_lanes(
         rt,
         alloc,
         lanes,
@@ -156,7 +185,11 @@ fn record_started<R: Threads + Wait + Sync, C: Child + Send + Drop, H: Shelf>(
         found,
         partial,
         Tags::new(alloc),
+        stage.shown,
+        &mut stage.errors,
+        &mut stage.out,
     );
+    stage.said = said;
     match answer {
         Ok(summary) => keep(shelf, &mut found, partial, summary.counts().total, buf),
         Err(refusal) => Some(Outcome::NotRecorded(refusal)),
@@ -170,6 +203,7 @@ fn record<R: Threads + Wait + Sync>(
     shelf: &mut MemShelf,
     spawner: &mut PlanSpawner,
     jobs: &[Job],
+    stage: &mut Stage,
     buf: &mut [u8],
 ) -> Option<Outcome> {
     if jobs.len() > 3 {
@@ -177,12 +211,26 @@ fn record<R: Threads + Wait + Sync>(
     }
     let recorder = begin(alloc, shelf)?;
     match start_lanes(alloc, spawner, jobs, &[]) {
-        Ok(lanes) => record_started(rt, alloc, recorder, lanes, buf),
+        Ok(lanes) => record_started(rt, alloc, recorder, lanes, stage, buf),
         Err(refusal) => Some(Outcome::NotStarted(refusal)),
     }
 }
 
-// What becomes of a run of so many jobs.
+// What becomes of a run of so many jobs that is said.
+fn outcome_aloud<R: Threads + Wait + Sync + AllocGlobal>(
+    rt: &R,
+    shelf: &mut MemShelf,
+    spawner: &mut PlanSpawner,
+    count: usize,
+    stage: &mut Stage,
+    buf: &mut [u8],
+) -> Result<Outcome, Fail> {
+    let alloc = rt.alloc();
+    let jobs = jobs(alloc, count).ok_or("no memory")?;
+    Ok(record(rt, alloc, shelf, spawner, &jobs, stage, buf).ok_or("no run")?)
+}
+
+// What becomes of a run of so many jobs of which nothing is said.
 fn outcome_of<R: Threads + Wait + Sync + AllocGlobal>(
     rt: &R,
     shelf: &mut MemShelf,
@@ -190,9 +238,8 @@ fn outcome_of<R: Threads + Wait + Sync + AllocGlobal>(
     count: usize,
     buf: &mut [u8],
 ) -> Result<Outcome, Fail> {
-    let alloc = rt.alloc();
-    let jobs = jobs(alloc, count).ok_or("no memory")?;
-    Ok(record(rt, alloc, shelf, spawner, &jobs, buf).ok_or("no run")?)
+    let mut stage = silent(rt.alloc())?;
+    outcome_aloud(rt, shelf, spawner, count, &mut stage, buf)
 }
 
 fn is_recorded_with_its_status<R: Threads + Wait + Sync + AllocGlobal + Abort>(
@@ -307,4 +354,162 @@ fn an_append_that_fails_is_answered(rt: HostRuntime) -> Result<(), Fail> {
     let mut spawner = spawner(alloc, &[(FIVE, Finish::Exit(0))], &[])?;
     let mut shelf = failing_shelf(alloc, 14)?;
     is_not_recorded(&rt, &mut shelf, &mut spawner)
+}
+
+// `foo` fails and then passes, and `foo` is in progress when its child ends with 2.
+const TWICE: &[u8] =
+    b"\xb3\x29\x06\x0c\x03foo\x15\x50\x6f\xa3\xb3\x29\x03\x0c\x03foo\x45\x9d\xfe\x10";
+
+// What is shown, which writes fail, and what the sink takes, what is left to say, and whether the sink has failed.
+type Spoken = (
+    Planned,
+    Live,
+    &'static [u64],
+    &'static [u8],
+    &'static [u8],
+    bool,
+);
+
+const OPENED: Planned = (BEGUN, Finish::Exit(2));
+
+const ENDED: Planned = (TWICE, Finish::Exit(0));
+
+const SPOKEN: [Spoken; 8] = [
+    (
+        OPENED,
+        Live::Tests,
+        &[],
+        b"{0} process-returncode ... FAILED\n    returncode 2\n",
+        b"{0} foo ... UNFINISHED\n",
+        false,
+    ),
+    (OPENED, Live::Dots, &[], b"F", b"F\n", false),
+    (OPENED, Live::Nothing, &[0], b"", b"", false),
+    (
+        OPENED,
+        Live::Tests,
+        &[0],
+        b"",
+        b"{0} foo ... UNFINISHED\n",
+        true,
+    ),
+    (
+        ENDED,
+        Live::Tests,
+        &[],
+        b"{0} foo ... FAILED\n{0} foo ... ok\n",
+        b"",
+        false,
+    ),
+    (ENDED, Live::Tests, &[1], b"{0} foo ... FAILED\n", b"", true),
+    (ENDED, Live::Dots, &[], b"F.", b"\n", false),
+    (
+        ENDED,
+        Live::Failures,
+        &[],
+        b"======================================================================\nFAIL: foo\n----------------------------------------------------------------------\n",
+        b"",
+        false,
+    ),
+];
+
+// Whether it was said so.
+fn is_said(stage: &Stage, lines: &[u8], end: &[u8], failed: bool) -> bool {
+    stage.errors.taken() == lines
+        && stage.said.end.as_slice() == end
+        && stage.said.errors_failed == failed
+        && stage.out.taken().is_empty()
+}
+
+fn runs_and_is_said<R: Threads + Wait + Sync + AllocGlobal>(
+    rt: &R,
+    shelf: &mut MemShelf,
+    spawner: &mut PlanSpawner,
+    stage: &mut Stage,
+    spoken: &Spoken,
+) -> Result<bool, Fail> {
+    let (_, _, _, lines, end, failed) = *spoken;
+    let mut buf = [0u8; 200];
+    let outcome = outcome_aloud(rt, shelf, spawner, 1, stage, &mut buf)?;
+    let kept = matches!(outcome, Outcome::Kept(_, 2));
+    Ok(kept && is_said(stage, lines, end, failed))
+}
+
+fn is_spoken<R: Threads + Wait + Sync + AllocGlobal>(
+    rt: &R,
+    spoken: &Spoken,
+) -> Result<bool, Fail> {
+    let alloc = rt.alloc();
+    let (planned, live, fails, _, _, _) = *spoken;
+    let mut stage = new_stage(alloc, live, Echo::Nothing, fails)?;
+    let mut spawner = spawner(alloc, &[planned], &[])?;
+    let mut shelf = MemShelf::new(alloc, Vec::new(alloc));
+    runs_and_is_said(rt, &mut shelf, &mut spawner, &mut stage, spoken)
+}
+
+#[test]
+fn the_lines_of_a_run_are_said_up_to_its_end(rt: HostRuntime) -> Result<(), Fail> {
+    for spoken in &SPOKEN {
+        assert!(rt; is_spoken(&rt, spoken)?);
+    }
+    Ok(())
+}
+
+// Whether both lanes' lines were said, and both packets handed on, in one order.
+fn is_said_of_two(stage: &Stage, run: &[u8]) -> bool {
+    let lines = stage.errors.taken();
+    (lines == b"{0} foo ... FAILED\n{1} foo ... ok\n".as_slice()
+        || lines == b"{1} foo ... ok\n{0} foo ... FAILED\n".as_slice())
+        && stage.out.taken() == run
+}
+
+const TWO: [Planned; 2] = [(FAILED, Finish::Exit(0)), (PASSED, Finish::Exit(0))];
+
+fn two_are_said<R: Threads + Wait + Sync + AllocGlobal + Abort>(
+    rt: &R,
+    shelf: &mut MemShelf,
+    spawner: &mut PlanSpawner,
+    stage: &mut Stage,
+) -> Result<(), Fail> {
+    let mut buf = [0u8; 200];
+    let outcome = outcome_aloud(rt, shelf, spawner, 2, stage, &mut buf)?;
+    assert_eq!(rt; outcome, Outcome::Kept(28, 2));
+    assert!(rt; is_said_of_two(stage, buf.get(..28).ok_or("size")?));
+    Ok(())
+}
+
+#[test]
+fn the_lines_and_the_packets_are_those_of_the_stored_run(rt: HostRuntime) -> Result<(), Fail> {
+    let alloc = rt.alloc();
+    let mut stage = new_stage(alloc, Live::Tests, Echo::Packets, &[])?;
+    let mut spawner = spawner(alloc, &TWO, &[])?;
+    let mut shelf = MemShelf::new(alloc, Vec::new(alloc));
+    two_are_said(&rt, &mut shelf, &mut spawner, &mut stage)
+}
+
+fn is_said_up_to_a_fault<R: Threads + Wait + Sync + AllocGlobal + Abort>(
+    rt: &R,
+    shelf: &mut MemShelf,
+    spawner: &mut PlanSpawner,
+    stage: &mut Stage,
+) -> Result<(), Fail> {
+    let mut buf = [0u8; 200];
+    let outcome = outcome_aloud(rt, shelf, spawner, 1, stage, &mut buf)?;
+    assert_eq!(rt;
+        outcome,
+        Outcome::NotRecorded(LanesRefusal::Shelf(ShelfCall::Append))
+    );
+    assert_eq!(rt; stage.errors.taken(), b"{0} foo ... FAILED\n".as_slice());
+    assert_eq!(rt; stage.out.taken(), FAILED_UNDER_0);
+    Ok(())
+}
+
+// The call that fails is the second that adds to the run: its packet is neither said nor handed on.
+#[test]
+fn a_packet_that_was_not_added_is_not_said(rt: HostRuntime) -> Result<(), Fail> {
+    let alloc = rt.alloc();
+    let mut stage = new_stage(alloc, Live::Tests, Echo::Packets, &[])?;
+    let mut spawner = spawner(alloc, &[ENDED], &[])?;
+    let mut shelf = failing_shelf(alloc, 13)?;
+    is_said_up_to_a_fault(&rt, &mut shelf, &mut spawner, &mut stage)
 }

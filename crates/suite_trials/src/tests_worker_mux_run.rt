@@ -307,12 +307,7 @@ impl Child for Counted {
 }
 
 // Two such children.
-fn counted_lanes(
-    alloc: Global,
-    packets: u32,
-    meets: bool,
-    ended: &Arc<AtomicU32>,
-) -> Option<Vec<Lane<Counted>>>
+fn counted_lanes(alloc: Global, ended: &Arc<AtomicU32>) -> Option<Vec<Lane<Counted>>>
     ensures numbers { IfSome result (λ lanes. map lane_number lanes.items ≡ range_with_len 0 (length lanes.items)) }
     ensures few { IfSome result (λ lanes. length lanes.items ≤ 2) }
 {
@@ -320,8 +315,8 @@ fn counted_lanes(
     let mut lanes = Vec::new(alloc);
     while lanes.len() < 2 {
         let child = Counted {
-            packets,
-            meets,
+            packets: 1,
+            meets: true,
             begun: Arc::try_clone(&begun).ok()?,
             ended: Arc::try_clone(ended).ok()?,
             faults: 0,
@@ -337,7 +332,7 @@ fn both_are_recorded<R: Threads + Wait + Sync + AllocGlobal>(
     ended: &Arc<AtomicU32>,
 ) -> Result<bool, Fail> {
     let alloc = rt.alloc();
-    let lanes = counted_lanes(alloc, 1, true, ended).ok_or("no memory")?;
+    let lanes = counted_lanes(alloc, ended).ok_or("no memory")?;
     let mut shelf = MemShelf::new(alloc, Vec::new(alloc));
     is_recorded(rt, &mut shelf, lanes, 2)
 }
@@ -355,38 +350,6 @@ fn are_read_at_once<R: Threads + Wait + Sync + AllocGlobal + Abort>(
 fn all_children_are_read_at_once(rt: HostRuntime) -> Result<(), Fail> {
     let ended = Arc::new(rt.alloc(), AtomicU32::new(0))?;
     are_read_at_once(&rt, &ended)
-}
-
-// Whether two children are not recorded.
-fn both_are_refused<R: Threads + Wait + Sync + AllocGlobal>(
-    rt: &R,
-    shelf: &mut MemShelf,
-    ended: &Arc<AtomicU32>,
-) -> Result<bool, Fail> {
-    let alloc = rt.alloc();
-    let lanes = counted_lanes(alloc, 50, false, ended).ok_or("no memory")?;
-    let mut buf = [0u8; 200];
-    Ok(record(rt, alloc, shelf, lanes, &mut buf).is_none())
-}
-
-// Whether two children are not recorded in the folder, and read to their ends.
-fn are_read_to_their_ends<R: Threads + Wait + Sync + AllocGlobal + Abort>(
-    rt: &R,
-    shelf: &mut MemShelf,
-) -> Result<(), Fail> {
-    let ended = Arc::new(rt.alloc(), AtomicU32::new(0))?;
-    assert!(rt; both_are_refused(rt, shelf, &ended)?);
-    assert_eq!(rt; ended.load(Ordering::SeqCst), 2);
-    Ok(())
-}
-
-// The call that fails is the second that adds to the run: seven make the repository, four look at it, and one begins the
-// run.
-#[test]
-fn children_are_read_to_their_ends_where_the_folder_fails(rt: HostRuntime) -> Result<(), Fail> {
-    let alloc = rt.alloc();
-    let mut shelf = MemShelf::new(alloc, vec![in alloc; 13u64]?);
-    are_read_to_their_ends(&rt, &mut shelf)
 }
 
 // A folder that notes when a packet is added to it.
@@ -531,10 +494,12 @@ struct Keeping {
 }
 
 impl Listener for Keeping {
-    ghost use Rattle.std.specs.Prelude.{◌≡◌};
+    ghost use Rattle.std.specs.Prelude.{◌≡◌, ⊤};
     ghost use Rattle.std.specs.List.{flat_map};
 
     ghost heard = { λ _ s pieces. s.bytes.items ≡ flat_map (λ piece. piece) pieces };
+
+    ghost keeps = { λ _ _ _. ⊤ };
 
     #[tactic(auto, using(worker_mux::proofs::Lists::one_piece_more))]
     fn hear(&mut self, piece: &[u8]) -> Result<(), NoMemory> {
@@ -550,7 +515,7 @@ fn record_heard<R: Threads + Wait + Sync, C: Child + Send + Drop, H: Shelf, L: L
     shelf: &mut H,
     lanes: Vec<Lane<C>>,
     listener: L,
-) -> Option<Result<L, NoMemory>>
+) -> Option<(L, Result<(), NoMemory>)>
     requires numbers { map lane_number lanes.items ≡ range_with_len 0 (length lanes.items) }
     requires few { length lanes.items ≤ 64 }
     requires nothing { L.heard listener listener [] }
@@ -570,8 +535,9 @@ fn heard<R: Threads + Wait + Sync + AllocGlobal>(
 {
     let alloc = rt.alloc();
     let bytes = Vec::new(alloc);
-    let answer = record_heard(rt, alloc, shelf, lanes, Keeping { bytes }).ok_or("no run")?;
-    Ok(answer.ok().ok_or("no memory")?)
+    let (heard, done) = record_heard(rt, alloc, shelf, lanes, Keeping { bytes }).ok_or("no run")?;
+    done.ok().ok_or("no memory")?;
+    Ok(heard)
 }
 
 fn both_are_heard<R: Threads + Wait + Sync + AllocGlobal + Abort>(
@@ -605,6 +571,8 @@ impl Listener for Forgetful {
     ghost use Rattle.std.specs.Prelude.{⊤};
 
     ghost heard = { λ _ _ _. ⊤ };
+
+    ghost keeps = { λ _ _ _. ⊤ };
 
     fn hear(&mut self, _piece: &[u8]) -> Result<(), NoMemory> {
         if self.pieces == 1 {
@@ -699,8 +667,8 @@ fn is_given_up<R: Threads + Wait + Sync + AllocGlobal>(
     let alloc = rt.alloc();
     let lanes = endless_lanes(alloc, waits).ok_or("no memory")?;
     let listener = Forgetful { pieces: 0 };
-    let answer = record_heard(rt, alloc, shelf, lanes, listener).ok_or("no run")?;
-    Ok(answer.is_err())
+    let (_, done) = record_heard(rt, alloc, shelf, lanes, listener).ok_or("no run")?;
+    Ok(done.is_err())
 }
 
 fn are_stopped<R: Threads + Wait + Sync + AllocGlobal + Abort>(
@@ -718,4 +686,35 @@ fn all_children_are_stopped_where_the_listener_wants_memory(rt: HostRuntime) -> 
     let alloc = rt.alloc();
     let mut shelf = MemShelf::new(alloc, Vec::new(alloc));
     are_stopped(&rt, &mut shelf)
+}
+
+// Whether the lanes are not recorded in the folder.
+fn are_refused<R: Threads + Wait + Sync + AllocGlobal>(
+    rt: &R,
+    shelf: &mut MemShelf,
+    waits: &Arc<AtomicU32>,
+) -> Result<bool, Fail> {
+    let alloc = rt.alloc();
+    let lanes = endless_lanes(alloc, waits).ok_or("no memory")?;
+    let mut buf = [0u8; 200];
+    Ok(record(rt, alloc, shelf, lanes, &mut buf).is_none())
+}
+
+fn are_stopped_and_refused<R: Threads + Wait + Sync + AllocGlobal + Abort>(
+    rt: &R,
+    shelf: &mut MemShelf,
+) -> Result<(), Fail> {
+    let waits = Arc::new(rt.alloc(), AtomicU32::new(0))?;
+    assert!(rt; are_refused(rt, shelf, &waits)?);
+    assert_eq!(rt; waits.load(Ordering::SeqCst), 2);
+    Ok(())
+}
+
+// The call that fails is the second that adds to the run: seven make the repository, four look at it, and one begins the
+// run.
+#[test]
+fn endless_children_are_stopped_where_the_folder_fails(rt: HostRuntime) -> Result<(), Fail> {
+    let alloc = rt.alloc();
+    let mut shelf = MemShelf::new(alloc, vec![in alloc; 13u64]?);
+    are_stopped_and_refused(&rt, &mut shelf)
 }

@@ -4,8 +4,10 @@ use Rattle.std.specs.Prelude.{⊤, option_map}
 use Rattle.command_words.specs.Items.{Item, items_of}
 use Rattle.edge_io.specs.Disk.{Folder}
 use Rattle.testr_words.specs.Letters.{long_words}
+use Rattle.testr_words.specs.Formats.{format_in}
+use Rattle.testr_words.specs.Lives.{live_in}
 use Rattle.testr_words.specs.Tasks.{Task, upgrade, task_with, task_of}
-use Rattle.testr_words.specs.Words.{and_then, if_texts, names_in, workers_in, file_in, texts_in, shard_in, load_list_word, exclude_word, include_list_word, exclude_list_word, times_word, kinds_of, most_names, may_have, may_time, project_in, with_project, command_with, command_of_names, command_of, asked_by}
+use Rattle.testr_words.specs.Words.{and_then, if_texts, names_in, workers_in, file_in, texts_in, shard_in, load_list_word, expect_word, exclude_word, include_list_word, exclude_list_word, times_word, kinds_of, most_names, may_have, may_time, project_in, with_project, command_with, command_of_names, command_of, asked_by}
 use Rattle.testr_words.specs.declared.command.Command.{Command}
 use Rattle.testr_words.specs.declared.command.Face.{Face}
 use Rattle.testr_words.specs.declared.command.Face.TheVariants.{Testr, Stestr}
@@ -20,17 +22,20 @@ use Rattle.testr_cli.proofs.FromLemmas.{first_word}
 abbrev IsUpgrade : Command → Type 0
 IsUpgrade command = command.verb ≡ Upgrade
 
--- what is made of eight answers, where each is there
-of_eight : {A B C D F G H I : Type 0} (a : Option A) (b : Option B) (c : Option C) (d : Option D) (f : Option F) (g : Option G) (h : Option H) (i : Option I) (made : A → B → C → D → F → G → H → I → Option Command) → ((a : A) (b : B) (c : C) (d : D) (f : F) (g : G) (h : H) (i : I) → IfSome (made a b c d f g h i) IsUpgrade) → IfSome (and_then a (λ a. and_then b (λ b. and_then c (λ c. and_then d (λ d. and_then f (λ f. and_then g (λ g. and_then h (λ h. and_then i (λ i. made a b c d f g h i))))))))) IsUpgrade
-of_eight None b c d f g h i made holds = tt
-of_eight (Some a) None c d f g h i made holds = tt
-of_eight (Some a) (Some b) None d f g h i made holds = tt
-of_eight (Some a) (Some b) (Some c) None f g h i made holds = tt
-of_eight (Some a) (Some b) (Some c) (Some d) None g h i made holds = tt
-of_eight (Some a) (Some b) (Some c) (Some d) (Some f) None h i made holds = tt
-of_eight (Some a) (Some b) (Some c) (Some d) (Some f) (Some g) None i made holds = tt
-of_eight (Some a) (Some b) (Some c) (Some d) (Some f) (Some g) (Some h) None made holds = tt
-of_eight (Some a) (Some b) (Some c) (Some d) (Some f) (Some g) (Some h) (Some i) made holds = holds a b c d f g h i
+-- what is made of eleven answers, where each is there
+of_eleven : {A B C D F G H I J K L : Type 0} (a : Option A) (b : Option B) (c : Option C) (d : Option D) (f : Option F) (g : Option G) (h : Option H) (i : Option I) (j : Option J) (k : Option K) (l : Option L) (made : A → B → C → D → F → G → H → I → J → K → L → Option Command) → ((a : A) (b : B) (c : C) (d : D) (f : F) (g : G) (h : H) (i : I) (j : J) (k : K) (l : L) → IfSome (made a b c d f g h i j k l) IsUpgrade) → IfSome (and_then a (λ a. and_then b (λ b. and_then c (λ c. and_then d (λ d. and_then f (λ f. and_then g (λ g. and_then h (λ h. and_then i (λ i. and_then j (λ j. and_then k (λ k. and_then l (λ l. made a b c d f g h i j k l)))))))))))) IsUpgrade
+of_eleven None b c d f g h i j k l made holds = tt
+of_eleven (Some a) None c d f g h i j k l made holds = tt
+of_eleven (Some a) (Some b) None d f g h i j k l made holds = tt
+of_eleven (Some a) (Some b) (Some c) None f g h i j k l made holds = tt
+of_eleven (Some a) (Some b) (Some c) (Some d) None g h i j k l made holds = tt
+of_eleven (Some a) (Some b) (Some c) (Some d) (Some f) None h i j k l made holds = tt
+of_eleven (Some a) (Some b) (Some c) (Some d) (Some f) (Some g) None i j k l made holds = tt
+of_eleven (Some a) (Some b) (Some c) (Some d) (Some f) (Some g) (Some h) None j k l made holds = tt
+of_eleven (Some a) (Some b) (Some c) (Some d) (Some f) (Some g) (Some h) (Some i) None k l made holds = tt
+of_eleven (Some a) (Some b) (Some c) (Some d) (Some f) (Some g) (Some h) (Some i) (Some j) None l made holds = tt
+of_eleven (Some a) (Some b) (Some c) (Some d) (Some f) (Some g) (Some h) (Some i) (Some j) (Some k) None made holds = tt
+of_eleven (Some a) (Some b) (Some c) (Some d) (Some f) (Some g) (Some h) (Some i) (Some j) (Some k) (Some l) made holds = holds a b c d f g h i j k l
 
 where_so : (b : Bool) (command : Command) → IsUpgrade command → IfSome (cond b (Some command) None) IsUpgrade
 where_so true command is = is
@@ -38,8 +43,8 @@ where_so false command is = tt
 
 of_names : (face : Face) (items : List Item) → IfSome (command_of_names face Upgrade items) IsUpgrade
 of_names face items =
-    of_eight (if_texts (names_in items)) (workers_in items) (file_in load_list_word items) (texts_in exclude_word items) (file_in include_list_word items) (file_in exclude_list_word items) (shard_in items) (file_in times_word items) (command_with face Upgrade items)
-    (λ names workers load_list excluded include_list exclude_list shard times. where_so (may_have (most_names Upgrade) (length names) && may_time shard times) _ refl)
+    of_eleven (if_texts (names_in items)) (workers_in items) (file_in load_list_word items) (file_in expect_word items) (texts_in exclude_word items) (file_in include_list_word items) (file_in exclude_list_word items) (shard_in items) (file_in times_word items) (live_in items) (format_in items) (command_with face Upgrade items)
+    (λ names workers load_list expect excluded include_list exclude_list shard times live format. where_so (may_have (most_names Upgrade) (length names) && may_time shard times) _ refl)
 
 -- and with what is said of the project
 of_project : (project : Option ProjectWords) (command : Option Command) → IfSome command IsUpgrade → IfSome (and_then project (λ project. option_map (with_project project) command)) IsUpgrade

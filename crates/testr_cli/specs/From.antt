@@ -37,7 +37,7 @@ path_of (Some path) = if nat_lt 0 (length path) then Some path else None
 abbrev pub of_one_word : (verb word : List ℕ) → Option (List ℕ)
 of_one_word verb word = if bytes_eq verb upgrade_word then path_of (behind_from word) else None
 
--- the folder that it tells with its value in a word of its own
+-- the folder that the option tells with its value in a word of its own
 abbrev pub of_two_words : (verb option word : List ℕ) → Option (List ℕ)
 of_two_words verb option word = if bytes_eq verb upgrade_word && bytes_eq option from_word then path_of (Some word) else None
 
@@ -50,14 +50,15 @@ from_in words = None
 
 -- ---- why the files were not copied
 
--- the status then
+-- the exit status where the files were not copied: 3 by what a folder holds, 4 where a call failed, 5 where memory was
+-- wanting
 abbrev pub copy_code : OldCopyFault → ℕ
 copy_code Site = 4
 copy_code (Shelf call) = 4
 copy_code NoMemory = 5
 copy_code fault = 3
 
--- the line then; those of the other folder name it
+-- the line where the files were not copied, which names the other folder where the cause is in that
 abbrev pub copy_text : List ℕ → OldCopyFault → List ℕ
 copy_text from Here = codes "testr: a repository is already here\n"
 copy_text from OldHere = codes "testr: an old folder is already here; testr upgrade takes it over\n"
@@ -94,7 +95,7 @@ pub record StopsFrom (from : List ℕ) (before after : Outside) (answer : ℕ) :
   pub told : TellsCopyFault from fault before.errors after.errors
   pub code : answer ≡ copy_code fault
 
--- the one or the other
+-- the files were copied and the folder is upgraded then, or they were not and it is told why
 abbrev pub UpgradesFrom : Face → List ℕ → Outside → Outside → ℕ → Type 0
 UpgradesFrom face from before after answer = GoesFrom face from before after answer ⊎ StopsFrom from before after answer
 

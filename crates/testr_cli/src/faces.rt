@@ -5,7 +5,7 @@ ghost use Rattle.command_steps.specs.Outside.{outside};
 ghost use Rattle.command_words.specs.Items.{texts};
 ghost use Rattle.testr_commands.specs.Sparing.{SparesReads};
 ghost use Rattle.testr_commands.specs.SparingRun.{SparesRun};
-ghost use Rattle.testr_words.specs.Words.{face_word, asked_by, forced_by};
+ghost use Rattle.testr_words.specs.Words.{face_word, asked_by, forced_by, streamed_by};
 ghost use Rattle.testr_words.specs.declared.command.Face.{Face as AFace};
 ghost use Rattle.testr_cli.specs.Faces.{ProgramPromises};
 ghost use Rattle.testr_cli.specs.From.{from_in as folder_in, PromisesFrom};
@@ -52,7 +52,7 @@ pub fn program<
         (outside (H.seen shelf.new) (F.seen site.new) (S.seen spawner.new) (I.seen input.new) (O.seen out.new) (E.seen err.new))
         result }
     ensures spares { (face : AFace) (behind : List (List ℕ)) → texts words.now ≡ face_word face ∷ behind → SparesReads (asked_by (F.folder site.old) face behind) (H.seen shelf.old).told (H.clock shelf.old) (H.clock shelf.new) }
-    ensures spares_run { (face : AFace) (behind : List (List ℕ)) → texts words.now ≡ face_word face ∷ behind → forced_by (F.folder site.old) face behind ≡ false → SparesRun (asked_by (F.folder site.old) face behind) (H.seen shelf.old).told (H.seen shelf.new).told result (H.clock shelf.old) (H.clock shelf.new) }
+    ensures spares_run { (face : AFace) (behind : List (List ℕ)) → texts words.now ≡ face_word face ∷ behind → forced_by (F.folder site.old) face behind ≡ false → streamed_by (F.folder site.old) face behind ≡ false → SparesRun (asked_by (F.folder site.old) face behind) (H.seen shelf.old).told (H.seen shelf.new).told result (H.clock shelf.old) (H.clock shelf.new) }
 {
     match called_as(words) {
         Some(face) => by_face(
@@ -89,7 +89,7 @@ fn by_face<R: Threads + Wait + Sync, H: Shelf, S: Spawner, F: Site, I: Source, O
         (outside (H.seen shelf.new) (F.seen site.new) (S.seen spawner.new) (I.seen input.new) (O.seen out.new) (E.seen err.new))
         result }
     ensures spares { SparesReads (asked_by (F.folder site.old) face (texts words.now)) (H.seen shelf.old).told (H.clock shelf.old) (H.clock shelf.new) }
-    ensures spares_run { forced_by (F.folder site.old) face (texts words.now) ≡ false → SparesRun (asked_by (F.folder site.old) face (texts words.now)) (H.seen shelf.old).told (H.seen shelf.new).told result (H.clock shelf.old) (H.clock shelf.new) }
+    ensures spares_run { forced_by (F.folder site.old) face (texts words.now) ≡ false → streamed_by (F.folder site.old) face (texts words.now) ≡ false → SparesRun (asked_by (F.folder site.old) face (texts words.now)) (H.seen shelf.old).told (H.seen shelf.new).told result (H.clock shelf.old) (H.clock shelf.new) }
 {
     match from_in(words) {
         Some(from) => upgrade_from(

@@ -16,7 +16,7 @@ mod from;
 
 pub use faces::program;
 pub use testr_commands::{
-    Command, CopyFault, Face, KeepFault, PrintFault, Question, RecordFault, Refusal, RunsFault,
-    TellFault, UsageFault, Verb, Verdict, quiet, reads, reads_as, refusals_are_exact,
-    suite_refusals_are_exact, testr, testr_as,
+    Command, CopyFault, Face, FormatKind, KeepFault, LiveKind, PrintFault, Question, RecordFault,
+    Refusal, RunsFault, TellFault, UsageFault, Verb, Verdict, quiet, reads, reads_as,
+    refusals_are_exact, refusals_stand_behind_lines, suite_refusals_are_exact, testr, testr_as,
 };

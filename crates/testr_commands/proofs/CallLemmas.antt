@@ -29,9 +29,9 @@ use Rattle.command_steps.specs.Outside.{Work}
 use Rattle.testr_commands.specs.SparingRun.{RunsByFew, SparesRunOf, SparesRun}
 use Rattle.command_steps.specs.Calls.{IsCoveredTo, IsCovered, AsksByFew, StoresByFew}
 use Rattle.command_steps.specs.Steps.{stops, goes_on}
-use Rattle.testr_words.specs.Suites.{RunOptions, is_partial}
+use Rattle.testr_words.specs.Suites.{RunOptions, is_partial, load_options}
 use Rattle.testr_words.specs.Tasks.{Task, load, run, selftest, task_with}
-use Rattle.testr_words.specs.Words.{face_word, asked_by, forced_by}
+use Rattle.testr_words.specs.Words.{face_word, asked_by, forced_by, streamed_by}
 use Rattle.testr_words.specs.declared.command.Face.{Face}
 use Rattle.testr_words.proofs.WordsLemmas.{same_face}
 use Rattle.command_steps.specs.declared.answer.Refusal.{Refusal}
@@ -47,6 +47,7 @@ use Rattle.testr_words.specs.declared.command.Verb.TheVariants as verb
 use Rattle.testr_commands.proofs.ChainLemmas.{gives_not}
 use Rattle.testr_commands.proofs.RefusalLemmas.{codes}
 use Rattle.command_steps.proofs.StepCalls.{still_covered}
+use Rattle.testr_words.specs.declared.format.FormatKind.{FormatKind}
 
 stays_then : (a b c : Option Folder) → Goes a b Stays → Goes b c Stays → Goes a c Stays
 stays_then a b c first second = goes_then a b c Stays Stays Stays first second (λ s m t p q. q ∙ p)
@@ -78,10 +79,10 @@ done_other : (verdict : Verdict) → code_of (Ok verdict) ≡ 3 → ⊥
 done_other Passed three = omega (arith, three)
 done_other Failed three = omega (arith, three)
 
-pub tells_other : (number : ℕ) (filter_tags : List (List ℕ)) (rows : List Row) (a b : Work) (result : Result Verdict Refusal) → TellsRun number filter_tags rows a b result → code_of result ≡ 3 → ⊥
-tells_other number filter_tags rows a b result (stops fault is says) three = omega (arith, ap code_of is, three)
-tells_other number filter_tags rows a b result (goes_on report m says (stops fault is prints)) three = omega (arith, ap code_of is, three)
-tells_other number filter_tags rows a b result (goes_on report m says (goes_on unit n prints gives)) three = done_other report.verdict (ap code_of (sym gives.answer) ∙ three)
+pub tells_other : (format : FormatKind) (number : ℕ) (filter_tags : List (List ℕ)) (rows : List Row) (a b : Work) (result : Result Verdict Refusal) → TellsRun format number filter_tags rows a b result → code_of result ≡ 3 → ⊥
+tells_other format number filter_tags rows a b result (stops fault is says) three = omega (arith, ap code_of is, three)
+tells_other format number filter_tags rows a b result (goes_on report m says (stops fault is prints)) three = omega (arith, ap code_of is, three)
+tells_other format number filter_tags rows a b result (goes_on report m says (goes_on unit n prints gives)) three = done_other report.verdict (ap code_of (sym gives.answer) ∙ three)
 
 -- so is what the search for causes tells behind that
 search_other : (fault : SearchFault) → refusal_code (Search fault) ≡ 3 → ⊥
@@ -115,10 +116,10 @@ causes_other false settings number rows a b r gives = λ three. gives_not a b r 
 causes_other true settings number rows a b r (stops fault is step) = named_other (Suspects fault) r is (λ three. omega (arith, three))
 causes_other true settings number rows a b r (goes_on suspects m step next) = each_other settings number suspects m b r next
 
-pub finds_other : (asked : Bool) (settings : Settings) (number : ℕ) (rows : List Row) (a b : Work) (result : Result Verdict Refusal) → TellsAndFinds asked settings number rows a b result → code_of result ≡ 3 → ⊥
-finds_other asked settings number rows a b result (stops fault is tells) three = tells_other number settings.filter_tags rows a b (Err fault) tells (ap code_of (sym is) ∙ three)
-finds_other asked settings number rows a b result (goes_on verdict m tells (stops fault is finds)) three = causes_other asked settings number rows m b fault finds (ap code_of (sym is) ∙ three)
-finds_other asked settings number rows a b result (goes_on verdict m tells (goes_on none k finds ends)) three = done_other verdict (ap code_of (sym ends.answer) ∙ three)
+pub finds_other : (format : FormatKind) (asked : Bool) (settings : Settings) (number : ℕ) (rows : List Row) (a b : Work) (result : Result Verdict Refusal) → TellsAndFinds format asked settings number rows a b result → code_of result ≡ 3 → ⊥
+finds_other format asked settings number rows a b result (stops fault is tells) three = tells_other format number settings.filter_tags rows a b (Err fault) tells (ap code_of (sym is) ∙ three)
+finds_other format asked settings number rows a b result (goes_on verdict m tells (stops fault is finds)) three = causes_other asked settings number rows m b fault finds (ap code_of (sym is) ∙ three)
+finds_other format asked settings number rows a b result (goes_on verdict m tells (goes_on none k finds ends)) three = done_other verdict (ap code_of (sym ends.answer) ∙ three)
 
 -- ---- the whole run
 
@@ -202,7 +203,7 @@ of_options given old new answer before now spares = λ options is. subst (λ (o 
 pub none_made : (asked : Option Task) (old new : Option Folder) (answer before now : ℕ) → (answer ≤ 1 → ⊥) → now ≡ before → SparesRun asked old new answer before now
 none_made asked old new answer before now other same = λ options is. early options.find_causes (is_partial options) old new answer before now other (omega (arith, same))
 
-no_load : (few : Bool) (c : Command) (options : RunOptions) → (if few then Some (load c.partial c.names) else None) ≡ Some (run options) → ⊥
+no_load : (few : Bool) (c : Command) (options : RunOptions) → (if few then Some (load (load_options c) c.names) else None) ≡ Some (run options) → ⊥
 no_load true c options is = cc
 no_load false c options is = cc
 
@@ -225,6 +226,12 @@ lists_not v lists runs = cc
 pub draws_not : (v : Verb) → v ≡ verb.SelfTest → v ≡ verb.Run → ⊥
 draws_not v draws runs = cc
 
+pub lists_no_load : (v : Verb) → v ≡ verb.ListTests → v ≡ verb.Load → ⊥
+lists_no_load v lists loads = cc
+
+pub draws_no_load : (v : Verb) → v ≡ verb.SelfTest → v ≡ verb.Load → ⊥
+draws_no_load v draws loads = cc
+
 pub never_both : (force : Bool) → force ≡ true → force ≡ false → ⊥
 never_both force forced plain = cc
 
@@ -232,8 +239,8 @@ pub of_asked : {asked read : Option Task} → asked ≡ read → (old new : Opti
 of_asked is old new answer before now spares = subst (λ (o : Option Task). SparesRun o old new answer before now) is spares
 
 -- the words behind the same name
-pub of_words : (folder : List ℕ) (face given : Face) (rest behind : List (List ℕ)) (old new : Option Folder) (answer before now : ℕ) → face_word face ∷ rest ≡ face_word given ∷ behind → (forced_by folder face rest ≡ false → SparesRun (asked_by folder face rest) old new answer before now) → forced_by folder given behind ≡ false → SparesRun (asked_by folder given behind) old new answer before now
+pub of_words : (folder : List ℕ) (face given : Face) (rest behind : List (List ℕ)) (old new : Option Folder) (answer before now : ℕ) → face_word face ∷ rest ≡ face_word given ∷ behind → (forced_by folder face rest ≡ false → streamed_by folder face rest ≡ false → SparesRun (asked_by folder face rest) old new answer before now) → forced_by folder given behind ≡ false → streamed_by folder given behind ≡ false → SparesRun (asked_by folder given behind) old new answer before now
 of_words folder face given rest behind old new answer before now is spares =
     let same : rest ≡ behind = cc in
-    subst (λ (f : Face). forced_by folder f behind ≡ false → SparesRun (asked_by folder f behind) old new answer before now) (same_face face given rest behind is)
-    (subst (λ (l : List (List ℕ)). forced_by folder face l ≡ false → SparesRun (asked_by folder face l) old new answer before now) same spares)
+    subst (λ (f : Face). forced_by folder f behind ≡ false → streamed_by folder f behind ≡ false → SparesRun (asked_by folder f behind) old new answer before now) (same_face face given rest behind is)
+    (subst (λ (l : List (List ℕ)). forced_by folder face l ≡ false → streamed_by folder face l ≡ false → SparesRun (asked_by folder face l) old new answer before now) same spares)

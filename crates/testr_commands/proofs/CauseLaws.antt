@@ -35,6 +35,7 @@ use Rattle.command_steps.proofs.Resting.{goes_before}
 use Rattle.testr_commands.proofs.ChainLemmas.{gives_not}
 use Rattle.testr_commands.proofs.AskLemmas.{either}
 use Rattle.testr_commands.proofs.CommandLaws.{of_shown}
+use Rattle.testr_words.specs.Suites.{LoadOptions}
 
 -- a refusal of another status
 other : (named r : Refusal) → ◌≡◌ {A = Result Verdict Refusal} (Err r) (Err named) → (refusal_code named ≡ 3 → ⊥) → refusal_code r ≡ 3 → ⊥
@@ -146,23 +147,23 @@ sources_still : (names : List (List ℕ)) (a m : Work) → m.input ≡ a.input �
 sources_still [] a m input site short = subst (λ (s : Seen (List ℕ)). IsSomeAnd s.told (λ bytes. length bytes ≤ most_bytes)) (sym input) short
 sources_still (name ∷ names) a m input site short = subst (λ (s : Seen Files). IsSomeAnd s.told (λ files. All (IsShort files) (name ∷ names))) (sym site) short
 
-pub load_never : (partial : Bool) (names : List (List ℕ)) (a b : Work) (r : Refusal) → Loads partial names a b (Err r) → CanLoad names a → refusal_code r ≡ 3 → ⊥
-load_never partial names a b r (stops fault is step) can three =
+pub load_never : (options : LoadOptions) (names : List (List ℕ)) (a b : Work) (r : Refusal) → Loads options names a b (Err r) → CanLoad names a → refusal_code r ≡ 3 → ⊥
+load_never options names a b r (stops fault is step) can three =
     let same : r ≡ refusal.Open fault = cc in
     open_never a.folder b.folder fault (takes_in_repository a.folder.told can.free) step.at (sym (ap refusal_code same) ∙ three)
-load_never partial names a b r (goes_on found m opened (stops fault is step)) can three = not_full a.folder.told can.free (runs_are a.folder m.folder found most_runs opened.at step.says.full.1)
-load_never partial names a b r (goes_on found m opened (goes_on _ m2 took (stops fault is step))) can three = other (refusal.Keep fault) r is (λ s. omega arith) three
-load_never partial names a b r (goes_on found m opened (goes_on _ m2 took (goes_on _ m3 begun (stops fault is step)))) can three =
+load_never options names a b r (goes_on found m opened (stops fault is step)) can three = not_full a.folder.told can.free (runs_are a.folder m.folder found most_runs opened.at step.says.full.1)
+load_never options names a b r (goes_on found m opened (goes_on _ m2 took (stops fault is step))) can three = other (refusal.Keep fault) r is (λ s. omega arith) three
+load_never options names a b r (goes_on found m opened (goes_on _ m2 took (goes_on _ m3 begun (stops fault is step)))) can three =
     let input : m3.input ≡ a.input = (λ i. (begun.rest i).input) ∙ (λ i. (took.same i).input) ∙ (λ i. (opened.rest i).input) in
     let site : m3.site ≡ a.site = (λ i. (begun.rest i).site) ∙ (λ i. (took.same i).site) ∙ (λ i. (opened.rest i).site) in
     let same : r ≡ refusal.Record fault = cc in
     record_never names m3 b fault step (sources_still names a m3 input site can.short) (sym (ap refusal_code same) ∙ three)
-load_never partial names a b r (goes_on found m opened (goes_on _ m2 took (goes_on _ m3 begun (goes_on rows m4 recorded (stops fault is step))))) can three = other (refusal.Memory fault) r is (λ s. omega arith) three
-load_never partial names a b r (goes_on found m opened (goes_on _ m2 took (goes_on _ m3 begun (goes_on rows m4 recorded (goes_on report m5 told (stops fault is step)))))) can three = other (refusal.Keep fault) r is (λ s. omega arith) three
-load_never partial names a b r (goes_on found m opened (goes_on _ m2 took (goes_on _ m3 begun (goes_on rows m4 recorded (goes_on report m5 told (goes_on _ m6 kept (stops tell_fault.Shelf is step))))))) can three = other (refusal.Refresh tell_fault.Shelf) r is (λ s. omega arith) three
-load_never partial names a b r (goes_on found m opened (goes_on _ m2 took (goes_on _ m3 begun (goes_on rows m4 recorded (goes_on report m5 told (goes_on _ m6 kept (stops tell_fault.NoMemory is step))))))) can three = other (refusal.Refresh tell_fault.NoMemory) r is (λ s. omega arith) three
-load_never partial names a b r (goes_on found m opened (goes_on _ m2 took (goes_on _ m3 begun (goes_on rows m4 recorded (goes_on report m5 told (goes_on _ m6 kept (goes_on _ m7 refreshed (stops fault is step)))))))) can three = other (refusal.Print fault) r is (λ s. omega arith) three
-load_never partial names a b r (goes_on found m opened (goes_on _ m2 took (goes_on _ m3 begun (goes_on rows m4 recorded (goes_on report m5 told (goes_on _ m6 kept (goes_on _ m7 refreshed (goes_on _ m8 printed gives)))))))) can three = gives_not m8 b r gives
+load_never options names a b r (goes_on found m opened (goes_on _ m2 took (goes_on _ m3 begun (goes_on rows m4 recorded (stops fault is step))))) can three = other (refusal.Memory fault) r is (λ s. omega arith) three
+load_never options names a b r (goes_on found m opened (goes_on _ m2 took (goes_on _ m3 begun (goes_on rows m4 recorded (goes_on report m5 told (stops fault is step)))))) can three = other (refusal.Keep fault) r is (λ s. omega arith) three
+load_never options names a b r (goes_on found m opened (goes_on _ m2 took (goes_on _ m3 begun (goes_on rows m4 recorded (goes_on report m5 told (goes_on _ m6 kept (stops tell_fault.Shelf is step))))))) can three = other (refusal.Refresh tell_fault.Shelf) r is (λ s. omega arith) three
+load_never options names a b r (goes_on found m opened (goes_on _ m2 took (goes_on _ m3 begun (goes_on rows m4 recorded (goes_on report m5 told (goes_on _ m6 kept (stops tell_fault.NoMemory is step))))))) can three = other (refusal.Refresh tell_fault.NoMemory) r is (λ s. omega arith) three
+load_never options names a b r (goes_on found m opened (goes_on _ m2 took (goes_on _ m3 begun (goes_on rows m4 recorded (goes_on report m5 told (goes_on _ m6 kept (goes_on _ m7 refreshed (stops fault is step)))))))) can three = other (refusal.Print fault) r is (λ s. omega arith) three
+load_never options names a b r (goes_on found m opened (goes_on _ m2 took (goes_on _ m3 begun (goes_on rows m4 recorded (goes_on report m5 told (goes_on _ m6 kept (goes_on _ m7 refreshed (goes_on _ m8 printed gives)))))))) can three = gives_not m8 b r gives
 
 -- ---- questions
 

@@ -15,12 +15,13 @@ use Rattle.testr_commands.proofs.AskLemmas.{either}
 use Rattle.testr_commands.proofs.CopyLaws.{copy_counts, copy_quiet, copy_refuses}
 use Rattle.testr_commands.proofs.ChainLemmas.{Counts, Quiet, Refuses, LeavesPart, then_leaves, then_quiet, then_counts, then_refuses, gives_refuses}
 use Rattle.testr_commands.proofs.StepLaws.{still_counts, still_quiet, runs_refuse, memory_refuses, make_counts, make_refuses, open_counts, open_quiet, open_refuses, find_counts, find_quiet, find_refuses, begin_counts, begin_refuses, keep_counts, keep_refuses, refresh_counts, refresh_refuses, record_counts, record_refuses, print_counts, print_quiet, print_refuses, gives_quiet, gives_counts}
+use Rattle.testr_words.specs.Suites.{LoadOptions}
 
 abbrev all : Work → Work
 all w = w
 
-pub load_refuses : (partial : Bool) (names : List (List ℕ)) → Refuses all ⊥ (λ r. r) (Loads partial names)
-load_refuses partial names =
+pub load_refuses : (options : LoadOptions) (names : List (List ℕ)) → Refuses all ⊥ (λ r. r) (Loads options names)
+load_refuses options names =
     then_refuses all (λ a b v s. open_counts a b v s.at s.rest) (λ a b e s. open_refuses a b e s.at s.rest) (λ found.
     then_refuses all (λ a b v s. still_counts a b s.same) (λ a b e s. runs_refuse a b e s.same) (λ _.
     then_refuses all (λ a b v s. begin_counts a b v s.at s.rest) (λ a b e s. begin_refuses a b e s.at s.rest) (λ _.
@@ -31,8 +32,8 @@ load_refuses partial names =
     then_refuses all (λ a b v s. print_counts a b _ v s.at s.rest) (λ a b e s. print_refuses a b _ e s.at s.rest) (λ _.
     gives_refuses all ⊥))))))))
 
-pub load_counts : (partial : Bool) (names : List (List ℕ)) → Counts all (Loads partial names)
-load_counts partial names =
+pub load_counts : (options : LoadOptions) (names : List (List ℕ)) → Counts all (Loads options names)
+load_counts options names =
     then_counts all (λ a b v s. open_counts a b v s.at s.rest) (λ found.
     then_counts all (λ a b v s. still_counts a b s.same) (λ _.
     then_counts all (λ a b v s. begin_counts a b v s.at s.rest) (λ _.
@@ -48,8 +49,8 @@ recorded_beside : (names : List (List ℕ)) → LeavesPart work_spawner.of (Reco
 recorded_beside [] a b result step = λ i. (step.rest i).spawner
 recorded_beside (name ∷ names) a b result step = λ i. (step.rest i).spawner
 
-pub load_beside : (partial : Bool) (names : List (List ℕ)) → LeavesPart work_spawner.of (Loads partial names)
-load_beside partial names =
+pub load_beside : (options : LoadOptions) (names : List (List ℕ)) → LeavesPart work_spawner.of (Loads options names)
+load_beside options names =
     then_leaves work_spawner.of (λ a b r s i. (s.rest i).spawner) (λ found.
     then_leaves work_spawner.of (λ a b r s i. (s.same i).spawner) (λ _.
     then_leaves work_spawner.of (λ a b r s i. (s.rest i).spawner) (λ _.

@@ -19,7 +19,6 @@ use Rattle.run_shelf.specs.Holds.{kinds_of, FitsFolder}
 use Rattle.run_shelf.specs.Images.{MakesRepository}
 use Rattle.run_shelf.proofs.DraftLemmas.{goes_writes, run_kept}
 use Rattle.run_shelf.proofs.Joining.{stays_some}
-use Rattle.sub_text.specs.Texts.{report_of}
 use Rattle.command_steps.specs.Outside.{Work, Shown, work_folder}
 use Rattle.command_steps.specs.Runs.{run_bytes, HasRunAndCaches, KeepsFiles, AddsRun}
 use Rattle.command_steps.specs.Verdicts.{verdict_of, verdict_code}
@@ -28,13 +27,14 @@ use Rattle.testr_words.specs.Questions.{OfLastRun}
 use Rattle.command_steps.specs.Files.{AreSources, HasRecordedInTurn, RecordsSources}
 use Rattle.command_steps.specs.declared.recording.RecordFault.{RecordFault}
 use Rattle.command_steps.specs.Refreshing.{Refreshes, BringsCaches}
-use Rattle.command_steps.specs.Reporting.{Report, IsReport, Reports}
+use Rattle.command_steps.specs.Reporting.{Report, IsReport, Reports, report_for}
 use Rattle.command_steps.specs.Steps.{Still, At}
 use Rattle.command_steps.specs.Store.{Opens, TakesRun, Begins, Keeps}
 use Rattle.command_steps.specs.declared.store.RunsFault.{RunsFault}
 use Rattle.testr_commands.specs.Init.{Inits}
 use Rattle.testr_commands.specs.Load.{Loads}
 use Rattle.testr_commands.specs.Ask.{CopiesLast, PrintsAnswer, AnswersOf, Asks}
+use Rattle.testr_commands.specs.Spoken.{HavePackets}
 use Rattle.testr_commands.specs.Program.{LoadsAll, ReadsInputFor, AnswersQuestion}
 use Rattle.testr_words.specs.declared.command.Question.{Question}
 use Rattle.testr_words.specs.declared.command.Question.TheVariants.{Last}
@@ -50,6 +50,8 @@ use Rattle.command_steps.proofs.SoundLemmas.{KeepsRunAndCaches, rests_calm, surv
 use Rattle.testr_commands.proofs.ChainLemmas.{then_did}
 use Rattle.testr_commands.proofs.StepLaws.{open_quiet}
 use Rattle.testr_commands.proofs.CommandLaws.{of_shown, ask_quiet}
+use Rattle.testr_words.specs.Suites.{LoadOptions}
+use Rattle.testr_words.specs.declared.format.FormatKind.{FormatKind}
 
 pub appended : {x y z w : Option (List ℕ)} {text other : List ℕ} → x ≡ y → z ≡ w → text ≡ other → Appends x z text → Appends y w other
 appended {y = y} {z = z} {w = w} {text = text} p q r appends = subst (λ k. Appends y w k) r (subst (λ k. Appends y k text) q (subst (λ k. Appends k z text) p appends))
@@ -86,19 +88,19 @@ kept_through number run a b c quiet kept = goes_then a b c Rests (KeepsRunAndCac
   fresh = λ calm sound. keeps.fresh (rests_calm s m calm rests) (subst IsSound (sym rests.files) sound);
 })
 
-reports : (partial : Bool) (folder folder' : Option Folder) (printed new : Option (List ℕ)) (number : ℕ) (events : List Event) → Goes folder folder' (KeepsRunAndCaches number (run_of partial (run_bytes events))) → Appends printed new (report_of (rows_of events) number [])
-    → IfSome folder (λ s. (runs : List Run) → Shows s.disk.published runs → Appends printed new (report_of (rows_of events) (length runs) []))
-reports partial None folder' printed new number events kept appends = tt
-reports partial (Some s) None printed new number events kept appends = absurd kept
-reports partial (Some s) (Some t) printed new number events kept appends = λ runs shows.
-    subst (λ n. Appends printed new (report_of (rows_of events) n [])) (kept.reads.beside.counts runs shows) appends
+reports : (partial : Bool) (format : FormatKind) (folder folder' : Option Folder) (printed new : Option (List ℕ)) (number : ℕ) (events : List Event) → Goes folder folder' (KeepsRunAndCaches number (run_of partial (run_bytes events))) → Appends printed new (report_for format (rows_of events) number [])
+    → IfSome folder (λ s. (runs : List Run) → Shows s.disk.published runs → Appends printed new (report_for format (rows_of events) (length runs) []))
+reports partial format None folder' printed new number events kept appends = tt
+reports partial format (Some s) None printed new number events kept appends = absurd kept
+reports partial format (Some s) (Some t) printed new number events kept appends = λ runs shows.
+    subst (λ n. Appends printed new (report_for format (rows_of events) n [])) (kept.reads.beside.counts runs shows) appends
 
 pub out_stays : (names : List (List ℕ)) (result : Result (List Row) RecordFault) (a b : Work) → RecordsSources names a b result → b.out.told ≡ a.out.told
 out_stays [] result a b step = λ i. (step.rest i).out.told
 out_stays (name ∷ names) result a b step = λ i. (step.rest i).out.told
 
 -- what is known once the run of a load is kept and the caches cover it: what was recorded, and what is printed then
-pub record LoadedSo (partial : Bool) (names : List (List ℕ)) (a m : Work) (report : Report) : Type 0 where
+pub record LoadedSo (options : LoadOptions) (names : List (List ℕ)) (a m : Work) (rows : List Row) (report : Report) : Type 0 where
   pub number : ℕ
   pub sources : List (List ℕ)
   pub are_sources : AreSources names a.site.told a.input.told sources
@@ -106,21 +108,23 @@ pub record LoadedSo (partial : Bool) (names : List (List ℕ)) (a m : Work) (rep
   pub events : List Event
   pub recorded : HasRecordedInTurn 0 sources events
   pub at_end : ReadsInputFor names a.input m.input
-  pub kept : Goes a.folder.told m.folder.told (KeepsRunAndCaches number (run_of partial (run_bytes events)))
+  pub kept : Goes a.folder.told m.folder.told (KeepsRunAndCaches number (run_of options.partial (run_bytes events)))
   pub cached : Goes a.folder.told m.folder.told BringsCaches
   pub out : m.out.told ≡ a.out.told
-  pub says : IsReport number [] (rows_of events) report
+  pub says : IsReport options.format number [] (rows_of events) report
+  pub have : HavePackets events
+  pub rows_are : rows ≡ rows_of events
 
-pub loaded_so : (partial : Bool) (names : List (List ℕ)) (a o t g r e k m : Work) (found : Found) (rows : List Row) (report : Report)
+pub loaded_so : (options : LoadOptions) (names : List (List ℕ)) (a o t g r e k m : Work) (found : Found) (rows : List Row) (report : Report)
     → At work_folder Opens a o (Ok found)
     → Still {E = RunsFault} (TakesRun (length (kinds_of found))) o t (Ok tt)
     → At work_folder Begins t g (Ok tt)
     → RecordsSources names g r (Ok rows)
-    → Still (Reports (length (kinds_of found)) [] rows) r e (Ok report)
-    → At work_folder (Keeps partial (length (kinds_of found))) e k (Ok tt)
+    → Still (Reports options.format (length (kinds_of found)) [] rows) r e (Ok report)
+    → At work_folder (Keeps options.partial (length (kinds_of found))) e k (Ok tt)
     → At work_folder (Refreshes (length (kinds_of found)) rows) k m (Ok tt)
-    → LoadedSo partial names a m report
-loaded_so partial names a o t g r e k m found rows report opened took begun read told kept refreshed =
+    → LoadedSo options names a m rows report
+loaded_so options names a o t g r e k m found rows report opened took begun read told kept refreshed =
     let number = length (kinds_of found) in
     let input : g.input ≡ a.input = (λ i. (begun.rest i).input) ∙ (λ i. (took.same i).input) ∙ (λ i. (opened.rest i).input) in
     let input_left : m.input ≡ r.input = (λ i. (refreshed.rest i).input) ∙ (λ i. (kept.rest i).input) ∙ (λ i. (told.same i).input) in
@@ -132,10 +136,10 @@ loaded_so partial names a o t g r e k m found rows report opened took begun read
     let packets = have_in_turn 0 recorded.sources recorded.events recorded.few recorded.are_bytes recorded.recorded in
     let rows_are : rows ≡ rows_of recorded.events = rows_of_written all.run recorded.events rows all.run_is packets.are_events packets.fit recorded.packets all.rows_are in
     let run_is : all.run ≡ run_bytes recorded.events = recorded.packets in
-    let keeps : Goes o.folder.told m.folder.told (KeepsRunAndCaches number (run_of partial (run_bytes recorded.events))) =
-    subst (λ (l : List ℕ). Goes o.folder.told m.folder.told (KeepsRunAndCaches number (run_of partial l))) run_is
-    (goes_cached number (run_of partial all.run) rows o.folder.told k.folder m.folder refreshed.at all.rows_are
-    (run_kept number partial all.run o.folder.told e.folder.told k.folder.told (goes_writes o.folder.told g.folder.told e.folder.told all.run begins grows) kept.at.kept)) in
+    let keeps : Goes o.folder.told m.folder.told (KeepsRunAndCaches number (run_of options.partial (run_bytes recorded.events))) =
+    subst (λ (l : List ℕ). Goes o.folder.told m.folder.told (KeepsRunAndCaches number (run_of options.partial l))) run_is
+    (goes_cached number (run_of options.partial all.run) rows o.folder.told k.folder m.folder refreshed.at all.rows_are
+    (run_kept number options.partial all.run o.folder.told e.folder.told k.folder.told (goes_writes o.folder.told g.folder.told e.folder.told all.run begins grows) kept.at.kept)) in
     let quiet : Goes a.folder.told o.folder.told Rests = open_quiet a o (Ok found) opened.at in
     record {
       number = number;
@@ -145,14 +149,16 @@ loaded_so partial names a o t g r e k m found rows report opened took begun read
       events = recorded.events;
       recorded = recorded.recorded;
       at_end = subst (λ (s : Seen (List ℕ)). ReadsInputFor names a.input s) (sym input_left) (subst (λ (s : Seen (List ℕ)). ReadsInputFor names s r.input) input all.at_end);
-      kept = kept_through number (run_of partial (run_bytes recorded.events)) a.folder.told o.folder.told m.folder.told quiet keeps;
-      cached = fresh_through number (run_of partial (run_bytes recorded.events)) a.folder.told o.folder.told m.folder.told quiet (surveyed_calm (kinds_of found) a.folder.told o.folder.told opened.at.found) keeps;
+      kept = kept_through number (run_of options.partial (run_bytes recorded.events)) a.folder.told o.folder.told m.folder.told quiet keeps;
+      cached = fresh_through number (run_of options.partial (run_bytes recorded.events)) a.folder.told o.folder.told m.folder.told quiet (surveyed_calm (kinds_of found) a.folder.told o.folder.told opened.at.found) keeps;
       out = (λ i. (refreshed.rest i).out.told) ∙ (λ i. (kept.rest i).out.told) ∙ (λ i. (told.same i).out.told) ∙ out_stays names (Ok rows) g r read ∙ (λ i. (begun.rest i).out.told) ∙ (λ i. (took.same i).out.told) ∙ (λ i. (opened.rest i).out.told);
-      says = subst (λ (list : List Row). IsReport number [] list report) rows_are told.says.told;
+      says = subst (λ (list : List Row). IsReport options.format number [] list report) rows_are told.says.told;
+      have = record { are_events = packets.are_events; fit = packets.fit };
+      rows_are = rows_are;
     }
 
-pub load_did : (partial : Bool) (names : List (List ℕ)) (a b : Work) (v : Verdict) → Loads partial names a b (Ok v) → LoadsAll partial names a b (verdict_code v)
-load_did partial names a b v loads =
+pub load_did : (options : LoadOptions) (names : List (List ℕ)) (a b : Work) (v : Verdict) → Loads options names a b (Ok v) → LoadsAll options names a b (verdict_code v)
+load_did options names a b v loads =
     let opened = then_did v loads in
     let took = then_did v opened.next in
     let begun = then_did v took.next in
@@ -163,11 +169,11 @@ load_did partial names a b v loads =
     let printed = then_did v refreshed.next in
     let gives = printed.next in
     let m : Work = refreshed.between in
-    let all = loaded_so partial names a opened.between took.between begun.between read.between told.between kept.between m opened.value read.value told.value opened.done took.done begun.done read.done told.done kept.done refreshed.done in
+    let all = loaded_so options names a opened.between took.between begun.between read.between told.between kept.between m opened.value read.value told.value opened.done took.done begun.done read.done told.done kept.done refreshed.done in
     let folder_left : b.folder.told ≡ m.folder.told = (λ i. (gives.same i).folder.told) ∙ (λ i. (printed.done.rest i).folder.told) in
     let input_left : b.input ≡ m.input = (λ i. (gives.same i).input) ∙ (λ i. (printed.done.rest i).input) in
-    let stored : Goes a.folder.told b.folder.told (KeepsRunAndCaches all.number (run_of partial (run_bytes all.events))) = subst (λ (f : Option Folder). Goes a.folder.told f (KeepsRunAndCaches all.number (run_of partial (run_bytes all.events)))) (sym folder_left) all.kept in
-    let prints : Appends a.out.told b.out.told (report_of (rows_of all.events) all.number []) = appended {z = printed.between.out.told} all.out (λ i. (sym gives.same i).out.told) all.says.text printed.done.at.whole in
+    let stored : Goes a.folder.told b.folder.told (KeepsRunAndCaches all.number (run_of options.partial (run_bytes all.events))) = subst (λ (f : Option Folder). Goes a.folder.told f (KeepsRunAndCaches all.number (run_of options.partial (run_bytes all.events)))) (sym folder_left) all.kept in
+    let prints : Appends a.out.told b.out.told (report_for options.format (rows_of all.events) all.number []) = appended {z = printed.between.out.told} all.out (λ i. (sym gives.same i).out.told) all.says.text printed.done.at.whole in
     record {
       sources = all.sources;
       are_sources = all.are_sources;
@@ -176,8 +182,8 @@ load_did partial names a b v loads =
       recorded = all.recorded;
       at_end = subst (λ (s : Seen (List ℕ)). ReadsInputFor names a.input s) (sym input_left) all.at_end;
       cached = subst (λ (f : Option Folder). Goes a.folder.told f BringsCaches) (sym folder_left) all.cached;
-      stored = goes_weaker a.folder.told b.folder.told (KeepsRunAndCaches all.number (run_of partial (run_bytes all.events))) (AddsRun partial all.events) stored (adds_run partial all.number all.events);
-      printed = reports partial a.folder.told b.folder.told a.out.told b.out.told all.number all.events stored prints;
+      stored = goes_weaker a.folder.told b.folder.told (KeepsRunAndCaches all.number (run_of options.partial (run_bytes all.events))) (AddsRun options.partial all.events) stored (adds_run options.partial all.number all.events);
+      printed = reports options.partial options.format a.folder.told b.folder.told a.out.told b.out.told all.number all.events stored prints;
       status = ap verdict_code (same_verdict gives.answer ∙ all.says.verdict) ∙ status_is (rows_of all.events);
     }
 

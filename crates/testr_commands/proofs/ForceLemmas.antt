@@ -25,7 +25,7 @@ use Rattle.command_steps.specs.declared.answer.Refusal.{Refusal}
 use Rattle.command_steps.specs.declared.answer.Refusal.TheVariants.{Init}
 use Rattle.command_steps.proofs.Resting.{goes_before, goes_both, passes_leaves}
 use Rattle.command_steps.proofs.SoundLemmas.{sound_then}
-use Rattle.testr_words.specs.Suites.{RunOptions, is_partial}
+use Rattle.testr_words.specs.Suites.{RunOptions, is_partial, LoadOptions}
 use Rattle.testr_words.specs.Tasks.{Task, init, load, run, forces_for}
 use Rattle.testr_commands.specs.Forced.{ready_with, ready_files, ReadsReady, LeavesFormat, IsReady, LeftReady, PassesForced, GoesOn, GoesForced, goes_on, not_made, not_read, CanForce, PromisesForced, PromisesBy}
 use Rattle.testr_commands.specs.Program.{SomeFailed, IsPerformed, GivesUp, Tells, Answers, Promises}
@@ -111,16 +111,16 @@ module _ (before ready after : Outside) (answer : ℕ) (is : IsReady before read
   reads_all : Goes y z KeepsFiles → Goes x z ReadsReady
   reads_all later = goes_then x y z ReadsReady KeepsFiles ReadsReady (reads_ready before ready is) later (λ s m t reads same. same ∙ reads)
 
-  module _ (partial : Bool) (names : List (List ℕ)) where
-    load_moments : Goes y z (PassesLoad partial names ready.site.told ready.input.told) → Goes x z (PassesForced (load partial names) (work_of before) (work_of ready) (work_of after))
+  module _ (options : LoadOptions) (names : List (List ℕ)) where
+    load_moments : Goes y z (PassesLoad options.partial names ready.site.told ready.input.told) → Goes x z (PassesForced (load options names) (work_of before) (work_of ready) (work_of after))
     load_moments later =
         let site : ready.site ≡ before.site = λ i. (is.rest i).site in
         let input : ready.input ≡ before.input = λ i. (is.rest i).input in
-        let told : Goes y z (PassesLoad partial names before.site.told before.input.told) = subst (λ (s : Seen Files). Goes y z (PassesLoad partial names s.told before.input.told)) site (subst (λ (s : Seen (List ℕ)). Goes y z (PassesLoad partial names ready.site.told s.told)) input later) in
-        goes_then x y z (λ s t. ReadsReady s t × Passes (LeftReady s) s t) (PassesLoad partial names before.site.told before.input.told) (PassesForced (load partial names) (work_of before) (work_of ready) (work_of after)) (both_ready before ready is) told
-        (λ s m t first second. extends (HasLoadedRun partial names before.site.told before.input.told) s m t first.0 first.1 second)
+        let told : Goes y z (PassesLoad options.partial names before.site.told before.input.told) = subst (λ (s : Seen Files). Goes y z (PassesLoad options.partial names s.told before.input.told)) site (subst (λ (s : Seen (List ℕ)). Goes y z (PassesLoad options.partial names ready.site.told s.told)) input later) in
+        goes_then x y z (λ s t. ReadsReady s t × Passes (LeftReady s) s t) (PassesLoad options.partial names before.site.told before.input.told) (PassesForced (load options names) (work_of before) (work_of ready) (work_of after)) (both_ready before ready is) told
+        (λ s m t first second. extends (HasLoadedRun options.partial names before.site.told before.input.told) s m t first.0 first.1 second)
 
-    load_goes : Promises false (Some (load partial names)) ready after answer → GoesOn (load partial names) before after answer
+    load_goes : Promises false (Some (load options names)) ready after answer → GoesOn (load options names) before after answer
     load_goes rest = record {
       ready = ready;
       is_ready = is;
@@ -176,8 +176,8 @@ module _ {reading : Bool} (task : Task) (before after : Outside) (answer : ℕ) 
   completes (not_read reads outcome gives told) can none = inr (told.code ∙ ap code_of gives.memory)
 
 module _ {reading : Bool} (before after : Outside) (answer : ℕ) where
-  pub load_forced : (partial : Bool) (names : List (List ℕ)) → GoesForced reading (load partial names) before after answer → PromisesForced reading (load partial names) before after answer
-  load_forced partial names goes = record { goes = goes; completeness = completes (load partial names) before after answer (λ m rose. rose) (λ few. few) goes }
+  pub load_forced : (options : LoadOptions) (names : List (List ℕ)) → GoesForced reading (load options names) before after answer → PromisesForced reading (load options names) before after answer
+  load_forced options names goes = record { goes = goes; completeness = completes (load options names) before after answer (λ m rose. rose) (λ few. few) goes }
 
   pub run_forced : (options : RunOptions) → GoesForced reading (run options) before after answer → PromisesForced reading (run options) before after answer
   run_forced options goes = record { goes = goes; completeness = completes (run options) before after answer (λ m rose. rose) (λ few. few) goes }
@@ -240,16 +240,16 @@ not_forced force asked before after answer is given = subst (λ (f : Bool). Prom
 
 -- the folder was made ready
 pub forced_on : (force : Bool) (asked : Option Task) (before ready after : Outside) (answer : ℕ) → forces_for force asked ≡ true → Promises false asked ready after answer → IsReady before ready → PromisesBy (forces_for force asked) false asked before after answer
-forced_on force (Some (load partial names)) before ready after answer is rest how =
-    subst (λ (f : Bool). PromisesBy f false (Some (load partial names)) before after answer) (sym is) (load_forced before after answer partial names (goes_on (load_goes before ready after answer how partial names rest)))
+forced_on force (Some (load options names)) before ready after answer is rest how =
+    subst (λ (f : Bool). PromisesBy f false (Some (load options names)) before after answer) (sym is) (load_forced before after answer options names (goes_on (load_goes before ready after answer how options names rest)))
 forced_on force (Some (run options)) before ready after answer is rest how =
     subst (λ (f : Bool). PromisesBy f false (Some (run options)) before after answer) (sym is) (run_forced before after answer options (goes_on (run_goes before ready after answer how options rest)))
 forced_on force asked before ready after answer is rest how = cc
 
 -- or a call failed before
 pub forced_not : (force : Bool) (asked : Option Task) (before after : Outside) (answer : ℕ) → forces_for force asked ≡ true → (answer ≡ 4) × Promises false (Some init) before after answer → PromisesBy (forces_for force asked) false asked before after answer
-forced_not force (Some (load partial names)) before after answer is given =
-    subst (λ (f : Bool). PromisesBy f false (Some (load partial names)) before after answer) (sym is) (load_forced before after answer partial names (not_made given.0 given.1))
+forced_not force (Some (load options names)) before after answer is given =
+    subst (λ (f : Bool). PromisesBy f false (Some (load options names)) before after answer) (sym is) (load_forced before after answer options names (not_made given.0 given.1))
 forced_not force (Some (run options)) before after answer is given =
     subst (λ (f : Bool). PromisesBy f false (Some (run options)) before after answer) (sym is) (run_forced before after answer options (not_made given.0 given.1))
 forced_not force asked before after answer is given = cc
@@ -262,14 +262,14 @@ goes_read (not_made four given) = not_made four given
 goes_read (not_read reads outcome gives told) = absurd (never_true reads)
 
 pub by_reading : (force : Bool) (asked : Option Task) (before after : Outside) (answer : ℕ) → PromisesBy force false asked before after answer → PromisesBy force true asked before after answer
-by_reading true (Some (load partial names)) before after answer given = load_forced before after answer partial names (goes_read given.goes)
+by_reading true (Some (load options names)) before after answer given = load_forced before after answer options names (goes_read given.goes)
 by_reading true (Some (run options)) before after answer given = run_forced before after answer options (goes_read given.goes)
 by_reading true asked before after answer given = promises true asked before after answer (with_reading given.answers)
 by_reading false asked before after answer given = promises true asked before after answer (with_reading given.answers)
 
 -- memory was wanting for the words
 pub by_memory : (force : Bool) (asked : Option Task) (before after : Outside) (answer : ℕ) (outcome : Result Verdict Refusal) → GivesUp (work_of before) (work_of after) outcome → Tells outcome before.errors after.errors answer → PromisesBy force true asked before after answer
-by_memory true (Some (load partial names)) before after answer outcome gives told = load_forced before after answer partial names (not_read refl outcome gives told)
+by_memory true (Some (load options names)) before after answer outcome gives told = load_forced before after answer options names (not_read refl outcome gives told)
 by_memory true (Some (run options)) before after answer outcome gives told = run_forced before after answer options (not_read refl outcome gives told)
 by_memory true asked before after answer outcome gives told = promises true asked before after answer (record { outcome = outcome; done = inr (refl, gives); told = told })
 by_memory false asked before after answer outcome gives told = promises true asked before after answer (record { outcome = outcome; done = inr (refl, gives); told = told })

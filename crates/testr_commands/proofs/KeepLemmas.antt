@@ -34,6 +34,7 @@ use Rattle.command_steps.specs.declared.told.TellFault.{TellFault}
 use Rattle.command_steps.proofs.Resting.{Rests}
 use Rattle.testr_commands.proofs.ChainLemmas.{Quiet, gives_not}
 use Rattle.testr_commands.proofs.StepLaws.{still_quiet, open_quiet, begin_quiet, record_quiet}
+use Rattle.testr_words.specs.Suites.{LoadOptions}
 
 no_format : (files : Files) → files format_name ≡ None → HasFormat files → ⊥
 no_format files none (inl format) = cc
@@ -163,19 +164,19 @@ module _ (may : Refusal → Bool) where
   named_last partial number rows rest placed refreshed late a b r (goes_on _ m step (stops fault is refresh)) not = absurd (never r (refused_as (Refresh fault) r is ∙ refreshed fault) not)
   named_last partial number rows rest placed refreshed late a b r (goes_on _ m step (goes_on _ m2 refresh next)) not = absurd (never r (late m2 b r next) not)
 
-module _ (partial : Bool) (names : List (List ℕ)) where
+module _ (options : LoadOptions) (names : List (List ℕ)) where
   abbrev may_have : Refusal → Bool
-  may_have r = may_have_kept (Some (load partial names)) (Err r)
+  may_have r = may_have_kept (Some (load options names)) (Err r)
 
   printed_late : (text : List ℕ) (verdict : Verdict) (a b : Work) (r : Refusal) → Then Print (At work_out (Prints text)) (λ _. Gives verdict) a b (Err r) → may_have r ≡ true
   printed_late text verdict a b r (stops fault is printed) = refused_as may_have (Print fault) r is
   printed_late text verdict a b r (goes_on _ m printed gives) = absurd (gives_not m b r gives)
 
-  pub load_keeps : KeepsUnless may_have (Loads partial names)
+  pub load_keeps : KeepsUnless may_have (Loads options names)
   load_keeps =
       then_keeps may_have (λ a b r s. open_quiet a b r s.at) (λ found.
       then_keeps may_have (λ a b r s. still_quiet a b s.same) (λ _.
       then_keeps may_have (λ a b r s. begin_quiet a b r s.at) (λ _.
       then_keeps may_have (λ a b r s. record_quiet a b names r s) (λ rows.
       then_keeps may_have (λ a b r s. still_quiet a b s.same) (λ report.
-      named_last may_have partial _ rows (Then Print (At work_out (Prints report.text)) (λ _. Gives report.verdict)) (λ fault. refl) (λ fault. refl) (printed_late report.text report.verdict))))))
+      named_last may_have options.partial _ rows (Then Print (At work_out (Prints report.text)) (λ _. Gives report.verdict)) (λ fault. refl) (λ fault. refl) (printed_late report.text report.verdict))))))

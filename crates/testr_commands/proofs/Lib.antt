@@ -37,11 +37,14 @@ pub mod SelfTestLaws
 pub mod PrintedLaws
 pub mod UpgradeLaws
 pub mod PromiseLemmas
+pub mod SpokenLemmas
 pub mod ForceLemmas
+pub mod EndLemmas
 pub mod WholeLemmas
 pub mod Performing
 pub mod SelfTestRows
 pub mod RunLemmas
+pub mod SaidLemmas
 mod ExactLemmas
 mod ExactFiles
 mod ExactSuite

@@ -36,6 +36,8 @@ use Rattle.command_steps.proofs.SoundLemmas.{IsCalm, PassesAll, surveyed_calm, g
 use Rattle.testr_commands.proofs.KeepingLaws.{keeps_moves, Moves, quiet_moves, run_moves}
 use Rattle.testr_commands.proofs.ChainLemmas.{IsQuiet}
 use Rattle.testr_commands.proofs.StepLaws.{still_quiet, open_quiet, begin_quiet, record_quiet}
+use Rattle.testr_words.specs.Suites.{LoadOptions}
+use Rattle.testr_words.specs.declared.format.FormatKind.{FormatKind}
 
 module _ (partial : Bool) (number : ℕ) (run : List ℕ) where
   abbrev Runs : Folder → Folder → Type 0
@@ -47,9 +49,9 @@ module _ (partial : Bool) (number : ℕ) (run : List ℕ) where
 
   -- behind a run that was begun at s and written up to a
   module _ (s : Option Folder) (a b : Work) (calm : IfSome s IsCalm) (written : Goes s a.folder.told (Writes run)) (quiet : Goes s a.folder.told Rests) where
-    reported_or_not : (rows : List Row) (result : Result Verdict Refusal) → AreRowsOf run rows → Then Memory (Still (Reports number [] rows)) (λ (report : Report). Then Keep (At work_folder (Keeps partial number)) (λ _. Then Refresh (At work_folder (Refreshes number rows)) (λ _. Then Print (At work_out (Prints report.text)) (λ _. Gives report.verdict)))) a b result → Goes s b.folder.told Runs
-    reported_or_not rows result are (stops fault is step) = goes_rested number (run_of partial run) s b.folder.told calm (subst (λ (w : Work). Goes s w.folder.told Rests) (sym step.same) quiet)
-    reported_or_not rows result are (goes_on report m step next) =
+    reported_or_not : (format : FormatKind) (rows : List Row) (result : Result Verdict Refusal) → AreRowsOf run rows → Then Memory (Still (Reports format number [] rows)) (λ (report : Report). Then Keep (At work_folder (Keeps partial number)) (λ _. Then Refresh (At work_folder (Refreshes number rows)) (λ _. Then Print (At work_out (Prints report.text)) (λ _. Gives report.verdict)))) a b result → Goes s b.folder.told Runs
+    reported_or_not format rows result are (stops fault is step) = goes_rested number (run_of partial run) s b.folder.told calm (subst (λ (w : Work). Goes s w.folder.told Rests) (sym step.same) quiet)
+    reported_or_not format rows result are (goes_on report m step next) =
         keeps_moves partial number run rows (Then Print (At work_out (Prints report.text)) (λ _. Gives report.verdict)) (printed_or_not report.text report.verdict) s are calm m b result
         (subst (λ (w : Work). Goes s w.folder.told (Writes run)) (sym step.same) written) next
 
@@ -68,14 +70,14 @@ module _ (partial : Bool) (number : ℕ) (run : List ℕ) where
 taken : (a m m2 : Work) (found : Found) → At work_folder Opens a m (Ok found) → Still {E = RunsFault} (TakesRun (length (kinds_of found))) m m2 (Ok tt) → IsQuiet a m2
 taken a m m2 found opened took = rests_then a.folder.told m.folder.told m2.folder.told (open_quiet a m (Ok found) opened.at) (still_quiet m m2 took.same)
 
-module _ (partial : Bool) (names : List (List ℕ)) where
+module _ (options : LoadOptions) (names : List (List ℕ)) where
   abbrev pub MovesFrom : Work → Work → Type 0
-  MovesFrom a b = Goes a.folder.told b.folder.told (Moves (HasLoadedRun partial names a.site.told a.input.told))
+  MovesFrom a b = Goes a.folder.told b.folder.told (Moves (HasLoadedRun options.partial names a.site.told a.input.told))
 
   quiet_from : (a b : Work) → IsQuiet a b → MovesFrom a b
-  quiet_from a b quiet = quiet_moves (HasLoadedRun partial names a.site.told a.input.told) a.folder.told b.folder.told quiet
+  quiet_from a b quiet = quiet_moves (HasLoadedRun options.partial names a.site.told a.input.told) a.folder.told b.folder.told quiet
 
-  pub load_moves : (a b : Work) (result : Result Verdict Refusal) → Loads partial names a b result → MovesFrom a b
+  pub load_moves : (a b : Work) (result : Result Verdict Refusal) → Loads options names a b result → MovesFrom a b
   load_moves a b result (stops fault is step) = quiet_from a b (open_quiet a b (Err fault) step.at)
   load_moves a b result (goes_on found m opened (stops fault is step)) = quiet_from a b (rests_then a.folder.told m.folder.told b.folder.told (open_quiet a m (Ok found) opened.at) (still_quiet m b step.same))
   load_moves a b result (goes_on found m opened (goes_on _ m2 took (stops fault is step))) = quiet_from a b (rests_then a.folder.told m2.folder.told b.folder.told (taken a m m2 found opened took) (begin_quiet m2 b (Err fault) step.at))
@@ -89,7 +91,7 @@ module _ (partial : Bool) (names : List (List ℕ)) where
       let quiet : IsQuiet m2 m4 = rests_then m2.folder.told m3.folder.told m4.folder.told (begin_quiet m2 m3 (Ok tt) begun.at) (record_quiet m3 m4 names (Ok rows) recorded) in
       let calm : IfSome m2.folder.told IsCalm = subst (λ (w : Work). IfSome w.folder.told IsCalm) (sym took.same) (surveyed_calm (kinds_of found) a.folder.told m.folder.told opened.at.found) in
       let number = length (kinds_of found) in
-      run_moves (HasLoadedRun partial names a.site.told a.input.told) number (run_of partial all.run) (loaded_run partial number all.run names a.site.told a.input.told records) a.folder.told m2.folder.told b.folder.told (taken a m m2 found opened took) (reported_or_not partial number all.run m2.folder.told m4 b calm written quiet rows result all.rows_are next)
+      run_moves (HasLoadedRun options.partial names a.site.told a.input.told) number (run_of options.partial all.run) (loaded_run options.partial number all.run names a.site.told a.input.told records) a.folder.told m2.folder.told b.folder.told (taken a m m2 found opened took) (reported_or_not options.partial number all.run m2.folder.told m4 b calm written quiet options.format rows result all.rows_are next)
 
 pub init_moves : (a b : Seen Folder) (result : Result Verdict Refusal) → Inits a b result → Goes a.told b.told PassesFormat
 init_moves a b result (stops fault is step) = step.any_moment

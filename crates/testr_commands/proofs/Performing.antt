@@ -15,6 +15,7 @@ use Rattle.command_steps.specs.declared.usage.UsageFault.TheVariants.{Words}
 use Rattle.command_steps.specs.declared.answer.Verdict.{Verdict}
 use Rattle.command_steps.specs.declared.answer.Refusal.{Refusal}
 use Rattle.command_steps.specs.declared.answer.Refusal.TheVariants.{Usage, Memory}
+use Rattle.testr_words.specs.Suites.{load_options}
 
 pub performs : {read asked : Option Task} (before after : Work) (outcome : Result Verdict Refusal) → read ≡ asked → Performs read before after outcome → Performs asked before after outcome
 performs before after outcome is done = subst (λ c. Performs c before after outcome) is done
@@ -25,16 +26,16 @@ refuses before none = subst (λ c. Performs c before before (Err (Usage Words)))
 
 -- a load has 64 names at most
 pub too_many : (folder : List ℕ) (c : Command) → 64 < length c.names → task_with folder Load c ≡ None
-too_many folder c more = cond-false (nat_le (length c.names) 64) (Some (load c.partial c.names)) None (lt-leb (length c.names) 64 more)
+too_many folder c more = cond-false (nat_le (length c.names) 64) (Some (load (load_options c) c.names)) None (lt-leb (length c.names) 64 more)
 
-pub few_enough : (folder : List ℕ) (c : Command) → length c.names ≤ 64 → task_with folder Load c ≡ Some (load c.partial c.names)
-few_enough folder c few = cond-true (nat_le (length c.names) 64) (Some (load c.partial c.names)) None (le-leb (length c.names) 64 few)
+pub few_enough : (folder : List ℕ) (c : Command) → length c.names ≤ 64 → task_with folder Load c ≡ Some (load (load_options c) c.names)
+few_enough folder c few = cond-true (nat_le (length c.names) 64) (Some (load (load_options c) c.names)) None (le-leb (length c.names) 64 few)
 
 -- a load starts nothing
 pub quiet_load : (folder : List ℕ) (c : Command) → quiet_of (task_with folder Load c) ≡ task_with folder Load c
 quiet_load folder c = by (nat_le (length c.names) 64)
   where
-    by : (few : Bool) → quiet_of (cond few (Some (load c.partial c.names)) None) ≡ cond few (Some (load c.partial c.names)) None
+    by : (few : Bool) → quiet_of (cond few (Some (load (load_options c) c.names)) None) ≡ cond few (Some (load (load_options c) c.names)) None
     by true = refl
     by false = refl
 

@@ -13,7 +13,7 @@ use Rattle.run_shelf.specs.declared.found.Found.{Found}
 use Rattle.run_shelf.proofs.Joining.{stays_some}
 use Rattle.sub_text.specs.Texts.{summary_of}
 use Rattle.suite_plan.specs.Listing.{ListsSo}
-use Rattle.testr_words.specs.Suites.{ListOptions}
+use Rattle.testr_words.specs.Suites.{ListOptions, LoadOptions}
 use Rattle.testr_commands.specs.Ask.{CopiesLast, PrintsAnswer, AnswersOf, Asks}
 use Rattle.command_steps.specs.Copying.{BeginsAt, Copies}
 use Rattle.testr_commands.specs.Load.{Loads}
@@ -75,8 +75,8 @@ out_of w = w.out.told
 
 -- ---- `load`
 
-pub load_prints : (partial : Bool) (names : List (List ℕ)) (a b : Work) (result : Result Verdict Refusal) → Loads partial names a b result → (b.out.told ≡ a.out.told) ⊎ PrintsOfLoad names a b
-load_prints partial names a b result loads =
+pub load_prints : (options : LoadOptions) (names : List (List ℕ)) (a b : Work) (result : Result Verdict Refusal) → Loads options names a b result → (b.out.told ≡ a.out.told) ⊎ PrintsOfLoad options names a b
+load_prints options names a b result loads =
     then_printed out_of a b result (λ r m s i. (s.rest i).out.told) (λ found o opened.
     then_printed out_of o b result (λ r m s i. (s.same i).out.told) (λ _ t took.
     then_printed out_of t b result (λ r m s i. (s.rest i).out.told) (λ _ g begun.
@@ -84,14 +84,14 @@ load_prints partial names a b result loads =
     then_printed out_of r b result (λ x m s i. (s.same i).out.told) (λ report e told.
     then_printed out_of e b result (λ x m s i. (s.rest i).out.told) (λ _ k kept.
     then_printed out_of k b result (λ x m s i. (s.rest i).out.told) (λ _ m refreshed printed.
-    let all : LoadedSo partial names a m report = loaded_so partial names a o t g r e k m found rows report opened took begun read told kept refreshed in
+    let all : LoadedSo options names a m rows report = loaded_so options names a o t g r e k m found rows report opened took begun read told kept refreshed in
     inr (record {
       sources = all.sources;
       are_sources = all.are_sources;
       are_bytes = all.are_bytes;
       events = all.events;
       recorded = all.recorded;
-      printed = prefix_rows partial all.number [] all.events report a.folder.told m.folder.told a.out.told b.out.told all.kept all.says
+      printed = prefix_rows options.partial options.format all.number [] all.events report a.folder.told m.folder.told a.out.told b.out.told all.kept all.says
           (part_as a.out.told m.out.told b.out.told report.text report.text all.out refl (printed_part report.text report.verdict m b result printed));
     }))))))))
     loads

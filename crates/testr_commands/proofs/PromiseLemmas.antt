@@ -96,7 +96,7 @@ module _ (a b : Work) (same : b.folder ≡ a.folder) where
 
   same_moments : (asked : Option Task) → Goes a.folder.told b.folder.told (PassesTask asked a b)
   same_moments (Some init) = goes_weaker a.folder.told b.folder.told Rests PassesFormat same_quiet (λ s t rests. passes_weaker (IsImage s.disk) (λ image. IsImage s.disk image ⊎ HasFormatBeside s.disk.published image) (λ image left. inl left) s t rests.old)
-  same_moments (Some (load partial names)) = goes_weaker a.folder.told b.folder.told (Moves (HasLoadedRun partial names a.site.told a.input.told)) (PassesLoad partial names a.site.told a.input.told) (quiet_moves (HasLoadedRun partial names a.site.told a.input.told) a.folder.told b.folder.told same_quiet) (λ s t moves. moves.stops)
+  same_moments (Some (load options names)) = goes_weaker a.folder.told b.folder.told (Moves (HasLoadedRun options.partial names a.site.told a.input.told)) (PassesLoad options.partial names a.site.told a.input.told) (quiet_moves (HasLoadedRun options.partial names a.site.told a.input.told) a.folder.told b.folder.told same_quiet) (λ s t moves. moves.stops)
   same_moments (Some (ask question)) = goes_weaker a.folder.told b.folder.told Rests PassesOld same_quiet (λ s t rests. rests.old)
   same_moments (Some (run options)) = goes_weaker a.folder.told b.folder.told Rests (PassesSuiteRun options a b) same_quiet (λ s t rests. inl rests.old)
   same_moments (Some upgrade) = goes_weaker a.folder.told b.folder.told Rests PassesUpgrade same_quiet (λ s t rests. passes_weaker (IsImage s.disk) (λ image. IsImage s.disk image ⊎ IsEither s.disk.published image) (λ image left. inl left) s t rests.old)
@@ -107,7 +107,7 @@ module _ (a b : Work) (same : b.folder ≡ a.folder) where
 module _ (a b : Work) where
   refused : (task : Task) (r : Refusal) → Performs (Some task) a b (Err r) → IsRefused (StartsPrograms (Some task)) r a b
   refused init r done = subst (λ (w : Work). IsRefused ⊥ r a w) (sym done.rest) (init_refuses a.site a.spawner a.input a.out a.folder b.folder r done.at)
-  refused (load partial names) r done = load_refuses partial names a b r done
+  refused (load options names) r done = load_refuses options names a b r done
   refused (ask question) r done = subst (λ (w : Work). IsRefused ⊥ r a w) (sym done.rest) (ask_refuses a.site a.spawner a.input question (shown a.folder a.out) (shown b.folder b.out) r done.at)
   refused (list options) r done = list_refused options a b r done
   refused (run options) r done = run_refused options a b r done
@@ -116,7 +116,7 @@ module _ (a b : Work) where
 
   counted : (task : Task) (v : Verdict) → Performs (Some task) a b (Ok v) → SameCounts a b
   counted init v done = subst (SameCounts a) (sym done.rest) (init_counts a.site a.spawner a.input a.out a.folder b.folder v done.at)
-  counted (load partial names) v done = load_counts partial names a b v done
+  counted (load options names) v done = load_counts options names a b v done
   counted (ask question) v done = subst (SameCounts a) (sym done.rest) (ask_counts a.site a.spawner a.input question (shown a.folder a.out) (shown b.folder b.out) v done.at)
   counted (list options) v done = list_counted options a b v done
   counted (run options) v done = run_counted options a b v done
@@ -136,7 +136,7 @@ module _ (a b : Work) where
   moments_of : (asked : Option Task) (outcome : Result Verdict Refusal) → Performs asked a b outcome → Goes a.folder.told b.folder.told (PassesTask asked a b)
   moments_of None outcome done = same_moments a b (λ i. (done.same i).folder) None
   moments_of (Some init) outcome done = init_moves a.folder b.folder outcome done.at
-  moments_of (Some (load partial names)) outcome done = goes_weaker a.folder.told b.folder.told (Moves (HasLoadedRun partial names a.site.told a.input.told)) (PassesLoad partial names a.site.told a.input.told) (load_moves partial names a b outcome done) (λ s t moves. moves.stops)
+  moments_of (Some (load options names)) outcome done = goes_weaker a.folder.told b.folder.told (Moves (HasLoadedRun options.partial names a.site.told a.input.told)) (PassesLoad options.partial names a.site.told a.input.told) (load_moves options names a b outcome done) (λ s t moves. moves.stops)
   moments_of (Some (ask question)) outcome done = goes_weaker a.folder.told b.folder.told Rests PassesOld (asked_rests question outcome done) (λ s t rests. rests.old)
   moments_of (Some (list options)) outcome done = same_moments a b (list_same options a b outcome done) (Some (list options))
   moments_of (Some (run options)) outcome done = goes_weaker a.folder.told b.folder.told (RunsMoves options a b) (PassesSuiteRun options a b) (run_suite_moves options a b outcome done) (λ s t moves. moves.stops)
@@ -146,7 +146,7 @@ module _ (a b : Work) where
   sound_of : (asked : Option Task) (outcome : Result Verdict Refusal) → Performs asked a b outcome → Goes a.folder.told b.folder.told (KeepsSoundFor asked)
   sound_of None outcome done = same_sound a b (λ i. (done.same i).folder)
   sound_of (Some init) outcome done = init_sound a.folder b.folder outcome done.at
-  sound_of (Some (load partial names)) outcome done = goes_weaker a.folder.told b.folder.told (Moves (HasLoadedRun partial names a.site.told a.input.told)) KeepsSound (load_moves partial names a b outcome done) (λ s t moves. moves.sound)
+  sound_of (Some (load options names)) outcome done = goes_weaker a.folder.told b.folder.told (Moves (HasLoadedRun options.partial names a.site.told a.input.told)) KeepsSound (load_moves options names a b outcome done) (λ s t moves. moves.sound)
   sound_of (Some (ask question)) outcome done = goes_weaker a.folder.told b.folder.told Rests KeepsSound (asked_rests question outcome done) rests_sound
   sound_of (Some (list options)) outcome done = same_sound a b (list_same options a b outcome done)
   sound_of (Some (run options)) outcome done = goes_weaker a.folder.told b.folder.told (RunsMoves options a b) KeepsSound (run_suite_moves options a b outcome done) (λ s t moves. moves.sound)
@@ -156,7 +156,7 @@ module _ (a b : Work) where
   repository_of : (asked : Option Task) (outcome : Result Verdict Refusal) → Performs asked a b outcome → Goes a.folder.told b.folder.told KeepsRepository
   repository_of None outcome done = same_repository a b (λ i. (done.same i).folder)
   repository_of (Some init) outcome done = init_repository a.folder b.folder outcome done.at
-  repository_of (Some (load partial names)) outcome done = goes_weaker a.folder.told b.folder.told (Moves (HasLoadedRun partial names a.site.told a.input.told)) KeepsRepository (load_moves partial names a b outcome done) (λ s t moves. moves.repository)
+  repository_of (Some (load options names)) outcome done = goes_weaker a.folder.told b.folder.told (Moves (HasLoadedRun options.partial names a.site.told a.input.told)) KeepsRepository (load_moves options names a b outcome done) (λ s t moves. moves.repository)
   repository_of (Some (ask question)) outcome done = goes_weaker a.folder.told b.folder.told Rests KeepsRepository (asked_rests question outcome done) rests_repository
   repository_of (Some (list options)) outcome done = same_repository a b (list_same options a b outcome done)
   repository_of (Some (run options)) outcome done = goes_weaker a.folder.told b.folder.told (RunsMoves options a b) KeepsRepository (run_suite_moves options a b outcome done) (λ s t moves. moves.repository)
@@ -166,8 +166,8 @@ module _ (a b : Work) where
   kept_of : (asked : Option Task) (outcome : Result Verdict Refusal) → Performs asked a b outcome → may_have_kept asked outcome ≡ false → Goes a.folder.told b.folder.told (Keeps asked)
   kept_of None outcome done not = same_keeps a b (λ i. (done.same i).folder) None
   kept_of (Some init) outcome done not = init_keeps a.folder b.folder outcome done.at
-  kept_of (Some (load partial names)) (Ok v) done not = cc
-  kept_of (Some (load partial names)) (Err r) done not = load_keeps partial names a b r done not
+  kept_of (Some (load options names)) (Ok v) done not = cc
+  kept_of (Some (load options names)) (Err r) done not = load_keeps options names a b r done not
   kept_of (Some (ask question)) outcome done not = goes_weaker a.folder.told b.folder.told Rests KeepsFiles (asked_rests question outcome done) (λ s t rests. rests.files)
   kept_of (Some (list options)) outcome done not = same_keeps a b (list_same options a b outcome done) (Some (list options))
   kept_of (Some (run options)) (Ok v) done not = cc
@@ -177,7 +177,7 @@ module _ (a b : Work) where
 
   did_of : (task : Task) (v : Verdict) → Performs (Some task) a b (Ok v) → Does (Some task) a b (verdict_code v)
   did_of init v done = (init_made a.folder b.folder v done.at, init_passed a.folder b.folder v done.at)
-  did_of (load partial names) v done = load_did partial names a b v done
+  did_of (load options names) v done = load_did options names a b v done
   did_of (ask question) v done = subst (λ (w : Work). AnswersQuestion question a w (verdict_code v)) (sym done.rest) (ask_did question a.site a.spawner a.input (shown a.folder a.out) (shown b.folder b.out) v done.at)
   did_of (list options) v done = list_did options a b v done
   did_of (run options) v done = run_did options a b v done
@@ -187,7 +187,7 @@ module _ (a b : Work) where
   printed_of : (asked : Option Task) (outcome : Result Verdict Refusal) → Performs asked a b outcome → PrintsInPart asked a b
   printed_of None outcome done = inl (λ i. (done.same i).out.told)
   printed_of (Some init) outcome done = inl (λ i. (done.rest i).out.told)
-  printed_of (Some (load partial names)) outcome done = load_prints partial names a b outcome done
+  printed_of (Some (load options names)) outcome done = load_prints options names a b outcome done
   printed_of (Some (ask question)) outcome done = subst (PrintsInPart (Some (ask question)) a) (sym done.rest) (ask_prints question a.site a.spawner a.input (shown a.folder a.out) (shown b.folder b.out) outcome done.at)
   printed_of (Some (list options)) outcome done = list_prints options a b outcome done
   printed_of (Some (run options)) outcome done = (run_leaves options a b outcome done).printed
@@ -202,7 +202,7 @@ module _ (a b : Work) where
   never_of init r done can =
       let four = init_never a.folder b.folder r done.at can in
       ((λ three. omega (arith, four, three)), no_child init r (λ starts. starts) done)
-  never_of (load partial names) r done can = (load_never partial names a b r done can, no_child (load partial names) r (λ starts. starts) done)
+  never_of (load options names) r done can = (load_never options names a b r done can, no_child (load options names) r (λ starts. starts) done)
   never_of (ask question) r done can = (ask_never question a.site a.spawner a.input (shown a.folder a.out) (shown b.folder b.out) r done.at can, no_child (ask question) r (λ starts. starts) done)
   never_of (list options) r done can = list_never options a b r done can
   never_of (run options) r done can = run_never options a b r done can
@@ -254,7 +254,7 @@ module _ (a b : Work) where
 leaves_of : (before after : Outside) (asked : Option Task) (outcome : Result Verdict Refusal) → Performs asked (work_of before) (work_of after) outcome → Leaves asked before after
 leaves_of before after None outcome done = λ i. (done.same i).spawner
 leaves_of before after (Some init) outcome done = λ i. (done.rest i).spawner
-leaves_of before after (Some (load partial names)) outcome done = load_beside partial names (work_of before) (work_of after) outcome done
+leaves_of before after (Some (load options names)) outcome done = load_beside options names (work_of before) (work_of after) outcome done
 leaves_of before after (Some (ask question)) outcome done = λ i. (done.rest i).spawner
 leaves_of before after (Some (list options)) outcome done = tt
 leaves_of before after (Some (run options)) outcome done = run_leaves options (work_of before) (work_of after) outcome done

@@ -33,7 +33,7 @@ use Rattle.suite_run.specs.Starting.{StartsAll}
 use Rattle.suite_run.specs.Summed.{GivesSums}
 use Rattle.worker_lane.specs.Recorded.{recorded_event, recorded_events}
 use Rattle.worker_lane.proofs.NoteLemmas.{recorded_whole}
-use Rattle.worker_lane.proofs.InsideLemmas.{not_inside}
+use Rattle.stream_end.proofs.InsideLemmas.{not_inside}
 use Rattle.worker_lane.specs.Inside.{ends_inside, inside_events}
 use Rattle.worker_lane.specs.Rest.{notes_of_stream, notes_are, stream_events}
 use Rattle.worker_mux.specs.Outputs.{events_for, lists_from}

@@ -13,16 +13,19 @@ use Rattle.testr_words.specs.Drawings.{drawing_of}
 use Rattle.testr_words.specs.Questions.{OfBytes}
 use Rattle.testr_commands.specs.Sparing.{LooksOnly, SparesReads}
 use Rattle.command_steps.specs.Calls.{SparesRuns, SparesFor}
-use Rattle.testr_words.specs.Tasks.{Task, load, ask, list as listing, run as running, selftest, task_with, quiet_of, forces_for}
+use Rattle.testr_words.specs.Tasks.{Task, load, ask, list as listing, run as running, selftest, task_with, quiet_of, forces_for, report_question, failing_question}
 use Rattle.testr_words.specs.Words.{face_word, asked_by}
 use Rattle.testr_words.proofs.WordsLemmas.{same_face}
 use Rattle.testr_words.specs.declared.command.Command.{Command}
 use Rattle.testr_words.specs.declared.command.Face.{Face}
 use Rattle.testr_words.specs.declared.command.Question.{Question}
-use Rattle.testr_words.specs.declared.command.Question.TheVariants.{Last as AsksLast, Skips as AsksSkips, Failing as AsksFailing}
+use Rattle.testr_words.specs.declared.command.Question.TheVariants.{Last as AsksLast, Failing as AsksFailing}
 use Rattle.testr_words.specs.declared.command.Verb.{Verb}
 use Rattle.testr_words.specs.declared.command.Verb.TheVariants as verb
 use Rattle.testr_words.specs.declared.drawing.Drawing.{Drawing}
+use Rattle.testr_words.specs.declared.format.FormatKind.{FormatKind}
+use Rattle.testr_words.specs.declared.format.FormatKind.TheVariants.{Plain, Github}
+use Rattle.testr_words.specs.Suites.{load_options}
 
 -- so few calls, and no read behind them
 pub few_spare : (calls : ℕ) (told : Option Folder) (before now : ℕ) → TicksUpTo calls before now → SparesRuns calls told before now
@@ -73,7 +76,7 @@ abbrev pub IsOther : Verb → Type 0
 IsOther verb.Failing = ⊥
 IsOther other = ⊤
 
-no_load : (few : Bool) (c : Command) (list : Bool) → (if few then Some (load c.partial c.names) else None) ≡ Some (ask (AsksFailing list)) → ⊥
+no_load : (few : Bool) (c : Command) (list : Bool) → (if few then Some (load (load_options c) c.names) else None) ≡ Some (ask (AsksFailing list)) → ⊥
 no_load true c list is = cc
 no_load false c list is = cc
 
@@ -81,14 +84,15 @@ no_drawn : (drawn : Option Drawing) (question : Question) → option_map selftes
 no_drawn None question is = cc
 no_drawn (Some drawing) question is = cc
 
-no_last : (subunit skips list : Bool) → Some (ask (if subunit then AsksLast true else (if skips then AsksSkips else AsksLast false))) ≡ Some (ask (AsksFailing list)) → ⊥
-no_last true skips list is = cc
-no_last false true list is = cc
-no_last false false list is = cc
+no_last : (subunit : Bool) (format : FormatKind) (skips list : Bool) → Some (ask (if subunit then AsksLast true else report_question format skips)) ≡ Some (ask (AsksFailing list)) → ⊥
+no_last true format skips list is = cc
+no_last false Github skips list is = cc
+no_last false Plain true list is = cc
+no_last false Plain false list is = cc
 
 not_asked : (folder : List ℕ) (v : Verb) (c : Command) (list : Bool) → IsOther v → task_with folder v c ≡ Some (ask (AsksFailing list)) → ⊥
 not_asked folder verb.Load c list other is = no_load (nat_le (length c.names) 64) c list is
-not_asked folder verb.Last c list other is = no_last c.subunit c.skips list is
+not_asked folder verb.Last c list other is = no_last c.subunit c.format c.skips list is
 not_asked folder verb.Failing c list other is = other
 not_asked folder verb.SelfTest c list other is = no_drawn (drawing_of c) (AsksFailing list) is
 not_asked folder v c list other is = cc
@@ -97,6 +101,16 @@ not_asked folder v c list other is = cc
 pub other_spare : (folder : List ℕ) (v : Verb) {w : Verb} (c : Command) (told : Option Folder) (before now : ℕ) → v ≡ w → IsOther w → LooksOnly told before now → SparesReads (task_with folder v c) told before now
 other_spare folder v c told before now is other looks = record {
   failing = λ list asks. absurd (not_asked folder v c list (subst IsOther (sym is) other) asks);
+  looks = λ question asks. looks;
+}
+
+asks_same : (one other : Question) → Some (ask one) ≡ Some (ask other) → one ≡ other
+asks_same one other is = cc
+
+-- a question that may be that of the failing set
+pub failing_spare : (folder : List ℕ) (v : Verb) (c : Command) (question : Question) (told : Option Folder) (before now : ℕ) → v ≡ verb.Failing → question ≡ failing_question c → SparesFor (6 + base_calls told) question told before now → LooksOnly told before now → SparesReads (task_with folder v c) told before now
+failing_spare folder v c question told before now is asked spares looks = record {
+  failing = λ list asks. spares list (asked ∙ asks_same (failing_question c) (AsksFailing list) (sym (ap (λ w. task_with folder w c) is) ∙ asks));
   looks = λ question asks. looks;
 }
 
@@ -110,7 +124,7 @@ AsksNothing verb.SelfTest = ⊤
 AsksNothing verb.Upgrade = ⊤
 AsksNothing question = ⊥
 
-no_question : (few : Bool) (c : Command) (question : Question) → (if few then Some (load c.partial c.names) else None) ≡ Some (ask question) → ⊥
+no_question : (few : Bool) (c : Command) (question : Question) → (if few then Some (load (load_options c) c.names) else None) ≡ Some (ask question) → ⊥
 no_question true c question is = cc
 no_question false c question is = cc
 

@@ -18,7 +18,6 @@ use Rattle.packet_codec.specs.declared.event.Event.{Event}
 use Rattle.run_shelf.specs.Holds.{kinds_of}
 use Rattle.run_shelf.specs.Repository.{Run, run_of, Shows}
 use Rattle.run_shelf.proofs.DraftLemmas.{goes_writes, run_kept}
-use Rattle.sub_text.specs.Texts.{report_of}
 use Rattle.suite_plan.specs.Calling.{CallsSo}
 use Rattle.suite_plan.specs.Choosing.{Ids}
 use Rattle.suite_plan.specs.Listing.{ListsTests, ListsSo}
@@ -29,7 +28,7 @@ use Rattle.worker_mux.specs.Runs.{AddsMerge}
 use Rattle.command_steps.specs.Asking.{FindsFailing, FindsTimes}
 use Rattle.command_steps.specs.Outside.{Work, work_folder, work_site, work_spawner}
 use Rattle.command_steps.specs.Perhaps.{Perhaps, not_asked, did, refused, when}
-use Rattle.command_steps.specs.Reporting.{Report, IsReport}
+use Rattle.command_steps.specs.Reporting.{Report, IsReport, report_for}
 use Rattle.testr_commands.specs.RunSuite.{ListsSuite, RunsSuite, TellsRun}
 use Rattle.command_steps.specs.Working.{Works}
 use Rattle.command_steps.specs.Runs.{run_bytes, KeepsFiles, AddsRun}
@@ -57,6 +56,7 @@ use Rattle.command_steps.proofs.SoundLemmas.{IsCalm, PassesAll, KeepsRunAndCache
 use Rattle.testr_commands.proofs.RowsLemmas.{rows_of_written}
 use Rattle.testr_commands.proofs.StepLaws.{open_quiet}
 use Rattle.testr_commands.proofs.SuiteJobs.{selected_range, few_jobs, short_ids}
+use Rattle.testr_words.specs.declared.format.FormatKind.{FormatKind}
 
 -- ---- `list-tests`
 
@@ -265,17 +265,17 @@ work_did partial number plan a b rows few works =
 
 -- ---- the report
 
-pub record ToldSo (number : ℕ) (filter_tags : Ids) (rows : List Row) (a b : Work) (v : Verdict) : Type 0 where
+pub record ToldSo (format : FormatKind) (number : ℕ) (filter_tags : Ids) (rows : List Row) (a b : Work) (v : Verdict) : Type 0 where
   pub report : Report
-  pub says : IsReport number filter_tags rows report
+  pub says : IsReport format number filter_tags rows report
   pub folder : b.folder.told ≡ a.folder.told
   pub spawner : b.spawner.told ≡ a.spawner.told
   input : b.input ≡ a.input
   pub printed : Appends a.out.told b.out.told report.text
   verdict : v ≡ report.verdict
 
-pub tell_did : (number : ℕ) (filter_tags : Ids) (rows : List Row) (a b : Work) (v : Verdict) → TellsRun number filter_tags rows a b (Ok v) → ToldSo number filter_tags rows a b v
-tell_did number filter_tags rows a b v tells =
+pub tell_did : (format : FormatKind) (number : ℕ) (filter_tags : Ids) (rows : List Row) (a b : Work) (v : Verdict) → TellsRun format number filter_tags rows a b (Ok v) → ToldSo format number filter_tags rows a b v
+tell_did format number filter_tags rows a b v tells =
     let made = then_did v tells in
     let printed = then_did v made.next in
     let gives = printed.next in
@@ -290,16 +290,16 @@ tell_did number filter_tags rows a b v tells =
     }
 
 -- what is so of the text of the report, where the folder is told, is so of the report of the run's rows
-pub rows_told : (partial : Bool) (number : ℕ) (tags : Ids) (events : List Event) (report : Report) (P : List ℕ → Type 0) (a b : Option Folder) → Goes a b (KeepsRunAndCaches number (run_of partial (run_bytes events))) → IsReport number tags (rows_of events) report → IfSome a (λ _. P report.text)
-    → IfSome a (λ s. (runs : List Run) → Shows s.disk.published runs → P (report_of (rows_of events) (length runs) tags))
-rows_told partial number tags events report P None b kept says told = tt
-rows_told partial number tags events report P (Some s) None kept says told = absurd kept
-rows_told partial number tags events report P (Some s) (Some t) kept says told = λ runs shows.
-    subst (λ n. P (report_of (rows_of events) n tags)) (kept.reads.beside.counts runs shows) (subst P says.text told)
+pub rows_told : (partial : Bool) (format : FormatKind) (number : ℕ) (tags : Ids) (events : List Event) (report : Report) (P : List ℕ → Type 0) (a b : Option Folder) → Goes a b (KeepsRunAndCaches number (run_of partial (run_bytes events))) → IsReport format number tags (rows_of events) report → IfSome a (λ _. P report.text)
+    → IfSome a (λ s. (runs : List Run) → Shows s.disk.published runs → P (report_for format (rows_of events) (length runs) tags))
+rows_told partial format number tags events report P None b kept says told = tt
+rows_told partial format number tags events report P (Some s) None kept says told = absurd kept
+rows_told partial format number tags events report P (Some s) (Some t) kept says told = λ runs shows.
+    subst (λ n. P (report_for format (rows_of events) n tags)) (kept.reads.beside.counts runs shows) (subst P says.text told)
 
 -- ---- the run theorem
 
-seen_same : {S : Type 0} (a b : Seen S) → b.told ≡ a.told → b.faults ≡ a.faults → b ≡ a
+pub seen_same : {S : Type 0} (a b : Seen S) → b.told ≡ a.told → b.faults ≡ a.faults → b ≡ a
 seen_same a b told faults = λ i. record { told = told i; faults = faults i }
 
 pub run_did : (options : RunOptions) (a b : Work) (v : Verdict) → RunsSuite options a b (Ok v) → RunsAll options a b (verdict_code v)
@@ -322,7 +322,7 @@ run_did options a b v runs =
     let gives = finds.next in
     let here : Work = told.between in
     let there : Work = finds.between in
-    let tell = tell_did (length kinds) conf.value.filter_tags worked.value worked.between here told.value told.done in
+    let tell = tell_did options.format (length kinds) conf.value.filter_tags worked.value worked.between here told.value told.done in
     let found_folder : b.folder.told ≡ here.folder.told = (λ i. (gives.same i).folder.told) ∙ causes_still options.find_causes conf.value (length kinds) worked.value here there (Ok finds.value) finds.done in
     let run : Run = run_of partial (run_bytes work.events) in
     let calm : begin ≡ found.between = compiled.done.same ∙ took.done.same in
@@ -334,7 +334,7 @@ run_did options a b v runs =
     let keeps : Goes begin.folder.told b.folder.told (KeepsRunAndCaches (length kinds) run) = goes_ends (KeepsRunAndCaches (length kinds) run) refl (sym (found_folder ∙ tell.folder)) kept in
     let stored : Goes a.folder.told b.folder.told (KeepsRunAndCaches (length kinds) run) = kept_through (length kinds) run a.folder.told begin.folder.told b.folder.told quiet keeps in
     let at_rest : IfSome begin.folder.told IsCalm = subst (λ (w : Work). IfSome w.folder.told IsCalm) (sym calm) (surveyed_calm kinds conf.between.folder.told found.between.folder.told found.done.at.found) in
-    let says : IsReport (length kinds) conf.value.filter_tags (rows_of work.events) tell.report = subst (λ (l : List Row). IsReport (length kinds) conf.value.filter_tags l tell.report) work.rows_are tell.says in
+    let says : IsReport options.format (length kinds) conf.value.filter_tags (rows_of work.events) tell.report = subst (λ (l : List Row). IsReport options.format (length kinds) conf.value.filter_tags l tell.report) work.rows_are tell.says in
     let workers_here = told_before begin.spawner.told planned.between.spawner.told (λ s t. ⊤) (AreOfOutputs work.events planned.value.asked work.outputs) before.told work.of_workers in
     let workers : IfSome a.spawner.told (λ _. AreOfOutputs work.events planned.value.asked work.outputs) = subst (λ (o : Option Spawning). IfSome o (λ _. AreOfOutputs work.events planned.value.asked work.outputs)) (λ i. (opened i).spawner.told) workers_here in
     let out : worked.between.out.told ≡ a.out.told = work.out ∙ before.out ∙ (λ i. (opened i).out.told) in
@@ -378,7 +378,7 @@ run_did options a b v runs =
       };
       cached = fresh_through (length kinds) run a.folder.told begin.folder.told b.folder.told quiet at_rest keeps;
       stored = goes_weaker a.folder.told b.folder.told (KeepsRunAndCaches (length kinds) run) (AddsRun partial work.events) stored (adds_run partial (length kinds) work.events);
-      printed = rows_told partial (length kinds) conf.value.filter_tags work.events tell.report (λ text. Appends a.out.told b.out.told (text ++ causes.lines)) a.folder.told b.folder.told stored says all_out;
+      printed = rows_told partial options.format (length kinds) conf.value.filter_tags work.events tell.report (λ text. Appends a.out.told b.out.told (text ++ causes.lines)) a.folder.told b.folder.told stored says all_out;
       found = searched;
       none_lost = where_told a.spawner.told (AreOfOutputs work.events planned.value.asked work.outputs) _ (λ are. none_lost work.events planned.value.asked work.outputs (short_ids conf.value options.find_causes selected.value selected.between planned.between planned.value planned.done) are.merged) workers;
       status = ap verdict_code (same_verdict gives.answer ∙ tell.verdict ∙ says.verdict) ∙ status_is (rows_of work.events);

@@ -19,6 +19,7 @@ use Rattle.testr_commands.proofs.ChainLemmas.{gives_not}
 use Rattle.testr_commands.proofs.KeepLemmas.{KeepsUnless, then_keeps, refused_as, never, named_last}
 use Rattle.testr_commands.proofs.StepLaws.{still_quiet, open_quiet, begin_quiet}
 use Rattle.testr_commands.proofs.SuiteQuiet.{site_quiet, spawner_quiet, select_quiet, plan_quiet}
+use Rattle.testr_words.specs.declared.format.FormatKind.{FormatKind}
 
 module _ (options : RunOptions) where
   abbrev may_have : Refusal → Bool
@@ -32,10 +33,10 @@ module _ (options : RunOptions) where
       named_last may_have (is_partial options) number rows (Gives rows) (λ fault. refl) (λ fault. refl) (λ a b r gives. absurd (gives_not a b r gives)))))
 
   -- what refuses behind the run's name
-  told_late : (number : ℕ) (tags : List (List ℕ)) (rows : List Row) (a b : Work) (r : Refusal) → TellsRun number tags rows a b (Err r) → may_have r ≡ true
-  told_late number tags rows a b r (stops fault is step) = refused_as may_have (Report fault) r is
-  told_late number tags rows a b r (goes_on report m step (stops fault is printed)) = refused_as may_have (Print fault) r is
-  told_late number tags rows a b r (goes_on report m step (goes_on _ m2 printed gives)) = absurd (gives_not m2 b r gives)
+  told_late : (format : FormatKind) (number : ℕ) (tags : List (List ℕ)) (rows : List Row) (a b : Work) (r : Refusal) → TellsRun format number tags rows a b (Err r) → may_have r ≡ true
+  told_late format number tags rows a b r (stops fault is step) = refused_as may_have (Report fault) r is
+  told_late format number tags rows a b r (goes_on report m step (stops fault is printed)) = refused_as may_have (Print fault) r is
+  told_late format number tags rows a b r (goes_on report m step (goes_on _ m2 printed gives)) = absurd (gives_not m2 b r gives)
 
   among_late : (settings : Settings) (test : List ℕ) (candidates : List (List ℕ)) (a b : Work) (r : Refusal) → FindsAmong settings test candidates a b (Err r) → may_have r ≡ true
   among_late settings test candidates a b r (stops fault is step) = refused_as may_have (Search fault) r is
@@ -56,12 +57,12 @@ module _ (options : RunOptions) where
   causes_late true settings number rows a b r (stops fault is step) = refused_as may_have (Suspects fault) r is
   causes_late true settings number rows a b r (goes_on suspects m step next) = each_late settings number suspects m b r next
 
-  finds_late : (settings : Settings) (number : ℕ) (rows : List Row) (a b : Work) (r : Refusal) → TellsAndFinds options.find_causes settings number rows a b (Err r) → may_have r ≡ true
-  finds_late settings number rows a b r (stops fault is step) = refused_as may_have fault r is ∙ told_late number settings.filter_tags rows a b fault step
+  finds_late : (settings : Settings) (number : ℕ) (rows : List Row) (a b : Work) (r : Refusal) → TellsAndFinds options.format options.find_causes settings number rows a b (Err r) → may_have r ≡ true
+  finds_late settings number rows a b r (stops fault is step) = refused_as may_have fault r is ∙ told_late options.format number settings.filter_tags rows a b fault step
   finds_late settings number rows a b r (goes_on verdict m step (stops fault is finds)) = refused_as may_have fault r is ∙ causes_late options.find_causes settings number rows m b fault finds
   finds_late settings number rows a b r (goes_on verdict m step (goes_on _ m2 finds gives)) = absurd (gives_not m2 b r gives)
 
-  works_last : (number : ℕ) (plan : Planned) (settings : Settings) → KeepsUnless may_have (Then (λ refusal. refusal) (Works (is_partial options) number plan) (λ rows. TellsAndFinds options.find_causes settings number rows))
+  works_last : (number : ℕ) (plan : Planned) (settings : Settings) → KeepsUnless may_have (Then (λ refusal. refusal) (Works (is_partial options) number plan) (λ rows. TellsAndFinds options.format options.find_causes settings number rows))
   works_last number plan settings a b r (stops fault is step) not = works_keep number plan a b fault step (sym (refused_as may_have fault r is) ∙ not)
   works_last number plan settings a b r (goes_on rows m step next) not = absurd (never may_have r (finds_late settings number rows m b r next) not)
 

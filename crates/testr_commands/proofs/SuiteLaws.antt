@@ -50,6 +50,7 @@ use Rattle.testr_commands.proofs.ChainLemmas.{IsRefused, Counts, Refuses, then_c
 use Rattle.testr_commands.proofs.FurtherLaws.{further_stands, further_rises, further_named, further_place}
 use Rattle.testr_commands.proofs.RefusalLemmas.{tell_place, ran_place, search_place, lanes_place, conf_place, list_place, table_place, call_place, listing_place, start_place}
 use Rattle.testr_commands.proofs.StepLaws.{folder_same, folder_counts, placed, still_counts, still_refuses, runs_refuse, memory_refuses, open_counts, open_refuses, begin_counts, begin_refuses, keep_counts, keep_refuses, refresh_counts, refresh_refuses, print_counts, print_refuses}
+use Rattle.testr_words.specs.declared.format.FormatKind.{FormatKind}
 
 abbrev all : Work → Work
 all w = w
@@ -237,14 +238,14 @@ work_counts partial number plan =
     then_counts all (λ a b v s. refresh_counts a b number rows v s.at s.rest) (λ _.
     value_counts)))))
 
-report_refuses : (number : ℕ) (filter_tags : List (List ℕ)) (rows : List Row) → SuiteRefuses (λ r. r) (TellsRun number filter_tags rows)
-report_refuses number filter_tags rows =
+report_refuses : (format : FormatKind) (number : ℕ) (filter_tags : List (List ℕ)) (rows : List Row) → SuiteRefuses (λ r. r) (TellsRun format number filter_tags rows)
+report_refuses format number filter_tags rows =
     then_refuses all (λ a b v s. still_counts a b s.same) (λ a b e s. untold_refuses a b e s.same) (λ report.
     then_refuses all (λ a b v s. print_counts a b _ v s.at s.rest) (λ a b e s. print_refuses a b _ e s.at s.rest) (λ _.
     value_refuses))
 
-report_counts : (number : ℕ) (filter_tags : List (List ℕ)) (rows : List Row) → Counts all (TellsRun number filter_tags rows)
-report_counts number filter_tags rows =
+report_counts : (format : FormatKind) (number : ℕ) (filter_tags : List (List ℕ)) (rows : List Row) → Counts all (TellsRun format number filter_tags rows)
+report_counts format number filter_tags rows =
     then_counts all (λ a b v s. still_counts a b s.same) (λ report.
     then_counts all (λ a b v s. print_counts a b _ v s.at s.rest) (λ _.
     value_counts))
@@ -293,15 +294,15 @@ causes_count true settings number rows =
     then_counts all (λ a b v s. still_counts a b s.same) (λ suspects.
     each_counts settings number suspects)
 
-finds_refuse : (asked : Bool) (settings : Settings) (number : ℕ) (rows : List Row) → SuiteRefuses (λ r. r) (TellsAndFinds asked settings number rows)
-finds_refuse asked settings number rows =
-    then_refuses all (report_counts number settings.filter_tags rows) (report_refuses number settings.filter_tags rows) (λ verdict.
+finds_refuse : (format : FormatKind) (asked : Bool) (settings : Settings) (number : ℕ) (rows : List Row) → SuiteRefuses (λ r. r) (TellsAndFinds format asked settings number rows)
+finds_refuse format asked settings number rows =
+    then_refuses all (report_counts format number settings.filter_tags rows) (report_refuses format number settings.filter_tags rows) (λ verdict.
     then_refuses all (causes_count asked settings number rows) (causes_refuse asked settings number rows) (λ _.
     value_refuses))
 
-finds_count : (asked : Bool) (settings : Settings) (number : ℕ) (rows : List Row) → Counts all (TellsAndFinds asked settings number rows)
-finds_count asked settings number rows =
-    then_counts all (report_counts number settings.filter_tags rows) (λ verdict.
+finds_count : (format : FormatKind) (asked : Bool) (settings : Settings) (number : ℕ) (rows : List Row) → Counts all (TellsAndFinds format asked settings number rows)
+finds_count format asked settings number rows =
+    then_counts all (report_counts format number settings.filter_tags rows) (λ verdict.
     then_counts all (causes_count asked settings number rows) (λ _.
     value_counts))
 
@@ -333,7 +334,7 @@ run_by_refuses options settings =
     then_refuses all (select_counts settings options) (select_refuses settings options) (λ selected.
     then_refuses all (plan_counts settings options.find_causes selected) (plan_refuses settings options.find_causes selected) (λ plan.
     then_refuses all (work_counts _ _ plan) (work_refuses _ _ plan) (λ rows.
-    finds_refuse options.find_causes settings _ rows))))))
+    finds_refuse options.format options.find_causes settings _ rows))))))
 
 run_by_counts : (options : RunOptions) (settings : Settings) → Counts all (RunsBy options settings)
 run_by_counts options settings =
@@ -343,7 +344,7 @@ run_by_counts options settings =
     then_counts all (select_counts settings options) (λ selected.
     then_counts all (plan_counts settings options.find_causes selected) (λ plan.
     then_counts all (work_counts _ _ plan) (λ rows.
-    finds_count options.find_causes settings _ rows))))))
+    finds_count options.format options.find_causes settings _ rows))))))
 
 pub list_refused : (options : ListOptions) → SuiteRefuses (λ r. r) (ListsSuite options)
 list_refused options = then_refuses all (λ a b v s. site_same a b s.rest (s.at.count.stands refl)) (λ a b e s. conf_refuses a b s.rest options.project e s.at) (list_by_refuses options.wanted)

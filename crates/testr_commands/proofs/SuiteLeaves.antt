@@ -19,7 +19,6 @@ use Rattle.run_ledger.specs.Refreshing.{KeepsSound}
 use Rattle.run_shelf.specs.Drafts.{Writes}
 use Rattle.run_shelf.specs.Repository.{Run, run_of, Shows}
 use Rattle.run_shelf.proofs.DraftLemmas.{goes_writes}
-use Rattle.sub_text.specs.Texts.{report_of}
 use Rattle.suite_run.specs.Recording.{RecordsLanes}
 use Rattle.testr_conf.specs.Settings.{Settings}
 use Rattle.suite_run.specs.Starting.{StartsAll, StartsSome, StartsLanes}
@@ -29,7 +28,7 @@ use Rattle.worker_mux.specs.Runs.{AddsMerge}
 use Rattle.command_steps.specs.Selecting.{Planned}
 use Rattle.command_steps.specs.Outside.{Work, work_folder, work_spawner}
 use Rattle.command_steps.specs.Refreshing.{Refreshes}
-use Rattle.command_steps.specs.Reporting.{Report, IsReport}
+use Rattle.command_steps.specs.Reporting.{Report, IsReport, report_for}
 use Rattle.command_steps.specs.Causes.{FindsCauses}
 use Rattle.testr_commands.specs.Searches.{SearchesSome, TakesFirst}
 use Rattle.testr_commands.specs.RunSuite.{TellsRun, TellsAndFinds, RunsSuite}
@@ -54,6 +53,7 @@ use Rattle.testr_commands.proofs.FindLemmas.{TellsEvents, TakesPart, tells_behin
 use Rattle.testr_commands.proofs.SuiteDone.{Worked, work_did, tell_did, rows_told, told_before, where_told}
 use Rattle.testr_commands.proofs.SuiteQuiet.{spawner_quiet}
 use Rattle.testr_commands.proofs.SuiteReach.{Reached, GoesOnWith, reaches}
+use Rattle.testr_words.specs.declared.format.FormatKind.{FormatKind}
 
 -- ---- what the steps behind the start leave
 
@@ -82,10 +82,10 @@ module _ (partial : Bool) (number : ℕ) where
   works_out plan a b result (goes_on _ m begun (goes_on rests k started (goes_on rows l recorded next))) =
       ends_out rows l b result next ∙ (λ i. (recorded.rest i).out.told) ∙ (λ i. (started.rest i).out.told) ∙ (λ i. (begun.rest i).out.told)
 
-  tells_folder : (tags : List (List ℕ)) (rows : List Row) (a b : Work) (result : Result Verdict Refusal) → TellsRun number tags rows a b result → b.folder.told ≡ a.folder.told
-  tells_folder tags rows a b result (stops fault is step) = λ i. (step.same i).folder.told
-  tells_folder tags rows a b result (goes_on report m step (stops fault is printed)) = (λ i. (printed.rest i).folder.told) ∙ (λ i. (step.same i).folder.told)
-  tells_folder tags rows a b result (goes_on report m step (goes_on _ k printed gives)) = (λ i. (gives.same i).folder.told) ∙ (λ i. (printed.rest i).folder.told) ∙ (λ i. (step.same i).folder.told)
+  tells_folder : (format : FormatKind) (tags : List (List ℕ)) (rows : List Row) (a b : Work) (result : Result Verdict Refusal) → TellsRun format number tags rows a b result → b.folder.told ≡ a.folder.told
+  tells_folder format tags rows a b result (stops fault is step) = λ i. (step.same i).folder.told
+  tells_folder format tags rows a b result (goes_on report m step (stops fault is printed)) = (λ i. (printed.rest i).folder.told) ∙ (λ i. (step.same i).folder.told)
+  tells_folder format tags rows a b result (goes_on report m step (goes_on _ k printed gives)) = (λ i. (gives.same i).folder.told) ∙ (λ i. (printed.rest i).folder.told) ∙ (λ i. (step.same i).folder.told)
 
 -- ---- some first jobs
 
@@ -104,9 +104,9 @@ some_first jobs refusal (Some s) None some = absurd some
 some_first jobs refusal (Some s) (Some t) some = record { done = some.done; more = some.more; jobs_are = some.jobs_are; outputs = some.outputs; started = some.started }
 
 -- the report, or a first part of it
-pub prefix_rows : (partial : Bool) (number : ℕ) (tags : List (List ℕ)) (events : List Event) (report : Report) (a b : Option Folder) (old new : Option (List ℕ)) → Goes a b (KeepsRunAndCaches number (run_of partial (run_bytes events))) → IsReport number tags (rows_of events) report → AppendsPrefix old new report.text
-    → IfSome a (λ s. (runs : List Run) → Shows s.disk.published runs → AppendsPrefix old new (report_of (rows_of events) (length runs) tags))
-prefix_rows partial number tags events report a b old new kept says prefix = rows_told partial number tags events report (AppendsPrefix old new) a b kept says (so_told a (AppendsPrefix old new report.text) prefix)
+pub prefix_rows : (partial : Bool) (format : FormatKind) (number : ℕ) (tags : List (List ℕ)) (events : List Event) (report : Report) (a b : Option Folder) (old new : Option (List ℕ)) → Goes a b (KeepsRunAndCaches number (run_of partial (run_bytes events))) → IsReport format number tags (rows_of events) report → AppendsPrefix old new report.text
+    → IfSome a (λ s. (runs : List Run) → Shows s.disk.published runs → AppendsPrefix old new (report_for format (rows_of events) (length runs) tags))
+prefix_rows partial format number tags events report a b old new kept says prefix = rows_told partial format number tags events report (AppendsPrefix old new) a b kept says (so_told a (AppendsPrefix old new report.text) prefix)
 
 -- ---- from the jobs on
 
@@ -233,7 +233,7 @@ module _ (options : RunOptions) (a : Work) (reached : Reached options a) (end : 
   -- the workers, and what was printed of them by then
   record Behind (m : Work) : Type 0 where
     workers : RunsWorkers options a end
-    printed : IfSome a.folder.told (λ s. (runs : List Run) → Shows s.disk.published runs → TakesFirst (report_of (rows_of workers.events) (length runs) workers.planned.settings.filter_tags) workers.lines workers.worked end.spawner.told a.out.told end.out.told)
+    printed : IfSome a.folder.told (λ s. (runs : List Run) → Shows s.disk.published runs → TakesFirst (report_for options.format (rows_of workers.events) (length runs) workers.planned.settings.filter_tags) workers.lines workers.worked end.spawner.told a.out.told end.out.told)
     passes : Goes start.folder.told m.folder.told (PassesAll number (run_of partial (run_bytes workers.events)))
 
   module _ (m : Work) (rows : List Row) (works : Works partial number plan start m (Ok rows)) where
@@ -243,19 +243,19 @@ module _ (options : RunOptions) (a : Work) (reached : Reached options a) (end : 
     stored : Goes a.folder.told m.folder.told (KeepsRunAndCaches number (run_of partial (run_bytes work.events)))
     stored = kept_through number (run_of partial (run_bytes work.events)) a.folder.told start.folder.told m.folder.told reached.mild.quiet work.kept
 
-    told_as : (report : Report) → IsReport number tags rows report → IsReport number tags (rows_of work.events) report
-    told_as report says = subst (λ (l : List Row). IsReport number tags l report) work.rows_are says
+    told_as : (report : Report) → IsReport options.format number tags rows report → IsReport options.format number tags (rows_of work.events) report
+    told_as report says = subst (λ (l : List Row). IsReport options.format number tags l report) work.rows_are says
 
     out_as : m.out.told ≡ a.out.told
     out_as = works_out partial number plan start m (Ok rows) works ∙ reached.mild.out
 
     -- a first part of the report was printed, and nothing searched
-    printed_so : (report : Report) → end.spawner.told ≡ m.spawner.told → IsReport number tags rows report → AppendsPrefix m.out.told end.out.told report.text → Behind m
+    printed_so : (report : Report) → end.spawner.told ≡ m.spawner.told → IsReport options.format number tags rows report → AppendsPrefix m.out.told end.out.told report.text → Behind m
     printed_so report is says prefix =
         let first : AppendsPrefix a.out.told end.out.told report.text = subst (λ (o : Option (List ℕ)). AppendsPrefix o end.out.told report.text) out_as prefix in
         record {
           workers = worked_workers m rows work [] (none_searched options.find_causes settings work.events a.folder.told m.spawner.told end.spawner.told is);
-          printed = rows_told partial number tags work.events report (λ text. TakesFirst text [] m.spawner.told end.spawner.told a.out.told end.out.told) a.folder.told m.folder.told stored (told_as report says)
+          printed = rows_told partial options.format number tags work.events report (λ text. TakesFirst text [] m.spawner.told end.spawner.told a.out.told end.out.told) a.folder.told m.folder.told stored (told_as report says)
               (so_told a.folder.told _ (inl (record { none = is; no_lines = refl; printed = first })));
           passes = work.passes reached.calm;
         }
@@ -268,12 +268,12 @@ module _ (options : RunOptions) (a : Work) (reached : Reached options a) (end : 
       passes = work.passes reached.calm;
     }
       where
-        every : (o : Option Folder) → ((text : List ℕ) → TakesFirst text [] m.spawner.told end.spawner.told a.out.told end.out.told) → IfSome o (λ s. (runs : List Run) → Shows s.disk.published runs → TakesFirst (report_of (rows_of work.events) (length runs) tags) [] m.spawner.told end.spawner.told a.out.told end.out.told)
+        every : (o : Option Folder) → ((text : List ℕ) → TakesFirst text [] m.spawner.told end.spawner.told a.out.told end.out.told) → IfSome o (λ s. (runs : List Run) → Shows s.disk.published runs → TakesFirst (report_for options.format (rows_of work.events) (length runs) tags) [] m.spawner.told end.spawner.told a.out.told end.out.told)
         every None each = tt
-        every (Some s) each = λ runs shows. each (report_of (rows_of work.events) (length runs) tags)
+        every (Some s) each = λ runs shows. each (report_for options.format (rows_of work.events) (length runs) tags)
 
     -- the report was printed, and then causes were searched
-    found_so : (n b : Work) (report : Report) (result : Result (Unit {0}) Refusal) → n.folder.told ≡ m.folder.told → n.spawner.told ≡ m.spawner.told → IsReport number tags rows report → Appends m.out.told n.out.told report.text → FindsCauses options.find_causes settings number rows n b result → b ≡ end → Behind m
+    found_so : (n b : Work) (report : Report) (result : Result (Unit {0}) Refusal) → n.folder.told ≡ m.folder.told → n.spawner.told ≡ m.spawner.told → IsReport options.format number tags rows report → Appends m.out.told n.out.told report.text → FindsCauses options.find_causes settings number rows n b result → b ≡ end → Behind m
     found_so n b report result folder spawner says whole finds last =
         let tells : Goes a.folder.told n.folder.told (λ s t. TellsEvents number work.events t) =
         goes_ends (λ s t. TellsEvents number work.events t) refl (sym folder) (tells_behind partial number work.events a.folder.told start.folder.told m.folder.told Rests work.are_events work.fit reached.mild.quiet reached.calm work.kept) in
@@ -281,30 +281,30 @@ module _ (options : RunOptions) (a : Work) (reached : Reached options a) (end : 
         let first : Appends a.out.told n.out.told report.text = subst (λ (o : Option (List ℕ)). Appends o n.out.told report.text) out_as whole in
         record {
           workers = worked_workers m rows work left.lines (subst (λ (o : Option Spawning). SearchesSome options.find_causes settings work.events left.lines a.folder.told o end.spawner.told) spawner left.probed);
-          printed = rows_told partial number tags work.events report (λ text. TakesFirst text left.lines m.spawner.told end.spawner.told a.out.told end.out.told) a.folder.told m.folder.told stored (told_as report says)
+          printed = rows_told partial options.format number tags work.events report (λ text. TakesFirst text left.lines m.spawner.told end.spawner.told a.out.told end.out.told) a.folder.told m.folder.told stored (told_as report says)
               (where_told a.folder.told (TakesPart left.lines n.out.told end.out.told) _ (λ taken. inr (record { part = taken.part; rest = taken.rest; lines_are = taken.lines_are; printed = Appends-trans a.out.told n.out.told end.out.told report.text taken.part first taken.printed })) left.taken);
           passes = work.passes reached.calm;
         }
 
     -- the chain behind the workers
-    behind : (result : Result Verdict Refusal) → TellsAndFinds options.find_causes settings number rows m end result → Behind m
+    behind : (result : Result Verdict Refusal) → TellsAndFinds options.format options.find_causes settings number rows m end result → Behind m
     behind result (stops fault step_is (stops why made_is made)) = silent_so (λ i. (made.same i).spawner.told) (λ i. (made.same i).out.told)
     behind result (stops fault step_is (goes_on report l made (stops why print_is printed))) =
         printed_so report ((λ i. (printed.rest i).spawner.told) ∙ (λ i. (made.same i).spawner.told)) made.says.told
         (subst (λ (o : Option (List ℕ)). AppendsPrefix o end.out.told report.text) (λ i. (made.same i).out.told) printed.at.prefix)
     behind result (stops fault step_is (goes_on report l made (goes_on _ n printed gives))) = absurd (gives_not n end fault gives)
     behind result (goes_on verdict n tells (stops fault step_is finds)) =
-        let did = tell_did number tags rows m n verdict tells in
+        let did = tell_did options.format number tags rows m n verdict tells in
         found_so n end did.report (Err fault) did.folder did.spawner did.says did.printed finds refl
     behind result (goes_on verdict n tells (goes_on v p finds gives)) =
-        let did = tell_did number tags rows m n verdict tells in
+        let did = tell_did options.format number tags rows m n verdict tells in
         found_so n p did.report (Ok v) did.folder did.spawner did.says did.printed finds (sym gives.same)
 
-    finds_folder : (result : Result Verdict Refusal) → TellsAndFinds options.find_causes settings number rows m end result → end.folder.told ≡ m.folder.told
-    finds_folder result (stops fault step_is tells) = tells_folder partial number tags rows m end (Err fault) tells
-    finds_folder result (goes_on verdict n tells (stops fault step_is finds)) = causes_still options.find_causes settings number rows n end (Err fault) finds ∙ tells_folder partial number tags rows m n (Ok verdict) tells
+    finds_folder : (result : Result Verdict Refusal) → TellsAndFinds options.format options.find_causes settings number rows m end result → end.folder.told ≡ m.folder.told
+    finds_folder result (stops fault step_is tells) = tells_folder partial number options.format tags rows m end (Err fault) tells
+    finds_folder result (goes_on verdict n tells (stops fault step_is finds)) = causes_still options.find_causes settings number rows n end (Err fault) finds ∙ tells_folder partial number options.format tags rows m n (Ok verdict) tells
     finds_folder result (goes_on verdict n tells (goes_on v p finds gives)) =
-        (λ i. (gives.same i).folder.told) ∙ causes_still options.find_causes settings number rows n p (Ok v) finds ∙ tells_folder partial number tags rows m n (Ok verdict) tells
+        (λ i. (gives.same i).folder.told) ∙ causes_still options.find_causes settings number rows n p (Ok v) finds ∙ tells_folder partial number options.format tags rows m n (Ok verdict) tells
 
   -- ---- what was started, and what was printed
 

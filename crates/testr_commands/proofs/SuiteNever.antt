@@ -79,6 +79,7 @@ use Rattle.testr_commands.proofs.SuiteDone.{select_leaves, plan_leaves, leaves_t
 use Rattle.testr_commands.proofs.SuiteJobs.{selected_range, few_jobs}
 use Rattle.testr_commands.proofs.CauseLaws.{open_never, runs_are}
 use Rattle.testr_commands.proofs.SuiteCauses.{NoCause, same_cause, moved, from_both, from_told, not_too_much, same_text, conf_never, same_settings, pattern_never, ends_behind, broken_never, listing_never}
+use Rattle.testr_words.specs.declared.format.FormatKind.{FormatKind}
 
 -- ---- refusals that have no such cause
 
@@ -395,10 +396,10 @@ work_never partial number plan a b r (goes_on _ m begun (goes_on rests m2 starte
 work_never partial number plan a b r (goes_on _ m begun (goes_on rests m2 started (goes_on _ m3 recorded (goes_on _ m4 kept (stops fault is step))))) = same_cause (refusal.Refresh fault) r is ((λ three. tell_never fault three), (λ child. child))
 work_never partial number plan a b r (goes_on _ m begun (goes_on rests m2 started (goes_on _ m3 recorded (goes_on _ m4 kept (goes_on _ m5 refreshed gives))))) = absurd (gives_not m5 b r gives)
 
-told_never : (number : ℕ) (tags : Ids) (rows : List Row) (a b : Work) (r : Refusal) → TellsRun number tags rows a b (Err r) → NoCause r
-told_never number tags rows a b r (stops fault is step) = same_cause (refusal.Report fault) r is ((λ three. omega arith), (λ child. child))
-told_never number tags rows a b r (goes_on report m found (stops fault is step)) = same_cause (refusal.Print fault) r is ((λ three. omega arith), (λ child. child))
-told_never number tags rows a b r (goes_on report m found (goes_on _ m2 printed gives)) = absurd (gives_not m2 b r gives)
+told_never : (format : FormatKind) (number : ℕ) (tags : Ids) (rows : List Row) (a b : Work) (r : Refusal) → TellsRun format number tags rows a b (Err r) → NoCause r
+told_never format number tags rows a b r (stops fault is step) = same_cause (refusal.Report fault) r is ((λ three. omega arith), (λ child. child))
+told_never format number tags rows a b r (goes_on report m found (stops fault is step)) = same_cause (refusal.Print fault) r is ((λ three. omega arith), (λ child. child))
+told_never format number tags rows a b r (goes_on report m found (goes_on _ m2 printed gives)) = absurd (gives_not m2 b r gives)
 
 -- ---- `run`
 
@@ -418,15 +419,15 @@ record CanRunBy (options : RunOptions) (settings : Settings) (w : Work) : Type 0
   probes : options.find_causes ≡ true → ProbesMayEnd options settings w
 
 -- what is told of the run, and then the search for causes
-finds_never : (settings : Settings) (number : ℕ) (events : List Event) (asked : Bool) (rows : List Row) (folder : Option Folder) (a b : Work) (r : Refusal) → rows ≡ rows_of events → IsSomeAnd folder (λ s. Unit {0}) → Goes folder a.folder.told (λ s t. TellsEvents number events t)
-    → (asked ≡ true → IsSomeAnd a.spawner.told (λ s. UseNoBroken events (suspects_in events) s.outputs)) → TellsAndFinds asked settings number rows a b (Err r) → NoCause r
-finds_never settings number events asked rows folder a b r rows_are some tells uses (stops fault is step) = same_cause fault r is (told_never number settings.filter_tags rows a b fault step)
-finds_never settings number events asked rows folder a b r rows_are some tells uses (goes_on verdict m step (stops fault is finds)) =
-    let did = tell_did number settings.filter_tags rows a m verdict step in
+finds_never : (format : FormatKind) (settings : Settings) (number : ℕ) (events : List Event) (asked : Bool) (rows : List Row) (folder : Option Folder) (a b : Work) (r : Refusal) → rows ≡ rows_of events → IsSomeAnd folder (λ s. Unit {0}) → Goes folder a.folder.told (λ s t. TellsEvents number events t)
+    → (asked ≡ true → IsSomeAnd a.spawner.told (λ s. UseNoBroken events (suspects_in events) s.outputs)) → TellsAndFinds format asked settings number rows a b (Err r) → NoCause r
+finds_never format settings number events asked rows folder a b r rows_are some tells uses (stops fault is step) = same_cause fault r is (told_never format number settings.filter_tags rows a b fault step)
+finds_never format settings number events asked rows folder a b r rows_are some tells uses (goes_on verdict m step (stops fault is finds)) =
+    let did = tell_did format number settings.filter_tags rows a m verdict step in
     same_cause fault r is
     (causes_never settings number events m b fault asked rows folder rows_are some (goes_ends (λ s t. TellsEvents number events t) refl (sym did.folder) tells)
     (λ is_asked. subst (λ (o : Option Spawning). IsSomeAnd o (λ s. UseNoBroken events (suspects_in events) s.outputs)) (sym did.spawner) (uses is_asked)) finds)
-finds_never settings number events asked rows folder a b r rows_are some tells uses (goes_on verdict m step (goes_on _ k finds gives)) = absurd (gives_not k b r gives)
+finds_never format settings number events asked rows folder a b r rows_are some tells uses (goes_on verdict m step (goes_on _ k finds gives)) = absurd (gives_not k b r gives)
 
 some_of : {S : Type 0} (a : Option S) (P : S → Type 0) → IsSomeAnd a P → IsSomeAnd a (λ s. Unit {0})
 some_of None P has = has
@@ -484,7 +485,7 @@ run_by_never options settings a b r (goes_on found m opened (goes_on _ m2 took (
     let some_folder : IsSomeAnd a.folder.told (λ s. Unit {0}) = some_of a.folder.told _ can.free in
     let some_children : IsSomeAnd m5.spawner.told (λ s. Unit {0}) =
     still_told m3.spawner.told m5.spawner.told (λ s. Unit {0}) (λ s t. ⊤) (subst (λ (o : Option Spawning). IsSomeAnd o (λ s. Unit {0})) (sym children) (some_of a.spawner.told _ can.select.count)) before.told in
-    finds_never settings (length (kinds_of found)) work.events options.find_causes rows a.folder.told m6 b r work.rows_are some_folder tells_of
+    finds_never options.format settings (length (kinds_of found)) work.events options.find_causes rows a.folder.told m6 b r work.rows_are some_folder tells_of
     (λ asked. probes_behind plan work.outputs work.events m5.spawner.told m6.spawner.told some_children (can.probes asked plan m5 (record { selected = selected; may = may; plans = planned })) work.started work.of_workers)
     tells
 

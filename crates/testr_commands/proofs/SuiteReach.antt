@@ -181,7 +181,7 @@ pub record Reached (options : RunOptions) (a : Work) : Type 0 where
 
 -- what is done then
 abbrev pub GoesOnWith : (options : RunOptions) (number : ℕ) (plan : Planned) (settings : Settings) → Step Work Verdict Refusal
-GoesOnWith options number plan settings = Then (λ refusal. refusal) (Works (is_partial options) number plan) (λ rows. TellsAndFinds options.find_causes settings number rows)
+GoesOnWith options number plan settings = Then (λ refusal. refusal) (Works (is_partial options) number plan) (λ rows. TellsAndFinds options.format options.find_causes settings number rows)
 
 -- a run refuses before, or comes to them
 abbrev pub Reaches : RunOptions → Work → Work → Result Verdict Refusal → Type 0

@@ -37,7 +37,7 @@ run_may_have_kept outcome = load_may_have_kept outcome
 
 -- The same of each task. No other than these shows a run that was not shown before.
 abbrev pub may_have_kept : Option Task → Result Verdict Refusal → Bool
-may_have_kept (Some (load partial names)) = load_may_have_kept
+may_have_kept (Some (load options names)) = load_may_have_kept
 may_have_kept (Some (run options)) = run_may_have_kept
 may_have_kept (Some upgrade) = upgrade_may_have_kept
 may_have_kept asked = λ outcome. false

@@ -33,7 +33,7 @@ abbrev pub AnswersOf : Found → Question → Step Shown Verdict Refusal
 AnswersOf found (Last true) = CopiesLast found
 AnswersOf found question = PrintsAnswer question
 
--- the chain of a question
+-- a question, step by step: the folder is opened, has a run where the last one is asked for, and its answer is printed
 abbrev pub Asks : Question → Step Shown Verdict Refusal
 Asks question =
     Then Open (At shown_folder Opens) (λ found.

@@ -55,7 +55,7 @@ LeftReady s image = IsImage s.disk image ⊎ HasFormatBeside s.disk.published im
 -- A stop at each moment leaves such files; or the same with the run that the task adds, as one of the task alone does. No
 -- other task may be asked so.
 abbrev pub PassesForced : Task → (before ready after : Work) → Folder → Folder → Type 0
-PassesForced (load partial names) before ready after s t = Passes (λ image. LeftReady s image ⊎ HasLoadedRun partial names before.site.told before.input.told (ready_files s.disk.published) image) s t
+PassesForced (load options names) before ready after s t = Passes (λ image. LeftReady s image ⊎ HasLoadedRun options.partial names before.site.told before.input.told (ready_files s.disk.published) image) s t
 PassesForced (run options) before ready after s t = Passes (LeftReady s) s t ⊎ ((workers : RunsWorkers options ready after) × Passes (λ image. LeftReady s image ⊎ HasSuiteRun (is_partial options) workers.events (ready_files s.disk.published) image) s t)
 PassesForced task before ready after s t = ⊥
 
@@ -93,6 +93,6 @@ pub record PromisesForced (reading : Bool) (task : Task) (before after : Outside
 -- What each call promises that is asked for this, where `force` says whether a repository is made first: only of a task that
 -- keeps a run.
 abbrev pub PromisesBy : (force reading : Bool) → Option Task → Outside → Outside → ℕ → Type 0
-PromisesBy true reading (Some (load partial names)) = PromisesForced reading (load partial names)
+PromisesBy true reading (Some (load options names)) = PromisesForced reading (load options names)
 PromisesBy true reading (Some (run options)) = PromisesForced reading (run options)
 PromisesBy force reading asked = Promises reading asked

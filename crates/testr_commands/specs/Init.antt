@@ -8,7 +8,7 @@ use Rattle.command_steps.specs.declared.answer.Verdict.TheVariants.{Passed}
 use Rattle.command_steps.specs.declared.answer.Refusal.{Refusal}
 use Rattle.command_steps.specs.declared.answer.Refusal.TheVariants.{Init}
 
--- the chain of `init`
+-- `init`, step by step: the repository is made, and nothing is printed
 abbrev pub Inits : Step (Seen Folder) Verdict Refusal
 Inits =
     Then Init Makes (λ _.

@@ -16,6 +16,8 @@ pub mod Printed
 pub mod SuiteProgram
 pub mod Program
 pub mod Forced
+pub mod Spoken
+pub mod Endings
 pub mod WholeCall
 pub mod Prospects
 pub mod Exact

@@ -6,7 +6,8 @@ use Rattle.outcome_fold.specs.Rows.{rows_of}
 use Rattle.packet_codec.specs.Grammar.{AreBytes}
 use Rattle.packet_codec.specs.declared.event.Event.{Event}
 use Rattle.run_shelf.specs.Repository.{Run, Shows}
-use Rattle.sub_text.specs.Texts.{report_of, summary_of}
+use Rattle.sub_text.specs.Texts.{summary_of}
+use Rattle.command_steps.specs.Reporting.{report_for}
 use Rattle.suite_plan.specs.Choosing.{Ids}
 use Rattle.suite_plan.specs.ConfFile.{GivesSettings}
 use Rattle.suite_plan.specs.Listing.{ListsSo}
@@ -18,7 +19,7 @@ use Rattle.command_steps.specs.Outside.{Work}
 use Rattle.command_steps.specs.Says.{SaysOfFolder}
 use Rattle.testr_commands.specs.Further.{GivesFurther}
 use Rattle.testr_commands.specs.SelfTest.{rows_in_turn}
-use Rattle.testr_words.specs.Suites.{ListOptions}
+use Rattle.testr_words.specs.Suites.{LoadOptions, ListOptions}
 use Rattle.testr_words.specs.Tasks.{Task, load, ask, list, run, selftest, upgrade}
 use Rattle.testr_commands.specs.Upgrade.{PrintsOfUpgrade}
 use Rattle.testr_commands.specs.Workers.{PrintsFirst}
@@ -27,13 +28,13 @@ use Rattle.testr_words.specs.declared.command.Question.{Question}
 use Rattle.testr_commands.specs.RunSuite.{listed_ids}
 
 -- the output took a first part of the report of the run that is recorded of these sources
-pub record PrintsOfLoad (names : List (List ℕ)) (before after : Work) : Type 0 where
+pub record PrintsOfLoad (options : LoadOptions) (names : List (List ℕ)) (before after : Work) : Type 0 where
   pub sources : List (List ℕ)
   pub are_sources : AreSources names before.site.told before.input.told sources
   pub are_bytes : All AreBytes sources
   pub events : List Event
   pub recorded : HasRecordedInTurn 0 sources events
-  pub printed : IfSome before.folder.told (λ s. (runs : List Run) → Shows s.disk.published runs → AppendsPrefix before.out.told after.out.told (report_of (rows_of events) (length runs) []))
+  pub printed : IfSome before.folder.told (λ s. (runs : List Run) → Shows s.disk.published runs → AppendsPrefix before.out.told after.out.told (report_for options.format (rows_of events) (length runs) []))
 
 -- a first part of the answer that the folder gives
 pub record PrintsOfAnswer (question : Question) (before after : Work) : Type 0 where
@@ -54,7 +55,7 @@ pub record PrintsOfListing (options : ListOptions) (before after : Work) : Type 
 
 -- so it is of each task; where it is no task, or `init`, nothing is printed
 abbrev pub PrintsPart : Option Task → Work → Work → Type 0
-PrintsPart (Some (load partial names)) before after = PrintsOfLoad names before after
+PrintsPart (Some (load options names)) before after = PrintsOfLoad options names before after
 PrintsPart (Some (ask question)) before after = PrintsOfAnswer question before after
 PrintsPart (Some (list options)) before after = PrintsOfListing options before after
 PrintsPart (Some (run options)) before after = PrintsFirst options before after

@@ -14,7 +14,7 @@ use Rattle.outcome_fold.specs.Answers.{status_of}
 use Rattle.run_ledger.specs.Refreshing.{KeepsSound}
 use Rattle.run_shelf.specs.Images.{MakesRepository}
 use Rattle.run_shelf.specs.Repository.{Run, Shows, IsRepository, most_runs, format_name}
-use Rattle.sub_text.specs.Texts.{report_of}
+use Rattle.command_steps.specs.Reporting.{report_for}
 use Rattle.testr_commands.specs.Answer.{may_have_kept, IsChildFault}
 use Rattle.command_steps.specs.Refusals.{refusal_text, code_of, place_in}
 use Rattle.testr_commands.specs.Ask.{Asks}
@@ -43,6 +43,7 @@ use Rattle.testr_commands.specs.Workers.{LeavesRun}
 use Rattle.command_steps.specs.declared.answer.Verdict.{Verdict}
 use Rattle.testr_words.specs.declared.command.Question.{Question}
 use Rattle.command_steps.specs.declared.usage.UsageFault.TheVariants.{Words}
+use Rattle.testr_words.specs.Suites.{LoadOptions}
 
 -- ---- refusals
 
@@ -75,18 +76,18 @@ ReadsInputFor [] before after = IsAtEnd after.told
 ReadsInputFor (name ∷ names) before after = after ≡ before
 
 -- Each source was read to its end. Whatever runs the folder shows, it shows one run more, of what is recorded of the
--- sources in turn, and the report of its rows was printed; the status is theirs. Where the files were sound, the caches are
+-- sources in turn, and the report of its rows was printed, for the reader that is asked for; the status is theirs. Where the files were sound, the caches are
 -- those of all runs.
-pub record LoadsAll (partial : Bool) (names : List (List ℕ)) (before after : Work) (answer : ℕ) : Type 0 where
+pub record LoadsAll (options : LoadOptions) (names : List (List ℕ)) (before after : Work) (answer : ℕ) : Type 0 where
   pub sources : List (List ℕ)
   pub are_sources : AreSources names before.site.told before.input.told sources
   pub are_bytes : All AreBytes sources
   pub events : List Event
   pub recorded : HasRecordedInTurn 0 sources events
   pub at_end : ReadsInputFor names before.input after.input
-  pub stored : Goes before.folder.told after.folder.told (AddsRun partial events)
+  pub stored : Goes before.folder.told after.folder.told (AddsRun options.partial events)
   pub cached : Goes before.folder.told after.folder.told BringsCaches
-  pub printed : IfSome before.folder.told (λ s. (runs : List Run) → Shows s.disk.published runs → Appends before.out.told after.out.told (report_of (rows_of events) (length runs) []))
+  pub printed : IfSome before.folder.told (λ s. (runs : List Run) → Shows s.disk.published runs → Appends before.out.told after.out.told (report_for options.format (rows_of events) (length runs) []))
   pub status : answer ≡ status_of (rows_of events)
 
 -- ---- questions
@@ -130,7 +131,7 @@ pub record CanAsk (question : Question) (before : Work) : Type 0 where
 abbrev pub Performs : Option Task → Step Work Verdict Refusal
 Performs None = Refuses
 Performs (Some init) = At work_folder Inits
-Performs (Some (load partial names)) = Loads partial names
+Performs (Some (load options names)) = Loads options names
 Performs (Some (ask question)) = At work_shown (Asks question)
 Performs (Some (list options)) = ListsSuite options
 Performs (Some (run options)) = RunsSuite options
@@ -141,7 +142,7 @@ Performs (Some upgrade) = At work_shown UpgradesAll
 abbrev pub Does : Option Task → Work → Work → ℕ → Type 0
 Does None before after answer = ⊥
 Does (Some init) before after answer = Goes before.folder.told after.folder.told MakesRepository × (answer ≡ 0)
-Does (Some (load partial names)) before after answer = LoadsAll partial names before after answer
+Does (Some (load options names)) before after answer = LoadsAll options names before after answer
 Does (Some (ask question)) before after answer = AnswersQuestion question before after answer
 Does (Some (list options)) before after answer = ListsAll options before after answer
 Does (Some (run options)) before after answer = RunsAll options before after answer
@@ -152,7 +153,7 @@ Does (Some upgrade) before after answer = DidUpgrade before after answer
 abbrev pub CanPerform : Option Task → Work → Type 0
 CanPerform None before = ⊥
 CanPerform (Some init) before = CanInit before
-CanPerform (Some (load partial names)) before = CanLoad names before
+CanPerform (Some (load options names)) before = CanLoad names before
 CanPerform (Some (ask question)) before = CanAsk question before
 CanPerform (Some (list options)) before = CanList options before
 CanPerform (Some (run options)) before = CanRun options before

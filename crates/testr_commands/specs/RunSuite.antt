@@ -27,6 +27,7 @@ use Rattle.command_steps.specs.declared.answer.Verdict.TheVariants.{Passed}
 use Rattle.command_steps.specs.declared.answer.Refusal.{Refusal}
 use Rattle.command_steps.specs.declared.answer.Refusal.TheVariants.{Conf, Open, Runs, Pattern, Listing, Memory, Report, Print}
 use Rattle.command_steps.specs.Working.{Works}
+use Rattle.testr_words.specs.declared.format.FormatKind.{FormatKind}
 
 -- ---- `list-tests`
 
@@ -44,7 +45,8 @@ listed_ids wanted settings further ids =
 pub record WritesIds (wanted : Wanted) (settings : Settings) (further : Further) (ids : Ids) (result : Result (List ℕ) NoMemory) : Type 0 where
   pub lines : IfOk result (λ text. text ≡ id_lines (listed_ids wanted settings further ids))
 
--- what is done with a configuration
+-- `list-tests` by these settings, step by step: patterns are compiled, lists of them read, and the tests that are listed
+-- and wanted are printed
 abbrev pub ListsBy : Wanted → Settings → Step Work Verdict Refusal
 ListsBy wanted settings =
     Then Pattern (Still (Compiles wanted.patterns wanted.excluded (groups_for wanted.shard settings))) (λ _.
@@ -54,21 +56,21 @@ ListsBy wanted settings =
     Then Print (At work_out (Prints text)) (λ _.
     Gives Passed)))))
 
--- the chain of `list-tests`
+-- `list-tests`, step by step: the configuration is read, and then it goes by its settings
 abbrev pub ListsSuite : ListOptions → Step Work Verdict Refusal
 ListsSuite options = Then Conf (At work_site (ReadsConf options.project)) (ListsBy options.wanted)
 
--- the report of the run of these rows and this number is made and printed
-abbrev pub TellsRun : (number : ℕ) → (filter_tags : Ids) → List Row → Step Work Verdict Refusal
-TellsRun number filter_tags rows =
-    Then Report (Still (Reports number filter_tags rows)) (λ report.
+-- the report of the run of these rows and this number is made and printed, for this reader
+abbrev pub TellsRun : FormatKind → (number : ℕ) → (filter_tags : Ids) → List Row → Step Work Verdict Refusal
+TellsRun format number filter_tags rows =
+    Then Report (Still (Reports format number filter_tags rows)) (λ report.
     Then Print (At work_out (Prints report.text)) (λ _.
     Gives report.verdict))
 
 -- the report, and then the search for causes, where it is asked for; the verdict is that of the report
-abbrev pub TellsAndFinds : (find_causes : Bool) → Settings → (number : ℕ) → List Row → Step Work Verdict Refusal
-TellsAndFinds find_causes settings number rows =
-    Then (λ refusal. refusal) (TellsRun number settings.filter_tags rows) (λ verdict.
+abbrev pub TellsAndFinds : FormatKind → (find_causes : Bool) → Settings → (number : ℕ) → List Row → Step Work Verdict Refusal
+TellsAndFinds format find_causes settings number rows =
+    Then (λ refusal. refusal) (TellsRun format number settings.filter_tags rows) (λ verdict.
     Then (λ refusal. refusal) (FindsCauses find_causes settings number rows) (λ _.
     Gives verdict))
 
@@ -77,7 +79,8 @@ abbrev pub compiled_in : {E : Type 0} → Result Asked E → Result Compiled E
 compiled_in (Ok asked) = Ok asked.compiled
 compiled_in (Err refusal) = Err refusal
 
--- what is done with a configuration
+-- `run` by these settings, step by step: the folder is opened, tests are selected and given to workers, these are run,
+-- and what came of them is told
 abbrev pub RunsBy : RunOptions → Settings → Step Work Verdict Refusal
 RunsBy options settings =
     Then Open (At work_folder Opens) (λ found.
@@ -86,8 +89,8 @@ RunsBy options settings =
     Then (λ refusal. refusal) (Selects settings options) (λ selected.
     Then (λ refusal. refusal) (Plans settings options.find_causes selected) (λ plan.
     Then (λ refusal. refusal) (Works (is_partial options) (length (kinds_of found)) plan) (λ rows.
-    TellsAndFinds options.find_causes settings (length (kinds_of found)) rows))))))
+    TellsAndFinds options.format options.find_causes settings (length (kinds_of found)) rows))))))
 
--- the chain of `run`
+-- `run`, step by step: the configuration is read, and then it goes by its settings
 abbrev pub RunsSuite : RunOptions → Step Work Verdict Refusal
 RunsSuite options = Then Conf (At work_site (ReadsConf options.project)) (RunsBy options)

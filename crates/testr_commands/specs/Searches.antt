@@ -77,7 +77,7 @@ pub record TakesLinePart (report lines : List ℕ) (old new : Option (List ℕ))
   pub lines_are : lines ≡ part ++ rest
   pub printed : Appends old new (report ++ part)
 
--- one of the two
+-- the output took a first part of the report, before anything was searched, or the report and a first part of the lines
 abbrev pub TakesFirst : (report lines : List ℕ) → (worked now : Option Spawning) → (old new : Option (List ℕ)) → Type 0
 TakesFirst report lines worked now old new = TakesReportPart report lines worked now old new ⊎ TakesLinePart report lines old new
 

@@ -55,7 +55,7 @@ pub record IsSummary (rows : List Row) (told : Told) : Type 0 where
 pub record SumsUp (drawing : Drawing) (result : Result Told NoMemory) : Type 0 where
   pub told : IfOk result (IsSummary (rows_in_turn drawing))
 
--- the chain of `selftest`
+-- `selftest`, step by step: the drawn workers are run and summed up, and the summary is printed
 abbrev pub TestsItself : Drawing → Step Work Verdict Refusal
 TestsItself drawing =
     Then Memory (Still (SumsUp drawing)) (λ told.

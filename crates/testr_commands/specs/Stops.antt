@@ -33,7 +33,7 @@ PassesLoad partial names told left s t = Passes (λ image. IsImage s.disk image 
 -- what a stop at each moment of what was asked for leaves, from the one outside to the other
 abbrev pub PassesTask : Option Task → (before after : Work) → Folder → Folder → Type 0
 PassesTask (Some init) before after = PassesFormat
-PassesTask (Some (load partial names)) before after = PassesLoad partial names before.site.told before.input.told
+PassesTask (Some (load options names)) before after = PassesLoad options.partial names before.site.told before.input.told
 PassesTask (Some (ask question)) before after = PassesOld
 PassesTask (Some (run options)) before after = PassesSuiteRun options before after
 PassesTask (Some upgrade) before after = PassesUpgrade

@@ -11,7 +11,7 @@ use Rattle.outcome_fold.specs.Answers.{status_of}
 use Rattle.outcome_fold.specs.Rows.{rows_of}
 use Rattle.partition_times.specs.Patterns.{IsPattern}
 use Rattle.run_shelf.specs.Repository.{Run, Shows, most_runs}
-use Rattle.sub_text.specs.Texts.{report_of}
+use Rattle.command_steps.specs.Reporting.{report_for}
 use Rattle.suite_causes.specs.Searching.{CanHandIds}
 use Rattle.suite_plan.specs.Calling.{TellsNumber}
 use Rattle.suite_plan.specs.Choosing.{Ids}
@@ -64,7 +64,7 @@ pub record RunsAll (options : RunOptions) (before after : Work) (answer : ℕ) :
   pub workers : RunsWorkers options before after
   pub stored : Goes before.folder.told after.folder.told (AddsRun (is_partial options) workers.events)
   pub cached : Goes before.folder.told after.folder.told BringsCaches
-  pub printed : IfSome before.folder.told (λ s. (runs : List Run) → Shows s.disk.published runs → Appends before.out.told after.out.told (report_of (rows_of workers.events) (length runs) workers.planned.settings.filter_tags ++ workers.lines))
+  pub printed : IfSome before.folder.told (λ s. (runs : List Run) → Shows s.disk.published runs → Appends before.out.told after.out.told (report_for options.format (rows_of workers.events) (length runs) workers.planned.settings.filter_tags ++ workers.lines))
   pub found : SearchesAll options.find_causes workers.planned.settings workers.events workers.lines before.folder.told workers.worked after.spawner.told
   pub none_lost : IfSome before.spawner.told (λ _. LoseNone (rows_of workers.events) workers.plan.asked workers.outputs)
   pub status : answer ≡ status_of (rows_of workers.events)

@@ -20,7 +20,7 @@ use Rattle.command_steps.specs.declared.answer.Verdict.TheVariants.{Passed}
 use Rattle.command_steps.specs.declared.answer.Refusal.{Refusal}
 use Rattle.command_steps.specs.declared.answer.Refusal.TheVariants.{Upgrade, Print}
 
--- the chain of `upgrade`
+-- `upgrade`, step by step: the folder is upgraded, and it is printed how many runs it has
 abbrev pub UpgradesAll : Step Shown Verdict Refusal
 UpgradesAll =
     Then Upgrade (At shown_folder UpgradesFolder) (λ count.
@@ -41,11 +41,11 @@ pub record IsWholeOld (files : Files) : Type 0 where
   pub runs : (number : ℕ) (bytes : List ℕ) → number < count → files (full_name number) ≡ Some bytes → IsDamaged bytes → ⊥
   pub failing : (bytes : List ℕ) → files failing_name ≡ Some bytes → IsDamaged bytes → ⊥
 
--- it is told to be so
+-- the folder is told to be one of the original tool, of which no file is damaged
 abbrev pub CanUpgrade : Work → Type 0
 CanUpgrade before = IsSomeAnd before.folder.told (λ s. IsWholeOld s.disk.published)
 
--- the output took a first part of the text
+-- the folder was upgraded, and the output took a first part of the line that tells how many runs it has
 pub record PrintsOfUpgrade (before after : Work) : Type 0 where
   pub count : ℕ
   pub upgraded : Goes before.folder.told after.folder.told (Upgrades count)

@@ -11,7 +11,7 @@ use Rattle.packet_codec.specs.Canonical.{IsEvent, Fits}
 use Rattle.packet_codec.specs.Lanes.{IsOfLaneBelow, IsMerge, joined}
 use Rattle.packet_codec.specs.declared.event.Event.{Event}
 use Rattle.run_shelf.specs.Repository.{Run, Shows}
-use Rattle.sub_text.specs.Texts.{report_of}
+use Rattle.command_steps.specs.Reporting.{report_for}
 use Rattle.suite_plan.specs.ConfFile.{GivesSettings}
 use Rattle.suite_run.specs.Starting.{StartsAll}
 use Rattle.testr_conf.specs.Settings.{Settings}
@@ -89,7 +89,7 @@ StartsInOrder options before after = Goes before.spawner.told after.spawner.told
 -- the output took a first part of the report of the workers' run, or all of it and a first part of the lines behind it
 pub record PrintsFirst (options : RunOptions) (before after : Work) : Type 0 where
   pub workers : RunsWorkers options before after
-  pub printed : IfSome before.folder.told (λ s. (runs : List Run) → Shows s.disk.published runs → TakesFirst (report_of (rows_of workers.events) (length runs) workers.planned.settings.filter_tags) workers.lines workers.worked after.spawner.told before.out.told after.out.told)
+  pub printed : IfSome before.folder.told (λ s. (runs : List Run) → Shows s.disk.published runs → TakesFirst (report_for options.format (rows_of workers.events) (length runs) workers.planned.settings.filter_tags) workers.lines workers.worked after.spawner.told before.out.told after.out.told)
 
 -- What a run has started and printed at each exit.
 pub record LeavesRun (options : RunOptions) (before after : Work) : Type 0 where

@@ -1,6 +1,6 @@
-//! Laws of the refusals.
+//! Laws of the refusals, and of what is told behind lines.
 
-ghost use Rattle.std.specs.Prelude.{◌≡◌, ◌≢◌, ◌⊎◌, ◌<◌, ◌≤◌, ℕ, List, ◌∷◌, ◌++◌, Result, Ok, Err, None, IsSome, IsSomeAnd, All, length};
+ghost use Rattle.std.specs.Prelude.{◌≡◌, ◌≢◌, ◌⊎◌, ◌<◌, ◌≤◌, ℕ, Bool, true, false, List, ◌∷◌, ◌++◌, Result, Ok, Err, None, IsSome, IsSomeAnd, All, length};
 ghost use Rattle.edge_io.specs.Disk.{Folder};
 ghost use Rattle.edge_io.specs.Seen.{Seen};
 ghost use Rattle.outcome_fold.specs.declared.row.Row.{Row as ARow};
@@ -23,6 +23,13 @@ ghost use Rattle.command_steps.specs.Outside.{Fed, Filed};
 ghost use Rattle.command_steps.specs.Recording.{Records, most_bytes};
 ghost use Rattle.command_steps.specs.Refreshing.{Refreshes};
 ghost use Rattle.testr_words.specs.Questions.{OfLastRun};
+ghost use Rattle.edge_io.specs.Causes.{Rose};
+ghost use Rattle.speaker.specs.Speaking.{Takes};
+ghost use Rattle.std.specs.Io.KnownBytes.{Appends};
+ghost use Rattle.command_steps.specs.declared.answer.Refusal.{Refusal as ARefusal};
+ghost use Rattle.command_steps.specs.declared.answer.Verdict.{Verdict as AVerdict};
+ghost use Rattle.testr_commands.specs.Program.{Tells};
+ghost use Rattle.testr_commands.specs.Spoken.{outcome_text};
 ghost use Rattle.command_steps.specs.Store.{Makes, Opens, TakesRun, HasRunFor};
 
 /// Where the cause of a named refusal is there, the step refuses by that name, unless a call failed or memory was wanting
@@ -49,4 +56,11 @@ pub fn refusals_are_exact()
         → IsSomeAnd before.site.told (λ files. All (λ n. IsSomeAnd (files n) (λ bytes. length bytes ≤ most_bytes)) front × (files name ≡ None)) → IsNoFile name result ⊎ RecordEnds result }
     ensures file_too_long { (front back : List (List ℕ)) (name : List ℕ) (before after : Filed) (result : Result (List ARow) ARecordFault) → RecordsFiles (front ++ name ∷ back) before after result
         → IsSomeAnd before.site.told (λ files. All (λ n. IsSomeAnd (files n) (λ bytes. length bytes ≤ most_bytes)) front × IsSomeAnd (files name) (λ bytes. most_bytes < length bytes)) → IsFileTooLong name result ⊎ RecordEnds result }
+{}
+
+/// What was said while a run went on, and then what is told of the outcome, went to the errors' sink, one behind the other, where
+/// no fault of it came.
+pub fn refusals_stand_behind_lines()
+    ensures behind { (front : List ℕ) (start spoken after : Seen (List ℕ)) (failed : Bool) (outcome : Result AVerdict ARefusal) (answer : ℕ) → Takes front start spoken failed
+        → (failed ≡ false → Tells outcome spoken after answer) → (failed ≡ true → after ≡ spoken) → (Rose start.faults after.faults → ⊥) → Appends start.told after.told (front ++ outcome_text outcome) }
 {}

@@ -8,21 +8,29 @@
 //!
 //! - `init`, `load`, `ask`, `run`, `list`, `selftest`: the commands, each a chain of steps
 //! - `upgrade`: the command that takes over a folder of the original tool
-//! - `top`: `testr` and `quiet`
+//! - `top`: `testr`
+//! - `quietly`: `quiet`, which needs no program and no thread
+//! - `answer`: a refusal is told, and the status given
+//! - `shown`: what is said of a run while it goes on
+//! - `left`: what is left to tell at the end, of tests that were asked for and did not run
 //! - `nowhere`: the output of a command that prints no report
 //! - `laws`, `suite_laws`: each named refusal comes exactly where its cause is
 //!
 //! Its tests stand in rooms of their own above it, `load_trials` and `run_trials`.
 #![tactic(auto)]
 
+mod answer;
 mod ask;
 mod init;
 mod laws;
+mod left;
 mod list;
 mod load;
 mod nowhere;
+mod quietly;
 mod run;
 mod selftest;
+mod shown;
 mod suite_laws;
 mod top;
 mod upgrade;
@@ -31,7 +39,8 @@ pub use command_steps::{
     CopyFault, KeepFault, PrintFault, RecordFault, Refusal, RunsFault, TellFault, UsageFault,
     Verdict,
 };
-pub use laws::refusals_are_exact;
+pub use laws::{refusals_are_exact, refusals_stand_behind_lines};
+pub use quietly::quiet;
 pub use suite_laws::suite_refusals_are_exact;
-pub use testr_words::{Command, Face, Question, Verb, reads, reads_as};
-pub use top::{quiet, testr, testr_as};
+pub use testr_words::{Command, Face, FormatKind, LiveKind, Question, Verb, reads, reads_as};
+pub use top::{testr, testr_as};

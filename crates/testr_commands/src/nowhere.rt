@@ -1,6 +1,6 @@
 //! An output that is not looked at.
 
-ghost use Rattle.testr_commands.specs.WholeCall.{nowhere};
+ghost use Rattle.testr_commands.specs.Spoken.{nowhere};
 
 use edge_io::{Failed, Sink};
 

@@ -1,6 +1,7 @@
 //! `testr run`.
 
-ghost use Rattle.std.specs.Prelude.{[], ◌≡◌, ◌<◌, ◌≤◌, ℕ, List, length, true, IfOk, IfSome};
+ghost use Rattle.std.proofs.Props.{props};
+ghost use Rattle.std.specs.Prelude.{[], ◌≡◌, ◌<◌, ◌≤◌, ℕ, List, length, false, true, IfOk, IfSome};
 ghost use Rattle.edge_io.specs.Disk.{Files, Folder};
 ghost use Rattle.edge_io.specs.Seen.{Seen};
 ghost use Rattle.outcome_fold.specs.Summed.{Sums};
@@ -12,14 +13,21 @@ ghost use Rattle.suite_causes.specs.Searching.{CanHandIds};
 ghost use Rattle.command_steps.specs.Causes.{FindsCauses};
 ghost use Rattle.testr_commands.specs.RunSuite.{RunsBy, TellsAndFinds, TellsRun, compiled_in};
 ghost use Rattle.testr_commands.specs.SparingRun.{SparesRunOf};
+ghost use Rattle.testr_commands.specs.Endings.{LeavesRunEnd};
+ghost use Rattle.testr_commands.specs.Spoken.{shown_of};
+ghost use Rattle.command_steps.specs.Speaking.{SaysAloud};
+ghost use Rattle.suite_run.specs.Aloud.{sinks};
 ghost use Rattle.command_steps.specs.Verdicts.{verdict_of};
 ghost use Rattle.command_steps.specs.declared.answer.Verdict.TheVariants.{Passed};
 ghost use Rattle.testr_words.specs.Suites.{wanted_of, run_options, is_part, is_partial as is_partial_run};
 ghost use Rattle.suite_plan.specs.Patterns.{Compiles};
 
+use crate::left::{Left, asks_tests, left_of_run, selects_none};
+use crate::shown::shown_by;
 use crate::{Refusal, Verdict};
 use command_steps::{
-    Kept, end_report, find_causes, open, plan, print_report, run_workers, select, take_run,
+    Kept, Silenced, end_report, find_causes, open, plan, print_report, run_workers, select,
+    take_run,
 };
 use edge_io::{Shelf, Sink, Site, Spawner};
 use outcome_fold::{Summary, copies_of};
@@ -32,13 +40,17 @@ use std::thread::Threads;
 use sub_number::NoMemory;
 use suite_plan::{Compiled, PatternRefusal, compile};
 use testr_conf::Conf;
-use testr_words::Command;
+use testr_words::{Command, FormatKind};
 
 /// Runs the tests that the command selects, by the project's configuration, in worker processes that are read side by side;
 /// keeps what is recorded of them as the next run; brings the caches up to it; and prints the run's report, by what is kept
 /// of the rows that were told as it was recorded. Where causes are looked for, each test that fails is searched behind that, and
 /// its line printed. It may wait for the workers.
-pub fn run<'a, R: Threads + Wait + Sync, H: Shelf, S: Spawner, F: Site, O: Sink>(
+///
+/// As the run is recorded it is said, as the command asks: its lines to `err`, its packets to `stream`. None of the two has failed
+/// before; `silenced` tells which of them has then. A sink that fails stops nothing. Where the command was done, `left` has what
+/// is left to tell: which tests that were asked for did not run.
+pub fn run<'a, R: Threads + Wait + Sync, H: Shelf, S: Spawner, F: Site, O: Sink, E: Sink, P: Sink>(
     rt: &R,
     alloc: Global,
     command: &'a Command,
@@ -47,11 +59,21 @@ pub fn run<'a, R: Threads + Wait + Sync, H: Shelf, S: Spawner, F: Site, O: Sink>
     spawner: &mut S,
     site: &mut F,
     out: &mut O,
+    err: &mut E,
+    stream: &mut P,
+    silenced: &mut Silenced,
+    left: &mut Left,
 ) -> Result<Verdict, Refusal<'a>>
+    requires speaks { (silenced.old.errors ≡ false) × (silenced.old.out ≡ false) }
     ensures step { (input : Seen (List ℕ)) → RunsBy (run_options [] command.now) conf.now
         (work (H.seen shelf.old) (F.seen site.old) (S.seen spawner.old) input (O.seen out.old))
         (work (H.seen shelf.new) (F.seen site.new) (S.seen spawner.new) input (O.seen out.new))
         result }
+    ensures says { SaysAloud (shown_of command.now) true (is_partial_run (run_options [] command.now)) (code_of result) (H.seen shelf.new).told (sinks (E.seen err.old) (P.seen stream.old)) (sinks (E.seen err.new) (P.seen stream.new)) silenced.new }
+    ensures left { (input : Seen (List ℕ)) → code_of result ≤ 1 → LeavesRunEnd (run_options [] command.now) conf.now
+        (work (H.seen shelf.old) (F.seen site.old) (S.seen spawner.old) input (O.seen out.old))
+        (work (H.seen shelf.new) (F.seen site.new) (S.seen spawner.new) input (O.seen out.new))
+        left.new.text.items left.new.fails }
     ensures calls { SparesRunOf command.now.find_causes (is_partial_run (run_options [] command.now)) (H.seen shelf.old).told (H.seen shelf.new).told (code_of result) (H.clock shelf.old) (H.clock shelf.new) }
 {
     let found = open(alloc, shelf)?;
@@ -68,6 +90,7 @@ pub fn run<'a, R: Threads + Wait + Sync, H: Shelf, S: Spawner, F: Site, O: Sink>
         spawner,
         site,
     )?;
+    let chose_none = selects_none(&selected);
     let plan = plan(
         alloc,
         conf,
@@ -88,14 +111,24 @@ pub fn run<'a, R: Threads + Wait + Sync, H: Shelf, S: Spawner, F: Site, O: Sink>
         found,
         spawner,
         asked.filter_tags,
+        shown_by(command),
+        err,
+        stream,
+        silenced,
     )?;
     let Kept { found, summary } = kept;
+    let asks = asks_tests(command, chose_none, &plan.asked);
+    let end = match left_of_run(alloc, asks, &plan.asked, &summary) {
+        Ok(end) => end,
+        Err(fault) => return Err(Refusal::Report(fault)),
+    };
+    let stored = Stored { found, number };
     let answer = tell_and_find(
         alloc,
         conf,
+        command.format,
         command.find_causes,
-        number,
-        found,
+        stored,
         &summary,
         shelf,
         spawner,
@@ -103,32 +136,44 @@ pub fn run<'a, R: Threads + Wait + Sync, H: Shelf, S: Spawner, F: Site, O: Sink>
     );
     // The program ends here, and the system takes the memory back in one piece.
     forget(summary);
+    *left = end;
     answer
 }
 
-// Prints the report of the run of this number, which is kept, and of whose rows this is; and then, where causes are looked for,
-// searches for what makes each test that fails do so. These are the runs that there are, where there was memory for them.
+// A run that is kept.
+#[derive(Drop)]
+struct Stored {
+    // The runs that there are, where there was memory for them.
+    found: Option<Found>,
+    // Its number, which is that of one of these.
+    number: u32,
+
+    ghost known: { IfSome found (λ runs. number < length (kinds_of runs)) } by { Prim.hlevel props },
+}
+
+// Prints the report of the run, for this reader, of whose rows this is; and then, where causes are looked for, searches for what makes each test
+// that fails do so.
 fn tell_and_find<H: Shelf, S: Spawner, O: Sink>(
     alloc: Global,
     conf: &Conf,
+    format: FormatKind,
     find_causes: bool,
-    number: u32,
-    found: Option<Found>,
+    stored: Stored,
     summary: &Summary,
     shelf: &mut H,
     spawner: &mut S,
     out: &mut O,
 ) -> Result<Verdict, Refusal<'static>>
     requires handed { find_causes ≡ true → CanHandIds conf.now }
-    requires known { IfSome found (λ runs. number < length (kinds_of runs)) }
-    requires fits { IfSome found (λ runs. FitsWhereTold (kinds_of runs) (H.seen shelf.old).told) }
-    ensures step { (site : Seen Files) → (input : Seen (List ℕ)) → (rows : List ARow) → Sums conf.now.filter_tags rows summary.now → TellsAndFinds find_causes conf.now number rows
+    requires fits { IfSome stored.found (λ runs. FitsWhereTold (kinds_of runs) (H.seen shelf.old).told) }
+    ensures step { (site : Seen Files) → (input : Seen (List ℕ)) → (rows : List ARow) → Sums conf.now.filter_tags rows summary.now → TellsAndFinds format find_causes conf.now stored.number rows
         (work (H.seen shelf.old) site (S.seen spawner.old) input (O.seen out.old))
         (work (H.seen shelf.new) site (S.seen spawner.new) input (O.seen out.new))
         result }
     ensures still { (rows : List ARow) → Sums conf.now.filter_tags rows summary.now → code_of result ≤ 1 → (find_causes ≡ true → code_of result ≡ 0) → (H.seen shelf.new ≡ H.seen shelf.old) × (H.clock shelf.new ≡ H.clock shelf.old) }
 {
-    let verdict = tell_run(alloc, number, summary, out)?;
+    let Stored { found, number } = stored;
+    let verdict = tell_run(alloc, format, number, summary, out)?;
     find_where_asked(
         alloc,
         conf,
@@ -211,20 +256,21 @@ fn is_partial(command: &Command) -> bool
     command.partial || command.failing || command.load_list.is_some() || command.is_choosing()
 }
 
-// Prints the report of the run of this number, which is kept, and of whose rows this is. Its last lines are made before the
+// Prints the report of the run of this number, for this reader, which is kept, and of whose rows this is. Its last lines are made before the
 // first one is printed.
 fn tell_run<O: Sink>(
     alloc: Global,
+    format: FormatKind,
     number: u32,
     summary: &Summary,
     out: &mut O,
 ) -> Result<Verdict, Refusal<'static>>
-    ensures { (folder : Seen Folder) → (site : _) → (spawner : _) → (input : Seen (List ℕ)) → (filter_tags : List (List ℕ)) (rows : List ARow) → Sums filter_tags rows summary.now → TellsRun number filter_tags rows
+    ensures { (folder : Seen Folder) → (site : _) → (spawner : _) → (input : Seen (List ℕ)) → (filter_tags : List (List ℕ)) (rows : List ARow) → Sums filter_tags rows summary.now → TellsRun format number filter_tags rows
         (work folder site spawner input (O.seen out.old))
         (work folder site spawner input (O.seen out.new))
         result }
 {
-    let ending = match end_report(alloc, number, summary) {
+    let ending = match end_report(alloc, format, number, summary) {
         Ok(ending) => ending,
         Err(fault) => return Err(Refusal::Report(fault)),
     };

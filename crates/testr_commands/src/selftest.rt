@@ -8,11 +8,13 @@ ghost use Rattle.testr_words.specs.Drawings.{are_few};
 ghost use Rattle.command_steps.specs.Outside.{work};
 ghost use Rattle.testr_commands.specs.SelfTest.{TestsItself, SumsUp, RunsInTurn, rows_in_turn};
 
+use crate::nowhere::Nowhere;
 use crate::{Refusal, Verdict};
-use command_steps::{Told, make, open, print, run_workers, take_run, verdict_kept};
+use command_steps::{Silenced, Told, make, open, print, run_workers, take_run, verdict_kept};
 use drawn_lanes::plans;
 use edge_io::{Job, MemShelf, PlanSpawner, Shelf, Sink, Spawner};
 use itoa::Buffer;
+use live_text::Live;
 use outcome_fold::Summary;
 use packet_codec::Tags;
 use std::alloc::Global;
@@ -20,6 +22,7 @@ use std::sync::Wait;
 use std::thread::Threads;
 use sub_number::{Bytes, NoMemory};
 use sub_text::summary_from;
+use suite_run::{Echo, Shown};
 use testr_words::Drawing;
 
 /// Runs workers whose outputs are made up, in memory, as `testr run` runs those of a project; and prints the summary of
@@ -111,6 +114,11 @@ fn run_drawn<R: Threads + Wait + Sync, H: Shelf, S: Spawner>(
     let found = open(alloc, shelf)?;
     take_run(&found)?;
     let filter_tags = Tags::new(alloc);
+    let unshown = Shown {
+        live: Live::Nothing,
+        echo: Echo::Nothing,
+    };
+    let mut silenced = Silenced::none();
     match run_workers(
         rt,
         alloc,
@@ -122,6 +130,10 @@ fn run_drawn<R: Threads + Wait + Sync, H: Shelf, S: Spawner>(
         found,
         spawner,
         filter_tags,
+        unshown,
+        &mut Nowhere,
+        &mut Nowhere,
+        &mut silenced,
     ) {
         Ok(kept) => Ok(kept.summary),
         Err(refusal) => Err(refusal),

@@ -1,41 +1,41 @@
-//! The top call: `testr`, and `quiet`.
+//! The top call: `testr`.
 
-ghost use Rattle.std.specs.Prelude.{◌≡◌, [], ◌∷◌, ℕ, List, true, false, Some, None, OnOk};
+ghost use Rattle.std.specs.Prelude.{◌≡◌, ◌≤◌, [], ℕ, List, true, false, None, OnOk, option_map};
 ghost use Rattle.std.specs.Io.KnownBytes.{Appends};
 ghost use Rattle.edge_io.specs.Bytes.{AppendsPrefix};
-ghost use Rattle.edge_io.specs.Causes.{HasCause};
+ghost use Rattle.edge_io.specs.Causes.{HasCause, Rose};
 ghost use Rattle.edge_io.specs.Disk.{Files, Folder};
 ghost use Rattle.edge_io.specs.Seen.{Seen};
 ghost use Rattle.edge_io.specs.Spawners.{Spawning};
 ghost use Rattle.command_words.specs.Items.{texts};
-ghost use Rattle.command_steps.specs.Refusals.{refusal_text};
-ghost use Rattle.command_steps.specs.Outside.{outside, work};
-ghost use Rattle.testr_commands.specs.Program.{Performs, Tells, Answers, Promises};
-ghost use Rattle.testr_commands.specs.Forced.{PromisesBy};
-ghost use Rattle.testr_commands.specs.WholeCall.{PromisesHiding, PromisesCommand, TestrPromises, most_workers_text};
+ghost use Rattle.command_steps.specs.Outside.{outside};
+ghost use Rattle.testr_commands.specs.Program.{Answers};
+ghost use Rattle.testr_commands.specs.Endings.{Adding, Begun};
+ghost use Rattle.testr_commands.specs.Spoken.{packets_for, Saying, Streams};
+ghost use Rattle.testr_commands.specs.WholeCall.{PromisesEnding, PromisesSaying, PromisesExpecting, PromisesCommand, TestrPromises, most_workers_text};
 ghost use Rattle.testr_commands.specs.Sparing.{SparesReads};
 ghost use Rattle.testr_commands.specs.SparingRun.{SparesRun};
-ghost use Rattle.testr_words.specs.Tasks.{task_of, task_with, quiet_of, forces, forces_quiet, hides, hides_quiet, warns};
-ghost use Rattle.testr_words.specs.Words.{asked_by, forced_by};
+ghost use Rattle.testr_words.specs.Tasks.{task_of, task_with, forces, hides, live_of, streams, warns, expects};
+ghost use Rattle.testr_words.specs.Words.{asked_by, forced_by, streamed_by};
 ghost use Rattle.testr_words.specs.declared.command.Face.TheVariants.{Testr};
-ghost use Rattle.testr_words.specs.declared.command.Verb.TheVariants.{Load, Run, ListTests, SelfTest};
+ghost use Rattle.testr_words.specs.declared.command.Verb.TheVariants.{Run, ListTests, SelfTest};
 
-use crate::ask::ask;
-use crate::init::init;
+use crate::Refusal;
+use crate::answer::{answer, end_stream};
+use crate::left::{Left, answer_left, answer_left_behind};
 use crate::list::list;
-use crate::load::load;
 use crate::nowhere::Nowhere;
+use crate::quietly::quiet_ready;
 use crate::run::run;
 use crate::selftest::selftest;
-use crate::upgrade::upgrade;
-use crate::{Refusal, Verdict};
-use command_steps::{UsageFault, make_where_none, tell};
+use command_steps::{Silenced, UsageFault, make_where_none, read_ids};
 use edge_io::{Failed, Shelf, Sink, Site, Source, Spawner, write_whole};
 use std::alloc::Global;
 use std::sync::Wait;
 use std::thread::Threads;
+use sub_number::IdList;
 use suite_plan::read_conf;
-use testr_words::{Command, Face, MOST_FILES, Question, Verb, drawing_of, reads_as};
+use testr_words::{Command, Face, LiveKind, Verb, drawing_of, reads_as};
 
 /// Does what the words behind `testr` say, and answers the exit status: 0 where it was done and no test failed, 1 where a
 /// test failed, 2 where the words are no command, 3 for a named refusal, 4 for a fault of the outside, 5 for want of
@@ -52,6 +52,9 @@ use testr_words::{Command, Face, MOST_FILES, Question, Verb, drawing_of, reads_a
 /// recorded of them as the next run, and prints its report; `list-tests` prints the tests that the project lists. The two
 /// may wait for programs that they start. All other commands leave the spawner as it was. `selftest` runs made-up workers in
 /// memory, for whose threads it may wait, and prints the summary of their run; it touches the sinks alone.
+///
+/// While a run is recorded, by `run` or `load`, the lines of the tests that complete are written to `err` where `--live` asks for
+/// them, and its packets to `out`, in place of its report, where `--subunit` does. A sink that fails is told no more; the run goes on.
 pub fn testr<R: Threads + Wait + Sync, H: Shelf, S: Spawner, F: Site, I: Source, O: Sink, E: Sink>(
     rt: &R,
     alloc: Global,
@@ -68,7 +71,7 @@ pub fn testr<R: Threads + Wait + Sync, H: Shelf, S: Spawner, F: Site, I: Source,
         (outside (H.seen shelf.new) (F.seen site.new) (S.seen spawner.new) (I.seen input.new) (O.seen out.new) (E.seen err.new))
         result }
     ensures spares { SparesReads (asked_by (F.folder site.old) Testr (texts words.now)) (H.seen shelf.old).told (H.clock shelf.old) (H.clock shelf.new) }
-    ensures spares_run { forced_by (F.folder site.old) Testr (texts words.now) ≡ false → SparesRun (asked_by (F.folder site.old) Testr (texts words.now)) (H.seen shelf.old).told (H.seen shelf.new).told result (H.clock shelf.old) (H.clock shelf.new) }
+    ensures spares_run { forced_by (F.folder site.old) Testr (texts words.now) ≡ false → streamed_by (F.folder site.old) Testr (texts words.now) ≡ false → SparesRun (asked_by (F.folder site.old) Testr (texts words.now)) (H.seen shelf.old).told (H.seen shelf.new).told result (H.clock shelf.old) (H.clock shelf.new) }
 {
     testr_as(
         rt,
@@ -111,7 +114,7 @@ pub fn testr_as<
         (outside (H.seen shelf.new) (F.seen site.new) (S.seen spawner.new) (I.seen input.new) (O.seen out.new) (E.seen err.new))
         result }
     ensures spares { SparesReads (asked_by (F.folder site.old) face (texts words.now)) (H.seen shelf.old).told (H.clock shelf.old) (H.clock shelf.new) }
-    ensures spares_run { forced_by (F.folder site.old) face (texts words.now) ≡ false → SparesRun (asked_by (F.folder site.old) face (texts words.now)) (H.seen shelf.old).told (H.seen shelf.new).told result (H.clock shelf.old) (H.clock shelf.new) }
+    ensures spares_run { forced_by (F.folder site.old) face (texts words.now) ≡ false → streamed_by (F.folder site.old) face (texts words.now) ≡ false → SparesRun (asked_by (F.folder site.old) face (texts words.now)) (H.seen shelf.old).told (H.seen shelf.new).told result (H.clock shelf.old) (H.clock shelf.new) }
 {
     match reads_as(alloc, face, words) {
         Ok(Some(command)) => follow(rt, alloc, &command, shelf, spawner, site, input, out, err),
@@ -133,22 +136,71 @@ fn follow<R: Threads + Wait + Sync, H: Shelf, S: Spawner, F: Site, I: Source, O:
     out: &mut O,
     err: &mut E,
 ) -> u8
-    ensures promises { PromisesCommand (warns (F.folder site.old) command.now) (hides (F.folder site.old) command.now) (forces (F.folder site.old) command.now) (task_of (F.folder site.old) command.now)
+    ensures promises { PromisesCommand (warns (F.folder site.old) command.now) (streams (F.folder site.old) command.now) (live_of (F.folder site.old) command.now) (hides (F.folder site.old) command.now) (forces (F.folder site.old) command.now) (expects (F.folder site.old) command.now) (task_of (F.folder site.old) command.now)
         (outside (H.seen shelf.old) (F.seen site.old) (S.seen spawner.old) (I.seen input.old) (O.seen out.old) (E.seen err.old))
         (outside (H.seen shelf.new) (F.seen site.new) (S.seen spawner.new) (I.seen input.new) (O.seen out.new) (E.seen err.new))
         result }
     ensures spares { SparesReads (task_of (F.folder site.old) command.now) (H.seen shelf.old).told (H.clock shelf.old) (H.clock shelf.new) }
-    ensures spares_run { forces (F.folder site.old) command.now ≡ false → SparesRun (task_of (F.folder site.old) command.now) (H.seen shelf.old).told (H.seen shelf.new).told result (H.clock shelf.old) (H.clock shelf.new) }
+    ensures spares_run { forces (F.folder site.old) command.now ≡ false → streams (F.folder site.old) command.now ≡ false → SparesRun (task_of (F.folder site.old) command.now) (H.seen shelf.old).told (H.seen shelf.new).told result (H.clock shelf.old) (H.clock shelf.new) }
 {
     if !command.warns() {
-        return follow_warned(rt, alloc, command, shelf, spawner, site, input, out, err);
+        return follow_expecting(rt, alloc, command, shelf, spawner, site, input, out, err);
     }
     // Whether the line was written changes nothing.
     let _ = tell_most_workers(err);
-    follow_warned(rt, alloc, command, shelf, spawner, site, input, out, err)
+    follow_expecting(rt, alloc, command, shelf, spawner, site, input, out, err)
 }
 
-// Does what the command says, without its report where it asks for none, and answers its status.
+// Reads first the list of what is expected, where the command names one. Does what it says then, and answers its status.
+fn follow_expecting<
+    R: Threads + Wait + Sync,
+    H: Shelf,
+    S: Spawner,
+    F: Site,
+    I: Source,
+    O: Sink,
+    E: Sink,
+>(
+    rt: &R,
+    alloc: Global,
+    command: &Command,
+    shelf: &mut H,
+    spawner: &mut S,
+    site: &mut F,
+    input: &mut I,
+    out: &mut O,
+    err: &mut E,
+) -> u8
+    ensures promises { PromisesExpecting (streams (F.folder site.old) command.now) (live_of (F.folder site.old) command.now) (hides (F.folder site.old) command.now) (forces (F.folder site.old) command.now) (expects (F.folder site.old) command.now) (task_of (F.folder site.old) command.now)
+        (outside (H.seen shelf.old) (F.seen site.old) (S.seen spawner.old) (I.seen input.old) (O.seen out.old) (E.seen err.old))
+        (outside (H.seen shelf.new) (F.seen site.new) (S.seen spawner.new) (I.seen input.new) (O.seen out.new) (E.seen err.new))
+        result }
+    ensures spares { SparesReads (task_of (F.folder site.old) command.now) (H.seen shelf.old).told (H.clock shelf.old) (H.clock shelf.new) }
+    ensures spares_run { forces (F.folder site.old) command.now ≡ false → streams (F.folder site.old) command.now ≡ false → SparesRun (task_of (F.folder site.old) command.now) (H.seen shelf.old).told (H.seen shelf.new).told result (H.clock shelf.old) (H.clock shelf.new) }
+{
+    match command.expected() {
+        None => follow_warned(
+            rt, alloc, command, None, shelf, spawner, site, input, out, err,
+        ),
+        Some(name) => match read_ids(alloc, name, site) {
+            Ok(ids) => follow_warned(
+                rt,
+                alloc,
+                command,
+                Some(&ids),
+                shelf,
+                spawner,
+                site,
+                input,
+                out,
+                err,
+            ),
+            Err(refusal) => answer(Err(Refusal::LoadList(refusal)), err),
+        },
+    }
+}
+
+// Does what the command says, without its report where it asks for none, or for packets in its place, and answers its status.
 fn follow_warned<
     R: Threads + Wait + Sync,
     H: Shelf,
@@ -161,6 +213,7 @@ fn follow_warned<
     rt: &R,
     alloc: Global,
     command: &Command,
+    expected: Option<&IdList>,
     shelf: &mut H,
     spawner: &mut S,
     site: &mut F,
@@ -168,28 +221,98 @@ fn follow_warned<
     out: &mut O,
     err: &mut E,
 ) -> u8
-    ensures promises { PromisesHiding (hides (F.folder site.old) command.now) (forces (F.folder site.old) command.now) false (task_of (F.folder site.old) command.now)
+    ensures promises { PromisesSaying (streams (F.folder site.old) command.now) (live_of (F.folder site.old) command.now) (hides (F.folder site.old) command.now) (forces (F.folder site.old) command.now) false (option_map (λ ids. ids.now) expected.entry) (task_of (F.folder site.old) command.now)
         (outside (H.seen shelf.old) (F.seen site.old) (S.seen spawner.old) (I.seen input.old) (O.seen out.old) (E.seen err.old))
         (outside (H.seen shelf.new) (F.seen site.new) (S.seen spawner.new) (I.seen input.new) (O.seen out.new) (E.seen err.new))
         result }
     ensures spares { SparesReads (task_of (F.folder site.old) command.now) (H.seen shelf.old).told (H.clock shelf.old) (H.clock shelf.new) }
-    ensures spares_run { forces (F.folder site.old) command.now ≡ false → SparesRun (task_of (F.folder site.old) command.now) (H.seen shelf.old).told (H.seen shelf.new).told result (H.clock shelf.old) (H.clock shelf.new) }
+    ensures spares_run { forces (F.folder site.old) command.now ≡ false → streams (F.folder site.old) command.now ≡ false → SparesRun (task_of (F.folder site.old) command.now) (H.seen shelf.old).told (H.seen shelf.new).told result (H.clock shelf.old) (H.clock shelf.new) }
 {
+    if command.streams() {
+        return follow_streaming(
+            rt, alloc, command, expected, shelf, spawner, site, input, out, err,
+        );
+    }
+    let mut stream = Nowhere;
+    let mut silenced = Silenced::none();
     if !command.hides_report() {
-        return follow_forced(rt, alloc, command, shelf, spawner, site, input, out, err);
+        return follow_forced(
+            rt,
+            alloc,
+            command,
+            expected,
+            shelf,
+            spawner,
+            site,
+            input,
+            out,
+            err,
+            &mut stream,
+            &mut silenced,
+        );
     }
     let mut nowhere = Nowhere;
     follow_forced(
         rt,
         alloc,
         command,
+        expected,
         shelf,
         spawner,
         site,
         input,
         &mut nowhere,
         err,
+        &mut stream,
+        &mut silenced,
     )
+}
+
+// Does what the command says, with the run's packets in place of its report, and answers its status.
+fn follow_streaming<
+    R: Threads + Wait + Sync,
+    H: Shelf,
+    S: Spawner,
+    F: Site,
+    I: Source,
+    O: Sink,
+    E: Sink,
+>(
+    rt: &R,
+    alloc: Global,
+    command: &Command,
+    expected: Option<&IdList>,
+    shelf: &mut H,
+    spawner: &mut S,
+    site: &mut F,
+    input: &mut I,
+    out: &mut O,
+    err: &mut E,
+) -> u8
+    requires streams { streams (F.folder site.old) command.now ≡ true }
+    ensures promises { Streams (packets_for (task_of (F.folder site.old) command.now)) (Saying (live_of (F.folder site.old) command.now) (task_of (F.folder site.old) command.now) (PromisesEnding (forces (F.folder site.old) command.now) false (option_map (λ ids. ids.now) expected.entry) (task_of (F.folder site.old) command.now)))
+        (outside (H.seen shelf.old) (F.seen site.old) (S.seen spawner.old) (I.seen input.old) (O.seen out.old) (E.seen err.old))
+        (outside (H.seen shelf.new) (F.seen site.new) (S.seen spawner.new) (I.seen input.new) (O.seen out.new) (E.seen err.new))
+        result }
+    ensures spares { SparesReads (task_of (F.folder site.old) command.now) (H.seen shelf.old).told (H.clock shelf.old) (H.clock shelf.new) }
+{
+    let mut nowhere = Nowhere;
+    let mut silenced = Silenced::none();
+    let answer = follow_forced(
+        rt,
+        alloc,
+        command,
+        expected,
+        shelf,
+        spawner,
+        site,
+        input,
+        &mut nowhere,
+        err,
+        out,
+        &mut silenced,
+    );
+    end_stream(answer, silenced, err)
 }
 
 // Makes a repository first, where the command asks for that and there is none. Does what the command says then, and answers
@@ -202,29 +325,41 @@ fn follow_forced<
     I: Source,
     O: Sink,
     E: Sink,
+    P: Sink,
 >(
     rt: &R,
     alloc: Global,
     command: &Command,
+    expected: Option<&IdList>,
     shelf: &mut H,
     spawner: &mut S,
     site: &mut F,
     input: &mut I,
     out: &mut O,
     err: &mut E,
+    stream: &mut P,
+    silenced: &mut Silenced,
 ) -> u8
-    ensures promises { PromisesBy (forces (F.folder site.old) command.now) false (task_of (F.folder site.old) command.now)
+    requires speaks { (silenced.old.errors ≡ false) × (silenced.old.out ≡ false) }
+    ensures promises { Saying (live_of (F.folder site.old) command.now) (task_of (F.folder site.old) command.now) (PromisesEnding (forces (F.folder site.old) command.now) false (option_map (λ ids. ids.now) expected.entry) (task_of (F.folder site.old) command.now))
         (outside (H.seen shelf.old) (F.seen site.old) (S.seen spawner.old) (I.seen input.old) (O.seen out.old) (E.seen err.old))
         (outside (H.seen shelf.new) (F.seen site.new) (S.seen spawner.new) (I.seen input.new) (O.seen out.new) (E.seen err.new))
         result }
     ensures spares { SparesReads (task_of (F.folder site.old) command.now) (H.seen shelf.old).told (H.clock shelf.old) (H.clock shelf.new) }
     ensures spares_run { forces (F.folder site.old) command.now ≡ false → SparesRun (task_of (F.folder site.old) command.now) (H.seen shelf.old).told (H.seen shelf.new).told result (H.clock shelf.old) (H.clock shelf.new) }
+    ensures streamed { streams (F.folder site.old) command.now ≡ true → packets_for (task_of (F.folder site.old) command.now) result (H.seen shelf.new).told (P.seen stream.old) (P.seen stream.new) silenced.new.out }
+    ensures silent { silenced.new.errors ≡ true → Rose (E.seen err.old).faults (E.seen err.new).faults }
+    ensures heard { streams (F.folder site.old) command.now ≡ true → silenced.new.errors ≡ false → result ≤ 1 → (E.seen err.new).faults ≡ (E.seen err.old).faults }
 {
     if !command.forces() {
-        return follow_ready(rt, alloc, command, shelf, spawner, site, input, out, err);
+        return follow_ready(
+            rt, alloc, command, expected, shelf, spawner, site, input, out, err, stream, silenced,
+        );
     }
     match make_where_none(shelf) {
-        Ok(()) => follow_ready(rt, alloc, command, shelf, spawner, site, input, out, err),
+        Ok(()) => follow_ready(
+            rt, alloc, command, expected, shelf, spawner, site, input, out, err, stream, silenced,
+        ),
         Err(fault) => answer(Err(Refusal::Init(fault)), err),
     }
 }
@@ -238,29 +373,41 @@ fn follow_ready<
     I: Source,
     O: Sink,
     E: Sink,
+    P: Sink,
 >(
     rt: &R,
     alloc: Global,
     command: &Command,
+    expected: Option<&IdList>,
     shelf: &mut H,
     spawner: &mut S,
     site: &mut F,
     input: &mut I,
     out: &mut O,
     err: &mut E,
+    stream: &mut P,
+    silenced: &mut Silenced,
 ) -> u8
-    ensures answers { Answers false (task_of (F.folder site.old) command.now)
+    requires speaks { (silenced.old.errors ≡ false) × (silenced.old.out ≡ false) }
+    ensures answers { Saying (live_of (F.folder site.old) command.now) (task_of (F.folder site.old) command.now) (Adding Begun (option_map (λ ids. ids.now) expected.entry) (task_of (F.folder site.old) command.now) (Answers false (task_of (F.folder site.old) command.now)))
         (outside (H.seen shelf.old) (F.seen site.old) (S.seen spawner.old) (I.seen input.old) (O.seen out.old) (E.seen err.old))
         (outside (H.seen shelf.new) (F.seen site.new) (S.seen spawner.new) (I.seen input.new) (O.seen out.new) (E.seen err.new))
         result }
     ensures spares { SparesReads (task_of (F.folder site.old) command.now) (H.seen shelf.old).told (H.clock shelf.old) (H.clock shelf.new) }
     ensures spares_run { SparesRun (task_of (F.folder site.old) command.now) (H.seen shelf.old).told (H.seen shelf.new).told result (H.clock shelf.old) (H.clock shelf.new) }
+    ensures streamed { streams (F.folder site.old) command.now ≡ true → packets_for (task_of (F.folder site.old) command.now) result (H.seen shelf.new).told (P.seen stream.old) (P.seen stream.new) silenced.new.out }
+    ensures silent { silenced.new.errors ≡ true → Rose (E.seen err.old).faults (E.seen err.new).faults }
+    ensures heard { streams (F.folder site.old) command.now ≡ true → silenced.new.errors ≡ false → result ≤ 1 → (E.seen err.new).faults ≡ (E.seen err.old).faults }
 {
     match command.verb {
-        Verb::Run => run_suite(rt, alloc, command, shelf, spawner, site, out, err),
+        Verb::Run => run_suite(
+            rt, alloc, command, shelf, spawner, site, out, err, stream, silenced,
+        ),
         Verb::ListTests => list_suite(alloc, command, spawner, site, out, err),
         Verb::SelfTest => test_itself(rt, alloc, command, out, err),
-        _ => quiet_ready(alloc, command, shelf, site, input, out, err),
+        _ => quiet_ready(
+            alloc, command, expected, shelf, site, input, out, err, stream, silenced,
+        ),
     }
 }
 
@@ -286,8 +433,8 @@ fn test_itself<R: Threads + Wait + Sync, O: Sink, E: Sink>(
     }
 }
 
-// Runs tests of the project, by its configuration.
-fn run_suite<R: Threads + Wait + Sync, H: Shelf, S: Spawner, F: Site, O: Sink, E: Sink>(
+// Runs tests of the project, by its configuration. What is said of the run is said as the command asks.
+fn run_suite<R: Threads + Wait + Sync, H: Shelf, S: Spawner, F: Site, O: Sink, E: Sink, P: Sink>(
     rt: &R,
     alloc: Global,
     command: &Command,
@@ -296,17 +443,52 @@ fn run_suite<R: Threads + Wait + Sync, H: Shelf, S: Spawner, F: Site, O: Sink, E
     site: &mut F,
     out: &mut O,
     err: &mut E,
+    stream: &mut P,
+    silenced: &mut Silenced,
 ) -> u8
-    ensures answers { (input : Seen (List ℕ)) → Answers false (task_with (F.folder site.old) Run command.now)
+    requires speaks { (silenced.old.errors ≡ false) × (silenced.old.out ≡ false) }
+    ensures answers { (input : Seen (List ℕ)) → Saying command.now.live (task_with (F.folder site.old) Run command.now) (Adding Begun None (task_with (F.folder site.old) Run command.now) (Answers false (task_with (F.folder site.old) Run command.now)))
         (outside (H.seen shelf.old) (F.seen site.old) (S.seen spawner.old) input (O.seen out.old) (E.seen err.old))
         (outside (H.seen shelf.new) (F.seen site.new) (S.seen spawner.new) input (O.seen out.new) (E.seen err.new))
         result }
     ensures spares_run { SparesRun (task_with (F.folder site.old) Run command.now) (H.seen shelf.old).told (H.seen shelf.new).told result (H.clock shelf.old) (H.clock shelf.new) }
+    ensures streamed { command.now.subunit ≡ true → packets_for (task_with (F.folder site.old) Run command.now) result (H.seen shelf.new).told (P.seen stream.old) (P.seen stream.new) silenced.new.out }
+    ensures silent { silenced.new.errors ≡ true → Rose (E.seen err.old).faults (E.seen err.new).faults }
+    ensures heard { silenced.new.errors ≡ false → result ≤ 1 → (E.seen err.new).faults ≡ (E.seen err.old).faults }
 {
     match read_conf(alloc, command.face, &command.project, site) {
         Ok(conf) => {
-            let outcome = run(rt, alloc, command, &conf, shelf, spawner, site, out);
-            answer(outcome, err)
+            let mut left = Left::none(alloc);
+            match command.live {
+                LiveKind::Nothing => {
+                    let mut nowhere = Nowhere;
+                    let outcome = run(
+                        rt,
+                        alloc,
+                        command,
+                        &conf,
+                        shelf,
+                        spawner,
+                        site,
+                        out,
+                        &mut nowhere,
+                        stream,
+                        silenced,
+                        &mut left,
+                    );
+                    let (status, failed) = answer_left(outcome, &left, err);
+                    // That sink cannot fail; the errors' own may have.
+                    silenced.errors = failed;
+                    status
+                }
+                LiveKind::Tests | LiveKind::Failures | LiveKind::Dots => {
+                    let outcome = run(
+                        rt, alloc, command, &conf, shelf, spawner, site, out, err, stream,
+                        silenced, &mut left,
+                    );
+                    answer_left_behind(outcome, &left, err, silenced)
+                }
+            }
         }
         Err(refusal) => answer(Err(Refusal::Conf(refusal)), err),
     }
@@ -333,156 +515,6 @@ fn list_suite<S: Spawner, F: Site, O: Sink, E: Sink>(
         }
         Err(refusal) => answer(Err(Refusal::Conf(refusal)), err),
     }
-}
-
-/// Does what `testr` does on the words of this command, and answers its status. It starts no program and no thread, and
-/// returns. A command that needs them is answered as words that are no command.
-///
-/// It has no spawner; so what it promises it promises of each, as of one that is left as it was.
-pub fn quiet<H: Shelf, F: Site, I: Source, O: Sink, E: Sink>(
-    alloc: Global,
-    command: &Command,
-    shelf: &mut H,
-    site: &mut F,
-    input: &mut I,
-    out: &mut O,
-    err: &mut E,
-) -> u8
-    ensures promises { (spawner : Seen Spawning) → PromisesHiding (hides_quiet (F.folder site.old) command.now) (forces_quiet (F.folder site.old) command.now) false (quiet_of (task_of (F.folder site.old) command.now))
-        (outside (H.seen shelf.old) (F.seen site.old) spawner (I.seen input.old) (O.seen out.old) (E.seen err.old))
-        (outside (H.seen shelf.new) (F.seen site.new) spawner (I.seen input.new) (O.seen out.new) (E.seen err.new))
-        result }
-    ensures spares { SparesReads (task_of (F.folder site.old) command.now) (H.seen shelf.old).told (H.clock shelf.old) (H.clock shelf.new) }
-{
-    if !command.hides_report_quietly() {
-        return quiet_forced(alloc, command, shelf, site, input, out, err);
-    }
-    let mut nowhere = Nowhere;
-    quiet_forced(alloc, command, shelf, site, input, &mut nowhere, err)
-}
-
-// Makes a repository first, where the command asks for that and there is none. Does what the command says then, and answers
-// its status.
-fn quiet_forced<H: Shelf, F: Site, I: Source, O: Sink, E: Sink>(
-    alloc: Global,
-    command: &Command,
-    shelf: &mut H,
-    site: &mut F,
-    input: &mut I,
-    out: &mut O,
-    err: &mut E,
-) -> u8
-    ensures promises { (spawner : Seen Spawning) → PromisesBy (forces_quiet (F.folder site.old) command.now) false (quiet_of (task_of (F.folder site.old) command.now))
-        (outside (H.seen shelf.old) (F.seen site.old) spawner (I.seen input.old) (O.seen out.old) (E.seen err.old))
-        (outside (H.seen shelf.new) (F.seen site.new) spawner (I.seen input.new) (O.seen out.new) (E.seen err.new))
-        result }
-    ensures spares { SparesReads (task_of (F.folder site.old) command.now) (H.seen shelf.old).told (H.clock shelf.old) (H.clock shelf.new) }
-{
-    if !command.forces_quietly() {
-        return quiet_ready(alloc, command, shelf, site, input, out, err);
-    }
-    match make_where_none(shelf) {
-        Ok(()) => quiet_ready(alloc, command, shelf, site, input, out, err),
-        Err(fault) => answer(Err(Refusal::Init(fault)), err),
-    }
-}
-
-// Does what the command says, and answers its status.
-fn quiet_ready<H: Shelf, F: Site, I: Source, O: Sink, E: Sink>(
-    alloc: Global,
-    command: &Command,
-    shelf: &mut H,
-    site: &mut F,
-    input: &mut I,
-    out: &mut O,
-    err: &mut E,
-) -> u8
-    ensures promises { (spawner : Seen Spawning) → Promises false (quiet_of (task_of (F.folder site.old) command.now))
-        (outside (H.seen shelf.old) (F.seen site.old) spawner (I.seen input.old) (O.seen out.old) (E.seen err.old))
-        (outside (H.seen shelf.new) (F.seen site.new) spawner (I.seen input.new) (O.seen out.new) (E.seen err.new))
-        result }
-    ensures spares { SparesReads (task_of (F.folder site.old) command.now) (H.seen shelf.old).told (H.clock shelf.old) (H.clock shelf.new) }
-{
-    let outcome = perform(alloc, command, shelf, site, input, out);
-    answer(outcome, err)
-}
-
-// Does what the command says.
-fn perform<'a, H: Shelf, F: Site, I: Source, O: Sink>(
-    alloc: Global,
-    command: &'a Command,
-    shelf: &mut H,
-    site: &mut F,
-    input: &mut I,
-    out: &mut O,
-) -> Result<Verdict, Refusal<'a>>
-    ensures step { (spawner : Seen Spawning) → Performs (quiet_of (task_of (F.folder site.old) command.now))
-        (work (H.seen shelf.old) (F.seen site.old) spawner (I.seen input.old) (O.seen out.old))
-        (work (H.seen shelf.new) (F.seen site.new) spawner (I.seen input.new) (O.seen out.new))
-        result }
-    ensures spares { SparesReads (task_of (F.folder site.old) command.now) (H.seen shelf.old).told (H.clock shelf.old) (H.clock shelf.new) }
-{
-    match command.verb {
-        Verb::Init => init(shelf),
-        Verb::Load => load_named(alloc, command, shelf, site, input, out),
-        Verb::Last => ask(alloc, command.last_question(), shelf, out),
-        Verb::Failing => ask(alloc, Question::Failing { list: command.list }, shelf, out),
-        Verb::Slowest => ask(alloc, Question::Slowest { all: command.all }, shelf, out),
-        Verb::Stats => ask(alloc, Question::Stats, shelf, out),
-        Verb::Upgrade => upgrade(alloc, shelf, out),
-        Verb::Run | Verb::ListTests | Verb::SelfTest => { Err(Refusal::Usage(UsageFault::Words)) }
-    }
-}
-
-// Does what a command says that loads, where it has 64 names at most.
-fn load_named<'a, H: Shelf, F: Site, I: Source, O: Sink>(
-    alloc: Global,
-    command: &'a Command,
-    shelf: &mut H,
-    site: &mut F,
-    input: &mut I,
-    out: &mut O,
-) -> Result<Verdict, Refusal<'a>>
-    ensures { (spawner : Seen Spawning) → Performs (task_with (F.folder site.old) Load command.now)
-        (work (H.seen shelf.old) (F.seen site.old) spawner (I.seen input.old) (O.seen out.old))
-        (work (H.seen shelf.new) (F.seen site.new) spawner (I.seen input.new) (O.seen out.new))
-        result }
-{
-    if command.names.list().len() > MOST_FILES {
-        return Err(Refusal::Usage(UsageFault::Words));
-    }
-    load(
-        alloc,
-        command.partial,
-        &command.names,
-        shelf,
-        site,
-        input,
-        out,
-    )
-}
-
-// Tells of a refusal, and gives the status.
-fn answer<E: Sink>(outcome: Result<Verdict, Refusal<'_>>, err: &mut E) -> u8
-    ensures { Tells outcome.entry (E.seen err.old) (E.seen err.new) result }
-{
-    match outcome {
-        Ok(verdict) => verdict.code(),
-        Err(refusal) => {
-            let _ = tell_refusal(err, &refusal);
-            refusal.code()
-        }
-    }
-}
-
-// Writes what the program said that the refusal is of, where there is one that failed, and then the line.
-fn tell_refusal<E: Sink>(err: &mut E, refusal: &Refusal<'_>) -> Result<(), Failed>
-    ensures whole { OnOk result (Appends (E.seen err.old).told (E.seen err.new).told (refusal_text refusal.now)) }
-    ensures prefix { AppendsPrefix (E.seen err.old).told (E.seen err.new).told (refusal_text refusal.now) }
-    ensures cause { HasCause (E.seen err.old).faults (E.seen err.new).faults result }
-{
-    write_whole(err, refusal.said())?;
-    tell(err, refusal.line())
 }
 
 // Writes the line that tells that there are not so many workers.

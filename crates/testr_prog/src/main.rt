@@ -2,8 +2,8 @@
 //!
 //! `real_outside` has the objects that it is called on. `help_texts` has what is printed where the words ask for that, and
 //! takes out those that name the folder to work in, or the file that a filter writes. Here is decided which commands share
-//! the folder's lock, which files of killed runs are removed, and which lines tell of the cause of a fault, or of a project
-//! of the other tool.
+//! the folder's lock, which files of killed runs are removed, which lines tell of the cause of a fault, or of a project of
+//! the other tool, and that `run` and `load` show their tests on a terminal.
 #![tactic(auto)]
 
 use edge_io::write_whole;
@@ -16,7 +16,7 @@ use real_outside::{
 };
 use std::alloc::Global;
 use std::env::Env;
-use std::io::{ErrorKind, Stderr};
+use std::io::{ErrorKind, IsTerminal, Stderr};
 use std::process::ExitCode;
 use std::sync::Wait;
 use std::thread::Threads;
@@ -84,7 +84,7 @@ fn run<R: Threads + Wait + Sync>(
     err: &mut StreamSink<Stderr>,
 ) -> u8 {
     match part_words(rt.alloc(), words) {
-        Ok(parted) => run_parted(threads, rt, errors, &parted, out, err),
+        Ok(parted) => run_parted(threads, rt, errors, parted, out, err),
         Err(_) => out_of_memory(err),
     }
 }
@@ -95,7 +95,7 @@ fn run_parted<R: Threads + Wait + Sync>(
     threads: &R,
     rt: &HostRuntime,
     errors: Errors,
-    parted: &Parted,
+    parted: Parted,
     out: &mut StreamSink<Outlet>,
     err: &mut StreamSink<Stderr>,
 ) -> u8 {
@@ -103,11 +103,18 @@ fn run_parted<R: Threads + Wait + Sync>(
     if let Some(text) = help(&parted.words) {
         return print_help(alloc, face_of(&parted.words), text, out, err);
     }
-    let Some(folder) = &parted.folder else {
-        return run_aimed(threads, rt, errors, &parted.words, out, err);
+    let Parted { mut words, folder } = parted;
+    if rt.stderr().is_terminal()
+        && is_loud_run(&words)
+        && ask_for_lines(alloc, &mut words).is_err()
+    {
+        return out_of_memory(err);
+    }
+    let Some(folder) = &folder else {
+        return run_aimed(threads, rt, errors, &words, out, err);
     };
     match enter(alloc, rt, folder.as_str()) {
-        Ok(true) => run_aimed(threads, rt, errors, &parted.words, out, err),
+        Ok(true) => run_aimed(threads, rt, errors, &words, out, err),
         Ok(false) => no_folder(alloc, folder.as_str(), err),
         Err(cause) => {
             let _ = write_whole(err, b"testr: fault of the folder to work in\n");
@@ -115,6 +122,44 @@ fn run_parted<R: Threads + Wait + Sync>(
             FAULT
         }
     }
+}
+
+// Whether the words run tests or load what others printed, and no option among them asks to be quiet.
+fn is_loud_run(words: &[String]) -> bool {
+    match words {
+        [face, verb, rest @ ..] => {
+            let face = face.as_str();
+            let verb = verb.as_str();
+            (face == "testr" || face == "stestr")
+                && (verb == "run" || verb == "load")
+                && !is_quiet(rest)
+        }
+        _ => false,
+    }
+}
+
+// Whether one of the words up to `--` asks to be quiet.
+fn is_quiet(words: &[String]) -> bool {
+    for word in words {
+        match word.as_str() {
+            "--" => return false,
+            "-q" | "--quiet" => return true,
+            _ => {}
+        }
+    }
+    false
+}
+
+// Asks for a line of each test of the run, in front of all its options, so that one among these that asks for other lines, or for
+// none, stands.
+fn ask_for_lines(alloc: Global, words: &mut Vec<String>) -> Result<(), NoWords> {
+    if words.len() < 2 {
+        return Ok(());
+    }
+    let Ok(word) = format!(in alloc; "--live=tests") else {
+        return Err(NoWords::NoMemory);
+    };
+    words.insert(2, word).map_err(|_| NoWords::NoMemory)
 }
 
 // The folder that was named is not there.
@@ -219,7 +264,8 @@ fn run_program<R: Threads + Wait + Sync>(
     if status == REFUSED {
         tell_way_out(alloc, rt, words, err);
     }
-    if status == FAULT {
+    // Where standard error failed, the line of the fault may not stand there, and nothing more is written.
+    if status == FAULT && err.cause().is_none() {
         let face = face_of(words);
         tell(alloc, face, shelf.cause(), err);
         tell(alloc, face, spawner.cause(), err);
@@ -230,8 +276,8 @@ fn run_program<R: Threads + Wait + Sync>(
     status
 }
 
-// Tells where the runs are, in a project of the other tool that has no repository here: a command that opens it was refused for
-// nothing else then, since the file of its format is looked for first.
+// Tells where the runs are, in a project of the other tool that has no repository here. A command that opens it was refused for
+// that, or, as a run without a configuration, before it was looked for.
 fn tell_way_out(alloc: Global, rt: &HostRuntime, words: &[String], err: &mut StreamSink<Stderr>) {
     if !opens_repository(words) || is_file(rt, FORMAT) || !is_file(rt, OTHER_FORMAT) {
         return;

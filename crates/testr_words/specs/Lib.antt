@@ -2,6 +2,8 @@ pub mod Questions
 pub mod Shards
 pub mod Suites
 pub mod Drawings
+pub mod Formats
 pub mod Letters
+pub mod Lives
 pub mod Tasks
 pub mod Words

@@ -1,7 +1,8 @@
--- What `run` and `list-tests` ask for.
+-- What `load`, `run` and `list-tests` ask for.
 use Rattle.std.specs.Prelude.{Bool, not, ◌||◌, nat_eq, Option, List, ℕ, length, is_some}
 use Rattle.testr_words.specs.declared.command.Command.{Command}
 use Rattle.testr_words.specs.declared.command.Face.{Face}
+use Rattle.testr_words.specs.declared.format.FormatKind.{FormatKind}
 use Rattle.testr_words.specs.Shards.{Part}
 use Rattle.testr_words.specs.declared.command.ProjectWords.{ProjectWords}
 
@@ -48,6 +49,13 @@ pub record Project : Type 0 where
 abbrev pub project_of : List ℕ → Command → Project
 project_of folder command = record { folder = folder; face = command.face; words = command.project }
 
+-- what `load` is asked to do, but for its names
+pub record LoadOptions : Type 0 where
+  -- the run is called partial
+  pub partial : Bool
+  -- for whom the report is printed
+  pub format : FormatKind
+
 -- what `list-tests` is asked to do
 pub record ListOptions : Type 0 where
   -- whose tests are listed
@@ -65,6 +73,8 @@ pub record RunOptions : Type 0 where
   pub face : Face
   -- the run is called partial
   pub partial : Bool
+  -- for whom the report is printed
+  pub format : FormatKind
   -- only the tests that fail are wanted
   pub failing : Bool
   -- the tests run side by side
@@ -87,6 +97,10 @@ is_part called failing load_list wanted = called || (failing || (is_some load_li
 abbrev pub is_partial : RunOptions → Bool
 is_partial options = is_part options.partial options.failing options.load_list options.wanted
 
+-- what is said of a load by the command
+abbrev pub load_options : Command → LoadOptions
+load_options command = record { partial = command.partial; format = command.format }
+
 -- what is said of a listing by the command, in the folder of this path
 abbrev pub list_options : List ℕ → Command → ListOptions
 list_options folder command = record { project = project_of folder command; face = command.face; wanted = wanted_of command }
@@ -98,6 +112,7 @@ run_options folder command = record {
   project = project_of folder command;
   face = command.face;
   partial = command.partial;
+  format = command.format;
   failing = command.failing;
   parallel = command.parallel;
   find_causes = command.find_causes;

@@ -18,10 +18,16 @@ use Rattle.testr_words.specs.declared.command.Face.{Face}
 use Rattle.testr_words.specs.declared.command.Face.TheVariants.{Testr, Stestr}
 use Rattle.testr_words.specs.Drawings.{if_few}
 use Rattle.testr_words.specs.Letters.{long_words}
+use Rattle.testr_words.specs.Formats.{format_word, format_in}
+use Rattle.testr_words.specs.declared.format.FormatKind.{FormatKind}
+use Rattle.testr_words.specs.declared.format.FormatKind.TheVariants.{Plain}
+use Rattle.testr_words.specs.Lives.{live_word, live_in}
+use Rattle.testr_words.specs.declared.live.LiveKind.{LiveKind}
+use Rattle.testr_words.specs.declared.live.LiveKind.TheVariants.{Nothing}
 use Rattle.testr_words.specs.Shards.{Part, part_of, slash}
 use Rattle.testr_words.specs.declared.shard.TheConstants.{MOST_SHARDS}
 use Rattle.testr_words.specs.declared.drawing.Drawing.{Drawing}
-use Rattle.testr_words.specs.Tasks.{Task, task_of, forces, hides, warns}
+use Rattle.testr_words.specs.Tasks.{Task, task_of, forces, hides, warns, live_of, streams, expects}
 
 -- the first word of each face
 abbrev pub face_word : Face → List ℕ
@@ -51,6 +57,10 @@ concurrency_word = codes "--concurrency"
 -- the option that names a load list
 abbrev pub load_list_word : List ℕ
 load_list_word = codes "--load-list"
+
+-- the option that names a list of the ids of which a run is expected to tell
+abbrev pub expect_word : List ℕ
+expect_word = codes "--expect"
 
 -- the option whose value is a pattern of the ids that are left out
 abbrev pub exclude_word : List ℕ
@@ -122,11 +132,14 @@ quiet_or word kind = if bytes_eq word (codes "--quiet") then Some Flag else kind
 
 -- the options of `load`
 abbrev pub load_kind : List ℕ → Option Kind
-load_kind word = if bytes_eq word (codes "--partial") || bytes_eq word (codes "--force-init") then Some Flag else None
+load_kind word =
+    if bytes_eq word (codes "--partial") || (bytes_eq word (codes "--force-init") || bytes_eq word (codes "--subunit")) then Some Flag
+    else (if bytes_eq word live_word || (bytes_eq word format_word || bytes_eq word expect_word) then Some Valued
+    else None)
 
 -- the flags of `run`
 abbrev pub is_run_flag : List ℕ → Bool
-is_run_flag word = bytes_eq word (codes "--partial") || (bytes_eq word (codes "--failing") || (bytes_eq word (codes "--parallel") || (bytes_eq word (codes "--find-causes") || bytes_eq word (codes "--force-init"))))
+is_run_flag word = bytes_eq word (codes "--partial") || (bytes_eq word (codes "--failing") || (bytes_eq word (codes "--parallel") || (bytes_eq word (codes "--find-causes") || (bytes_eq word (codes "--force-init") || bytes_eq word (codes "--subunit")))))
 
 -- the flag of `run` that this face alone has
 abbrev pub is_face_flag : Face → List ℕ → Bool
@@ -143,7 +156,7 @@ list_kind word = if bytes_eq word test_path_word || bytes_eq word top_dir_word t
 
 -- the options of `run` with a value
 abbrev pub is_run_option : List ℕ → Bool
-is_run_option word = bytes_eq word concurrency_word || (bytes_eq word load_list_word || bytes_eq word group_regex_word)
+is_run_option word = bytes_eq word concurrency_word || (bytes_eq word load_list_word || (bytes_eq word group_regex_word || (bytes_eq word live_word || bytes_eq word format_word)))
 
 -- the options of `run`
 abbrev pub run_kind : Face → List ℕ → Option Kind
@@ -154,14 +167,21 @@ run_kind face word =
 
 -- the options of `last`
 abbrev pub last_kind : List ℕ → Option Kind
-last_kind word = if bytes_eq word (codes "--subunit") || bytes_eq word (codes "--skips") then Some Flag else None
+last_kind word =
+    if bytes_eq word (codes "--subunit") || bytes_eq word (codes "--skips") then Some Flag
+    else (if bytes_eq word format_word then Some Valued
+    else None)
+
+-- the options of `failing`
+abbrev pub failing_kind : List ℕ → Option Kind
+failing_kind word = if bytes_eq word (codes "--list") || (bytes_eq word (codes "--full") || bytes_eq word (codes "--subunit")) then Some Flag else None
 
 -- which options a verb has
 abbrev pub kinds_of : Face → Verb → List ℕ → Option Kind
 kinds_of face Load word = quiet_or word (idle_or word (load_kind word))
 kinds_of face Run word = quiet_or word (idle_or word (run_kind face word))
 kinds_of face Last word = quiet_or word (idle_or word (last_kind word))
-kinds_of face Failing word = only_flag (codes "--list") word
+kinds_of face Failing word = failing_kind word
 kinds_of face Slowest word = only_flag (codes "--all") word
 kinds_of face ListTests word = list_kind word
 kinds_of face other word = None
@@ -380,10 +400,14 @@ command_of_drawing face drawing = record {
   concurrency = 0;
   too_many = false;
   load_list = None;
+  expect = None;
   list = false;
+  full = false;
   all = false;
   subunit = false;
+  live = Nothing;
   skips = false;
+  format = Plain;
   no_report = false;
   names = [];
   excluded = [];
@@ -414,10 +438,10 @@ made_first_by face verb items = has_flag (codes "--force-init") items
 abbrev pub may_time : (shard : Option Part) → (times : Option (List ℕ)) → Bool
 may_time shard times = is_some shard || not (is_some times)
 
--- The command of these items, names, workers, load list, patterns, files of patterns, shard and file of times, where the names are
--- no more than the verb has, and the file has a shard.
-abbrev pub command_with : Face → Verb → List Item → (names : List (List ℕ)) → (workers : ℕ) → (load_list : Option (List ℕ)) → (excluded : List (List ℕ)) → (include_list exclude_list : Option (List ℕ)) → (shard : Option Part) → (times : Option (List ℕ)) → Option Command
-command_with face verb items names workers load_list excluded include_list exclude_list shard times = if may_have (most_names verb) (length names) && may_time shard times then Some (record {
+-- The command of these items, names, workers, load list, list of what is expected, patterns, files of patterns, shard, file of times, lines and format,
+-- where the names are no more than the verb has, and the file has a shard.
+abbrev pub command_with : Face → Verb → List Item → (names : List (List ℕ)) → (workers : ℕ) → (load_list expect : Option (List ℕ)) → (excluded : List (List ℕ)) → (include_list exclude_list : Option (List ℕ)) → (shard : Option Part) → (times : Option (List ℕ)) → (live : LiveKind) → (format : FormatKind) → Option Command
+command_with face verb items names workers load_list expect excluded include_list exclude_list shard times live format = if may_have (most_names verb) (length names) && may_time shard times then Some (record {
   face = face;
   verb = verb;
   partial = has_flag (codes "--partial") items;
@@ -428,10 +452,14 @@ command_with face verb items names workers load_list excluded include_list exclu
   concurrency = workers;
   too_many = too_many_in items;
   load_list = load_list;
+  expect = expect;
   list = has_flag (codes "--list") items;
+  full = has_flag (codes "--full") items;
   all = has_flag (codes "--all") items;
   subunit = has_flag (codes "--subunit") items;
+  live = live;
   skips = has_flag (codes "--skips") items;
+  format = format;
   no_report = has_flag (codes "--quiet") items;
   names = names;
   excluded = excluded;
@@ -451,12 +479,15 @@ command_of_names face verb items =
     and_then (if_texts (names_in items)) (λ names.
     and_then (workers_in items) (λ workers.
     and_then (file_in load_list_word items) (λ load_list.
+    and_then (file_in expect_word items) (λ expect.
     and_then (texts_in exclude_word items) (λ excluded.
     and_then (file_in include_list_word items) (λ include_list.
     and_then (file_in exclude_list_word items) (λ exclude_list.
     and_then (shard_in items) (λ shard.
     and_then (file_in times_word items) (λ times.
-    command_with face verb items names workers load_list excluded include_list exclude_list shard times))))))))
+    and_then (live_in items) (λ live.
+    and_then (format_in items) (λ format.
+    command_with face verb items names workers load_list expect excluded include_list exclude_list shard times live format)))))))))))
 
 -- the command of this verb that the items ask for
 abbrev pub command_of_items : Face → Verb → List Item → Option Command
@@ -502,6 +533,33 @@ hides_then folder (Some command) = hides folder command
 -- whether no report is printed for the words
 abbrev pub hidden_by : List ℕ → Face → List (List ℕ) → Bool
 hidden_by folder face words = hides_then folder (command_of face words)
+
+-- which lines are told of the tests for the command, where there is one, while the run goes on
+abbrev pub live_then : List ℕ → Option Command → LiveKind
+live_then folder None = Nothing
+live_then folder (Some command) = live_of folder command
+
+-- which lines are told for the words
+abbrev pub live_by : List ℕ → Face → List (List ℕ) → LiveKind
+live_by folder face words = live_then folder (command_of face words)
+
+-- whether the packets are printed of the run of the command, where there is one
+abbrev pub streams_then : List ℕ → Option Command → Bool
+streams_then folder None = false
+streams_then folder (Some command) = streams folder command
+
+-- whether the packets are printed of the run of the words
+abbrev pub streamed_by : List ℕ → Face → List (List ℕ) → Bool
+streamed_by folder face words = streams_then folder (command_of face words)
+
+-- which file has the ids of which the run is expected to tell, for the command, where there is one
+abbrev pub expects_then : List ℕ → Option Command → Option (List ℕ)
+expects_then folder None = None
+expects_then folder (Some command) = expects folder command
+
+-- which file has them for the words
+abbrev pub expected_by : List ℕ → Face → List (List ℕ) → Option (List ℕ)
+expected_by folder face words = expects_then folder (command_of face words)
 
 -- whether a line is told for the command, where there is one, before anything is done
 abbrev pub warns_then : List ℕ → Option Command → Bool

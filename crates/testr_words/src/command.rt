@@ -1,5 +1,10 @@
 //! What words may ask for.
 
+ghost use Rattle.std.specs.Prelude.{◌≡◌};
+ghost use Rattle.testr_words.specs.Tasks.{report_question};
+
+use crate::format::FormatKind;
+use crate::live::LiveKind;
 use crate::shard::Shard;
 use crate::words::MOST_FILES;
 use std::alloc::Global;
@@ -92,14 +97,22 @@ pub struct Command {
     pub find_causes: bool,
     /// The file of the ids that are wanted.
     pub load_list: Option<Text>,
+    /// The file of the ids of which a run is expected to tell.
+    pub expect: Option<Text>,
     /// Ids alone are printed.
     pub list: bool,
+    /// How each test failed last is printed.
+    pub full: bool,
     /// All tests are printed, and not ten.
     pub all: bool,
-    /// The run's bytes are printed, and not its report.
+    /// Packets are printed, and not a report or ids.
     pub subunit: bool,
+    /// What is printed of its tests while the run goes on.
+    pub live: LiveKind,
     /// Why tests were skipped is printed behind the report.
     pub skips: bool,
+    /// For whom the report is printed.
+    pub format: FormatKind,
     /// The report is not printed, nor anything behind it.
     pub no_report: bool,
     /// The files or patterns, in their order.
@@ -125,22 +138,36 @@ pub struct Command {
 }
 
 impl Command {
-    ghost use Rattle.std.specs.Prelude.{◌≡◌, List, ℕ};
-    ghost use Rattle.testr_words.specs.Tasks.{last_question, forces as is_forced, forces_quiet as is_forced_quietly, hides as is_hidden, hides_quiet as is_hidden_quietly, warns as is_warned};
+    ghost use Rattle.std.specs.Prelude.{◌≡◌, List, ℕ, None, option_map, nat_le, length, if◌then◌else◌};
+    ghost use Rattle.testr_words.specs.Tasks.{last_question, failing_question, forces as is_forced, forces_quiet as is_forced_quietly, hides as is_hidden, hides_quiet as is_hidden_quietly, warns as is_warned, live_of, live_quiet, streams as is_streamed, streams_quiet as is_streamed_quietly, expects as expected_for, expects_quiet as expected_quietly_for};
     ghost use Rattle.testr_words.specs.Suites.{wanted_of, is_choosing};
     ghost use Rattle.testr_words.specs.Words.{with_project};
 
     /// What is asked of the last run by `last`: its bytes, where these are wanted; else its report, with why tests were
-    /// skipped or without.
+    /// skipped or without, and with notes of those that failed or without.
     pub fn last_question(&self) -> Question
         ensures { result ≡ last_question self.now }
     {
         if self.subunit {
             Question::Last { subunit: true }
-        } else if self.skips {
-            Question::Skips
         } else {
-            Question::Last { subunit: false }
+            report_question(self.format, self.skips)
+        }
+    }
+
+    /// What is asked of all runs by `failing`: the packets of how each test failed last, where they are wanted; else the list of
+    /// the ids, how each test failed last, or the ids with their number.
+    pub fn failing_question(&self) -> Question
+        ensures { result ≡ failing_question self.now }
+    {
+        if self.subunit {
+            Question::FailurePackets
+        } else if self.list {
+            Question::Failing { list: true }
+        } else if self.full {
+            Question::LastFailures
+        } else {
+            Question::Failing { list: false }
         }
     }
 
@@ -185,6 +212,73 @@ impl Command {
         }
     }
 
+    /// Which lines are told of the tests while their run goes on: only of a command that keeps a run.
+    pub fn live_kind(&self) -> LiveKind
+        ensures { (folder : List ℕ) → result ≡ live_of folder self.now }
+    {
+        match self.verb {
+            Verb::Run => self.live,
+            _ => self.live_kind_quietly(),
+        }
+    }
+
+    /// The same where no program and no thread can be started.
+    pub fn live_kind_quietly(&self) -> LiveKind
+        ensures { (folder : List ℕ) → result ≡ live_quiet folder self.now }
+    {
+        match self.verb {
+            Verb::Load => {
+                if self.names.list().len() <= MOST_FILES {
+                    self.live
+                } else {
+                    LiveKind::Nothing
+                }
+            }
+            _ => LiveKind::Nothing,
+        }
+    }
+
+    /// Whether the run's packets are printed as it goes on, and no report: only of a command that keeps a run.
+    pub fn streams(&self) -> bool
+        ensures { (folder : List ℕ) → result ≡ is_streamed folder self.now }
+    {
+        match self.verb {
+            Verb::Run => self.subunit,
+            _ => self.streams_quietly(),
+        }
+    }
+
+    /// The same where no program and no thread can be started.
+    pub fn streams_quietly(&self) -> bool
+        ensures { (folder : List ℕ) → result ≡ is_streamed_quietly folder self.now }
+    {
+        match self.verb {
+            Verb::Load => self.subunit && self.names.list().len() <= MOST_FILES,
+            _ => false,
+        }
+    }
+
+    /// The file of the ids of which the run is expected to tell: only of a command that loads.
+    pub fn expected(&self) -> Option<&Text>
+        ensures spoken { (folder : List ℕ) → option_map (λ name. name.now) result ≡ expected_for folder self.now }
+        ensures quiet { (folder : List ℕ) → option_map (λ name. name.now) result ≡ expected_quietly_for folder self.now }
+    {
+        match self.verb {
+            Verb::Load => self.expected_of_few(),
+            _ => None,
+        }
+    }
+
+    // The same, where it is given no more files than it may be.
+    fn expected_of_few(&self) -> Option<&Text>
+        ensures { option_map (λ name. name.now) result ≡ (if nat_le (length self.now.names) 64 then self.now.expect else None) }
+    {
+        if self.names.list().len() > MOST_FILES {
+            return None;
+        }
+        self.expect.as_ref()
+    }
+
     /// Whether a line tells first that there are not so many workers: only of a command that has workers.
     pub fn warns(&self) -> bool
         ensures { (folder : List ℕ) → result ≡ is_warned folder self.now }
@@ -214,6 +308,22 @@ impl Command {
     }
 }
 
+// The report of the last run, for whom it is printed, with why tests were skipped or without.
+fn report_question(format: FormatKind, skips: bool) -> Question
+    ensures { result ≡ report_question format skips }
+{
+    match format {
+        FormatKind::Github => Question::Notes { skips },
+        FormatKind::Plain => {
+            if skips {
+                Question::Skips
+            } else {
+                Question::Last { subunit: false }
+            }
+        }
+    }
+}
+
 /// What is asked of a repository.
 #[derive(Clone, Copy, Debug, PartialEq, Eq)]
 pub enum Question {
@@ -224,11 +334,20 @@ pub enum Question {
     },
     /// The last run, and why tests were skipped in it.
     Skips,
+    /// The last run, and notes of the tests that failed in it.
+    Notes {
+        /// Why tests were skipped is wanted in front of them.
+        skips: bool,
+    },
     /// The tests that fail by all runs.
     Failing {
         /// Their ids alone are wanted.
         list: bool,
     },
+    /// How each test that fails by all runs failed last.
+    LastFailures,
+    /// The packets of how each of them failed last.
+    FailurePackets,
     /// The slowest tests of the last run.
     Slowest {
         /// All of them are wanted, and not ten.
@@ -247,8 +366,14 @@ impl Question {
         ensures { IsTrue result ↔ OfLastRun self }
     {
         match self {
-            Question::Last { .. } | Question::Skips | Question::Slowest { .. } => true,
-            Question::Failing { .. } | Question::Stats => false,
+            Question::Last { .. }
+            | Question::Skips
+            | Question::Notes { .. }
+            | Question::Slowest { .. } => true,
+            Question::Failing { .. }
+            | Question::LastFailures
+            | Question::FailurePackets
+            | Question::Stats => false,
         }
     }
 }

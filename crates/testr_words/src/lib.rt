@@ -9,9 +9,11 @@
 //! - `command`: what words may ask for
 //! - `words`: the options and names of each verb
 //! - `letters`: options of one letter
+//! - `live`: which lines are wanted of the tests of a run, while it goes on
 //! - `values`: options with a value
 //! - `project`: what is said of the project, and the words behind `--`
 //! - `drawing`: the numbers of `selftest`
+//! - `format`: for whom a report is printed
 //! - `shard`: which shard of the tests is wanted
 //!
 //! Of a command its specs say the task: what is asked, as one sum.
@@ -19,7 +21,9 @@
 
 mod command;
 mod drawing;
+mod format;
 mod letters;
+mod live;
 mod project;
 mod shard;
 mod values;
@@ -27,6 +31,8 @@ mod words;
 
 pub use command::{Command, Face, ProjectWords, Question, Verb};
 pub use drawing::{Drawing, drawing_of};
+pub use format::FormatKind;
+pub use live::LiveKind;
 pub use shard::{MOST_SHARDS, Shard};
 pub use values::MOST_WORKERS;
 pub use words::{MOST_FILES, called_as, reads, reads_as};

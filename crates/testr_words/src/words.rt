@@ -4,12 +4,14 @@ ghost use Rattle.std.specs.Prelude.{◌≡◌, ◌++◌, true, map, option_map, 
 ghost use Rattle.command_words.specs.Code.{shown};
 ghost use Rattle.command_words.specs.Items.{texts, is_text};
 ghost use Rattle.std.specs.List.{list_all};
-ghost use Rattle.testr_words.specs.Words.{face_of, face_in, verb_of, verb_by, kinds_of, only_flag, load_kind, last_kind, run_kind, choosing_kind, idle_or, quiet_or, is_run_flag as is_flag_of_run, is_face_flag as is_flag_of_face, parallel_by, made_first_by, most_names, may_have as may_have_these, may_time as may_time_these, names_in, names_of, if_texts, command_of_names as command_of_these_names, command_of_drawing, drawing_in as drawing_of_items, command_of_items, command_of_verb, command_of, list_kind, is_run_option as is_option_of_run, command_behind as command_of_parts};
+ghost use Rattle.testr_words.specs.Words.{face_of, face_in, verb_of, verb_by, kinds_of, only_flag, load_kind, last_kind, failing_kind, run_kind, choosing_kind, idle_or, quiet_or, is_run_flag as is_flag_of_run, is_face_flag as is_flag_of_face, parallel_by, made_first_by, most_names, may_have as may_have_these, may_time as may_time_these, names_in, names_of, if_texts, command_of_names as command_of_these_names, command_of_drawing, drawing_in as drawing_of_items, command_of_items, command_of_verb, command_of, list_kind, is_run_option as is_option_of_run, command_behind as command_of_parts, with_project as with_this_project};
 ghost use Rattle.testr_words.specs.declared.command.Face.TheVariants.{Testr};
 
 use crate::command::{Command, Face, ProjectWords, Verb};
 use crate::drawing::drawing_in;
+use crate::format::{FormatKind, format_in};
 use crate::letters::long_words;
+use crate::live::{LiveKind, live_in};
 use crate::project::{parted, project_in};
 use crate::shard::{Shard, shard_in};
 use crate::values::{are_too_many_in, file_in, push_text, texts_in, workers_in};
@@ -108,7 +110,7 @@ impl OptionTable for Options {
             Verb::Load => quiet_or(name, idle_or(name, load_option(name))),
             Verb::Run => quiet_or(name, idle_or(name, run_option(self.face, name))),
             Verb::Last => quiet_or(name, idle_or(name, last_option(name))),
-            Verb::Failing => flag(name, "--list"),
+            Verb::Failing => failing_option(name),
             Verb::Slowest => flag(name, "--all"),
             Verb::ListTests => list_option(name),
             Verb::Init | Verb::Stats | Verb::SelfTest | Verb::Upgrade => None,
@@ -151,6 +153,19 @@ fn last_option(name: &str) -> Option<Kind>
     if name == "--subunit" || name == "--skips" {
         return Some(Kind::Flag);
     }
+    if name == "--format" {
+        return Some(Kind::Valued);
+    }
+    None
+}
+
+// The option is one of those of the failing set, or none.
+fn failing_option(name: &str) -> Option<Kind>
+    ensures { result ≡ failing_kind name.now }
+{
+    if name == "--list" || name == "--full" || name == "--subunit" {
+        return Some(Kind::Flag);
+    }
     None
 }
 
@@ -158,11 +173,13 @@ fn last_option(name: &str) -> Option<Kind>
 fn load_option(name: &str) -> Option<Kind>
     ensures { result ≡ load_kind name.now }
 {
-    if name == "--partial" || name == "--force-init" {
-        Some(Kind::Flag)
-    } else {
-        None
+    if name == "--partial" || name == "--force-init" || name == "--subunit" {
+        return Some(Kind::Flag);
     }
+    if name == "--live" || name == "--format" || name == "--expect" {
+        return Some(Kind::Valued);
+    }
+    None
 }
 
 // The option is one of those of a run, or none.
@@ -182,7 +199,11 @@ pub(crate) fn run_option(face: Face, name: &str) -> Option<Kind>
 fn is_run_option(name: &str) -> bool
     ensures { result ≡ is_option_of_run name.now }
 {
-    name == "--concurrency" || name == "--load-list" || name == "--group-regex"
+    name == "--concurrency"
+        || name == "--load-list"
+        || name == "--group-regex"
+        || name == "--live"
+        || name == "--format"
 }
 
 // The option is one of those of a listing, or none.
@@ -203,6 +224,7 @@ fn is_run_flag(name: &str) -> bool
         || name == "--parallel"
         || name == "--find-causes"
         || name == "--force-init"
+        || name == "--subunit"
 }
 
 // Whether it is a flag of a run that this face alone has.
@@ -258,7 +280,20 @@ fn command_behind(
     let Some(project) = project_in(alloc, &items, arguments)? else {
         return Ok(None);
     };
-    match command(alloc, face, verb, &items)? {
+    command_of_project(alloc, face, verb, &items, project)
+}
+
+// The command of this verb and these options and names, which says this of the project.
+fn command_of_project(
+    alloc: Global,
+    face: Face,
+    verb: Verb,
+    items: &[Item<'_>],
+    project: ProjectWords,
+) -> Result<Option<Command>, NoMemory>
+    ensures { IfOk result (λ command. command ≡ option_map (with_this_project project) (command_of_items face verb (map shown items.now))) }
+{
+    match command(alloc, face, verb, items)? {
         Some(command) => Ok(Some(command.with_project(project))),
         None => Ok(None),
     }
@@ -295,10 +330,14 @@ fn drawing_command(alloc: Global, face: Face, items: &[Item<'_>]) -> Option<Comm
         concurrency: 0,
         too_many: false,
         load_list: None,
+        expect: None,
         list: false,
+        full: false,
         all: false,
         subunit: false,
+        live: LiveKind::Nothing,
         skips: false,
+        format: FormatKind::Plain,
         no_report: false,
         names: IdList::new(alloc),
         excluded: IdList::new(alloc),
@@ -385,6 +424,9 @@ fn command_of_names(
     let Some(load_list) = file_in(alloc, items, "--load-list")? else {
         return Ok(None);
     };
+    let Some(expect) = file_in(alloc, items, "--expect")? else {
+        return Ok(None);
+    };
     let Some(excluded) = texts_in(alloc, items, "--exclude-regex")? else {
         return Ok(None);
     };
@@ -398,6 +440,12 @@ fn command_of_names(
         return Ok(None);
     };
     let Some(times) = file_in(alloc, items, "--times")? else {
+        return Ok(None);
+    };
+    let Some(live) = live_in(items) else {
+        return Ok(None);
+    };
+    let Some(format) = format_in(items) else {
         return Ok(None);
     };
     if !(may_have(verb, names.list().len()) && may_time(shard, &times)) {
@@ -414,10 +462,14 @@ fn command_of_names(
         concurrency,
         too_many: are_too_many_in(items),
         load_list,
+        expect,
         list: has_flag(items, "--list"),
+        full: has_flag(items, "--full"),
         all: has_flag(items, "--all"),
         subunit: has_flag(items, "--subunit"),
+        live,
         skips: has_flag(items, "--skips"),
+        format,
         no_report: has_flag(items, "--quiet"),
         names,
         excluded,

@@ -124,10 +124,23 @@ pub fn call_with<R: Threads + Wait + Sync + AllocGlobal, H: Shelf, S: Spawner>(
     site: &mut MapSite,
     writes: &[u64],
 ) -> Result<Told, Fail> {
+    call_beside(rt, words, shelf, spawner, site, writes, &[])
+}
+
+/// The same, over a sink of errors that fails at these writes, too.
+pub fn call_beside<R: Threads + Wait + Sync + AllocGlobal, H: Shelf, S: Spawner>(
+    rt: &R,
+    words: &[&str],
+    shelf: &mut H,
+    spawner: &mut S,
+    site: &mut MapSite,
+    writes: &[u64],
+    errors: &[u64],
+) -> Result<Told, Fail> {
     let alloc = rt.alloc();
     let words = owned(alloc, words)?;
     let mut out = sink(alloc, writes)?;
-    let mut err = sink(alloc, &[])?;
+    let mut err = sink(alloc, errors)?;
     let status = status_with(rt, &words, shelf, spawner, site, &mut out, &mut err)?;
     told_of(alloc, status, &out, &err)
 }

@@ -18,10 +18,12 @@ mod samples;
 mod scenes;
 mod told;
 
-pub use calls::{call, call_over, call_with, owned, sink, source};
+pub use calls::{call, call_beside, call_over, call_with, owned, sink, source};
 pub use folders::{has_at, has_file, has_two, put, repository};
 pub use loading::{load, loads, tells, tells_and_leaves, tells_of};
-pub use projects::{Project, call_in, has_started, project_of, project_with, put_file, shows};
+pub use projects::{
+    Project, call_failing, call_in, has_started, project_of, project_with, put_file, shows,
+};
 pub use samples::{
     FAIL, FAIL_KEPT, FOO, FOO_KEPT, NOTHING, PASSED_AS_0, PASSED_AS_1, SHELF_FAULT, WRONG_USAGE,
     largest_packet, long_log,

@@ -1,6 +1,6 @@
 //! Projects in memory: their files, and what the programs give that they are started with.
 
-use crate::calls::call_with;
+use crate::calls::{call_beside, call_with};
 use crate::told::Told;
 use edge_io::{Finish, Job, MapSite, MemShelf, Plan, PlanSpawner, Shelf, Spawner};
 use std::alloc::Global;
@@ -120,6 +120,19 @@ pub fn call_in<R: Threads + Wait + Sync + AllocGlobal, H: Shelf>(
 ) -> Result<Told, Fail> {
     let Project { site, spawner } = project;
     call_with(rt, words, shelf, spawner, site, writes)
+}
+
+/// The same, over a sink of errors that fails at these writes, too.
+pub fn call_failing<R: Threads + Wait + Sync + AllocGlobal, H: Shelf>(
+    rt: &R,
+    words: &[&str],
+    shelf: &mut H,
+    project: &mut Project,
+    writes: &[u64],
+    errors: &[u64],
+) -> Result<Told, Fail> {
+    let Project { site, spawner } = project;
+    call_beside(rt, words, shelf, spawner, site, writes, errors)
 }
 
 // Whether the job has this command, and a file of ids of this name with these bytes, or none where the two are empty.

@@ -20,7 +20,8 @@ use Rattle.outcome_fold.specs.declared.row.Row.{Row}
 use Rattle.outcome_fold.specs.declared.test_key.TestKey.{TestKey}
 use Rattle.outcome_fold.specs.declared.part.EndedPart.{EndedPart}
 use Rattle.outcome_fold.specs.Order.{test_cmp, table, in_byte_order}
-use Rattle.outcome_fold.specs.Parts.{test_of, speaks_of, events_of_test, ended_by, completes, last_part, last_tags, start_of, elapsed, text_of}
+use Rattle.outcome_fold.specs.Parts.{test_of, speaks_of, events_of_test, ended_by, completes, last_part, last_tags, start_of, elapsed}
+use Rattle.outcome_fold.specs.Files.{text_of}
 use Rattle.outcome_fold.specs.Rows.{part_with, row_completing, completed_row, completed_behind, is_open, open_tests, open_rows, rows_of}
 use Rattle.outcome_fold.specs.Started.{started_of}
 use Rattle.outcome_fold.specs.EndedParts.{part_completing, completed_part, part_of_open, open_parts, row_of_part}

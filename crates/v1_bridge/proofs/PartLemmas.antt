@@ -8,6 +8,7 @@ use Rattle.packet_codec.specs.declared.stamp.Stamp.{Stamp}
 use Rattle.packet_codec.specs.declared.event.Event.{Event}
 use Rattle.outcome_fold.specs.declared.part.EndedPart.{EndedPart}
 use Rattle.outcome_fold.specs.Order.{in_byte_order}
+use Rattle.outcome_fold.specs.Files.{text_shown}
 use Rattle.outcome_fold.proofs.SetLemmas.{order_again}
 use Rattle.v1_bridge.specs.Events.{begun_event, completing_event, tags_told}
 use Rattle.v1_bridge.specs.Writing.{last_behind, time_line, test_line, tags_line, outcome_word, outcome_line, details_of, lines_of_part, is_written, part_text, parts_text}
@@ -41,17 +42,17 @@ leads_part last p written plain =
     let ordered : in_byte_order names ≡ names = order_again p.started.tags in
     let (given, now, first, quiet) = leads_time_outer test last p.started.start in
     let (more, at, second, still) = leads_time_inner test now id names p.end in
-    let (front, part, third, silent) = leads_outcome at id names p.ended written plain.id p.started.text in
+    let (front, part, third, silent) = leads_outcome at id names p.ended written plain.id (text_shown p.started.files) in
     let ends = completing_event at id names (status_again p.ended) part in
-    let outcome : Leads (inner at id names) (outcome_line p.ended id p.started.text) (front ++ ends ∷ []) (outer at) =
-    leads_same (inner at id names) (outer at) (outcome_word p.ended ++ id ++ details_of p.ended p.started.text) (outcome_line p.ended id p.started.text) (front ++ ends ∷ [])
-    (ap (λ (l : List ℕ). outcome_word p.ended ++ l ++ details_of p.ended p.started.text) (sym (id_shown id plain.id))) third in
+    let outcome : Leads (inner at id names) (outcome_line p.ended id (text_shown p.started.files)) (front ++ ends ∷ []) (outer at) =
+    leads_same (inner at id names) (outer at) (outcome_word p.ended ++ id ++ details_of p.ended (text_shown p.started.files)) (outcome_line p.ended id (text_shown p.started.files)) (front ++ ends ∷ [])
+    (ap (λ (l : List ℕ). outcome_word p.ended ++ l ++ details_of p.ended (text_shown p.started.files)) (sym (id_shown id plain.id))) third in
     let begun = begun_event now id ∷ [] in
     let one = leads_then (outer last) (outer now) (inner now id []) (time_line p.started.start) (test_line id) given begun first (leads_test now id plain.id) in
     let two = leads_then (outer last) (inner now id []) (inner now id names) (time_line p.started.start ++ test_line id) (tags_line names) (given ++ begun) [] one (leads_tags now id names plain.tags ordered) in
     let three = leads_then (outer last) (inner now id names) (inner at id names) (time_line p.started.start ++ test_line id ++ tags_line names) (time_line p.end) (given ++ begun ++ []) more two second in
     let behind = given ++ begun ++ [] ++ more in
-    let all = leads_then (outer last) (inner at id names) (outer at) (time_line p.started.start ++ test_line id ++ tags_line names ++ time_line p.end) (outcome_line p.ended id p.started.text) behind (front ++ ends ∷ []) three outcome in
+    let all = leads_then (outer last) (inner at id names) (outer at) (time_line p.started.start ++ test_line id ++ tags_line names ++ time_line p.end) (outcome_line p.ended id (text_shown p.started.files)) behind (front ++ ends ∷ []) three outcome in
     let quiet_first = quiet_then test (given ++ begun) [] (quiet_then test given begun quiet (inr (refl, refl, refl), tt)) tt in (
       behind ++ (front ++ ends ∷ []),
       at,

@@ -13,6 +13,7 @@ use Rattle.outcome_fold.specs.declared.test_key.TestKey.{TestKey}
 use Rattle.outcome_fold.specs.declared.fold.Fold.{Fold}
 use Rattle.outcome_fold.specs.Parts.{test_of, ended_by}
 use Rattle.outcome_fold.specs.Folded.{HasSeen}
+use Rattle.outcome_fold.specs.Files.{text_shown}
 use Rattle.outcome_fold.specs.Order.{in_byte_order}
 use Rattle.outcome_fold.specs.EndedParts.{completed_part, part_completing, open_parts}
 use Rattle.v1_bridge.specs.Writing.{last_behind, note_text, event_text, completed_text, file_bytes, outside_bytes, part_text, parts_text, seen_with, events_behind, events_in, text_behind, text_so_far, last_byte, added_text, text_at_end, is_written, newline_behind, time_line, test_line, tags_line, outcome_word, outcome_line, shown_id, has_details, detail_lines, lines_of_part}
@@ -149,8 +150,8 @@ last_details before text true lines =
 pub ends_line : (before : ℕ) (p : EndedPart) → last_behind before (lines_of_part p) ≡ 10
 ends_line before p =
     let front = time_line p.started.start ++ test_line p.key.id ++ tags_line (in_byte_order p.started.tags) ++ time_line p.end in
-    last_then before front (outcome_line p.ended p.key.id p.started.text)
-    ∙ last_details (last_behind before front) (outcome_word p.ended ++ shown_id p.key.id) (has_details p.ended p.started.text) (detail_lines p.ended p.started.text)
+    last_then before front (outcome_line p.ended p.key.id (text_shown p.started.files))
+    ∙ last_details (last_behind before front) (outcome_word p.ended ++ shown_id p.key.id) (has_details p.ended (text_shown p.started.files)) (detail_lines p.ended (text_shown p.started.files))
 
 pub written_ends : (last : ℕ) (p : EndedPart) → is_written p.ended ≡ true → 10 ≡ last_behind last (part_text last p)
 written_ends last p written =

@@ -30,6 +30,7 @@ behind_pieces bytes = drop (longest_line * (length bytes / longest_line)) bytes
 
 -- Output.
 
+-- the bytes and one newline more, also where they end with one
 abbrev pub with_newline : List ℕ → List ℕ
 with_newline bytes = bytes ++ 10 ∷ []
 
@@ -54,6 +55,7 @@ file_name status.Skip = codes "reason"
 file_name status.Fail = codes "traceback"
 file_name status.XFail = codes "traceback"
 
+-- the MIME type of details that tell none: those of lines up to a bracket
 abbrev pub mime_type : List ℕ
 mime_type = codes "text/plain;charset=utf8"
 

@@ -34,6 +34,7 @@ IsShortStage stage.Between = Unit {0}
 IsShortStage (stage.Typed mime) = length mime ≤ 131072
 IsShortStage (stage.Bytes p place) = IsShortPart p × IsShortPlace place
 
+-- the same of details, by the stage at which they stand
 abbrev pub AreShortDetails : Details → Type 0
 AreShortDetails d = IsShortStage d.stage
 

@@ -47,6 +47,7 @@ pub record Saying : Type 0 where
   pub tags : List (List ℕ)
   pub ended : Ended
 
+-- what is said of a row as it stands
 abbrev pub said_of : Row → Saying
 said_of row = record { id = row.id; tags = row.tags; ended = row.ended }
 
@@ -64,6 +65,7 @@ end_again ended.Open = ended.Fail
 abbrev pub said_again : Row → Saying
 said_again row = record { id = row.id; tags = row.tags; ended = end_again row.ended }
 
+-- the row is of a part that is written: any but one that only tells that its test exists
 abbrev pub row_is_written : Row → Bool
 row_is_written row = is_written row.ended
 

@@ -36,6 +36,7 @@ content bytes = without_return (without_newline bytes)
 abbrev pub begins : List ℕ → List ℕ → Bool
 begins word bytes = starts_with nat_eq bytes word
 
+-- nanoseconds that are cut to fewer than 10^9 have at most 30 bits, which a stamp asks for
 abbrev pub nanos_fit : (nanos : ℕ) → min nanos 999999999 < 2 ^ 30
 nanos_fit nanos = lt_of_le_of_lt (min-le_right nanos 999999999) (lit< tt)
 
@@ -60,6 +61,7 @@ pub record Ended : Type 0 where
   pub how : Status
   pub rest : List ℕ
 
+-- what a line tells of a test that ended so, where these bytes stand behind the word
 abbrev pub ended_as : Status → List ℕ → Option Ended
 ended_as how rest = Some (record { how = how; rest = rest })
 
@@ -99,10 +101,12 @@ other_of bytes =
     else if begins (codes "progress: ") bytes then progress_with (drop 10 bytes)
     else other
 
+-- the line of this outcome, where there is one, and else what these bytes are that neither begin nor end a test
 abbrev pub outcome_or : Option Ended → List ℕ → Line
 outcome_or None bytes = other_of bytes
 outcome_or (Some ended) bytes = outcome ended.how ended.rest
 
+-- the line that begins the test of this id, where there is one, and else what these bytes are that begin none
 abbrev pub test_or : Option (List ℕ) → List ℕ → Line
 test_or None bytes = outcome_or (outcome_of bytes) bytes
 test_or (Some id) bytes = test id

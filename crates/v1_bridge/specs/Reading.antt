@@ -47,6 +47,8 @@ front_piece bytes = piece bytes false
 abbrev pub last_piece : List ℕ → List ℕ
 last_piece bytes = drop (longest_line * (length (without_newline bytes) / longest_line)) bytes
 
+-- What a line, with its newline, is read as: itself, or its pieces where it has more than 65,536 bytes without the
+-- newline. The last of these pieces may have no bytes.
 abbrev pub inputs_of : List ℕ → List Input
 inputs_of bytes =
     if nat_lt longest_line (length (without_newline bytes)) then map front_piece (full_pieces (without_newline bytes)) ++ piece (last_piece bytes) true ∷ []
@@ -121,6 +123,7 @@ end_test s t bytes how rest =
 abbrev pub begun : State → List ℕ → OpenTest
 begun s id = record { id = id; tags = s.tags; details = None }
 
+-- a line that tells the id of a test: it begins that test, or is no part of one where the id is empty or no text
 abbrev pub begin_test : State → List ℕ → List ℕ → Step
 begin_test s bytes id =
     if is_name id then record { given = begun_event s.last id ∷ []; state = with_test s (Some (begun s id)) }
@@ -156,10 +159,12 @@ within s t bytes other = foreign s bytes
 
 -- Any line and piece.
 
+-- a line while this test is open: one of its details, where these have begun, or else one outside of details
 abbrev pub line_within : State → OpenTest → Option Details → List ℕ → Step
 line_within s t None bytes = within s t (content bytes) (line_of (content bytes))
 line_within s t (Some d) bytes = detail_line s t d bytes
 
+-- a line, with its newline, where this test is open or none is
 abbrev pub line_step : State → Option OpenTest → List ℕ → Step
 line_step s None bytes = outside s (content bytes) (line_of (content bytes))
 line_step s (Some t) bytes = line_within s t t.details bytes
@@ -168,24 +173,29 @@ line_step s (Some t) bytes = line_within s t t.details bytes
 abbrev pub piece_outside : State → List ℕ → Step
 piece_outside s bytes = record { given = output_of (without_newline bytes); state = s }
 
+-- a piece while this test is open: one of its details, where these have begun, or else output of no test
 abbrev pub piece_within : State → OpenTest → Option Details → List ℕ → Bool → Step
 piece_within s t None bytes last = piece_outside s bytes
 piece_within s t (Some d) bytes last = detail_piece s t d bytes last
 
+-- a piece of a line that is too long, where this test is open or none is
 abbrev pub piece_step : State → Option OpenTest → List ℕ → Bool → Step
 piece_step s None bytes last = piece_outside s bytes
 piece_step s (Some t) bytes last = piece_within s t t.details bytes last
 
+-- what one line or piece gives behind what is known, and what is known then
 abbrev pub step : State → Input → Step
 step s (line bytes) = line_step s s.open_test bytes
 step s (piece bytes last) = piece_step s s.open_test bytes last
 
 -- Lists of lines.
 
+-- what is known behind these lines and pieces, which begin where this is known
 abbrev pub state_behind : State → List Input → State
 state_behind s [] = s
 state_behind s (input ∷ inputs) = state_behind (step s input).state inputs
 
+-- the events of these lines and pieces, which begin where this is known, without what the end gives
 abbrev pub events_from : State → List Input → List Event
 events_from s [] = []
 events_from s (input ∷ inputs) = (step s input).given ++ events_from (step s input).state inputs
@@ -199,6 +209,7 @@ abbrev pub part_left : List ℕ → Option Part → List Event
 part_left id None = []
 part_left id (Some p) = rest_events id p
 
+-- what the end gives of the details of a test, where they have begun
 abbrev pub details_left : List ℕ → Option Details → List Event
 details_left id None = []
 details_left id (Some d) = part_left id (held_part d.stage)

@@ -21,6 +21,7 @@ is_size bytes = are_few_digits bytes && nat_le 1 (length bytes)
 abbrev pub may_be_size : List ℕ → Bool
 may_be_size bytes = are_few_digits bytes || (ends_with nat_eq bytes (13 ∷ []) && is_size (without_return bytes))
 
+-- the size that a whole line of these digits tells; no digits, more than 8, or other bytes are none
 abbrev pub size_with : List ℕ → Size
 size_with digits = if is_size digits then size.Told (digits_value 16 digits) else size.Bad
 

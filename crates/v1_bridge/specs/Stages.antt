@@ -40,6 +40,8 @@ sized id p count =
     if count == 0 then record { given = rest_events id p; stage = stage.Between }
     else record { given = []; stage = stage.Bytes p (place.Chunk count) }
 
+-- What a run gives by what it tells of a size. A bad one ends the part, and its bytes are output of no test; of an open
+-- one the bytes are kept.
 abbrev pub size_told : List ℕ → Part → List ℕ → List ℕ → Extent → Size → Told
 size_told id p so_far run extent size.Bad = record { given = rest_events id p ++ foreign_run extent so_far run; stage = stage.Between }
 size_told id p so_far run extent size.Open = record { given = []; stage = stage.Bytes p (place.Size (so_far ++ run)) }
@@ -65,6 +67,7 @@ chunk_run id p left run extent =
     if nat_le (length run) left then record { given = pieces_given id p run; stage = stage.Bytes (part_with p run) (place_before (left - length run)) }
     else given_first (pieces_given id p (take left run)) (size_run id (part_with p (take left run)) [] (drop left run) extent)
 
+-- a run of bytes in a part, where its size is read or in a chunk
 abbrev pub part_run : List ℕ → Part → Place → List ℕ → Extent → Told
 part_run id p (place.Size so_far) run extent = size_run id p so_far run extent
 part_run id p (place.Chunk left) run extent = chunk_run id p left run extent
@@ -75,6 +78,7 @@ part_run id p (place.Chunk left) run extent = chunk_run id p left run extent
 abbrev pub type_of : List ℕ → Option (List ℕ)
 type_of bytes = if begins (codes "Content-Type: ") bytes && is_name (drop 14 bytes) then Some (drop 14 bytes) else None
 
+-- a line between parts, by the MIME type that it tells; one that tells none is output of no test
 abbrev pub typed_with : Option (List ℕ) → List ℕ → Told
 typed_with None bytes = record { given = line_event bytes ∷ []; stage = stage.Between }
 typed_with (Some mime) bytes = record { given = []; stage = stage.Typed mime }

@@ -17,6 +17,7 @@ is_name bytes = nat_lt 0 (length bytes) && is_text bytes
 abbrev pub is_gap : ℕ → Bool
 is_gap byte = byte == 32 || byte == 9
 
+-- the word is not empty
 abbrev pub has_bytes : List ℕ → Bool
 has_bytes bytes = nat_lt 0 (length bytes)
 

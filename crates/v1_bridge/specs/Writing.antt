@@ -11,6 +11,7 @@ use Rattle.outcome_fold.specs.declared.test_key.TestKey.{TestKey}
 use Rattle.outcome_fold.specs.declared.part.EndedPart.{EndedPart}
 use Rattle.outcome_fold.specs.Order.{in_byte_order}
 use Rattle.outcome_fold.specs.Parts.{test_of}
+use Rattle.outcome_fold.specs.Files.{text_shown}
 use Rattle.outcome_fold.specs.EndedParts.{completed_part, open_parts}
 use Rattle.instants.specs.Instants.{instant_text}
 use Rattle.v1_bridge.specs.Lines.{begins}
@@ -35,6 +36,7 @@ shown_byte byte = if nat_lt byte 32 then 63 else byte
 abbrev pub shown_id : List ℕ → List ℕ
 shown_id id = if length id == 0 then codes "?" else map shown_byte id
 
+-- the line that begins the test of this id
 abbrev pub test_line : List ℕ → List ℕ
 test_line id = codes "test: " ++ shown_id id ++ codes "\n"
 
@@ -46,6 +48,7 @@ is_plain byte = nat_lt 32 byte
 abbrev pub is_line_tag : List ℕ → Bool
 is_line_tag tag = nat_lt 0 (length tag) && (not (begins (codes "-") tag) && list_all is_plain tag)
 
+-- a tag as it stands in a line, behind the space that parts it from what is before
 abbrev pub behind_space : List ℕ → List ℕ
 behind_space tag = codes " " ++ tag
 
@@ -106,13 +109,14 @@ has_details how text = nat_lt 0 (length text) || nat_lt 0 (length (open_line how
 abbrev pub details_of : Ended → List ℕ → List ℕ
 details_of how text = if has_details how text then codes " [\n" ++ detail_lines how text ++ codes "]\n" else codes "\n"
 
+-- the line of how a test of this id ended, with the lines of its text up to the bracket, where there are any
 abbrev pub outcome_line : Ended → List ℕ → List ℕ → List ℕ
 outcome_line how id text = outcome_word how ++ shown_id id ++ details_of how text
 
 -- the lines of one part of a test
 abbrev pub lines_of_part : EndedPart → List ℕ
 lines_of_part p =
-    time_line p.started.start ++ test_line p.key.id ++ tags_line (in_byte_order p.started.tags) ++ time_line p.end ++ outcome_line p.ended p.key.id p.started.text
+    time_line p.started.start ++ test_line p.key.id ++ tags_line (in_byte_order p.started.tags) ++ time_line p.end ++ outcome_line p.ended p.key.id (text_shown p.started.files)
 
 -- Lists of events.
 
@@ -130,10 +134,12 @@ is_written ended.Open = true
 abbrev pub part_text : ℕ → EndedPart → List ℕ
 part_text last p = if is_written p.ended then newline_behind last ++ lines_of_part p else []
 
+-- what is written behind this byte at an event: the part that it completes, where it completes one
 abbrev pub completed_text : ℕ → Option EndedPart → List ℕ
 completed_text last None = []
 completed_text last (Some p) = part_text last p
 
+-- the bytes of an event's file, and none where it has no file
 abbrev pub file_bytes : Option FilePart → List ℕ
 file_bytes None = []
 file_bytes (Some file) = file.bytes
@@ -163,6 +169,7 @@ abbrev pub events_behind : List Event → List Note → List Event
 events_behind seen [] = seen
 events_behind seen (n ∷ notes) = events_behind (seen_with seen n) notes
 
+-- the events among all notes, in order, without foreign bytes
 abbrev pub events_in : List Note → List Event
 events_in notes = events_behind [] notes
 
@@ -193,5 +200,6 @@ parts_text last (p ∷ parts) = part_text last p ++ parts_text (last_behind last
 abbrev pub text_at_end : List Note → List ℕ
 text_at_end notes = parts_text (last_byte notes) (open_parts (events_in notes))
 
+-- all that is written of the notes of a whole stream
 abbrev pub v1_text : List Note → List ℕ
 v1_text notes = text_so_far notes ++ text_at_end notes

@@ -261,14 +261,15 @@ pub(crate) fn put_part(part: EndedPart, out: &mut Vec<u8>) -> Result<(), NoMemor
     let Started {
         start,
         tags,
-        text,
+        files,
         ..
     } = started;
+    let text = files.shown(*out.allocator())?;
     let id = key.id.bytes();
     let as_it_is = is_shown_as_it_is(id);
     put_time(start, out)?;
     put_test_line(id, as_it_is, out)?;
     put_tags_line(in_order(tags).list(), out)?;
     put_time(end, out)?;
-    put_outcome(ended, id, as_it_is, text.into_bytes().bytes(), out)
+    put_outcome(ended, id, as_it_is, text.bytes(), out)
 }

@@ -15,8 +15,8 @@ fn tag_list(alloc: Global, tag: &[u8]) -> Option<Tags> {
     Some(tags)
 }
 
-fn file(alloc: Global, bytes: &[u8]) -> Option<FilePart> {
-    let name = Text::new(alloc, b"log").ok()?;
+fn file(alloc: Global, name: &[u8], bytes: &[u8]) -> Option<FilePart> {
+    let name = Text::new(alloc, name).ok()?;
     let bytes = Bytes::new(alloc, bytes).ok()?;
     Some(FilePart { name, bytes })
 }
@@ -49,7 +49,7 @@ fn event(alloc: Global, id: &[u8], row: &Row) -> Event {
         event.tags = tag_list(alloc, tag);
     }
     if !row.3.is_empty() {
-        event.file = file(alloc, row.3);
+        event.file = file(alloc, b"log", row.3);
     }
     event
 }
@@ -169,6 +169,77 @@ fn events_give_lines(rt: HostRuntime) {
     }
 }
 
+// An event of the test a: its status, and the name and the bytes of its file.
+type Named = (Status, &'static [u8], &'static [u8]);
+
+// The events of a test with two files, and the text.
+const FILES: [(&[Named], &[u8]); 3] = [
+    (
+        &[
+            (Status::InProgress, b"log", b"a"),
+            (Status::Unset, b"traceback", b"t"),
+        ],
+        b"test: a\nerror: a [\nlog: {{{\na\n}}}\nt\nnot completed\n]\n",
+    ),
+    (
+        &[(Status::Unset, b"x", b"a"), (Status::Success, b"y", b"b")],
+        b"test: a\nsuccess: a [\nx: {{{\na\n}}}\ny: {{{\nb\n}}}\n]\n",
+    ),
+    (
+        &[
+            (Status::Unset, b"log", b"]"),
+            (Status::Fail, b"traceback", b"]"),
+        ],
+        b"test: a\nfailure: a [\nlog: {{{\n ]\n}}}\n ]\n]\n",
+    ),
+];
+
+fn with_file(alloc: Global, named: &Named) -> Event {
+    let mut event = bare(alloc, b"a", named.0, None);
+    event.file = file(alloc, named.1, named.2);
+    event
+}
+
+fn write_named(
+    alloc: Global,
+    writer: &mut V1Writer,
+    named: &Named,
+    out: &mut Vec<u8>,
+) -> Option<()> {
+    let event = with_file(alloc, named);
+    writer.add(&event, out).ok()
+}
+
+fn write_each_named(
+    alloc: Global,
+    writer: &mut V1Writer,
+    events: &[Named],
+    out: &mut Vec<u8>,
+) -> Option<()> {
+    for named in events {
+        write_named(alloc, writer, named, out)?;
+    }
+    Some(())
+}
+
+fn write_files(alloc: Global, events: &[Named], out: &mut Vec<u8>) -> Option<()> {
+    let mut writer = V1Writer::new(alloc);
+    write_each_named(alloc, &mut writer, events, out)?;
+    writer.close(out).ok()
+}
+
+fn writes_files(alloc: Global, events: &[Named], wanted: &[u8]) -> bool {
+    let mut out = Vec::new(alloc);
+    write_files(alloc, events, &mut out).is_some() && out.as_slice() == wanted
+}
+
+#[test]
+fn several_files_stand_under_their_names(rt: HostRuntime) {
+    for (place, (events, wanted)) in FILES.iter().enumerate() {
+        assert!(rt; writes_files(rt.alloc(), events, wanted), "row {place}");
+    }
+}
+
 fn routed(alloc: Global, route: &[u8], id: &[u8]) -> Event {
     let mut event = bare(alloc, id, Status::InProgress, None);
     event.route = Text::new(alloc, route).ok();
@@ -218,7 +289,7 @@ fn open_tests_are_written_by_route_and_id(rt: HostRuntime) {
 fn of_no_test(alloc: Global, bytes: &[u8]) -> Event {
     let mut event = bare(alloc, b"", Status::Unset, None);
     event.id = None;
-    event.file = file(alloc, bytes);
+    event.file = file(alloc, b"log", bytes);
     event
 }
 

@@ -2,7 +2,6 @@ pub mod PiecesLemmas
 pub mod EventLemmas
 pub mod HalfLemmas
 pub mod NoteLemmas
-pub mod InsideLemmas
 pub mod InsideEventLemmas
 pub mod RecordingLemmas
 pub mod WaitingLemmas

@@ -19,7 +19,7 @@ use Rattle.worker_lane.specs.Inside.{ends_inside, inside_under, inside_events}
 use Rattle.worker_lane.specs.Recorded.{recorded_note, recorded_events, HasPacket, IsRecorded}
 use Rattle.worker_lane.specs.Scribing.{Scribing, holding, finished, TakesNote, TakesInside, IsAsBefore, GivesEvent, GivesThis, GivesOne, GivesPacket, HasNoNote, HasNone, HasTold, most_left, Recording, GivesPackets, IsRecordedSoFar}
 use Rattle.worker_lane.specs.Waiting.{PutsFirst, PutsOne, PutsNote}
-use Rattle.worker_lane.proofs.InsideLemmas.{given_alike}
+use Rattle.stream_end.proofs.InsideLemmas.{given_alike}
 use Rattle.worker_lane.proofs.NoteLemmas.{recorded_count}
 
 -- ---- bytes fed, and the end

@@ -15,7 +15,7 @@ use Rattle.worker_lane.specs.Inside.{ends_inside, inside_under, inside_events}
 use Rattle.worker_lane.specs.Recorded.{recorded_note, recorded_events}
 use Rattle.worker_lane.specs.Scribing.{Scribing, holding, finished, TakesNote, TakesInside, IsAsBefore, GivesEvent, HasNone}
 use Rattle.worker_lane.specs.Rest.{notes_of_stream, notes_are, inside_at, events_left}
-use Rattle.worker_lane.proofs.InsideLemmas.{given_alike}
+use Rattle.stream_end.proofs.InsideLemmas.{given_alike}
 
 -- ---- a stream has one list of notes
 

@@ -1,52 +1,9 @@
--- Where a stream ends inside a packet, and what is recorded of that (docs/FORMATS.md, "A stream that ends inside a
--- packet").
-use Rattle.std.specs.Prelude.{◌≡◌, ℕ, ◌≤◌, ◌<◌, Bool, true, false, Some, None, List, [], ◌∷◌, ◌++◌, length, nat_le, codes}
-use Rattle.std.proofs.Common.{inl, inr}
+-- What is recorded of a stream that ends inside a packet (docs/FORMATS.md, "A stream that ends inside a packet").
+use Rattle.std.specs.Prelude.{ℕ, Bool, true, false, Some, None, List, [], ◌∷◌, ◌++◌, codes}
 use Rattle.packet_codec.specs.declared.event.Event.{Event}
 use Rattle.packet_codec.specs.declared.status.Status.TheVariants.{Fail}
-use Rattle.packet_codec.specs.Grammar.{AreBytes}
-use Rattle.packet_codec.specs.Header.{NeedsMore}
 use Rattle.packet_codec.specs.Routing.{under}
-use Rattle.packet_codec.proofs.DecidedLemmas.{Decided, decided_all, decided_less}
-use Rattle.stream_reader.specs.Cut.{Piece, packet, foreign, BeginsWithPacketOf, BeginsWithByte, IsOpenCut}
-use Rattle.stream_reader.proofs.ExistLemmas.{some_decided}
-
--- behind the pieces that were cut off the front, two bytes or more are left
-abbrev pub LeavesTwo : List ℕ → List Piece → Type 0
-LeavesTwo bytes [] = 2 ≤ length bytes
-LeavesTwo bytes (packet event ∷ pieces) = (rest : List ℕ) × BeginsWithPacketOf bytes event rest × LeavesTwo rest pieces
-LeavesTwo bytes (foreign byte ∷ pieces) = (rest : List ℕ) × BeginsWithByte bytes byte rest × LeavesTwo rest pieces
-
--- The first place at which more bytes are asked for has two bytes or more: the signature and a byte of the version, at
--- least, of a packet that is not whole.
-pub record EndsInside (bytes : List ℕ) : Type 0 where
-  pub pieces : List Piece
-  pub cut : IsOpenCut bytes pieces
-  pub two : LeavesTwo bytes pieces
-
--- The stream stops so: some bytes that are still to come make a header of what is left, or it begins with a header of a
--- packet that is longer.
-pub record HoldsBack (bytes : List ℕ) : Type 0 where
-  pub front : List ℕ
-  pub left : List ℕ
-  pub parts : bytes ≡ front ++ left
-  pub two : 2 ≤ length left
-  pub more : NeedsMore left
-
--- whether a cut leaves two bytes
-unfoldable pub leaves_two : (pieces : List Piece) (bytes : List ℕ) → IsOpenCut bytes pieces → Bool
-leaves_two [] bytes cut = nat_le 2 (length bytes)
-leaves_two (packet event ∷ pieces) bytes (rest, found, cut) = leaves_two pieces rest cut
-leaves_two (foreign byte ∷ pieces) bytes (rest, none, closed, parts, cut) = leaves_two pieces rest cut
-
--- whether bytes that are known to be such end inside a packet
-unfoldable pub inside_if : (bytes : List ℕ) → Decided (AreBytes bytes) → Bool
-inside_if bytes (inl are) = leaves_two (some_decided bytes are).1.pieces bytes (some_decided bytes are).1.cut
-inside_if bytes (inr never) = false
-
--- whether the bytes, as a whole stream, end inside a packet
-unfoldable pub ends_inside : List ℕ → Bool
-ends_inside bytes = inside_if bytes (decided_all (λ byte. byte < 256) (λ byte. decided_less byte 256) bytes)
+pub use Rattle.stream_end.specs.Inside.{ends_inside}
 
 -- the text that tells of it
 abbrev pub inside_text : List ℕ

@@ -28,6 +28,7 @@ module _ {C : Type 0} where
   abbrev pub rest : (seen : C → Seen Output) → Lane C → Option (List Lot)
   rest seen lane = course_rest lane.course (seen lane.child).told
 
+  -- the lane's number, under which its events are recorded
   abbrev pub lane_number : Lane C → ℕ
   lane_number lane = lane.course.scribe.lane
 
@@ -54,5 +55,6 @@ module _ {C : Type 0} where
     pub under : IsPacketOf (lane_number before) packet
     pub left : Gives (rest seen before) (Packet packet ∷ []) (rest seen after)
 
+  -- the same of a lane, where its child is seen before and after
   abbrev pub KeepsLane : (seen : C → Seen Output) → Lane C → Lane C → Type 0
   KeepsLane seen before after = KeepsNumber before.course after.course (seen before.child).faults (seen after.child).faults

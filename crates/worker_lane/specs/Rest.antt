@@ -26,6 +26,7 @@ use Rattle.worker_lane.specs.declared.lot.Lot.TheVariants.{Packet, End}
 pub notes_of_stream : List ℕ → List Note
 notes_of_stream bytes = (some_notes bytes).0
 
+-- they are the notes of the stream
 pub notes_are : (bytes : List ℕ) → HasNotes bytes (notes_of_stream bytes)
 unfolding notes_of_stream
 notes_are bytes = (some_notes bytes).1

@@ -31,6 +31,7 @@ half_found lane (inr never) = []
 pub half_left : (lane : ℕ) (bytes : List ℕ) → List Event
 half_left lane bytes = half_found lane (read_packet bytes)
 
+-- what `half_left` is, as a law for proofs, which do not unfold it by themselves
 pub half_left_is : (lane : ℕ) (bytes : List ℕ) → half_left lane bytes ≡ half_found lane (read_packet bytes)
 unfolding half_left
 half_left_is lane bytes = refl

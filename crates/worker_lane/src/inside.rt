@@ -1,37 +1,12 @@
-//! Whether a stream ends inside a packet, and the event that tells of it.
+//! The event that tells that a stream ends inside a packet.
 
-ghost use Rattle.std.specs.Prelude.{◌≡◌, ◌<◌, length, nat_le, IfOk, IfSome, IfNone};
+ghost use Rattle.std.specs.Prelude.{◌≡◌, ◌<◌, IfOk};
 ghost use Rattle.packet_codec.specs.Canonical.{Fits};
-ghost use Rattle.worker_lane.specs.Inside.{ends_inside as is_inside, inside_under, inside_event as event_of};
+ghost use Rattle.worker_lane.specs.Inside.{inside_under, inside_event as event_of};
 
-use packet_codec::{Event, FilePart, Front, Status, are_bytes, look, reroute};
+use packet_codec::{Event, FilePart, Status, reroute};
 use std::alloc::Global;
 use sub_number::{Bytes, NoMemory, Text};
-
-/// Whether the bytes, as a whole stream, end inside a packet.
-pub(crate) fn ends_inside(bytes: &[u8]) -> bool
-    ensures { result ≡ is_inside bytes.now }
-{
-    let mut rest = bytes;
-    while let Some(behind) = behind_piece(rest) {
-        rest = behind;
-    }
-    rest.len() >= 2
-}
-
-// What stands behind the packet or the foreign byte at the front. None where more bytes are asked for.
-fn behind_piece(bytes: &[u8]) -> Option<&[u8]>
-    ensures shorter { IfSome result (λ behind. length behind.now < length bytes.now) }
-    ensures alike { IfSome result (λ behind. is_inside bytes.now ≡ is_inside behind.now) }
-    ensures stops { IfNone result (is_inside bytes.now ≡ nat_le 2 (length bytes.now)) }
-{
-    are_bytes(bytes);
-    match look(bytes) {
-        Front::Packet(size) => Some(&bytes[size..]),
-        Front::No => Some(&bytes[1..]),
-        Front::More => None,
-    }
-}
 
 /// The event that tells of it, under the lane.
 pub(crate) fn inside_event(alloc: Global, lane: u32) -> Result<Event, NoMemory>

@@ -17,8 +17,6 @@ ghost use Rattle.worker_lane.specs.declared.lot.Ending.{Ending};
 ghost use Rattle.worker_lane.specs.declared.lot.Ending.TheVariants.{Exit, Fault, NoMemory};
 ghost use Rattle.worker_lane.specs.declared.lot.Lot.{Lot};
 ghost use Rattle.worker_lane.specs.declared.lot.Lot.TheVariants.{End};
-ghost use Rattle.worker_lane.specs.Inside.{ends_inside, EndsInside, HoldsBack};
-ghost use Rattle.packet_codec.specs.Packet.{IsPacket};
 ghost use Rattle.worker_lane.specs.Recorded.{pieces_of, HasRecorded, IsRecorded};
 ghost use Rattle.worker_lane.specs.Scribing.{Scribing, IsAsBefore, GivesPacket, GivesPackets, HasNone, Recording, IsRecordedSoFar};
 
@@ -69,18 +67,6 @@ pub fn lots_in_turn()
     // The number stays, and a mark comes only where the count of faults rose, in one step or another.
     ensures keeps_none { (course : Coursing) (count : ℕ) → KeepsNumber course course count count }
     ensures keeps_more { (a b c : Coursing) (k l m : ℕ) → KeepsNumber a b k l → KeepsNumber b c l m → KeepsNumber a c k m }
-{}
-
-/// Laws of streams that end inside a packet.
-pub fn streams_that_end_inside()
-    // The test tells it of all streams.
-    ensures told { (bytes : List ℕ) → AreBytes bytes → (ends_inside bytes ≡ true) ↔ EndsInside bytes }
-    // More bytes are asked for then, at a place that has two or more.
-    ensures left { (bytes : List ℕ) → AreBytes bytes → EndsInside bytes → HoldsBack bytes }
-    // Where bytes are cut off a packet and two or more are left of it, the stream ends inside it.
-    ensures cut_off { (events : List Event) (front rest : List ℕ) → All IsEvent events → All Fits events → AreBytes (front ++ rest) → IsPacket (front ++ rest) → 2 ≤ length front → 0 < length rest → EndsInside (flat_map canonical events ++ front) }
-    // Whole packets end inside none.
-    ensures whole { (events : List Event) → AreBytes (flat_map canonical events) → All IsEvent events → All Fits events → ends_inside (flat_map canonical events) ≡ false }
 {}
 
 /// Laws of the tests of a lane's job that were lost.

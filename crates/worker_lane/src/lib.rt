@@ -15,7 +15,7 @@
 //! - `lane`: one worker process, read under its number
 //! - `lane_state`, `stage`, `process`: what is kept of a lane beside its child, how far it has come, and the child's end
 //! - `sought`: the ids of a lane's job of which nothing was heard yet
-//! - `inside`: whether a stream ends inside a packet, and the event that tells of it
+//! - `inside`: the event that tells that a stream ends inside a packet
 //! - `lot`, `ending`, `lost`: what a lane gives, the packet that tells of its end, and the event of a test that was lost
 #![tactic(auto)]
 
@@ -37,9 +37,7 @@ mod whole_stream;
 
 pub use lane::Lane;
 pub use lane_laws::recorded_lanes;
-pub use laws::{
-    lots_in_turn, recorded_streams, recording_in_turn, streams_that_end_inside, tests_that_are_lost,
-};
+pub use laws::{lots_in_turn, recorded_streams, recording_in_turn, tests_that_are_lost};
 pub use lot::{Ending, Lot};
 pub use scribe::Scribe;
 pub use sought::LONGEST_ID;

@@ -14,7 +14,7 @@ ghost use Rattle.worker_lane.specs.Scribing.{holding, finished, GivesOne, GivesP
 ghost use Rattle.worker_lane.specs.Waiting.{PutsNote};
 
 use crate::ending::{ending_text, returncode_event};
-use crate::inside::{ends_inside, inside_event};
+use crate::inside::inside_event;
 use crate::lost::lost_event;
 use crate::lot::Ending;
 use crate::stdout::put_stdout;
@@ -22,6 +22,7 @@ use crate::waiting_note::{Waiting, is_nothing, put_first, put_packet};
 use packet_codec::{Header, are_bytes, encode};
 use std::alloc::Global;
 use std::marker::Model;
+use stream_end::ends_inside;
 use stream_reader::{First, Reader, Seen};
 use sub_number::{Bytes, NoMemory, Text};
 

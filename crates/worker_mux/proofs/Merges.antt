@@ -1,6 +1,6 @@
 -- What was added is the packets of each lane's events, merged.
 use Rattle.std.proofs.Common.{◌≡◌, ◌≢◌, ℕ, zero, suc, ◌+◌, ◌<◌, ◌≤◌, List, [], ◌∷◌, ◌++◌, map, length, cond, eqb, Bool, true, false, slice_index_or, inl, inr, refl, sym, ◌∙◌, ap, subst, arith}
-use Rattle.std.specs.Prelude.{Option, None, Some, IfSome, All, Result, IfOk}
+use Rattle.std.specs.Prelude.{Option, None, Some, IfSome, All, Result, Ok, Err, OnOk}
 use Rattle.std.specs.List.{AllByRecursion, flat_map, range_with_len, filter}
 use Rattle.std.specs.Int.{w32, to_be_bytes}
 use Rattle.std.specs.Option.{option_map}
@@ -9,7 +9,7 @@ use Rattle.std.proofs.lemmas.Bool.Decides.{nat_tests}
 use Rattle.std.proofs.lemmas.List.{append-nil, append_cancel_left, length-append, length-map}
 use Rattle.std.proofs.lemmas.List.Concat.{flat_map-append}
 use Rattle.std.proofs.lemmas.List.Folds.{flat_map-map}
-use Rattle.std.proofs.lemmas.Result.{IfOk-weaker}
+use Rattle.std.proofs.lemmas.Result.{on_ok_weaker}
 use Rattle.std.proofs.lemmas.List.Elements.{All-nil, All-cons, All-append, All-head, All-tail, filter-append}
 use Rattle.edge_io.specs.Children.{Output}
 use Rattle.edge_io.specs.Disk.{Folder}
@@ -373,33 +373,33 @@ module _ {C : Type 0} (seen : C → Seen Output) where
       }
 
   -- all levels, and then what was left on the belt
-  pub all_recorded : {L : Type 0} (hears : L → L → List (List ℕ) → Type 0) (listener : L) (first between last : Caller L) (old mid new : Tape) (works : List (Work C))
+  pub all_recorded : {L : Type 0} {keeps : L → L → List (List ℕ) → Type 0} (hears : L → L → List (List ℕ) → Type 0) (listener : L) (first between last : Caller L) (old mid new : Tape) (works : List (Work C))
       → first.begun.value ≡ listener
       → lots_taken first.taker ≡ []
       → settled_lanes first.taker ≡ []
-      → GoesOn first between old mid
-      → Settles seen between.no_memory works (settled_lanes first.taker) (settled_lanes between.taker)
-      → GoesOn between last mid new
+      → GoesOn hears keeps first between old mid
+      → Settles seen between.stopped works (settled_lanes first.taker) (settled_lanes between.taker)
+      → GoesOn hears keeps between last mid new
       → settled_lanes last.taker ≡ settled_lanes between.taker
-      → (last.no_memory ≡ false → HasAll last.taker × IsOfLanes last.taker)
-      → (last.no_memory ≡ false → AllByRecursion (λ p. p.lot ≡ End NoMemory → ⊥) (lots_taken last.taker))
-      → (last.no_memory ≡ false → hears last.begun.value last.listener (pieces_of (lots_taken last.taker)))
-      → last.no_memory ≡ false → new.fault ≡ None
+      → (last.stopped ≡ false → HasAll last.taker × IsOfLanes last.taker)
+      → (last.stopped ≡ false → AllByRecursion (λ p. p.lot ≡ End NoMemory → ⊥) (lots_taken last.taker))
+      → (last.stopped ≡ false → hears last.begun.value last.listener (pieces_of (lots_taken last.taker)))
+      → last.stopped ≡ false → new.fault ≡ None
       → IsRecorded seen (hears listener last.listener) (lane_count first.taker) works old new
-  all_recorded {L = L} hears listener first between last old mid new works begun_with nothing none_settled levels (table, grown, each) left same empty well heard memory no_fault =
+  all_recorded {L = L} hears listener first between last old mid new works begun_with nothing none_settled levels (table, grown, each) left same empty well heard going no_fault =
       let all : settled_lanes last.taker ≡ table = same ∙ grown ∙ ap (λ l. table ++ l) none_settled ∙ append-nil table in
       let taken : List Parcel = lots_taken last.taker in
       let begun : HasAdded old.folder.told first old = λ _. subst (λ (l : List Parcel). Goes old.folder.told old.folder.told (Grown (recorded l))) (sym nothing) (goes_grown_none old.folder.told) in
       record {
         taken = taken;
         table = table;
-        heard = subst (λ l. hears l last.listener (pieces_of taken)) (ap (λ (c : Snapshot L). c.value) (left.begun ∙ levels.begun) ∙ begun_with) (heard memory);
+        heard = subst (λ l. hears l last.listener (pieces_of taken)) (ap (λ (c : Snapshot L). c.value) (left.begun ∙ levels.begun) ∙ begun_with) (heard going);
         added = left.added old.folder.told (levels.added old.folder.told begun) no_fault;
         few = left.counted old.clock (levels.counted old.clock (omega arith));
-        entries = each (left.memory memory);
-        accounts = subst (AllByRecursion (λ s. lots_of s.lane taken ≡ s.list)) all (empty memory).0;
-        well = well memory;
-        of_lanes = subst (λ (n : ℕ). AllByRecursion (λ (p : Parcel). p.lane < n) taken) (left.count ∙ levels.count) (empty memory).1;
+        entries = each (left.going going);
+        accounts = subst (AllByRecursion (λ s. lots_of s.lane taken ≡ s.list)) all (empty going).0;
+        well = well going;
+        of_lanes = subst (λ (n : ℕ). AllByRecursion (λ (p : Parcel). p.lane < n) taken) (left.count ∙ levels.count) (empty going).1;
       }
 
 -- with no lane nothing is added
@@ -418,9 +418,13 @@ unfolding nothing_added
 without_lanes seen hears [] t empty nothing = record { merge = nothing_added t.folder.told; groups = []; parts = refl; heard = nothing; few = omega arith }
 without_lanes seen hears (lane ∷ lanes) t empty nothing = absurd (omega (arith, empty))
 
+-- where the lanes were not stopped
+pub recorded_where : {T E No Going P : Type 0} (answer : Result T E) → OnOk answer (No → Going) → (Going → No → P) → OnOk answer (No → P)
+recorded_where (Ok done) gives all = λ no. all (gives no) no
+recorded_where (Err lack) gives all = tt
+
 -- the same where it answered
-pub heard_if : {C L E : Type 0} (seen : C → Seen Output) (hears : L → List (List ℕ) → Type 0) (answer : Result L E) (lanes : List (Lane C)) (works : List (Work C)) (count : ℕ) (fault : Option ShelfCall) (old new : Tape) → length lanes ≤ 64 → map lane_number lanes ≡ range_with_len 0 (length lanes) → count ≡ length lanes
-    → map (share seen) works ≡ map (first_share seen) lanes → IfOk answer (λ l. fault ≡ None → IsRecorded seen (hears l) count works old new) → IfOk answer (λ l. fault ≡ None → HearsMerge (hears l) (map (rest seen) lanes) old new)
+pub heard_if : {C T E : Type 0} (seen : C → Seen Output) (hears : List (List ℕ) → Type 0) (answer : Result T E) (lanes : List (Lane C)) (works : List (Work C)) (count : ℕ) (fault : Option ShelfCall) (old new : Tape) → length lanes ≤ 64 → map lane_number lanes ≡ range_with_len 0 (length lanes) → count ≡ length lanes
+    → map (share seen) works ≡ map (first_share seen) lanes → OnOk answer (fault ≡ None → IsRecorded seen hears count works old new) → OnOk answer (fault ≡ None → HearsMerge hears (map (rest seen) lanes) old new)
 heard_if seen hears answer lanes works count fault old new few numbers counted shares all =
-    IfOk-weaker answer (λ l. fault ≡ None → IsRecorded seen (hears l) count works old new) (λ l. fault ≡ None → HearsMerge (hears l) (map (rest seen) lanes) old new)
-    (λ l recorded no_fault. heard_of seen (hears l) lanes works count old new few numbers counted shares (recorded no_fault)) all
+    on_ok_weaker answer (λ recorded no_fault. heard_of seen hears lanes works count old new few numbers counted shares (recorded no_fault)) all

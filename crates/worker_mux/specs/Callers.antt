@@ -1,10 +1,12 @@
 -- What the one that records has taken, and what it has added to the run.
-use Rattle.std.specs.Prelude.{◌≡◌, ℕ, ◌≤◌, ◌+◌, List, [], ◌∷◌, ◌++◌, false, Option, Some, None}
+use Rattle.std.specs.Prelude.{◌≡◌, ◌⊎◌, ℕ, ◌≤◌, ◌+◌, List, [], ◌∷◌, ◌++◌, true, false, Option, Some, None}
 use Rattle.std.specs.List.{AllByRecursion}
 use Rattle.edge_io.specs.Causes.{Rose}
 use Rattle.edge_io.specs.Disk.{Folder}
 use Rattle.edge_io.specs.Seen.{Seen}
 use Rattle.edge_io.specs.Steps.{Goes, Grown, HasDraft}
+use Rattle.packet_codec.specs.Lanes.{joined}
+use Rattle.packet_codec.specs.Packets.{ArePackets}
 use Rattle.run_shelf.specs.Drafts.{SameButDraft}
 use Rattle.run_shelf.specs.declared.faults.ShelfCall.{ShelfCall}
 use Rattle.run_shelf.specs.declared.faults.ShelfCall.TheVariants.{Append}
@@ -17,21 +19,22 @@ use Rattle.worker_mux.specs.declared.caller.Caller.{Caller}
 use Rattle.worker_mux.specs.declared.knowledge.Parcel.{Parcel}
 use Rattle.worker_mux.specs.declared.pass.Taker.{Taker}
 
--- what is heard of a lot, and of all that was taken
+-- what is heard of a lot: its packets as one piece, and nothing of a lane's end
 abbrev pub piece_of : Lot → List (List ℕ)
 piece_of (Packet packet) = packet ∷ []
 piece_of (End how) = []
 
+-- what is heard of all lots that were taken, in the order in which they were taken
 abbrev pub pieces_of : List Parcel → List (List ℕ)
 pieces_of [] = []
 pieces_of (p ∷ ps) = piece_of p.lot ++ pieces_of ps
 
--- Its taker is this belt's, and it knows of each lane whose memory ran out. Where memory ran out nowhere, what was taken
--- was heard since the listener was what it was begun with.
+-- Its taker is this belt's. Until the lanes are stopped no lane's memory has run out, and what was taken was heard since the
+-- listener was what it was begun with.
 pub record IsCaller {L : Type 0} (hears : L → L → List (List ℕ) → Type 0) (belt : Belt) (caller : Caller L) : Type 0 where
   pub taker : IsTakerFor belt caller.taker
-  pub well : caller.no_memory ≡ false → AllByRecursion (λ p. p.lot ≡ End NoMemory → ⊥) (lots_taken caller.taker)
-  pub heard : caller.no_memory ≡ false → hears caller.begun.value caller.listener (pieces_of (lots_taken caller.taker))
+  pub well : caller.stopped ≡ false → AllByRecursion (λ p. p.lot ≡ End NoMemory → ⊥) (lots_taken caller.taker)
+  pub heard : caller.stopped ≡ false → hears caller.begun.value caller.listener (pieces_of (lots_taken caller.taker))
 
 -- a taker that has taken nothing, and knows of no lane that is settled
 pub record IsNewTaker (belt : Belt) (taker : Taker) : Type 0 where
@@ -39,11 +42,12 @@ pub record IsNewTaker (belt : Belt) (taker : Taker) : Type 0 where
   pub nothing : lots_taken taker ≡ []
   pub none_settled : settled_lanes taker ≡ []
 
--- what is recorded of a lot, and of all that was taken
+-- what is recorded of a lot: the bytes of its packets, and none of a lane's end
 abbrev pub packet_of : Lot → List ℕ
 packet_of (Packet packet) = packet
 packet_of (End how) = []
 
+-- what is recorded of all lots that were taken, as the bytes that stand behind the run
 abbrev pub recorded : List Parcel → List ℕ
 recorded [] = []
 recorded (p ∷ ps) = packet_of p.lot ++ recorded ps
@@ -64,6 +68,7 @@ pub record Tape : Type 0 where
   pub folder : Seen Folder
   pub clock : ℕ
 
+-- the tape of which this fault, this folder and this count of calls are seen
 abbrev pub tape : Option ShelfCall → Seen Folder → ℕ → Tape
 tape fault folder clock = record { fault = fault; folder = folder; clock = clock }
 
@@ -88,11 +93,37 @@ HasAdded start caller t = t.fault ≡ None → Goes start t.folder.told (Grown (
 abbrev pub IsCounted : {L : Type 0} → (first : ℕ) → Caller L → Tape → Type 0
 IsCounted first caller t = t.clock ≤ first + calls_of (lots_taken caller.taker)
 
--- the lanes stay as many, what the listener was begun with is the same, what was taken stays added, and its calls counted
-pub record GoesOn {L : Type 0} (before after : Caller L) (old new : Tape) : Type 0 where
+-- These pieces were handed on, and this holds of what has heard them. They were added to the run, from `start` on, and
+-- behind them nothing, or a part of one more where a call failed.
+pub record WasHanded (Holds : List (List ℕ) → Type 0) (start : Option Folder) (t : Tape) : Type 0 where
+  pub pieces : List (List ℕ)
+  pub packets : AllByRecursion ArePackets pieces
+  pub part : List ℕ
+  pub added : Goes start t.folder.told (Grown (joined pieces ++ part))
+  pub whole : t.fault ≡ None → part ≡ []
+  pub holds : Holds pieces
+
+-- the listener has heard these pieces, or wanted memory at the last of them
+abbrev pub HeardOrKept : {L : Type 0} (hears keeps : L → L → List (List ℕ) → Type 0) → (begun listener : L) → List (List ℕ) → Type 0
+HeardOrKept hears keeps begun listener pieces = hears begun listener pieces ⊎ keeps begun listener pieces
+
+-- the same of the one that records, whose lanes are stopped where memory was wanted
+abbrev pub StandsBy : {L : Type 0} (hears keeps : L → L → List (List ℕ) → Type 0) → Caller L → List (List ℕ) → Type 0
+StandsBy hears keeps caller pieces = hears caller.begun.value caller.listener pieces ⊎ ((caller.stopped ≡ true) × keeps caller.begun.value caller.listener pieces)
+
+-- the run grew by the bytes, or by a part of them where a call failed
+pub record AddsPart (bytes : List ℕ) (old new : Tape) : Type 0 where
+  pub part : List ℕ
+  pub added : Goes old.folder.told new.folder.told (Grown part)
+  pub whole : new.fault ≡ None → part ≡ bytes
+
+-- The lanes stay as many, what the listener was begun with is the same, what was taken stays added, and its calls counted.
+-- The listener was handed what was added.
+pub record GoesOn {L : Type 0} (hears kept : L → L → List (List ℕ) → Type 0) (before after : Caller L) (old new : Tape) : Type 0 where
   pub count : lane_count after.taker ≡ lane_count before.taker
   pub begun : after.begun ≡ before.begun
-  pub memory : after.no_memory ≡ false → before.no_memory ≡ false
+  pub going : after.stopped ≡ false → before.stopped ≡ false
   pub keeps : KeepsTape old new
   pub added : (start : Option Folder) → HasAdded start before old → HasAdded start after new
   pub counted : (first : ℕ) → IsCounted first before old → IsCounted first after new
+  pub handed : (start : Option Folder) → WasHanded (StandsBy hears kept before) start old → WasHanded (StandsBy hears kept after) start new

@@ -13,20 +13,23 @@ use Rattle.worker_mux.specs.Rule.{put_of, taken_of, settled_of, count_of, IsLane
 abbrev pub room_of : Belt → ℕ
 room_of belt = ruled_capacity belt.queue
 
--- a pass's lane, and the lots that it has put
+-- the number of the lane that a pass is of
 abbrev pub number_of : LanePass → ℕ
 number_of pass = pass.number
 
+-- the lots that a pass has put on the belt, in order
 abbrev pub lots_put : LanePass → List Lot
 lots_put pass = put_of (view pass.pass)
 
--- how many lanes there are, what was taken, and the table of settled lanes, the last one first
+-- how many lanes there are, by what the taker knows
 abbrev pub lane_count : Taker → ℕ
 lane_count taker = count_of (view taker.pass)
 
+-- the lots of all lanes that the taker has taken from the belt, each with its lane, in order
 abbrev pub lots_taken : Taker → List Parcel
 lots_taken taker = taken_of (view taker.pass)
 
+-- the taker's table of settled lanes, each with the lots that its pass put; the lane that settled last stands first
 abbrev pub settled_lanes : Taker → List Settled
 settled_lanes taker = settled_of (view taker.pass)
 

@@ -63,46 +63,53 @@ pub record Whole (items : List Parcel) (views : List Knowledge) (reader count : 
   -- every other view is a lane's or spent
   pub known : (pass : ℕ) (v : Knowledge) → get_elem? views pass ≡ some v → Knows reader count taken settled seat sent pass v
 
+-- The rule, which each step keeps: of this belt and these views there are a taker, a table, and a list of each lane,
+-- such that all of `Whole` is so.
 abbrev pub Kept : List Parcel → List Knowledge → Type 0
 Kept items views =
     (reader : ℕ) × (count : ℕ) × (taken : List Parcel) × (settled : List Settled) × (seat : ℕ → Option ℕ) × (sent : ℕ → List Lot)
     × Whole items views reader count taken settled seat sent
 
--- A pass is made: the taker has one lane more, and that lane has put nothing.
+-- what the taker knows once a pass is made: there is one lane more
 abbrev pub with_lane : Knowledge → Knowledge
 with_lane (Taker count taken settled) = Taker (count + 1) taken settled
 with_lane v = v
 
+-- what the new pass knows: its lane is of the next number, and nothing was put of it
 abbrev pub new_lane : Knowledge → Knowledge
 new_lane (Taker count taken settled) = Lane count []
 new_lane v = Spent
 
--- A pass is settled: its list goes into the taker's table.
+-- what the taker knows once a pass is settled: the pass's list stands first in the table
 abbrev pub with_settled : Knowledge → Knowledge → Knowledge
 with_settled (Taker count taken settled) (Lane n list) = Taker count taken (record { lane = n; list = list } ∷ settled)
 with_settled v w = v
 
--- what a lane's pass has put
+-- what a lane's pass has put; no other view has put anything
 abbrev pub put_of : Knowledge → List Lot
 put_of (Lane n list) = list
 put_of v = []
 
--- what the taker has taken, which lanes are settled, and how many lanes there are
+-- what the taker has taken, of all lanes, in order
 abbrev pub taken_of : Knowledge → List Parcel
 taken_of (Taker count taken settled) = taken
 taken_of v = []
 
+-- which lanes are settled, by the taker's view; the lane that settled last stands first
 abbrev pub settled_of : Knowledge → List Settled
 settled_of (Taker count taken settled) = settled
 settled_of v = []
 
+-- how many lanes there are, by the taker's view
 abbrev pub count_of : Knowledge → ℕ
 count_of (Taker count taken settled) = count
 count_of v = 0
 
+-- the view is that of the live pass of this lane
 abbrev pub IsLane : ℕ → Knowledge → Type 0
 IsLane n v = v ≡ Lane n (put_of v)
 
+-- the view is the taker's
 abbrev pub IsTaker : Knowledge → Type 0
 IsTaker v = v ≡ Taker (count_of v) (taken_of v) (settled_of v)
 

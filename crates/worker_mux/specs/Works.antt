@@ -38,6 +38,7 @@ abbrev pub AreOwn : (lane : ℕ) → Lot → Type 0
 AreOwn lane (Packet packets) = ArePacketsUnder lane packets
 AreOwn lane (End how) = ⊤
 
+-- the packets of a lot are under the lane, and each number in them is a byte
 abbrev pub IsOwn : (lane : ℕ) → Lot → Type 0
 IsOwn lane lot = AreOwn lane lot × HasBytes lot
 
@@ -61,6 +62,7 @@ module _ {C : Type 0} where
     pub number : lane_number work.lane ≡ number_of work.pass
     pub kept : IfSome work.kept (IsOwn (number_of work.pass))
 
+  -- the same of what a thread hands back: work that goes on is ready, and a pass has put packets under its lane alone
   abbrev pub IsReadyOutcome : Belt → Outcome C → Type 0
   IsReadyOutcome belt (Kept work) = IsReady belt work
   IsReadyOutcome belt (Put pass) = IsOwnPass belt pass
@@ -120,6 +122,6 @@ module _ {C : Type 0} (seen : C → Seen Output) where
     pub own : AllByRecursion (IsOwn entry.lane) entry.list
     pub list : AllWell entry.list → IfSome (whole work) (λ l. bytes_of entry.list ≡ l)
 
-  -- The table is one entry longer for each work, in order. Where memory ran out, nothing is said of them.
+  -- The table is one entry longer for each work, in order. Where the lanes were stopped, nothing is said of them.
   abbrev pub Settles : Bool → List (Work C) → List Settled → List Settled → Type 0
-  Settles no_memory works old new = (table : List Settled) × (new ≡ table ++ old) × (no_memory ≡ false → Pairs IsEntryOf works table)
+  Settles stopped works old new = (table : List Settled) × (new ≡ table ++ old) × (stopped ≡ false → Pairs IsEntryOf works table)

@@ -1,11 +1,12 @@
 //! The part of the one that records: it alone takes lots and adds them to the run.
 
-ghost use Rattle.std.specs.Prelude.{◌≡◌, ◌≤◌, ◌+◌, ◌∷◌, ◌++◌, [], ℕ, List, None, true, false, IsFalse};
+ghost use Rattle.std.specs.Prelude.{◌≡◌, ◌≤◌, ◌+◌, ◌∷◌, ◌++◌, [], ℕ, List, Option, None, true, false, IsFalse};
+ghost use Rattle.edge_io.specs.Disk.{Folder};
 ghost use Rattle.edge_io.specs.Steps.{Goes, Grown};
 ghost use Rattle.packet_codec.specs.Packets.{ArePackets};
 ghost use Rattle.worker_lane.specs.declared.lot.Lot.TheVariants.{End};
 ghost use Rattle.worker_lane.specs.declared.lot.Ending.TheVariants.{NoMemory as without_memory};
-ghost use Rattle.worker_mux.specs.Callers.{IsCaller, GoesOn, KeepsTape, IsOpen, Tape, calls_for, packet_of, piece_of, tape};
+ghost use Rattle.worker_mux.specs.Callers.{IsCaller, GoesOn, KeepsTape, IsOpen, StandsBy, Tape, WasHanded, calls_for, packet_of, piece_of, tape};
 ghost use Rattle.worker_mux.specs.Packets.{IsWhole};
 ghost use Rattle.worker_mux.specs.Passes.{number_of, settled_lanes, entry_of, HasAll, IsOfLanes};
 ghost use Rattle.worker_mux.specs.Works.{IsOwnPass, IsPut, Drives, IsReadyOutcome};
@@ -22,61 +23,70 @@ use sub_number::NoMemory;
 use worker_lane::{Ending, Lot};
 
 /// The taker, who hears what is added, as it is and as it was begun with, how many lanes have not ended yet, and whether
-/// memory ran out: in a lane, or where it was heard.
+/// the lanes are stopped: a call of the folder failed, or memory ran out in a lane or where it was heard.
 #[derive(Drop)]
 pub(crate) struct Caller<L> {
     pub(crate) taker: Taker,
     pub(crate) begun: Snapshot<L>,
     pub(crate) listener: L,
     pub(crate) running: usize,
-    pub(crate) no_memory: bool,
+    pub(crate) stopped: bool,
 }
 
 impl<L: Listener> Caller<L> {
-    // Memory ran out: all lanes are told to stop.
+    // All lanes are told to stop.
     fn stop_all(&mut self, shared: &Shared)
         ensures taker { self.new.taker ≡ self.old.taker }
         ensures begun { self.new.begun ≡ self.old.begun }
-        ensures memory { self.new.no_memory ≡ true }
+        ensures listener { self.new.listener ≡ self.old.listener }
+        ensures stopped { self.new.stopped ≡ true }
     {
-        self.no_memory = true;
+        self.stopped = true;
         shared.stop.store(true, Ordering::SeqCst);
         shared.gate.tell_stop();
     }
 
-    // Adds packets, and lets them be heard, also where they could not be added.
+    // Adds packets, and lets them be heard. Where they could not be added nobody hears them, and all lanes are told to stop.
     fn add<H: Shelf>(&mut self, shared: &Shared, pen: &mut Pen<'_, H>, packet: &[u8])
         requires is_open { IsOpen (tape pen.old.fault (H.seen pen.old.shelf.now) (H.clock pen.old.shelf.now)) }
         requires packets { ArePackets packet.now }
+        requires going { self.old.stopped ≡ false }
         ensures taker { self.new.taker ≡ self.old.taker }
         ensures begun { self.new.begun ≡ self.old.begun }
-        ensures memory { self.new.no_memory ≡ false → self.old.no_memory ≡ false }
-        ensures heard { (pieces : List (List ℕ)) → L.heard self.old.begun.value self.old.listener pieces → self.new.no_memory ≡ false → L.heard self.new.begun.value self.new.listener (pieces ++ packet.now ∷ []) }
+        ensures going { self.new.stopped ≡ false → self.old.stopped ≡ false }
+        ensures heard { (pieces : List (List ℕ)) → L.heard self.old.begun.value self.old.listener pieces → self.new.stopped ≡ false → L.heard self.new.begun.value self.new.listener (pieces ++ packet.now ∷ []) }
         ensures loan { pen.new.shelf.ghost_name ≡ pen.old.shelf.ghost_name }
         ensures keeps { KeepsTape (tape pen.old.fault (H.seen pen.old.shelf.now) (H.clock pen.old.shelf.now)) (tape pen.new.fault (H.seen pen.new.shelf.now) (H.clock pen.new.shelf.now)) }
         ensures added { pen.new.fault ≡ None → Goes (H.seen pen.old.shelf.now).told (H.seen pen.new.shelf.now).told (Grown packet.now) }
         ensures calls { H.clock pen.new.shelf.now ≤ H.clock pen.old.shelf.now + calls_for packet.now }
+        ensures handed { (start : Option Folder) → WasHanded (StandsBy L.heard L.keeps self.old) start (tape pen.old.fault (H.seen pen.old.shelf.now) (H.clock pen.old.shelf.now)) → WasHanded (StandsBy L.heard L.keeps self.new) start (tape pen.new.fault (H.seen pen.new.shelf.now) (H.clock pen.new.shelf.now)) }
     {
         pen.add(packet);
+        if pen.fault.is_some() {
+            self.stop_all(shared);
+            return;
+        }
         match self.listener.hear(packet) {
             Ok(()) => {}
             Err(NoMemory) => self.stop_all(shared),
         }
     }
 
-    // Adds a lot. At the end of a lane whose memory ran out, all lanes are told to stop.
+    // Adds a lot. At the end of a lane whose memory ran out, all lanes are told to stop, as where a lot could not be added.
     fn record<H: Shelf>(&mut self, shared: &Shared, pen: &mut Pen<'_, H>, lot: Lot)
         requires is_open { IsOpen (tape pen.old.fault (H.seen pen.old.shelf.now) (H.clock pen.old.shelf.now)) }
         requires packets { IsWhole lot }
+        requires going { self.old.stopped ≡ false }
         ensures taker { self.new.taker ≡ self.old.taker }
         ensures begun { self.new.begun ≡ self.old.begun }
-        ensures memory { self.new.no_memory ≡ false → self.old.no_memory ≡ false }
-        ensures well { self.new.no_memory ≡ false → lot ≡ End without_memory → ⊥ }
-        ensures heard { (pieces : List (List ℕ)) → L.heard self.old.begun.value self.old.listener pieces → self.new.no_memory ≡ false → L.heard self.new.begun.value self.new.listener (pieces ++ piece_of lot) }
+        ensures going { self.new.stopped ≡ false → self.old.stopped ≡ false }
+        ensures well { self.new.stopped ≡ false → lot ≡ End without_memory → ⊥ }
+        ensures heard { (pieces : List (List ℕ)) → L.heard self.old.begun.value self.old.listener pieces → self.new.stopped ≡ false → L.heard self.new.begun.value self.new.listener (pieces ++ piece_of lot) }
         ensures loan { pen.new.shelf.ghost_name ≡ pen.old.shelf.ghost_name }
         ensures keeps { KeepsTape (tape pen.old.fault (H.seen pen.old.shelf.now) (H.clock pen.old.shelf.now)) (tape pen.new.fault (H.seen pen.new.shelf.now) (H.clock pen.new.shelf.now)) }
         ensures added { pen.new.fault ≡ None → Goes (H.seen pen.old.shelf.now).told (H.seen pen.new.shelf.now).told (Grown (packet_of lot)) }
         ensures calls { H.clock pen.new.shelf.now ≤ H.clock pen.old.shelf.now + calls_for (packet_of lot) }
+        ensures handed { (start : Option Folder) → WasHanded (StandsBy L.heard L.keeps self.old) start (tape pen.old.fault (H.seen pen.old.shelf.now) (H.clock pen.old.shelf.now)) → WasHanded (StandsBy L.heard L.keeps self.new) start (tape pen.new.fault (H.seen pen.new.shelf.now) (H.clock pen.new.shelf.now)) }
     {
         match lot {
             Lot::Packet(packet) => self.add(shared, pen, packet.bytes()),
@@ -86,7 +96,7 @@ impl<L: Listener> Caller<L> {
         }
     }
 
-    /// Takes a lot and adds it. False where the belt was empty, or memory ran out before.
+    /// Takes a lot and adds it. False where the belt was empty, or the lanes were stopped before.
     pub(crate) fn take_one<R: Wait, H: Shelf>(
         &mut self,
         rt: &R,
@@ -97,11 +107,11 @@ impl<L: Listener> Caller<L> {
         requires is_open { IsOpen (tape pen.old.fault (H.seen pen.old.shelf.now) (H.clock pen.old.shelf.now)) }
         ensures ready { IsCaller L.heard shared.now.belt self.new }
         ensures loan { pen.new.shelf.ghost_name ≡ pen.old.shelf.ghost_name }
-        ensures goes { GoesOn self.old self.new (tape pen.old.fault (H.seen pen.old.shelf.now) (H.clock pen.old.shelf.now)) (tape pen.new.fault (H.seen pen.new.shelf.now) (H.clock pen.new.shelf.now)) }
+        ensures goes { GoesOn L.heard L.keeps self.old self.new (tape pen.old.fault (H.seen pen.old.shelf.now) (H.clock pen.old.shelf.now)) (tape pen.new.fault (H.seen pen.new.shelf.now) (H.clock pen.new.shelf.now)) }
         ensures settled { settled_lanes self.new.taker ≡ settled_lanes self.old.taker }
-        ensures empty { IsFalse result → self.new.no_memory ≡ false → HasAll self.new.taker × IsOfLanes self.new.taker }
+        ensures empty { IsFalse result → self.new.stopped ≡ false → HasAll self.new.taker × IsOfLanes self.new.taker }
     {
-        if self.no_memory {
+        if self.stopped {
             return false;
         }
         match shared.belt.take(rt, &mut self.taker) {
@@ -127,17 +137,17 @@ impl<L: Listener> Caller<L> {
         requires is_open { IsOpen (tape pen.old.fault (H.seen pen.old.shelf.now) (H.clock pen.old.shelf.now)) }
         ensures ready { IsCaller L.heard shared.now.belt self.new × IsOwnPass shared.now.belt result }
         ensures loan { pen.new.shelf.ghost_name ≡ pen.old.shelf.ghost_name }
-        ensures goes { GoesOn self.old self.new (tape pen.old.fault (H.seen pen.old.shelf.now) (H.clock pen.old.shelf.now)) (tape pen.new.fault (H.seen pen.new.shelf.now) (H.clock pen.new.shelf.now)) }
+        ensures goes { GoesOn L.heard L.keeps self.old self.new (tape pen.old.fault (H.seen pen.old.shelf.now) (H.clock pen.old.shelf.now)) (tape pen.new.fault (H.seen pen.new.shelf.now) (H.clock pen.new.shelf.now)) }
         ensures settled { settled_lanes self.new.taker ≡ settled_lanes self.old.taker }
         ensures number { (before : Work C) → Drives C.seen before outcome → number_of result ≡ number_of before.pass }
-        ensures put { (before : Work C) → Drives C.seen before outcome → self.new.no_memory ≡ false → IsPut C.seen before result }
+        ensures put { (before : Work C) → Drives C.seen before outcome → self.new.stopped ≡ false → IsPut C.seen before result }
     {
         flag.store(true, Ordering::SeqCst);
         for _ in rt.forever() {
             match outcome {
                 Outcome::Put(pass) => return pass,
                 Outcome::GivenUp(pass) => {
-                    self.no_memory = true;
+                    self.stopped = true;
                     return pass;
                 }
                 Outcome::Kept(work) => {
@@ -153,14 +163,14 @@ impl<L: Listener> Caller<L> {
     pub(crate) fn settle<R>(&mut self, rt: &R, shared: &Shared, pass: LanePass)
         requires ready { IsCaller L.heard shared.now.belt self.old × IsOwnPass shared.now.belt pass }
         ensures ready { IsCaller L.heard shared.now.belt self.new }
-        ensures goes { (now : Tape) → GoesOn self.old self.new now now }
-        ensures memory { self.new.no_memory ≡ self.old.no_memory }
+        ensures goes { (now : Tape) → GoesOn L.heard L.keeps self.old self.new now now }
+        ensures stopped { self.new.stopped ≡ self.old.stopped }
         ensures settled { settled_lanes self.new.taker ≡ entry_of pass ∷ settled_lanes self.old.taker }
     {
         shared.belt.settle(rt, &mut self.taker, pass);
     }
 
-    /// Takes and adds until each lane has ended, or memory ran out.
+    /// Takes and adds until each lane has ended, or the lanes are stopped.
     pub(crate) fn take_all_ends<R: Wait, H: Shelf>(
         &mut self,
         rt: &R,
@@ -171,11 +181,11 @@ impl<L: Listener> Caller<L> {
         requires is_open { IsOpen (tape pen.old.fault (H.seen pen.old.shelf.now) (H.clock pen.old.shelf.now)) }
         ensures ready { IsCaller L.heard shared.now.belt self.new }
         ensures loan { pen.new.shelf.ghost_name ≡ pen.old.shelf.ghost_name }
-        ensures goes { GoesOn self.old self.new (tape pen.old.fault (H.seen pen.old.shelf.now) (H.clock pen.old.shelf.now)) (tape pen.new.fault (H.seen pen.new.shelf.now) (H.clock pen.new.shelf.now)) }
+        ensures goes { GoesOn L.heard L.keeps self.old self.new (tape pen.old.fault (H.seen pen.old.shelf.now) (H.clock pen.old.shelf.now)) (tape pen.new.fault (H.seen pen.new.shelf.now) (H.clock pen.new.shelf.now)) }
         ensures settled { settled_lanes self.new.taker ≡ settled_lanes self.old.taker }
     {
         for _ in rt.forever() {
-            if self.running == 0 || self.no_memory {
+            if self.running == 0 || self.stopped {
                 return;
             }
             let seen = shared.gate.puts();
@@ -186,7 +196,7 @@ impl<L: Listener> Caller<L> {
         unreachable!()
     }
 
-    /// Takes and adds until the belt is empty, or memory ran out.
+    /// Takes and adds until the belt is empty, or the lanes are stopped.
     pub(crate) fn take_rest<R: Wait, H: Shelf>(
         &mut self,
         rt: &R,
@@ -197,9 +207,9 @@ impl<L: Listener> Caller<L> {
         requires is_open { IsOpen (tape pen.old.fault (H.seen pen.old.shelf.now) (H.clock pen.old.shelf.now)) }
         ensures ready { IsCaller L.heard shared.now.belt self.new }
         ensures loan { pen.new.shelf.ghost_name ≡ pen.old.shelf.ghost_name }
-        ensures goes { GoesOn self.old self.new (tape pen.old.fault (H.seen pen.old.shelf.now) (H.clock pen.old.shelf.now)) (tape pen.new.fault (H.seen pen.new.shelf.now) (H.clock pen.new.shelf.now)) }
+        ensures goes { GoesOn L.heard L.keeps self.old self.new (tape pen.old.fault (H.seen pen.old.shelf.now) (H.clock pen.old.shelf.now)) (tape pen.new.fault (H.seen pen.new.shelf.now) (H.clock pen.new.shelf.now)) }
         ensures settled { settled_lanes self.new.taker ≡ settled_lanes self.old.taker }
-        ensures empty { self.new.no_memory ≡ false → HasAll self.new.taker × IsOfLanes self.new.taker }
+        ensures empty { self.new.stopped ≡ false → HasAll self.new.taker × IsOfLanes self.new.taker }
     {
         for _ in rt.forever() {
             if !self.take_one(rt, shared, pen) {

@@ -51,8 +51,8 @@ pub(crate) fn level<
     requires flags { length works.old.items ≤ length flags.now }
     ensures ready { IsCaller L.heard shared.now.belt caller.new }
     ensures loan { pen.new.shelf.ghost_name ≡ pen.old.shelf.ghost_name }
-    ensures goes { GoesOn caller.old caller.new (tape pen.old.fault (H.seen pen.old.shelf.now) (H.clock pen.old.shelf.now)) (tape pen.new.fault (H.seen pen.new.shelf.now) (H.clock pen.new.shelf.now)) }
-    ensures settled { Settles C.seen caller.new.no_memory works.old.items (settled_lanes caller.old.taker) (settled_lanes caller.new.taker) }
+    ensures goes { GoesOn L.heard L.keeps caller.old caller.new (tape pen.old.fault (H.seen pen.old.shelf.now) (H.clock pen.old.shelf.now)) (tape pen.new.fault (H.seen pen.new.shelf.now) (H.clock pen.new.shelf.now)) }
+    ensures settled { Settles C.seen caller.new.stopped works.old.items (settled_lanes caller.old.taker) (settled_lanes caller.new.taker) }
 {
     let Some(work) = works.pop_front() else {
         caller.take_all_ends(rt, shared, pen);

@@ -14,7 +14,7 @@
 //! - `rule`: the steps of the belt, which keep its rule
 //! - `laws`: what the rule says of each step, and what is recorded of children that tell their output
 //! - `run`: all lanes, each read on a thread of its own, and recorded by the one that called
-//! - `listener`: who hears what is added
+//! - `listener`: who hears what is added, and what that keeps at each exit
 //! - `work`: the work of a lane; `caller`, `pen`: the part of the one that records; `levels`: a thread for each lane
 //! - `gate`: waiting for a move of the belt
 #![tactic(auto)]

@@ -2,7 +2,7 @@
 
 ghost use Rattle.std.specs.Prelude.{◌≡◌, ◌≤◌, ◌+◌, None};
 ghost use Rattle.edge_io.specs.Steps.{Goes, Grown};
-ghost use Rattle.worker_mux.specs.Callers.{KeepsTape, IsOpen, calls_for, tape};
+ghost use Rattle.worker_mux.specs.Callers.{AddsPart, KeepsTape, IsOpen, calls_for, tape};
 
 use edge_io::Shelf;
 use run_shelf::{ShelfCall, add_packet};
@@ -22,6 +22,7 @@ impl<'h, H: Shelf> Pen<'h, H> {
         ensures loan { self.new.shelf.ghost_name ≡ self.old.shelf.ghost_name }
         ensures keeps { KeepsTape (tape self.old.fault (H.seen self.old.shelf.now) (H.clock self.old.shelf.now)) (tape self.new.fault (H.seen self.new.shelf.now) (H.clock self.new.shelf.now)) }
         ensures added { self.new.fault ≡ None → Goes (H.seen self.old.shelf.now).told (H.seen self.new.shelf.now).told (Grown packet.now) }
+        ensures part { AddsPart packet.now (tape self.old.fault (H.seen self.old.shelf.now) (H.clock self.old.shelf.now)) (tape self.new.fault (H.seen self.new.shelf.now) (H.clock self.new.shelf.now)) }
         ensures calls { H.clock self.new.shelf.now ≤ H.clock self.old.shelf.now + calls_for packet.now }
     {
         if self.fault.is_some() {

@@ -1,13 +1,13 @@
 //! All lanes, each on a thread of its own, recorded by the caller.
 
-ghost use Rattle.std.specs.Prelude.{◌≡◌, ◌≤◌, ◌<◌, [], None, length, map, IfOk, IsOk, OnOk};
+ghost use Rattle.std.specs.Prelude.{◌≡◌, ◌≤◌, ◌<◌, [], None, false, length, map, IfOk, IsOk, OnOk};
 ghost use Rattle.std.specs.List.{AllByRecursion, range_with_len};
 ghost use Rattle.std.specs.VecDeque.{deque_capacity};
 ghost use Rattle.edge_io.specs.Steps.{Goes};
 ghost use Rattle.run_shelf.specs.Images.{PassesOld};
 ghost use Rattle.run_shelf.specs.Stores.{recorder_kinds, recorder_partial, recorder_fault, RecordsUnlessBroken};
 ghost use Rattle.worker_lane.specs.Lanes.{rest, lane_number};
-ghost use Rattle.worker_mux.specs.Callers.{IsNewTaker, KeepsTape, IsOpen, tape};
+ghost use Rattle.worker_mux.specs.Callers.{IsNewTaker, KeepsTape, IsOpen, HeardOrKept, WasHanded, tape};
 ghost use Rattle.worker_mux.specs.Passes.{number_of, lane_count, IsFresh};
 ghost use Rattle.worker_mux.specs.Runs.{share, first_share, IsBegun, IsRecorded, AddsMerge, HearsMerge};
 ghost use Rattle.worker_mux.specs.Works.{IsReady};
@@ -41,10 +41,14 @@ const ROOM: usize = 16;
 ///
 /// At `Ok`, where no call of the folder has failed, the run has grown by the packets of events, each under one of the
 /// lanes; of each lane whose child tells they are all its events, once and in order. Where a call of the folder failed,
-/// the recorder is closed, and the lanes were still read to their ends (no clause says so).
+/// the recorder is closed, nothing more is added, and the children are stopped and waited for (no clause says so), also
+/// where they would print for ever.
 ///
-/// With `NoMemory` all children were stopped and waited for (no clause says so), and what was added is not known. It does
-/// not come where there is no lane.
+/// With `NoMemory` all children were stopped and waited for (no clause says so), and what was added are packets of some
+/// events. It does not come where there is no lane, nor where a call of the folder failed.
+///
+/// A child is stopped by the thread that reads it, as soon as that has read on: one that is silent is waited for until it
+/// prints or ends.
 pub fn run_lanes<R: Threads + Wait + Sync, C: Child + Send + Drop, H: Shelf>(
     rt: &R,
     alloc: Global,
@@ -65,14 +69,16 @@ pub fn run_lanes<R: Threads + Wait + Sync, C: Child + Send + Drop, H: Shelf>(
     ensures no_lane { lanes.items ≡ [] → IsOk result }
     ensures merged { OnOk result (recorder_fault recorder.new ≡ None → AddsMerge (map (rest C.seen) lanes.items) (H.seen recorder.old.shelf.now).told (H.seen recorder.new.shelf.now).told) }
 {
-    run_lanes_heard(rt, alloc, lanes, recorder, Deaf)?;
-    Ok(())
+    let (_, done) = run_lanes_heard(rt, alloc, lanes, recorder, Deaf);
+    done
 }
 
-/// The same for a listener that has heard nothing: it hears what is added, in pieces of whole packets, and comes back.
+/// The same for a listener that has heard nothing: it hears what is added, in pieces of whole packets, and comes back at
+/// each exit.
 ///
 /// At `Ok`, where no call of the folder has failed, it has heard all that was added, and the folder was called at most once
-/// for each packet. Where one failed, what it has heard is not known. Where the listener wants memory, all children are stopped, as for a lane's want of it.
+/// for each packet. At each exit it has heard the pieces that were added, and no others, or wanted memory at the last one: a
+/// piece that a call failed to add is not handed on. Where it wants memory, all children are stopped, as for a lane's want.
 pub fn run_lanes_heard<
     R: Threads + Wait + Sync,
     C: Child + Send + Drop,
@@ -84,7 +90,7 @@ pub fn run_lanes_heard<
     lanes: Vec<Lane<C>>,
     recorder: &mut Recorder<'_, H>,
     listener: L,
-) -> Result<L, NoMemory>
+) -> (L, Result<(), NoMemory>)
     requires numbers { map lane_number lanes.items ≡ range_with_len 0 (length lanes.items) }
     requires few { length lanes.items ≤ 64 }
     requires fits { RecordsUnlessBroken (recorder_kinds recorder.old) (recorder_fault recorder.old) (H.seen recorder.old.shelf.now).told }
@@ -97,15 +103,16 @@ pub fn run_lanes_heard<
     ensures kinds { recorder_kinds recorder.new ≡ recorder_kinds recorder.old }
     ensures partial { recorder_partial recorder.new ≡ recorder_partial recorder.old }
     // What was added, and heard.
-    ensures no_lane { lanes.items ≡ [] → IsOk result }
-    ensures merged { IfOk result (λ l. recorder_fault recorder.new ≡ None → HearsMerge (L.heard listener l) (map (rest C.seen) lanes.items) (tape (recorder_fault recorder.old) (H.seen recorder.old.shelf.now) (H.clock recorder.old.shelf.now)) (tape (recorder_fault recorder.new) (H.seen recorder.new.shelf.now) (H.clock recorder.new.shelf.now))) }
+    ensures no_lane { lanes.items ≡ [] → IsOk result.1 }
+    ensures merged { OnOk result.1 (recorder_fault recorder.new ≡ None → HearsMerge (L.heard listener result.0) (map (rest C.seen) lanes.items) (tape (recorder_fault recorder.old) (H.seen recorder.old.shelf.now) (H.clock recorder.old.shelf.now)) (tape (recorder_fault recorder.new) (H.seen recorder.new.shelf.now) (H.clock recorder.new.shelf.now))) }
+    ensures handed { WasHanded (HeardOrKept L.heard L.keeps listener result.0) (H.seen recorder.old.shelf.now).told (tape (recorder_fault recorder.new) (H.seen recorder.new.shelf.now) (H.clock recorder.new.shelf.now)) }
 {
     if lanes.len() == 0 {
-        return Ok(listener);
+        return (listener, Ok(()));
     }
     let Ok(stage) = Stage::new(alloc, lanes.len()) else {
         give_up_all(lanes);
-        return Err(NoMemory);
+        return (listener, Err(NoMemory));
     };
     let Stage {
         belt,
@@ -120,7 +127,7 @@ pub fn run_lanes_heard<
         gate: Gate::new(ROOM),
         stop: AtomicBool::new(false),
     };
-    let (fault, heard) = read_all(
+    let (listener, fault, done) = read_all(
         rt,
         &shared,
         flags.as_slice(),
@@ -131,7 +138,7 @@ pub fn run_lanes_heard<
         recorder.recording.fault,
     );
     recorder.recording.fault = fault;
-    heard
+    (listener, done)
 }
 
 // All the memory that a run takes, before a lane begins.
@@ -213,7 +220,7 @@ fn unset_flags(alloc: Global, count: usize) -> Result<Vec<AtomicBool>, NoMemory>
     Ok(flags)
 }
 
-// Reads all works to their ends: the call of the folder that failed, and the listener, unless memory ran out.
+// Reads all works to their ends: the listener, the call of the folder that failed, and whether memory ran out.
 fn read_all<R: Threads + Wait + Sync, C: Child + Send + Drop, H: Shelf, L: Listener + Drop>(
     rt: &R,
     shared: &Shared,
@@ -223,14 +230,15 @@ fn read_all<R: Threads + Wait + Sync, C: Child + Send + Drop, H: Shelf, L: Liste
     listener: L,
     shelf: &mut H,
     fault: Option<ShelfCall>,
-) -> (Option<ShelfCall>, Result<L, NoMemory>)
+) -> (L, Option<ShelfCall>, Result<(), NoMemory>)
     requires taker { IsNewTaker shared.now.belt taker }
     requires works { AllByRecursion (IsReady shared.now.belt) works.items }
     requires flags { length works.items ≤ length flags.now }
     requires is_open { IsOpen (tape fault (H.seen shelf.old) (H.clock shelf.old)) }
     requires nothing { L.heard listener listener [] }
-    ensures keeps { KeepsTape (tape fault (H.seen shelf.old) (H.clock shelf.old)) (tape result.0 (H.seen shelf.new) (H.clock shelf.new)) }
-    ensures recorded { IfOk result.1 (λ l. result.0 ≡ None → IsRecorded C.seen (L.heard listener l) (lane_count taker) works.items (tape fault (H.seen shelf.old) (H.clock shelf.old)) (tape result.0 (H.seen shelf.new) (H.clock shelf.new))) }
+    ensures keeps { KeepsTape (tape fault (H.seen shelf.old) (H.clock shelf.old)) (tape result.1 (H.seen shelf.new) (H.clock shelf.new)) }
+    ensures recorded { OnOk result.2 (result.1 ≡ None → IsRecorded C.seen (L.heard listener result.0) (lane_count taker) works.items (tape fault (H.seen shelf.old) (H.clock shelf.old)) (tape result.1 (H.seen shelf.new) (H.clock shelf.new))) }
+    ensures handed { WasHanded (HeardOrKept L.heard L.keeps listener result.0) (H.seen shelf.old).told (tape result.1 (H.seen shelf.new) (H.clock shelf.new)) }
 {
     in_scope(rt, shared, flags, works, taker, listener, shelf, fault)
 }
@@ -245,31 +253,35 @@ fn in_scope<R: Threads + Wait + Sync, C: Child + Send + Drop, H: Shelf, L: Liste
     listener: L,
     shelf: &mut H,
     fault: Option<ShelfCall>,
-) -> (Option<ShelfCall>, Result<L, NoMemory>)
+) -> (L, Option<ShelfCall>, Result<(), NoMemory>)
     requires begun { IsBegun shared.now.belt taker works.items (length flags.now) (tape fault (H.seen shelf.old) (H.clock shelf.old)) × L.heard listener listener [] }
-    ensures keeps { KeepsTape (tape fault (H.seen shelf.old) (H.clock shelf.old)) (tape result.0 (H.seen shelf.new) (H.clock shelf.new)) }
-    ensures recorded { IfOk result.1 (λ l. result.0 ≡ None → IsRecorded C.seen (L.heard listener l) (lane_count taker) works.items (tape fault (H.seen shelf.old) (H.clock shelf.old)) (tape result.0 (H.seen shelf.new) (H.clock shelf.new))) }
+    ensures keeps { KeepsTape (tape fault (H.seen shelf.old) (H.clock shelf.old)) (tape result.1 (H.seen shelf.new) (H.clock shelf.new)) }
+    ensures recorded { OnOk result.2 (result.1 ≡ None → IsRecorded C.seen (L.heard listener result.0) (lane_count taker) works.items (tape fault (H.seen shelf.old) (H.clock shelf.old)) (tape result.1 (H.seen shelf.new) (H.clock shelf.new))) }
+    ensures handed { WasHanded (HeardOrKept L.heard L.keeps listener result.0) (H.seen shelf.old).told (tape result.1 (H.seen shelf.new) (H.clock shelf.new)) }
 {
-    let (shelf, fault, heard) = thread::scope(
+    let (shelf, listener, fault, done) = thread::scope(
         thread::scope_env(),
         rt,
-        move |scope| -> (&mut H, Option<ShelfCall>, Result<L, NoMemory>)
+        move |scope| -> (&mut H, L, Option<ShelfCall>, Result<(), NoMemory>)
             requires begun { IsBegun shared.now.belt taker works.items (length flags.now) (tape fault (H.seen shelf.now) (H.clock shelf.now)) × L.heard listener listener [] }
             ensures same { result.0.ghost_name ≡ shelf.entry.ghost_name }
-            ensures keeps { KeepsTape (tape fault (H.seen shelf.entry.now) (H.clock shelf.entry.now)) (tape result.1 (H.seen result.0.now) (H.clock result.0.now)) }
-            ensures recorded { IfOk result.2 (λ l. result.1 ≡ None → IsRecorded C.seen (L.heard listener l) (lane_count taker) works.items (tape fault (H.seen shelf.entry.now) (H.clock shelf.entry.now)) (tape result.1 (H.seen result.0.now) (H.clock result.0.now))) }
+            ensures keeps { KeepsTape (tape fault (H.seen shelf.entry.now) (H.clock shelf.entry.now)) (tape result.2 (H.seen result.0.now) (H.clock result.0.now)) }
+            ensures recorded { OnOk result.3 (result.2 ≡ None → IsRecorded C.seen (L.heard listener result.1) (lane_count taker) works.items (tape fault (H.seen shelf.entry.now) (H.clock shelf.entry.now)) (tape result.2 (H.seen result.0.now) (H.clock result.0.now))) }
+            ensures handed { WasHanded (HeardOrKept L.heard L.keeps listener result.1) (H.seen shelf.entry.now).told (tape result.2 (H.seen result.0.now) (H.clock result.0.now)) }
         {
             let mut pen = Pen { shelf, fault };
-            let heard = all_levels(rt, scope, shared, flags, works, taker, listener, &mut pen);
+            let (listener, done) = all_levels(
+                rt, scope, shared, flags, works, taker, listener, &mut pen,
+            );
             let Pen { shelf, fault } = pen;
-            (shelf, fault, heard)
+            (shelf, listener, fault, done)
         },
     );
     take_back(shelf);
-    (fault, heard)
+    (listener, fault, done)
 }
 
-// All levels, and then what is left on the belt: the listener, unless memory ran out.
+// All levels, and then what is left on the belt: the listener, and whether memory ran out.
 fn all_levels<
     's,
     R: Threads + Wait + Sync,
@@ -286,18 +298,19 @@ fn all_levels<
     taker: Taker,
     listener: L,
     pen: &mut Pen<'_, H>,
-) -> Result<L, NoMemory>
+) -> (L, Result<(), NoMemory>)
     requires begun { IsBegun shared.now.belt taker works.items (length flags.now) (tape pen.old.fault (H.seen pen.old.shelf.now) (H.clock pen.old.shelf.now)) × L.heard listener listener [] }
     ensures loan { pen.new.shelf.ghost_name ≡ pen.old.shelf.ghost_name }
     ensures keeps { KeepsTape (tape pen.old.fault (H.seen pen.old.shelf.now) (H.clock pen.old.shelf.now)) (tape pen.new.fault (H.seen pen.new.shelf.now) (H.clock pen.new.shelf.now)) }
-    ensures recorded { IfOk result (λ l. pen.new.fault ≡ None → IsRecorded C.seen (L.heard listener l) (lane_count taker) works.items (tape pen.old.fault (H.seen pen.old.shelf.now) (H.clock pen.old.shelf.now)) (tape pen.new.fault (H.seen pen.new.shelf.now) (H.clock pen.new.shelf.now))) }
+    ensures recorded { OnOk result.1 (pen.new.fault ≡ None → IsRecorded C.seen (L.heard listener result.0) (lane_count taker) works.items (tape pen.old.fault (H.seen pen.old.shelf.now) (H.clock pen.old.shelf.now)) (tape pen.new.fault (H.seen pen.new.shelf.now) (H.clock pen.new.shelf.now))) }
+    ensures handed { WasHanded (HeardOrKept L.heard L.keeps listener result.0) (H.seen pen.old.shelf.now).told (tape pen.new.fault (H.seen pen.new.shelf.now) (H.clock pen.new.shelf.now)) }
 {
     let mut caller = Caller {
         taker,
         begun: Snapshot::of(&listener),
         listener,
         running: works.len(),
-        no_memory: false,
+        stopped: false,
     };
     level(rt, scope, shared, flags, &mut works, &mut caller, pen);
     caller.take_rest(rt, shared, pen);
@@ -306,12 +319,19 @@ fn all_levels<
         begun: _,
         listener,
         running: _,
-        no_memory,
+        stopped,
     } = caller;
-    if no_memory {
+    (listener, answer_of(stopped, pen.fault))
+}
+
+// Lanes that were stopped, and for no fault of the folder, were stopped for want of memory.
+fn answer_of(stopped: bool, fault: Option<ShelfCall>) -> Result<(), NoMemory>
+    ensures { OnOk result (fault ≡ None → stopped ≡ false) }
+{
+    if stopped && fault.is_none() {
         Err(NoMemory)
     } else {
-        Ok(listener)
+        Ok(())
     }
 }
 

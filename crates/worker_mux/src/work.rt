@@ -21,7 +21,7 @@ use std::sync::atomic::{AtomicBool, Ordering};
 use sub_number::Bytes;
 use worker_lane::{Lane, Lot};
 
-/// What all lanes share: the belt, the gate at which threads wait for its moves, and whether memory ran out.
+/// What all lanes share: the belt, the gate at which threads wait for its moves, and whether all lanes are to stop.
 #[derive(Drop)]
 pub(crate) struct Shared {
     pub(crate) belt: Belt,
@@ -44,7 +44,7 @@ pub(crate) enum Outcome<C> {
     Kept(Work<C>),
     /// All lots are put.
     Put(LanePass),
-    /// Memory ran out in some lane, and the child was stopped.
+    /// All lanes are to stop, and the child was stopped.
     GivenUp(LanePass),
 }
 
@@ -139,7 +139,7 @@ impl<C: Child> Work<C> {
 }
 
 /// Puts each lot of the work, and waits while the belt is full. Where the flag is set, a full belt ends the call, and the
-/// lot is kept. Where memory ran out in some lane, the child is given up.
+/// lot is kept. Where all lanes are to stop, the child is given up.
 pub(crate) fn drive<C: Child + Drop, R: Wait>(
     rt: &R,
     shared: &Shared,

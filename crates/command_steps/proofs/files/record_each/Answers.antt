@@ -2,6 +2,7 @@ use Rattle.std.proofs.Common.{◌≡◌, ◌∷◌, ◌++◌, ◌+◌, [], inl, 
 use Rattle.std.proofs.lemmas.List.{take_more, take-append-drop, at_drop_more, length-take-le}
 use Rattle.command_steps.specs.Files.{RecordsInTurn}
 use Rattle.command_steps.specs.Outside.{filed}
+use Rattle.command_steps.proofs.HearLemmas.{hears_then, stops_then, stops_behind}
 use Rattle.command_steps.proofs.Resting.{same_then}
 use Rattle.command_steps.proofs.FilesLemmas.{caused_in, records_more}
 use Rattle.command_steps.proofs.files.record_each.Goals as goal
@@ -21,8 +22,8 @@ loop-name-preserved g c =
       done = (
         run ++ file.run,
         subst (λ l. RecordsInTurn l before after (run ++ file.run)) (ap (λ n. take index names ++ n ∷ []) here ∙ sym (take_more names index c.name-item.result (grind arith)))
-            (records_more (take index names) name before _ after run _ _ turn c.loop-name.lane (c.loop-name.invariant.lane ∙ sym count) file (omega (arith, count, c.requires.few, c.loop-name-test.true))),
-        file.folded run has,
+            (records_more (take index names) name before _ after run _ turn c.loop-name.lane (c.loop-name.invariant.lane ∙ sym count) file (omega (arith, count, c.requires.few, c.loop-name-test.true))),
+        hears_then g.L.Listener.heard _ _ _ run file.run has file.was_heard,
       );
       lane = omega (arith, c.loop-name.invariant.lane);
       draft = c.in_ok-record_file.ensures.draft;
@@ -48,3 +49,13 @@ returns-in_err-record_file-clause-refused g c =
       recorded = turn;
       cause = c.in_err-record_file.ensures.refused;
     }))
+
+pub returns-in_err-record_file-clause-stops : goal.returns-in_err-record_file-clause-stops
+returns-in_err-record_file-clause-stops g c =
+    let (run, turn, has) = c.loop-name.invariant.done in
+    stops_then g.L.Listener.heard g.L.Listener.keeps _ _ _ run has c.record_file.ensures.stops
+
+pub returns-clause-stops : goal.returns-clause-stops
+returns-clause-stops g c =
+    let (run, turn, has) = c.loop-name.invariant.done in
+    stops_behind g.L.Listener.heard g.L.Listener.keeps _ _ run has

@@ -1,11 +1,11 @@
-use Rattle.std.proofs.Common.{◌≡◌, ◌+◌, ◌-◌, ◌≤◌, List, [], ◌++◌, ℕ, false, length}
+use Rattle.std.proofs.Common.{◌≡◌, ◌+◌, ◌-◌, ◌≤◌, List, [], ℕ, false, length}
 use Rattle.edge_io.specs.Steps.{Goes, Grown, HasDraft}
 use Rattle.packet_codec.specs.Grammar.{AreBytes}
-use Rattle.run_ledger.specs.Writing.{HasWritten}
 use Rattle.run_shelf.specs.Drafts.{SameButDraft}
 use Rattle.worker_lane.specs.Scribing.{Recording}
 use Rattle.stream_reader.specs.Room.{most_held}
 use Rattle.command_steps.specs.Files.{AreFrontOf, NoneFailed}
+use Rattle.command_steps.specs.Hearing.{HearsMore}
 use Rattle.command_steps.specs.Outside.{filed}
 use Rattle.command_steps.specs.Recording.{most_bytes}
 use Rattle.command_steps.proofs.files.record_pieces.Given as goal
@@ -13,7 +13,7 @@ use Rattle.command_steps.proofs.files.record_pieces.Given as goal
 -- the packets of the bytes read so far were written
 abbrev pub invariant-loop-found : goal.invariant-loop-found
 invariant-loop-found g l = record {
-  read : (bytes : List ℕ) × AreFrontOf l.name (g.F.Site.seen l.initial.site).told bytes × (length bytes ≡ l.total) × (run : List ℕ) × Recording bytes l.scribe run × ((front : List ℕ) → HasWritten [] l.fn.run front → HasWritten [] l.run (front ++ run)) × AreBytes run × Goes (g.H.Shelf.seen l.initial.shelf).told (g.H.Shelf.seen l.shelf).told (Grown run);
+  read : (bytes : List ℕ) × AreFrontOf l.name (g.F.Site.seen l.initial.site).told bytes × (length bytes ≡ l.total) × (run : List ℕ) × Recording bytes l.scribe run × HearsMore g.L.Listener.heard l.fn.listener l.listener run × AreBytes run × Goes (g.H.Shelf.seen l.initial.shelf).told (g.H.Shelf.seen l.shelf).told (Grown run);
   few : l.total ≤ most_bytes;
   draft : HasDraft (g.H.Shelf.seen l.shelf).told;
   going_on : l.scribe.held.ended ≡ false;

@@ -6,13 +6,14 @@ use Rattle.run_shelf.proofs.DraftLemmas.{goes_grown_then}
 use Rattle.worker_lane.specs.Scribing.{Recording}
 use Rattle.command_steps.specs.Outside.{fed}
 use Rattle.command_steps.specs.Recording.{NoneFailed, ReadsFew, ReadsTooMany}
+use Rattle.command_steps.proofs.HearLemmas.{hears_then, stops_then, stops_behind}
 use Rattle.command_steps.proofs.Resting.{same_then}
 use Rattle.command_steps.proofs.RecordLemmas.{told_longer, write_cause, caused_by}
 use Rattle.command_steps.proofs.recording.record_pieces.Goals as goal
 
 pub loop-count-preserved : goal.loop-count-preserved
 loop-count-preserved g c =
-    let (bytes, read, size, run, recording, folded, are, written) = c.loop-count.invariant.read in
+    let (bytes, read, size, run, recording, heard, are, written) = c.loop-count.invariant.read in
     let piece = take c.in_ok-count.count c.read.new.buf in
     let more = c.in_ok-write_packets.ensures.written in
     let packets = more.run in
@@ -25,7 +26,7 @@ loop-count-preserved g c =
         omega (arith, size, c.in_ok-count.ensures.bound.1, length-append bytes piece),
         run ++ packets,
         subst (λ l. Recording (bytes ++ piece) c.write_packets.new.scribe (run ++ l)) (sym given.new_is) (given.recording (bytes ++ piece) run held),
-        more.folded run folded,
+        hears_then g.L.Listener.heard _ _ _ run packets heard more.was_heard,
         are_both run packets are more.are_bytes,
         goes_grown_then _ _ _ run packets written more.written,
       );
@@ -41,7 +42,7 @@ loop-count-preserved g c =
 
 pub returns-then-total-gt-MOST_BYTES-clause-refused : goal.returns-then-total-gt-MOST_BYTES-clause-refused
 returns-then-total-gt-MOST_BYTES-clause-refused g c =
-    let (bytes, read, size, run, recording, folded, are, written) = c.loop-count.invariant.read in
+    let (bytes, read, size, run, recording, heard, are, written) = c.loop-count.invariant.read in
     let piece = take c.in_ok-count.count c.read.new.buf in
     let reads : ReadsTooMany (g.I.Source.seen c.args.input.now).told (g.I.Source.seen c.read.new.self).told = record {
       bytes = bytes ++ piece;
@@ -54,7 +55,7 @@ returns-then-total-gt-MOST_BYTES-clause-refused g c =
 
 pub returns-in_err-write_packets-clause-refused : goal.returns-in_err-write_packets-clause-refused
 returns-in_err-write_packets-clause-refused g c =
-    let (bytes, read, size, run, recording, folded, are, written) = c.loop-count.invariant.read in
+    let (bytes, read, size, run, recording, heard, are, written) = c.loop-count.invariant.read in
     let piece = take c.in_ok-count.count c.read.new.buf in
     let reads : ReadsFew (g.I.Source.seen c.args.input.now).told (g.I.Source.seen c.read.new.self).told = record {
       bytes = bytes ++ piece;
@@ -63,3 +64,23 @@ returns-in_err-write_packets-clause-refused g c =
     } in
     let counts : NoneFailed (fed (g.H.Shelf.seen c.args.shelf.now) (g.I.Source.seen c.args.input.now)) (fed (g.H.Shelf.seen c.loop-count.shelf) (g.I.Source.seen c.read.new.self)) = record { folder = c.loop-count.invariant.counts.folder; input = c.in_ok-count.ensures.cause.done ∙ c.loop-count.invariant.counts.input } in
     caused_by _ _ _ _ c.from_residual-in_err-write_packets.ensures.1 (write_cause _ _ _ _ _ counts c.in_err-write_packets.ensures.refused reads)
+
+pub returns-in_err-count-clause-stops : goal.returns-in_err-count-clause-stops
+returns-in_err-count-clause-stops g c =
+    let (bytes, read, size, run, recording, heard, are, written) = c.loop-count.invariant.read in
+    stops_behind g.L.Listener.heard g.L.Listener.keeps _ _ run heard
+
+pub returns-then-count-eq0-clause-stops : goal.returns-then-count-eq0-clause-stops
+returns-then-count-eq0-clause-stops g c =
+    let (bytes, read, size, run, recording, heard, are, written) = c.loop-count.invariant.read in
+    stops_behind g.L.Listener.heard g.L.Listener.keeps _ _ run heard
+
+pub returns-then-total-gt-MOST_BYTES-clause-stops : goal.returns-then-total-gt-MOST_BYTES-clause-stops
+returns-then-total-gt-MOST_BYTES-clause-stops g c =
+    let (bytes, read, size, run, recording, heard, are, written) = c.loop-count.invariant.read in
+    stops_behind g.L.Listener.heard g.L.Listener.keeps _ _ run heard
+
+pub returns-in_err-write_packets-clause-stops : goal.returns-in_err-write_packets-clause-stops
+returns-in_err-write_packets-clause-stops g c =
+    let (bytes, read, size, run, recording, heard, are, written) = c.loop-count.invariant.read in
+    stops_then g.L.Listener.heard g.L.Listener.keeps _ _ _ run heard c.write_packets.ensures.stops

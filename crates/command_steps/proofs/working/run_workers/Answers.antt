@@ -2,26 +2,27 @@ use Rattle.std.proofs.Common.{◌≡◌, ◌-◌, Bool, List, [], ◌∷◌, ◌
 use Rattle.run_shelf.specs.Holds.{kinds_of, FitsWhereTold}
 use Rattle.command_steps.specs.Steps.{stops}
 use Rattle.command_steps.proofs.StepCalls.{works_by_few, handed, start_other, lanes_other, refresh_other}
+use Rattle.command_steps.proofs.SpeakLemmas.{none_said, part_said, said_so_far, said_all, said_run, run_shown}
 use Rattle.command_steps.proofs.StepLemmas.{part_done, part_stops, refreshes_as, gives}
 use Rattle.command_steps.proofs.WorkLemmas.{keeps_fault, where_some}
 use Rattle.command_steps.proofs.working.run_workers.Goals as goal
 
 pub returns-in_err-begin-clause-step : goal.returns-in_err-begin-clause-step
-returns-in_err-begin-clause-step g c = keeps_fault _ _ c.from_residual.ensures.1 (λ site input out. part_stops _ refl c.in_err-begin.ensures.step refl)
+returns-in_err-begin-clause-step g c = keeps_fault _ _ c.from_residual.ensures.1 (λ site input printed. part_stops _ refl c.in_err-begin.ensures.step refl)
 
 pub returns-in_err-lanes-clause-step : goal.returns-in_err-lanes-clause-step
-returns-in_err-lanes-clause-step g c = keeps_fault _ _ c.from_residual-in_err-lanes.ensures.1 (λ site input out.
+returns-in_err-lanes-clause-step g c = keeps_fault _ _ c.from_residual-in_err-lanes.ensures.1 (λ site input printed.
     part_done _ _ c.in_ok-begin.ensures.step
     (part_stops _ refl c.in_err-lanes.ensures.step refl))
 
 pub returns-in_err-found-clause-step : goal.returns-in_err-found-clause-step
-returns-in_err-found-clause-step g c = keeps_fault _ _ c.from_residual-in_err-found.ensures.1 (λ site input out.
+returns-in_err-found-clause-step g c = keeps_fault _ _ c.from_residual-in_err-found.ensures.1 (λ site input printed.
     part_done _ _ c.in_ok-begin.ensures.step
     (part_done _ _ c.in_ok-lanes.ensures.step
     (part_stops _ refl c.in_err-found.ensures.step.holds refl)))
 
 pub returns-in_err-keep-clause-step : goal.returns-in_err-keep-clause-step
-returns-in_err-keep-clause-step g c = keeps_fault _ _ c.from_residual-in_err-keep.ensures.1 (λ site input out.
+returns-in_err-keep-clause-step g c = keeps_fault _ _ c.from_residual-in_err-keep.ensures.1 (λ site input printed.
     part_done _ _ c.in_ok-begin.ensures.step
     (part_done _ _ c.in_ok-lanes.ensures.step
     (part_done _ _ c.in_ok-found.ensures.step.holds
@@ -33,7 +34,7 @@ returns-in-Ok-clause-step g c =
     record {
       rows = sums.rows;
       sums = sums.sums;
-      holds = λ site input out.
+      holds = λ site input printed.
           part_done _ _ c.in_ok-begin.ensures.step
           (part_done _ _ c.in_ok-lanes.ensures.step
           (part_done _ _ c.in_ok-found.ensures.step.holds
@@ -48,7 +49,7 @@ returns-clause-step g c =
     record {
       rows = [];
       sums = tt;
-      holds = λ site input out.
+      holds = λ site input printed.
           part_done _ _ c.in_ok-begin.ensures.step
           (part_done _ _ c.in_ok-lanes.ensures.step
           (part_done _ _ c.in_ok-found.ensures.step.holds
@@ -100,3 +101,35 @@ returns-in_err-keep-clause-code g c = handed _ _ c.from_residual-in_err-keep.ens
 
 pub returns-clause-code : goal.returns-clause-code
 returns-clause-code g c = refresh_other c.in-Err.fault
+
+-- ---- what was said
+
+pub returns-in_err-begin-clause-some : goal.returns-in_err-begin-clause-some
+returns-in_err-begin-clause-some g c = none_said _ _ _ _ _ _ refl c.requires.speaks.0 c.requires.speaks.1
+
+pub returns-in_err-lanes-clause-some : goal.returns-in_err-lanes-clause-some
+returns-in_err-lanes-clause-some g c = none_said _ _ _ _ _ _ refl c.requires.speaks.0 c.requires.speaks.1
+
+pub returns-in_err-found-clause-some : goal.returns-in_err-found-clause-some
+returns-in_err-found-clause-some g c = part_said _ _ _ _ _ _ c.in_err-found.ensures.some
+
+pub returns-in_err-keep-clause-some : goal.returns-in_err-keep-clause-some
+returns-in_err-keep-clause-some g c = said_so_far _ _ _ _ _ _ _ _ _ c.in_ok-found.ensures.aloud _ _
+
+pub returns-in-Ok-clause-some : goal.returns-in-Ok-clause-some
+returns-in-Ok-clause-some g c =
+    let aloud = c.in_ok-found.ensures.aloud in
+    said_all _ _ _ _ _ _ _ _ _ aloud _ _ c.say_end.ensures.out (rw c.deref.ensures.value at c.say_end.ensures.takes) c.args.partial _
+    (run_shown c.args.partial (length (kinds_of c.args.found)) (kinds_of c.args.found) aloud.events _ _ _ _ _ c.requires.fits c.in_ok-begin.ensures.step.begun aloud.added (rw c.in_ok-found.ensures.kinds at c.in_ok-keep.ensures.step).kept (c.in-Ok.ensures.step c.args.filter_tags aloud.rows aloud.sums).others)
+
+pub returns-clause-some : goal.returns-clause-some
+returns-clause-some g c =
+    let aloud = c.in_ok-found.ensures.aloud in
+    said_all _ _ _ _ _ _ _ _ _ aloud _ _ c.say_end.ensures.out (rw c.deref.ensures.value at c.say_end.ensures.takes) c.args.partial _
+    (run_shown c.args.partial (length (kinds_of c.args.found)) (kinds_of c.args.found) aloud.events _ _ _ _ _ c.requires.fits c.in_ok-begin.ensures.step.begun aloud.added (rw c.in_ok-found.ensures.kinds at c.in_ok-keep.ensures.step).kept (c.in-Err.ensures.step c.args.filter_tags aloud.rows aloud.sums).others)
+
+pub returns-in-Ok-clause-whole : goal.returns-in-Ok-clause-whole
+returns-in-Ok-clause-whole g c =
+    let aloud = c.in_ok-found.ensures.aloud in
+    said_run _ _ _ _ _ _ _ _ _ aloud _ _ c.say_end.ensures.out (rw c.deref.ensures.value at c.say_end.ensures.takes) c.args.partial _
+    (run_shown c.args.partial (length (kinds_of c.args.found)) (kinds_of c.args.found) aloud.events _ _ _ _ _ c.requires.fits c.in_ok-begin.ensures.step.begun aloud.added (rw c.in_ok-found.ensures.kinds at c.in_ok-keep.ensures.step).kept (c.in-Ok.ensures.step c.args.filter_tags aloud.rows aloud.sums).others)

@@ -16,7 +16,7 @@ returns-in-Err g c input =
       rest = rest_begun _ _ _ refl (c.read_on.ensures.files ∙ inv.files) inv.begun;
       found = refused_says c.args.name.now first before after c.in-Err.fault c.in-Err.ensures.refused inv.files;
       place = c.loop-count.total;
-      fed = read_refused c.args.name.now (g.F.Filter.seen c.args.filter) (g.F.Filter.whole c.args.filter) first before after _ _ c.loop-count.total fed shown c.in-Err.fault c.in-Err.ensures.refused c.read_on.ensures.files inv.site took wrote (omega (arith, size, inv.few)) (inv.seen fed shown (g.met.F.Filter.is_seen c.loop-count.filter fed shown has)) inv.out;
+      fed = read_refused g.F.Filter.inside c.args.name.now (g.F.Filter.seen c.args.filter) (g.F.Filter.whole c.args.filter) first before after _ _ c.loop-count.total fed shown c.in-Err.fault c.in-Err.ensures.refused c.read_on.ensures.files inv.site took wrote (omega (arith, size, inv.few)) (inv.seen fed shown (g.met.F.Filter.is_seen c.loop-count.filter fed shown has)) inv.out;
     }
 
 pub returns-then-total-gt-MOST_BYTES : goal.returns-then-total-gt-MOST_BYTES
@@ -125,8 +125,8 @@ loop-count-preserved g c =
       out = c.in-Ok-write_whole.ensures.cause.done ∙ inv.out;
     }
 
-pub returns-in_err-status : goal.returns-in_err-status
-returns-in_err-status g c input =
+pub returns-in_err-end : goal.returns-in_err-end
+returns-in_err-end g c input =
     let inv = c.loop-count.invariant in
     let (fed, shown, took, wrote, size, has) = inv.read in
     let there = there_as _ _ _ inv.files c.in-Ok.ensures.read.there in
@@ -135,7 +135,7 @@ returns-in_err-status g c input =
       rest = rest_there _ _ _ refl (c.read_on.ensures.files ∙ inv.files) there;
       found = stopped_says _ _ _ c.from_residual.ensures.1 there;
       place = c.loop-count.total + c.in-Ok.count;
-      fed = stopped_file _ _ _ _ _ c.from_residual.ensures.1 (record {
+      fed = stopped_file g.F.Filter.inside _ _ _ _ _ c.from_residual.ensures.1 (record {
         front = fed;
         few = omega (arith, size, inv.few);
         piece = [];
@@ -153,7 +153,7 @@ returns-in_default-write_whole-2 g c input =
     let (fed, shown, took, wrote, size, has) = inv.read in
     let there = there_as _ _ _ inv.files c.in-Ok.ensures.read.there in
     let all = took_none _ _ _ fed _ c.in-Ok.count c.if-count-eq0.true took c.in-Ok.ensures.read.took in
-    let adds = c.in_ok-status.ensures fed shown has in
+    let adds = c.in_ok-end.ensures.text fed shown has in
     let text = text_is _ _ c.deref-2.result.now adds.more inv.empty adds.grown c.deref-2.ensures.value in
     let part = c.write_whole-2.ensures.prefix in
     record {
@@ -168,7 +168,7 @@ returns-in_default-write_whole-2 g c input =
         shown = shown;
         seen = inv.seen fed shown (g.met.F.Filter.is_seen c.loop-count.filter fed shown has);
         more = adds.more;
-        due = rw append-nil (inr (c.in_ok-status.status, c.in-Ok.ensures.read.ends c.if-count-eq0.true (omega arith), inv.whole _ _ _ adds.holds));
+        due = rw append-nil (inr (c.in_ok-end.end.status, c.in-Ok.ensures.read.ends c.if-count-eq0.true (omega arith), inv.whole _ _ _ adds.holds));
         count = part.0;
         moved = record { took = rw append-nil all; wrote = wrote_part _ _ _ shown c.deref-2.result.now adds.more part.0 text wrote part.2 };
         rose = rose_later _ _ _ inv.out c.in_default-write_whole-2.ensures.cause.failed;
@@ -181,22 +181,25 @@ returns g c input =
     let inv = c.loop-count.invariant in
     let (fed, shown, took, wrote, size, has) = inv.read in
     let there = there_as _ _ _ inv.files c.in-Ok.ensures.read.there in
-    let adds = c.in_ok-status.ensures fed shown has in
+    let adds = c.in_ok-end.ensures.text fed shown has in
     let text = text_is _ _ c.deref-2.result.now adds.more inv.empty adds.grown c.deref-2.ensures.value in
     record {
       rest = rest_there _ _ _ refl (c.read_on.ensures.files ∙ inv.files) there;
       found = there;
       place = c.loop-count.total + c.in-Ok.count;
       fed = record {
-        bytes = fed;
-        text = shown ++ adds.more;
-        moved = record {
-          took = took_none _ _ _ fed _ c.in-Ok.count c.if-count-eq0.true took c.in-Ok.ensures.read.took;
-          wrote = wrote_all _ _ _ shown c.deref-2.result.now adds.more text wrote c.in-Ok-write_whole-2.ensures.whole;
+        all = record {
+          bytes = fed;
+          text = shown ++ adds.more;
+          moved = record {
+            took = took_none _ _ _ fed _ c.in-Ok.count c.if-count-eq0.true took c.in-Ok.ensures.read.took;
+            wrote = wrote_all _ _ _ shown c.deref-2.result.now adds.more text wrote c.in-Ok-write_whole-2.ensures.whole;
+          };
+          at_end = c.in-Ok.ensures.read.ends c.if-count-eq0.true (omega arith);
+          size = omega (arith, size, inv.few);
+          whole = inv.whole _ _ _ adds.holds;
+          faults = record { input = c.in-Ok.ensures.count ∙ inv.site; out = c.in-Ok-write_whole-2.ensures.cause.done ∙ inv.out };
         };
-        at_end = c.in-Ok.ensures.read.ends c.if-count-eq0.true (omega arith);
-        size = omega (arith, size, inv.few);
-        whole = inv.whole _ _ _ adds.holds;
-        faults = record { input = c.in-Ok.ensures.count ∙ inv.site; out = c.in-Ok-write_whole-2.ensures.cause.done ∙ inv.out };
+        told = c.in_ok-end.ensures.inside fed shown has;
       };
     }

@@ -105,12 +105,12 @@ loop-count-preserved g c =
       out = c.in-Ok-write_whole.ensures.cause.done ∙ inv.out;
     }
 
-pub returns-in_err-status : goal.returns-in_err-status
-returns-in_err-status g c =
+pub returns-in_err-end : goal.returns-in_err-end
+returns-in_err-end g c =
     let inv = c.loop-count.invariant in
     let (fed, shown, took, wrote, size, has) = inv.read in
     let all = took_none _ _ _ fed _ c.in-Ok.count c.if-count-eq0.true took c.in-Ok.ensures.bytes.0 in
-    stopped_by _ _ _ _ _ c.from_residual.ensures.1 (record {
+    stopped_by g.F.Filter.inside _ _ _ _ _ c.from_residual.ensures.1 (record {
       front = fed;
       few = omega (arith, size, inv.few);
       piece = [];
@@ -126,7 +126,7 @@ returns-in_default-write_whole-2 g c =
     let inv = c.loop-count.invariant in
     let (fed, shown, took, wrote, size, has) = inv.read in
     let all = took_none _ _ _ fed _ c.in-Ok.count c.if-count-eq0.true took c.in-Ok.ensures.bytes.0 in
-    let adds = c.in_ok-status.ensures fed shown has in
+    let adds = c.in_ok-end.ensures.text fed shown has in
     let text = text_is _ _ c.deref-2.result.now adds.more inv.empty adds.grown c.deref-2.ensures.value in
     let part = c.write_whole-2.ensures.prefix in
     record {
@@ -137,7 +137,7 @@ returns-in_default-write_whole-2 g c =
       shown = shown;
       seen = inv.seen fed shown (g.met.F.Filter.is_seen c.loop-count.filter fed shown has);
       more = adds.more;
-      due = rw append-nil (inr (c.in_ok-status.status, c.in-Ok.ensures.bytes.1 c.if-count-eq0.true (omega arith), inv.whole _ _ _ adds.holds));
+      due = rw append-nil (inr (c.in_ok-end.end.status, c.in-Ok.ensures.bytes.1 c.if-count-eq0.true (omega arith), inv.whole _ _ _ adds.holds));
       count = part.0;
       moved = record { took = rw append-nil all; wrote = wrote_part _ _ _ shown c.deref-2.result.now adds.more part.0 text wrote part.2 };
       rose = rose_later _ _ _ inv.out c.in_default-write_whole-2.ensures.cause.failed;
@@ -148,17 +148,20 @@ pub returns : goal.returns
 returns g c =
     let inv = c.loop-count.invariant in
     let (fed, shown, took, wrote, size, has) = inv.read in
-    let adds = c.in_ok-status.ensures fed shown has in
+    let adds = c.in_ok-end.ensures.text fed shown has in
     let text = text_is _ _ c.deref-2.result.now adds.more inv.empty adds.grown c.deref-2.ensures.value in
     record {
-      bytes = fed;
-      text = shown ++ adds.more;
-      moved = record {
-        took = took_none _ _ _ fed _ c.in-Ok.count c.if-count-eq0.true took c.in-Ok.ensures.bytes.0;
-        wrote = wrote_all _ _ _ shown c.deref-2.result.now adds.more text wrote c.in-Ok-write_whole-2.ensures.whole;
+      all = record {
+        bytes = fed;
+        text = shown ++ adds.more;
+        moved = record {
+          took = took_none _ _ _ fed _ c.in-Ok.count c.if-count-eq0.true took c.in-Ok.ensures.bytes.0;
+          wrote = wrote_all _ _ _ shown c.deref-2.result.now adds.more text wrote c.in-Ok-write_whole-2.ensures.whole;
+        };
+        at_end = c.in-Ok.ensures.bytes.1 c.if-count-eq0.true (omega arith);
+        size = omega (arith, size, inv.few);
+        whole = inv.whole _ _ _ adds.holds;
+        faults = record { input = c.in-Ok.ensures.cause.done ∙ inv.input; out = c.in-Ok-write_whole-2.ensures.cause.done ∙ inv.out };
       };
-      at_end = c.in-Ok.ensures.bytes.1 c.if-count-eq0.true (omega arith);
-      size = omega (arith, size, inv.few);
-      whole = inv.whole _ _ _ adds.holds;
-      faults = record { input = c.in-Ok.ensures.cause.done ∙ inv.input; out = c.in-Ok-write_whole-2.ensures.cause.done ∙ inv.out };
+      told = c.in_ok-end.ensures.inside fed shown has;
     }

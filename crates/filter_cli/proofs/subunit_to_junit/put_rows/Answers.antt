@@ -1,5 +1,5 @@
 use Rattle.std.proofs.Common.{[], ◌∷◌, ◌++◌, append-nil, append_assoc, sym, subst}
-use Rattle.filter_cli.specs.JunitKept.{HasCases}
+use Rattle.filter_cli.specs.JunitCases.{HasCases}
 use Rattle.filter_cli.proofs.subunit_to_junit.put_rows.Goals as goal
 
 pub loop-row-init : goal.loop-row-init

@@ -1,12 +1,13 @@
 use Rattle.std.proofs.Common.{[], refl, arith}
 use Rattle.std.proofs.KnownBytes.{Consumes-nil, Appends-nil}
+use Rattle.stream_end.specs.Inside.{ends_inside}
 use Rattle.filter_cli.proofs.PumpLemmas.{stopped_by}
 use Rattle.filter_cli.proofs.NotedLemmas.{seen_none}
 use Rattle.filter_cli.proofs.NotedPrefix.{noted_prefix, nothing_written}
 use Rattle.filter_cli.proofs.through.pass_notes.Goals as goal
 
 pub returns-in_err-notes-clause-pumps : goal.returns-in_err-notes-clause-pumps
-returns-in_err-notes-clause-pumps g c = stopped_by _ _ _ _ _ c.from_residual.ensures.1 (record {
+returns-in_err-notes-clause-pumps g c = stopped_by ends_inside _ _ _ _ _ c.from_residual.ensures.1 (record {
   front = [];
   few = omega arith;
   piece = [];

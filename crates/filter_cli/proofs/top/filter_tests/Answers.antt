@@ -9,14 +9,14 @@ use Rattle.filter_cli.proofs.top.filter_tests.Goals as goal
 pub returns-in_err-rules : goal.returns-in_err-rules
 returns-in_err-rules g c = still_stops _ c.from_residual.ensures.1 c.in_err-rules.ensures.patterns refl
 
-pub returns-in_err-status : goal.returns-in_err-status
-returns-in_err-status g c =
+pub returns-in_err-end : goal.returns-in_err-end
+returns-in_err-end g c =
     let a = pipe (g.I.Source.seen c.args.input.now) (g.O.Sink.seen c.args.out.now) in
     let b = pipe (g.I.Source.seen c.filter_stream.new.input) (g.O.Sink.seen c.filter_stream.new.out) in
-    still_done tt c.in_ok-rules.ensures.patterns (stopped c.in_err-status.field-0.0 c.from_residual-in_err-status.ensures.1 (plan_as _ _ a b (Err c.in_err-status.field-0.0) (ap (λ (r : Rules). filter_plan r c.args.selection.hidden) c.in_ok-rules.ensures.rules) c.in_err-status.ensures.pumps))
+    still_done tt c.in_ok-rules.ensures.patterns (stopped c.in_err-end.field-0.0 c.from_residual-in_err-end.ensures.1 (plan_as _ _ a b (Err c.in_err-end.field-0.0) (ap (λ (r : Rules). filter_plan r c.args.selection.hidden) c.in_ok-rules.ensures.rules) c.in_err-end.ensures.pumps))
 
 pub returns : goal.returns
 returns g c =
     let a = pipe (g.I.Source.seen c.args.input.now) (g.O.Sink.seen c.args.out.now) in
     let b = pipe (g.I.Source.seen c.filter_stream.new.input) (g.O.Sink.seen c.filter_stream.new.out) in
-    still_done tt c.in_ok-rules.ensures.patterns (goes_on _ _ (plan_as _ _ a b (Ok c.in_ok-status.status) (ap (λ (r : Rules). filter_plan r c.args.selection.hidden) c.in_ok-rules.ensures.rules) c.in_ok-status.ensures.pumps) gives)
+    still_done tt c.in_ok-rules.ensures.patterns (goes_on _ _ (plan_as _ _ a b (Ok c.in_ok-end.end) (ap (λ (r : Rules). filter_plan r c.args.selection.hidden) c.in_ok-rules.ensures.rules) c.in_ok-end.ensures.pumps) gives)

@@ -5,14 +5,14 @@ use Rattle.filter_cli.specs.Steps.{goes_on}
 use Rattle.filter_cli.proofs.ChainLemmas.{checked, none_given, stopped, gives, leaves_as}
 use Rattle.filter_cli.proofs.top.give_alone.Goals as goal
 
-pub returns-in_err-status : goal.returns-in_err-status
-returns-in_err-status g c input =
+pub returns-in_err-end : goal.returns-in_err-end
+returns-in_err-end g c input =
     let a = pipe input (g.O.Sink.seen c.args.out.now) in
     let b = pipe input (g.O.Sink.seen c.give_event.new.out) in
-    checked (wanted.Output c.args.job) a b _ none_given (stopped c.in_err-status.field-0.0 c.from_residual.ensures.1 (leaves_as c.args.job input _ _ (Err c.in_err-status.field-0.0) c.requires c.in_err-status.ensures))
+    checked (wanted.Output c.args.job) a b _ none_given (stopped c.in_err-end.field-0.0 c.from_residual.ensures.1 (leaves_as c.args.job input _ _ (Err c.in_err-end.field-0.0) c.requires c.in_err-end.ensures))
 
 pub returns : goal.returns
 returns g c input =
     let a = pipe input (g.O.Sink.seen c.args.out.now) in
     let b = pipe input (g.O.Sink.seen c.give_event.new.out) in
-    checked (wanted.Output c.args.job) a b _ none_given (goes_on _ _ (leaves_as c.args.job input _ _ (Ok c.in_ok-status.status) c.requires c.in_ok-status.ensures) gives)
+    checked (wanted.Output c.args.job) a b _ none_given (goes_on _ _ (leaves_as c.args.job input _ _ (Ok c.in_ok-end.end) c.requires c.in_ok-end.ensures) gives)

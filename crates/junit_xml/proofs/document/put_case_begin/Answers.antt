@@ -16,12 +16,12 @@ pub returns-clause-ok : goal.returns-clause-ok
 returns-clause-ok c =
     let old = c.args.text.now.items in
     let row = c.args.row.now in
-    case_begun (written Value c.names_of.result.0.now) (written Value c.names_of.result.1.now) (printed_seconds c.from.result) old _ _ _ _ _ _ _
+    case_begun (written Value c.names_of.result.0.now) (written Value c.names_of.result.1.now) (printed_seconds c.unwrap_or.result) old _ _ _ _ _ _ _
     c.in_ok-extend_from_slice.ensures.items c.in_ok-put_value.ensures.ok c.in_ok-extend_from_slice-2.ensures.items c.in_ok-put_value-2.ensures.ok
     c.in_ok-extend_from_slice-3.ensures.items c.in_ok-put_seconds.ensures.ok c.in_ok-extend_from_slice-4.ensures.items
-    ∙ ap (λ (l : List ℕ). old ++ whole l c.names_of.result.1.now c.from.result) (c.names_of.ensures.class ∙ ap class_of c.bytes.ensures.bytes)
-    ∙ ap (λ (l : List ℕ). old ++ whole (class_of row.id) l c.from.result) (c.names_of.ensures.name ∙ ap name_of c.bytes.ensures.bytes)
-    ∙ ap (λ (n : ℕ). old ++ whole (class_of row.id) (name_of row.id) n) (c.from.ensures ∙ c.unwrap_or.ensures)
+    ∙ ap (λ (l : List ℕ). old ++ whole l c.names_of.result.1.now c.unwrap_or.result) (c.names_of.ensures.class ∙ ap class_of c.bytes.ensures.bytes)
+    ∙ ap (λ (l : List ℕ). old ++ whole (class_of row.id) l c.unwrap_or.result) (c.names_of.ensures.name ∙ ap name_of c.bytes.ensures.bytes)
+    ∙ ap (λ (n : ℕ). old ++ whole (class_of row.id) (name_of row.id) n) c.unwrap_or.ensures
 
 abbrev class_mark : List ℕ
 class_mark = codes "<testcase classname=\""

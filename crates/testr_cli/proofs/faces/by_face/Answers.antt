@@ -12,7 +12,7 @@ returns-in-Some g c =
     record {
       promises = promised_found (g.F.Site.folder c.args.site.now) c.args.face (texts c.args.words.now) (Some c.in-Some.from.now) (sym tells) _ _ _ c.upgrade_from.ensures;
       spares = from_spares (g.F.Site.folder c.args.site.now) c.args.face (texts c.args.words.now) c.in-Some.from.now tells _ _ _;
-      spares_run = λ unforced. from_spares_run (g.F.Site.folder c.args.site.now) c.args.face (texts c.args.words.now) c.in-Some.from.now tells (g.H.Shelf.seen c.args.shelf.now).told (g.H.Shelf.seen c.upgrade_from.new.shelf).told c.upgrade_from.result (g.H.Shelf.clock c.args.shelf.now) (g.H.Shelf.clock c.upgrade_from.new.shelf);
+      spares_run = λ unforced whole. from_spares_run (g.F.Site.folder c.args.site.now) c.args.face (texts c.args.words.now) c.in-Some.from.now tells (g.H.Shelf.seen c.args.shelf.now).told (g.H.Shelf.seen c.upgrade_from.new.shelf).told c.upgrade_from.result (g.H.Shelf.clock c.args.shelf.now) (g.H.Shelf.clock c.upgrade_from.new.shelf);
     }
 
 pub returns-in-None : goal.returns-in-None

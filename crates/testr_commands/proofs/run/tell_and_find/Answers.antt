@@ -27,4 +27,4 @@ returns-in_err-find_where_asked-clause-still g c = λ rows sums small quiet. abs
 
 pub returns-clause-still : goal.returns-clause-still
 returns-clause-still g c = λ rows sums small quiet.
-    c.in_ok-find_where_asked.ensures.still c.args.conf.now.filter_tags rows sums (λ asked. verdict_passed _ _ rows _ _ c.in_ok-verdict.verdict (c.in_ok-verdict.ensures (g.H.Shelf.seen c.args.shelf.now) (record { told = None; faults = 0 }) (g.S.Spawner.seen c.args.spawner.now) (g.O.Sink.seen c.args.out.now) c.args.conf.now.filter_tags rows sums) (quiet asked))
+    c.in_ok-find_where_asked.ensures.still c.args.conf.now.filter_tags rows sums (λ asked. verdict_passed _ _ _ rows _ _ c.in_ok-verdict.verdict (c.in_ok-verdict.ensures (g.H.Shelf.seen c.args.shelf.now) (record { told = None; faults = 0 }) (g.S.Spawner.seen c.args.spawner.now) (g.O.Sink.seen c.args.out.now) c.args.conf.now.filter_tags rows sums) (quiet asked))

@@ -31,10 +31,10 @@ returns-in-Ok-clause-settled g t c =
     let drives : Drives g.C.Child.seen c.in-Some.work c.join-outcome.result = subst (λ (w : Work g.row.C.Denot). Drives g.C.Child.seen w c.join-outcome.result) was c.join-outcome.ensures.drives in
     settles_more g.C.Child.seen c.in-Some.work _ _ c.drive_out-pass.result _ _ _ _ _ _ _
     c.in-Some.ensures.items refl c.level.ensures.settled c.drive_out-pass.ensures.settled c.settle.ensures.settled
-    (λ so. c.drive_out-pass.ensures.goes.memory (sym c.settle.ensures.memory ∙ so))
+    (λ so. c.drive_out-pass.ensures.goes.going (sym c.settle.ensures.stopped ∙ so))
     c.drive_out-pass.ensures.ready.1.own
     (c.drive_out-pass.ensures.number c.in-Some.work drives)
-    (λ so. c.drive_out-pass.ensures.put c.in-Some.work drives (sym c.settle.ensures.memory ∙ so))
+    (λ so. c.drive_out-pass.ensures.put c.in-Some.work drives (sym c.settle.ensures.stopped ∙ so))
 
 pub returns-in-Err-clause-goes : goal.returns-in-Err-clause-goes
 returns-in-Err-clause-goes g t c =
@@ -46,7 +46,7 @@ returns-in-Err-clause-settled g t c =
     let drives : Drives g.C.Child.seen c.in-Some.work c.spawn_with-outcome.result = subst (λ (w : Work g.row.C.Denot). Drives g.C.Child.seen w c.spawn_with-outcome.result) was c.spawn_with-outcome.ensures.drives in
     settles_more g.C.Child.seen c.in-Some.work _ _ c.drive_out-pass-in-Err.result _ _ _ _ _ _ _
     c.in-Some.ensures.items c.drive_out-pass-in-Err.ensures.settled c.level-in-Err.ensures.settled refl c.settle-in-Err.ensures.settled
-    (λ so. sym c.settle-in-Err.ensures.memory ∙ so)
+    (λ so. sym c.settle-in-Err.ensures.stopped ∙ so)
     c.drive_out-pass-in-Err.ensures.ready.1.own
     (c.drive_out-pass-in-Err.ensures.number c.in-Some.work drives)
-    (λ so. c.drive_out-pass-in-Err.ensures.put c.in-Some.work drives (c.level-in-Err.ensures.goes.memory (sym c.settle-in-Err.ensures.memory ∙ so)))
+    (λ so. c.drive_out-pass-in-Err.ensures.put c.in-Some.work drives (c.level-in-Err.ensures.goes.going (sym c.settle-in-Err.ensures.stopped ∙ so)))

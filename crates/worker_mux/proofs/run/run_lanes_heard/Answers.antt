@@ -10,12 +10,12 @@ returns-then-len-eq0-clause-merged g c = λ no_fault.
     without_lanes g.C.Child.seen _ c.args.lanes.items _ none c.requires.nothing
 
 pub returns-clause-any_moment : goal.returns-clause-any_moment
-returns-clause-any_moment g c = passes_of_same _ _ c.read_all-fault.ensures.keeps.files
+returns-clause-any_moment g c = passes_of_same _ _ c.read_all-listener.ensures.keeps.files
 
 pub returns-clause-fits : goal.returns-clause-fits
-returns-clause-fits g c = still_fits _ _ _ c.read_all-fault.ensures.keeps c.requires.fits
+returns-clause-fits g c = still_fits _ _ _ c.read_all-listener.ensures.keeps c.requires.fits
 
 pub returns-clause-merged : goal.returns-clause-merged
 returns-clause-merged g c =
     let count : lane_count c.in-Ok.stage.taker ≡ length c.args.lanes.items = omega (arith, c.in-Ok.ensures.taker.1) in
-    heard_if g.C.Child.seen (g.L.Listener.heard c.args.listener) _ c.args.lanes.items c.begin-works.result.items _ _ _ _ c.requires.few c.requires.numbers count c.begin-works.ensures.shares c.read_all-fault.ensures.recorded
+    heard_if g.C.Child.seen _ _ c.args.lanes.items c.begin-works.result.items _ _ _ _ c.requires.few c.requires.numbers count c.begin-works.ensures.shares c.read_all-listener.ensures.recorded

@@ -4,7 +4,7 @@ use Rattle.std.proofs.lemmas.List.Folds.{list_any-append}
 use Rattle.outcome_fold.specs.declared.row.Row.{Row}
 use Rattle.outcome_fold.specs.Rows.{completed_rows, open_rows}
 use Rattle.outcome_fold.specs.Answers.{row_fails}
-use Rattle.filter_cli.specs.JunitKept.{HasCases}
+use Rattle.filter_cli.specs.JunitCases.{HasCases}
 use Rattle.filter_cli.specs.Events.{events_in}
 use Rattle.filter_cli.proofs.TallyLemmas.{fails_in_turn}
 use Rattle.filter_cli.proofs.subunit_to_junit.SubunitToJunitNoteFilter.close.Goals as goal

@@ -2,7 +2,7 @@ use Rattle.std.proofs.Common.{◌++◌, subst, sym, ap, ◌∙◌}
 use Rattle.std.specs.Option.{option_to_list}
 use Rattle.outcome_fold.specs.Rows.{completed_rows}
 use Rattle.outcome_fold.proofs.OutcomeLemmas.{completed_push}
-use Rattle.filter_cli.specs.JunitKept.{HasCases}
+use Rattle.filter_cli.specs.JunitCases.{HasCases}
 use Rattle.filter_cli.specs.Events.{events_in}
 use Rattle.filter_cli.proofs.EventLemmas.{event_more, failed_more}
 use Rattle.filter_cli.proofs.subunit_to_junit.SubunitToJunitNoteFilter.take.Goals as goal

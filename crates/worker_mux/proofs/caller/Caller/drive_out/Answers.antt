@@ -1,7 +1,7 @@
-use Rattle.std.proofs.Common.{subst, rules}
+use Rattle.std.proofs.Common.{refl, subst, rules}
 use Rattle.worker_mux.specs.Works.{Drives}
 use Rattle.worker_mux.proofs.Going.{drives_then}
-use Rattle.worker_mux.proofs.Adding.{goes_then}
+use Rattle.worker_mux.proofs.Adding.{goes_stopped, goes_then}
 use Rattle.worker_mux.proofs.caller.Caller.drive_out.Goals as goal
 
 pub returns-in-Put-clause-number : goal.returns-in-Put-clause-number
@@ -22,3 +22,6 @@ loop-preserved g c = record {
   pass = c.drive-outcome.ensures.ready;
   drives = λ before drives. drives_then g.C.Child.seen before c.in-Kept.work c.drive-outcome.result (subst (Drives g.C.Child.seen before) c.in-Kept.is (c.loop.invariant.drives before drives)) c.drive-outcome.ensures.drives;
 }
+
+pub returns-in-GivenUp-clause-goes : goal.returns-in-GivenUp-clause-goes
+returns-in-GivenUp-clause-goes g c = goes_stopped _ _ _ _ _ c.loop.invariant.goes refl refl refl refl

@@ -9,10 +9,11 @@ returns-in-Some-clause-goes g c =
     (ap lane_count c.record.ensures.taker ∙ c.take.ensures.lanes)
     c.record.ensures.begun
     (ap lots_taken c.record.ensures.taker ∙ c.in-Some.ensures.taken)
-    c.record.ensures.memory
+    c.record.ensures.going
     c.record.ensures.keeps
     c.record.ensures.added
     c.record.ensures.calls
+    c.record.ensures.handed
 
 pub returns-in-Some-clause-ready : goal.returns-in-Some-clause-ready
 returns-in-Some-clause-ready g c =
@@ -20,6 +21,6 @@ returns-in-Some-clause-ready g c =
     c.requires.ready
     (subst (IsTakerFor c.args.shared.now.belt) (sym c.record.ensures.taker) c.take.ensures.made_here)
     (ap lots_taken c.record.ensures.taker ∙ c.in-Some.ensures.taken)
-    c.record.ensures.memory
+    c.record.ensures.going
     c.record.ensures.well
     c.record.ensures.heard

@@ -1,0 +1,13 @@
+use Rattle.std.proofs.Common.{length, ◌-◌, ◌+◌, ◌≤◌, ◌≡◌, drop}
+use Rattle.std.specs.List.{position_or_len}
+use Rattle.build_notes.specs.Notes.{is_no_digit}
+use Rattle.build_notes.proofs.spots.digits_size.Given as goal
+
+abbrev pub invariant-loop-count : goal.invariant-loop-count
+invariant-loop-count l = record {
+  in_range : l.count ≤ length l.bytes;
+  counted : l.count + position_or_len is_no_digit (drop l.count l.bytes) ≡ position_or_len is_no_digit l.bytes;
+}
+
+abbrev pub decreases-loop-count : goal.decreases-loop-count
+decreases-loop-count l = length l.bytes - l.count

@@ -1,0 +1,17 @@
+//! The failures of a run as notes that a build server reads in its log.
+//!
+//! - `escaping`: bytes that cannot stand as they are
+//! - `spots`: where a test failed, by the text that it wrote
+//! - `notes`: the lines; `laws`: each is one line
+//!
+//! For want of memory a public call answers `NoMemory`, which comes for nothing else; what it was lent is then as before. Its
+//! tests stand in a room above it, `fold_trials`.
+#![tactic(auto)]
+
+mod escaping;
+mod laws;
+mod notes;
+mod spots;
+
+pub use laws::notes_are_lines;
+pub use notes::notes_text;

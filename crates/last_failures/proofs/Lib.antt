@@ -1,0 +1,5 @@
+pub mod FindLemmas
+pub mod PartLemmas
+pub mod GatherLemmas
+pub mod RunLemmas
+pub mod LawLemmas

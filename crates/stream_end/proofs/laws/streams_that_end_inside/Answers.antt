@@ -1,0 +1,14 @@
+use Rattle.stream_end.proofs.InsideLemmas.{is_inside, inside_is, held_back, cut_off, not_inside}
+use Rattle.stream_end.proofs.laws.streams_that_end_inside.Goals as goal
+
+pub returns-clause-told : goal.returns-clause-told
+returns-clause-told c = λ bytes are. (is_inside bytes, inside_is bytes are)
+
+pub returns-clause-left : goal.returns-clause-left
+returns-clause-left c = held_back
+
+pub returns-clause-cut_off : goal.returns-clause-cut_off
+returns-clause-cut_off c = cut_off
+
+pub returns-clause-whole : goal.returns-clause-whole
+returns-clause-whole c = not_inside
