@@ -23,7 +23,7 @@ def product():
     """The crates in the order of crates.txt, but for those that hold tests alone."""
     for line in (ROOT / "crates.txt").read_text().splitlines():
         name = re.split(r"[ :]", line)[0]
-        if name and not name.startswith(("#", "trial_")) and not name.endswith("_trials"):
+        if name and not name.startswith(("#", "trial_", "row_")) and not name.endswith(("_trials", "_rows")):
             yield name
 
 
