@@ -5,7 +5,7 @@
 //! - `notes`: the lines; `laws`: each is one line
 //!
 //! For want of memory a public call answers `NoMemory`, which comes for nothing else; what it was lent is then as before. Its
-//! tests stand in a room above it, `fold_trials`.
+//! rows stand in a room above it, `fold_rows`.
 #![tactic(auto)]
 
 mod escaping;

@@ -95,7 +95,8 @@ fn of_command(word: &str) -> Option<&'static str>
     }
 }
 
-const VERSION: &str = "testr 0.1, for repositories of the format `subunit-store 1`\n";
+const VERSION: &str =
+    "testr 0.1, for repositories of the formats `subunit-store 1` and `subunit-store 2`\n";
 
 const PROGRAM: &str = "\
 usage: testr [-d DIR] COMMAND [OPTION]
@@ -108,13 +109,14 @@ Keeps test results as numbered runs in the folder .testrepository of the current
                             runs the tests of the project, as its configuration says, and keeps what they print as the next run
   testr list-tests [OPTION..] [PATTERN..]
                             prints the ids of the tests of the project
-  testr last [--skips] [--format=KIND] | [--subunit]
+  testr last [-q] [--skips] [--format=KIND] | [--subunit]
                             prints the report of the last run, or the run itself
   testr failing [--list | --full | --subunit]
                             prints the tests that fail by all runs, or their ids alone, or how each failed last
   testr slowest [--all]     prints the slowest ten tests of the last run, or all
   testr stats               prints how many runs there are
-  testr upgrade             makes a folder of the original testr a repository of its runs
+  testr upgrade [--from=DIR]
+                            makes a folder of the original testr a repository of its runs
   testr selftest SEED LANES TESTS
                             runs made-up workers in memory, and prints the summary of their run
 

@@ -58,7 +58,7 @@ fn push_more(byte: u8, more: u32, out: &mut Vec<u8>) -> Option<()> {
 
 // The digits that stand first, and what stands behind them.
 fn digits_first(rest: &[u8]) -> Option<(&[u8], &[u8])> {
-    let end = rest.iter().position(|byte| digit(*byte).is_none());
+    let end = rest.iter().position(|byte| !matches!(*byte, b'0'..=b'9'));
     rest.split_at_checked(end.unwrap_or(rest.len()))
 }
 

@@ -1,6 +1,6 @@
 //! Why tests were skipped, and how many for each reason.
 //!
-//! What is printed is defined in docs/COMMANDS.md under "last".
+//! What is printed is defined in docs/COMMANDS.md, "Skips".
 #![tactic(auto)]
 
 mod skips;

@@ -118,7 +118,7 @@ fn run_parted<R: Threads + Wait + Sync>(
         Ok(false) => no_folder(alloc, folder.as_str(), err),
         Err(cause) => {
             let _ = write_whole(err, b"testr: fault of the folder to work in\n");
-            tell(alloc, "testr", Some(&cause), err);
+            tell(alloc, face_of(&words), Some(&cause), err);
             FAULT
         }
     }
