@@ -1,6 +1,6 @@
 #!/bin/sh
-# Runs the shell lines of examples/ci/ as a build server would: in a folder with a small Python project, twice, of which the
-# second build has a test that fails, and with a home of its own. A release is installed from a folder by its address. Where
+# Runs the shell lines of examples/ci/ as a build server would: in a folder with a small Python project, and with a home of its
+# own. Of three builds the second has a test that fails, and the third an import that is broken, so that it has no report. A release is installed from a folder by its address. Where
 # `python3-subunit` and `python3-testtools` of Debian are missing, it is skipped with a word. `pip` is replaced by a command
 # that says what it would install, and the servers' own steps, as caches, by what they do to the folder: nothing.
 # usage: bench/ci.sh [ARCHIVE]: by default a release of this commit is made.
@@ -115,5 +115,11 @@ for name, (install, test, report) in FILES.items():
         check(status == 0 and "test_small" in said, f"{name}: the report of build {number} answers {status}: {said}")
         check(cases_of(folder) == wanted[1:], f"{name}: the report of build {number} tells {cases_of(folder)}")
         os.remove(os.path.join(folder, "junit.xml"))
-    print(f"ci: {name}: {sum(map(len, lines.values()))} lines were run, in two builds")
+    write(folder, "test_sums.py", "import nothing_of_this_name\n")
+    status, said = shell(folder, lines[test], env)
+    check(status == 3 and "nothing_of_this_name" in said, f"{name}: a broken import answers {status}: {said}")
+    status, said = shell(folder, lines[report], env)
+    check(status == 0 and "test_small" not in said, f"{name}: the report behind a broken import answers {status}: {said}")
+    check(not os.path.exists(os.path.join(folder, "junit.xml")), f"{name}: a build without a run has a report")
+    print(f"ci: {name}: {sum(map(len, lines.values()))} lines were run, in three builds")
 PYTHON

@@ -235,6 +235,20 @@ def a_way_out_is_told():
     check(done == (3, b"", b"testr: no runs\n"), f"last: {done!r}")
 
 
+@case
+def a_repository_that_a_run_made_tells_what_is_not_in_it():
+    left = b"the runs of .stestr are not in .testrepository; without that, %s upgrade --from=.stestr takes them over\n"
+    for name, words in (("stestr", ["load"]), ("testr", ["load", "--force-init"])):
+        folder = new_folder()
+        os.mkdir(os.path.join(folder, ".stestr"))
+        write(folder, ".stestr/format", OLD)
+        line = name.encode() + b": " + left % name.encode()
+        done = run(folder, *words, program=[PROGRAM, name])
+        check(done[0] == 0 and done[2] == line, f"{name} {words}: {done!r}")
+        done = run(folder, *words, program=[PROGRAM, name])
+        check(done[0] == 0 and done[2] == b"", f"{name} {words}, once more: {done!r}")
+
+
 DAMAGED = (
     ("0", b"test: a\nfailure: a [ multipart\n", b"testr: run 0 is damaged\n"),
     ("2", b"test: a\nfailure: a [ multipart\nContent-Type: text/plain\nlog\n5\r\nabc\n", b"testr: run 2 is damaged\n"),

@@ -127,13 +127,7 @@ fn run_parted<R: Threads + Wait + Sync>(
 // Whether the words run tests or load what others printed, and no option among them asks to be quiet.
 fn is_loud_run(words: &[String]) -> bool {
     match words {
-        [face, verb, rest @ ..] => {
-            let face = face.as_str();
-            let verb = verb.as_str();
-            (face == "testr" || face == "stestr")
-                && (verb == "run" || verb == "load")
-                && !is_quiet(rest)
-        }
+        [_, _, rest @ ..] => adds_run(words) && !is_quiet(rest),
         _ => false,
     }
 }
@@ -249,6 +243,7 @@ fn run_program<R: Threads + Wait + Sync>(
     let mut input = StreamSource::new(rt.stdin(), "standard input");
     let mut spawner = spawner_of(alloc, rt, errors, words);
     let mut site = RealSite::new(alloc, rt, working_folder(alloc, rt));
+    let may_begin = adds_run(words) && !is_file(rt, FORMAT);
     let status = program(
         threads,
         alloc,
@@ -273,6 +268,9 @@ fn run_program<R: Threads + Wait + Sync>(
         tell(alloc, face, input.cause(), err);
         tell(alloc, face, out.cause(), err);
     }
+    if may_begin && is_file(rt, FORMAT) {
+        tell_runs_left(alloc, rt, words, err);
+    }
     status
 }
 
@@ -287,6 +285,32 @@ fn tell_way_out(alloc: Global, rt: &HostRuntime, words: &[String], err: &mut Str
         "{face}: {face} upgrade --from=.stestr takes over the runs of .stestr\n"
     ) {
         let _ = write_whole(err, line.as_bytes());
+    }
+}
+
+// Tells what is not in the repository that this command made, in a project of the other tool: that has runs of its own, and they
+// are taken over only where no repository is.
+fn tell_runs_left(alloc: Global, rt: &HostRuntime, words: &[String], err: &mut StreamSink<Stderr>) {
+    if !is_file(rt, OTHER_FORMAT) {
+        return;
+    }
+    let face = face_of(words);
+    if let Ok(line) = format!(in alloc;
+        "{face}: the runs of .stestr are not in .testrepository; without that, {face} upgrade --from=.stestr takes them over\n"
+    ) {
+        let _ = write_whole(err, line.as_bytes());
+    }
+}
+
+// Whether the words are those of a command that adds a run, and may make the repository first.
+fn adds_run(words: &[String]) -> bool {
+    match words {
+        [face, verb, ..] => {
+            let face = face.as_str();
+            let verb = verb.as_str();
+            (face == "testr" || face == "stestr") && (verb == "run" || verb == "load")
+        }
+        _ => false,
     }
 }
 
