@@ -1,6 +1,6 @@
 """Renames definitions of a checkout, and makes equal ones one.
 
-usage: rename.py LIST [CHECKOUT] [--dry]        applies the list (default: the checkout that this file lies in)
+usage: rename.py LIST [CHECKOUT] [--dry] [--skip]   applies the list (default: the checkout that this file lies in)
        rename.py --compare LIST BEFORE AFTER    looks that AFTER is BEFORE with the list's renames, word by word
 
 A line of the list, whose words stand apart by spaces (`#` starts a comment):
@@ -11,7 +11,8 @@ A line of the list, whose words stand apart by spaces (`#` starts a comment):
     prose CRATE FILE OLD NEW            the same in the comments of this file, without backticks too
 
 All lines apply at once, so two names may be exchanged. Nothing is written where something stands in the way: a name that is
-taken in a file that would see it, a variable that would hide it, a definition that is not there. The report says which words
+taken in a file that would see it, a variable that would hide it, a definition that is not there. With `--skip` the lines that
+stand in the way are told and left out. The report says which words
 changed in which file, and which words in comments, pages and edits were left because nothing says what they mean.
 """
 import collections
@@ -280,6 +281,13 @@ def add_uses(file, text, added):
 def conflicts(plan):
     """What stands in the way of the new names."""
     house_ = plan.house
+    users_in = collections.defaultdict(set)  # a file -> what it means of that
+    users_of = collections.defaultdict(set)  # what is renamed -> the files that mean it
+    for file in house_.files.values():
+        for _, _, meant in house_.references(file):
+            if plan.touches(meant):
+                users_of[meant].add(file)
+                users_in[file.key].add(meant)
     for file in house_.files.values():
         names = collections.defaultdict(set)  # name -> what it would mean
         for definition in file.definitions.values():
@@ -300,7 +308,9 @@ def conflicts(plan):
                 modules = [m for m in meanings if isinstance(m, tuple) and m[1] is None]
                 if kinds == {"constructor"} and len(kinds) == len(meanings) or modules:
                     continue
-                yield f"{file.key}: `{name}` would mean {' and '.join(sorted(map(str, meanings)))}"
+                its = [d for d in meanings if isinstance(d, Definition) and d in plan.new]
+                its += [d for d in plan.other if plan.last(d) in meanings and plan.name(d) == name and d in users_in[file.key]]
+                yield its, f"{file.key}: `{name}` would mean {' and '.join(sorted(map(str, meanings)))}"
         for start, end, meant in house_.references(file):
             if not plan.touches(meant):
                 continue
@@ -308,26 +318,26 @@ def conflicts(plan):
             if qualified_at(file, start):
                 continue
             if file.text[start:end] == meant.name and file.is_bound(new, start):
-                yield f"{file.key}:{file.text.count(chr(10), 0, start) + 1}: a variable hides `{new}` (now `{meant.name}`)"
+                yield [meant], f"{file.key}:{file.text.count(chr(10), 0, start) + 1}: a variable hides `{new}` (now `{meant.name}`)"
             for a, b, parameters in file.parameters:
                 if a <= start < b and new in parameters:
-                    yield f"{file.key}:{file.text.count(chr(10), 0, start) + 1}: a parameter may hide `{new}` (now `{meant.name}`)"
+                    yield [meant], f"{file.key}:{file.text.count(chr(10), 0, start) + 1}: a parameter may hide `{new}` (now `{meant.name}`)"
     for definition in list(plan.new):
         new = plan.new[definition]
         if new in house.RESERVED or new in house.PRIM:
-            yield f"{definition}: `{new}` is a word of the language"
+            yield [definition], f"{definition}: `{new}` is a word of the language"
         if definition.kind == "constructor":
-            for file in house_.files.values():
-                if new in file.binders and any(m is definition for _, _, m in house_.references(file)):
-                    yield f"{file.key}: `{new}` is a variable where it would be a constructor"
+            for file in users_of[definition]:
+                if new in file.binders:
+                    yield [definition], f"{file.key}: `{new}` is a variable where it would be a constructor"
     for definition, other in plan.other.items():
         first, last = definition.file.split("/")[0], plan.last(other).file.split("/")[0]
-        users = {f.key.split("/")[0] for f in house_.files.values() if any(m is definition for _, _, m in house_.references(f))}
+        users = {f.key.split("/")[0] for f in users_of[definition]}
         for user in sorted(users):
             if user != last and last not in house_.needs[user]:
-                yield f"{definition}: crate {user} does not list {last}"
+                yield [definition], f"{definition}: crate {user} does not list {last}"
         if reaches(house_, plan.last(other).file, definition.file) and definition.file != plan.last(other).file:
-            yield f"{definition}: {plan.last(other).file} imports {definition.file}, so the import would go in a circle"
+            yield [definition], f"{definition}: {plan.last(other).file} imports {definition.file}, so the import would go in a circle"
 
 
 def reaches(house_, start, goal):
@@ -440,7 +450,10 @@ def plan_docs(plan, docs, report, counts):
                         d = house_.files[file].definitions.get(word[0])
                         if d is not None and plan.touches(d):
                             new = plan.name(d)
-                            if d in plan.other and plan.last(d).file != file:
+                            if d in plan.other and plan.last(d).file != file and path.name == "GLOSSARY.md":
+                                at_file = offset + line.index(file)
+                                texts[at_file, at_file + len(file)] = plan.last(d).file
+                            elif d in plan.other and plan.last(d).file != file:
                                 LEFT.append(f"{path.name}: `{word[0]}` of {file} goes: lead the page to {plan.last(d)}")
                                 continue
                         elif d is not None:
@@ -512,22 +525,35 @@ def body_of(f):
 
 
 def main(args):
-    dry = "--dry" in args
-    args = [a for a in args if a != "--dry"]
+    dry, skip = "--dry" in args, "--skip" in args
+    args = [a for a in args if a not in ("--dry", "--skip")]
     root = pathlib.Path(args[1] if len(args) > 1 else pathlib.Path(__file__).resolve().parent.parent.parent)
     renames, unions, docs, prose = read_list(args[0])
     plan = Plan(House(root), renames, unions)
     plan.prose = prose
+    wrong = list(plan.problems)
+    while True:
+        found = list(conflicts(plan))
+        wrong += [why for _, why in found]
+        dropped = {d for its, _ in found for d in its}
+        if not found or not skip or not all(its for its, _ in found):
+            break
+        for d in dropped:
+            plan.new.pop(d, None)
+            plan.other.pop(d, None)
+    unread = [f"{k}: {p}" for k, f in plan.house.files.items() for p in f.problems]
+    if wrong or unread:
+        print("\n".join(wrong + unread))
+        if unread or found or not skip:
+            print(f"{len(wrong + unread)} in the way; nothing is written")
+            return 1
+        print(f"{len(wrong)} in the way; these lines are left out")
+    LEFT.clear()
     changes = {}
     for key, file in plan.house.files.items():
         change = plan_file(plan, file)
         if change.texts or change.added:
             changes[key] = change
-    wrong = plan.problems + [f"{k}: {p}" for k, f in plan.house.files.items() for p in f.problems] + list(conflicts(plan))
-    if wrong:
-        print("\n".join(wrong))
-        print(f"{len(wrong)} in the way; nothing is written")
-        return 1
     written, counts = {}, collections.Counter()
     for key, change in changes.items():
         file = plan.house.files[key]
