@@ -859,9 +859,11 @@ def shape(plan, crates, source, methods, rename):
             meant[r.token.start] = sorted({(new_entity(plan, e) if rename else e)[-1] for e in r.entity[1:]})
     out, uses = [], set()
     mods = {t.start for t in source.mods.values()}
-    for token in source.tokens:
+    for k, token in enumerate(source.tokens):
         if any(a <= token.start < b for a, b in source.use_spans) or token.start in mods:
             continue
+        if token.text == "," and source.text_at(k + 1) in (")", "]", "}", ">"):
+            continue  # (a line that is wrapped has one more)
         out.append(meant.get(token.start, token.text))
     for use in source.uses:
         found = crates.resolve(source, use.path)
