@@ -1,8 +1,9 @@
 #!/bin/sh
 # Runs the shell lines of examples/ci/ as a build server would: in a folder with a small Python project, and with a home of its
-# own. Of three builds the second has a test that fails, and the third an import that is broken, so that it has no report. A release is installed from a folder by its address. Where
-# `python3-subunit` and `python3-testtools` of Debian are missing, it is skipped with a word. `pip` is replaced by a command
-# that says what it would install, and the servers' own steps, as caches, by what they do to the folder: nothing.
+# own. Of three builds the second has a test that fails, and the third an import that is broken, so that it has no report. A
+# release is installed from a folder by its address. Where `python3-subunit` and `python3-testtools` of Debian are missing, it is
+# skipped with a word. `pip` is replaced by a command that says what it would install, and the servers' own steps, as caches, by
+# what they do to the folder: nothing.
 # usage: bench/ci.sh [ARCHIVE]: by default a release of this commit is made.
 set -eu
 
